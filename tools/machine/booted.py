@@ -1,122 +1,81 @@
-"""A trial in a Debian that is booted: its command line, the packages that it takes, and a container for each of its parts."""
-import argparse
-import contextlib
+"""Cases over a Debian that is booted: the packages under trial, a container for each class, and the command line of a trial that has such cases."""
+import json
 import os
+import re
 import shutil
-import signal
 import sys
 import tempfile
-import traceback
 from pathlib import Path
 
 from base import make_base, unpack
-from cases import Found
 from container import Container
-from planted import planted
+from trial import TOP, Trial, command, missing
 
-TOP = Path(__file__).resolve().parents[2]
 # of each such trial; debootstrap follows no virtual packages: python3-cffi-backend is what python3-bcrypt means by one
 INCLUDED = ("adduser", "curl", "dbus", "iproute2", "nftables", "procps", "python3", "python3-bcrypt", "python3-cffi-backend", "python3-passlib", "systemd", "systemd-sysv")
 NEEDED = ("debootstrap", "nsenter", "systemd-nspawn", "tar")
+DESK = "http://127.0.0.1:8080"
 
 
-class Trial:
-    """parts has a class of cases for each name, which may include more packages; prepare makes a container ready for them, given it and the packages.
-    faults are what --wrong plants in the first package, each of which some cases of a part have to find."""
+class Booted(Trial):
+    """Each class has a container of its own, in which `packages` are installed. `included` are packages of Debian that it has for these cases alone; `said` is what dpkg said."""
 
-    def __init__(self, tool, parts, prepare, included=(), needed=(), exchange=False, faults=()):
-        self.tool, self.parts, self.prepare, self.exchange, self.faults = tool, parts, prepare, exchange, faults
-        self.included, self.needed = {*INCLUDED, *included}, sorted({*NEEDED, *needed})
+    included, packages, container, said = (), (), None, ""
 
-    def fail(self, text):
-        sys.exit(f"tools/{self.tool}: {text}")
+    @classmethod
+    def setUpClass(cls):
+        super().setUpClass()
+        unpack(make_base(cls.options.folder, ",".join(sorted({*INCLUDED, *cls.included}))), cls.folder / "root")
+        cls.container = Container(cls.folder / "root", cls.options.folder / f"{cls.__name__.lower()}.log")
+        cls.addClassCleanup(cls.container.end)
+        cls.said = install(cls.container, cls.packages)
+        cls.prepare()
 
-    def chosen(self):
-        parser = argparse.ArgumentParser(usage=f"tools/{self.tool} [DEB] [--folder F] [--only {','.join(self.parts)}]{' [--wrong]' if self.faults else ''}")
-        parser.add_argument("package", nargs="?", type=Path)
-        parser.add_argument("--folder", type=Path, default=Path(f"/var/tmp/{self.tool}"))
-        parser.add_argument("--only", default=",".join(self.parts))
-        parser.set_defaults(wrong=False)
-        if self.faults:
-            parser.add_argument("--wrong", action="store_true")
-        options = parser.parse_args()
-        options.only = options.only.split(",")
-        if not set(options.only) <= set(self.parts):
-            self.fail(f"the parts are {', '.join(self.parts)}")
-        missing = [name for name in self.needed if not shutil.which(name)]
-        if missing or os.geteuid():
-            self.fail(f"there is no {', '.join(missing)} here" if missing else "it has to be run by root")
-        options.packages = self.packages(options.package)
-        return options
+    @classmethod
+    def prepare(cls):
+        """Makes the container ready for the cases."""
 
-    def packages(self, package):
-        made = [package] if package else sorted((TOP / "out").glob("acd_*.deb"))
-        if len(made) != 1 or not made[0].is_file():
-            self.fail(f"there are {len(made)} packages, and not one" if len(made) != 1 else f"there is no package {made[0]}")
-        beside = sorted(made[0].resolve().parent.glob("acd-exchange_*.deb"))
-        if self.exchange and len(beside) != 1:
-            self.fail(f"beside it are {len(beside)} packages of the exchange, and not one")
-        return [made[0], *(beside if self.exchange else [])]
+    def expect_in(self, what, found, wanted):
+        self.see(what, re.search(wanted, found), f"no '{wanted}' in {found!r}")
 
-    @contextlib.contextmanager
-    def cases(self, folder, name, packages):
-        """The cases of a part, over a container of their own that has these packages."""
-        base = make_base(folder, ",".join(sorted(self.included | set(self.parts[name].included))))
-        with tempfile.TemporaryDirectory(dir=folder) as scratch:
-            unpack(base, Path(scratch) / "root")
-            container = Container(Path(scratch) / "root", folder / f"{name}.log")
-            try:
-                self.prepare(container, packages)
-                yield self.parts[name](container)
-            finally:
-                container.end()
+    def ran(self, *words, **how):
+        return self.container.run(*words, **how)
 
-    def try_part(self, folder, name, packages):
-        """How many were tried, and how many went otherwise. One that breaks off counts as wrong, since what is behind it isn't tried."""
-        with self.cases(folder, name, packages) as cases:
-            try:
-                cases.try_all()
-            except Exception:
-                traceback.print_exc(file=sys.stdout)
-                cases.wrong += 1
-        return cases.tried, cases.wrong + (not cases.tried)
+    def done(self, *words):
+        """A command that has to work; what it prints."""
+        status, said = self.ran(*words)
+        self.expect(f"{' '.join(map(str, words))} ({said[-400:]})", status, 0)
+        return said
 
-    def find(self, folder, fault, packages):
-        """What goes otherwise first where a fault is planted; nothing where all goes on as ever, or a case breaks off."""
-        with tempfile.TemporaryDirectory(dir=folder) as scratch:
-            changed = planted(packages[0], Path(scratch), *fault.change)
-            with self.cases(folder, fault.part, [changed, *packages[1:]]) as cases:
-                cases.is_planted = True
-                try:
-                    for name in fault.cases:
-                        getattr(cases, name)()
-                except Found as found:
-                    return str(found)
-                except Exception:
-                    traceback.print_exc(file=sys.stdout)
-        return None
+    def eventually(self, look, wanted, seconds=15):
+        """What is seen once it is what is wanted, or at the end of the time."""
+        end = "end"
+        for _ in range(seconds * 5):
+            end = look()
+            if end == wanted:
+                break
+            self.ran("sleep", "0.2")
+        return end
 
-    def run(self):
-        options = self.chosen()
-        options.folder.mkdir(parents=True, exist_ok=True)
-        tried = wrong = 0
-        for name in options.only:
-            now, otherwise = self.try_part(options.folder, name, options.packages)
-            print(f"{name}: {now} tried, {otherwise} wrong", flush=True)
-            tried, wrong = tried + now, wrong + otherwise
-        for fault in [one for one in self.faults if options.wrong and one.part in options.only]:
-            found = self.find(options.folder, fault, options.packages)
-            print(f"{fault.what}: {found[:200] if found else 'NOT FOUND'}", flush=True)
-            tried, wrong = tried + 1, wrong + (not found)
-        print(f"{tried} tried, {wrong} wrong")
-        return 1 if wrong else 0
+    def curl(self, address, *more, user=None, group=None):
+        """The status of HTTP; 0 where there was no connection, none that was answered, or no such user. A group is the first one, as by `sg`."""
+        words = ["curl", "-s", "-o", "/dev/null", "-w", "%{http_code}", "--max-time", "3", "--noproxy", "*", *more, address]
+        if group:
+            words, user = ["setpriv", "--reuid", user, "--regid", group, "--clear-groups", *words], None
+        said = self.ran(*words, user=user)[1]
+        return int(said) if said.isdigit() else 0
 
-    def main(self):
-        signal.signal(signal.SIGTERM, lambda *_: sys.exit(143))  # so that the container is ended too
-        try:
-            sys.exit(self.run())
-        except ValueError as fault:
-            self.fail(fault)
+    def service(self, requester, invoke, service, to=f"{DESK}/csta", fields=(), **members):
+        """The desk's reply, asked by root."""
+        body = json.dumps({"requester": requester, "invoke": invoke, "service": service, **members})
+        said = self.ran("curl", "-s", "--max-time", "5", *fields, "-d", body, to)[1]
+        return json.loads(said) if said else {}
+
+    def read(self, path):
+        return self.ran("curl", "-s", "--max-time", "5", f"{DESK}{path}")[1]
+
+    def journal(self, unit):
+        return self.ran("journalctl", "--no-pager", "-o", "cat", "-u", unit)[1]
 
 
 def install(container, packages):
@@ -129,3 +88,33 @@ def install(container, packages):
             raise ValueError(f"dpkg says\n{more}")
         said += more
     return said
+
+
+def packages_by(package, exchange):
+    """The package that is named, or the one of out/, and that of the exchange beside it; or what is wrong with them."""
+    made = [package] if package else sorted((TOP / "out").glob("acd_*.deb"))
+    if len(made) != 1:
+        return (), f"there are {len(made)} packages, and not one"
+    if not made[0].is_file():
+        return (), f"there is no package {made[0]}"
+    beside = sorted(made[0].parent.glob("acd-exchange_*.deb")) if exchange else []
+    return (*made, *beside), f"beside it are {len(beside)} packages of the exchange, and not one" if exchange and len(beside) != 1 else None
+
+
+def chosen(document, tool, parts, needed=(), exchange=False, faults=False):
+    """The options of the command line. From here on there are the packages, and the folder is where all is made."""
+    parser = command(document, parts, "package")
+    parser.set_defaults(package=None, program=None)
+    parser.add_argument("--folder", type=Path, default=Path(f"/var/tmp/{tool}"))
+    if faults:
+        parser.add_argument("--wrong", action="store_true")
+    options = parser.parse_args()
+    lacking = missing(sorted({*NEEDED, *needed}))
+    Booted.packages, fault = packages_by(options.package, exchange)
+    fault = (f"the parts are {', '.join(parts)}" if not set(options.only) <= set(parts) else f"there is no {', '.join(lacking)} here" if lacking
+             else "it has to be run by root" if os.geteuid() else fault)
+    if fault:
+        sys.exit(f"tools/{tool}: {fault}")
+    options.folder.mkdir(parents=True, exist_ok=True)
+    tempfile.tempdir = str(options.folder)
+    return options

@@ -19,8 +19,8 @@ class Container:
 
     def boot(self):
         words = ["systemd-nspawn", "--quiet", "--boot", "--directory", self.root, "--private-network", "--register=no", "--keep-unit", f"--machine=acd-{os.getpid()}", *MAY]
-        with open(self.log, "ab") as told:
-            self.process = subprocess.Popen(words, stdin=subprocess.DEVNULL, stdout=told, stderr=told, env={**os.environ, "UNIFIED_CGROUP_HIERARCHY": "1"})
+        with open(self.log, "ab") as log:
+            self.process = subprocess.Popen(words, stdin=subprocess.DEVNULL, stdout=log, stderr=log, env={**os.environ, "UNIFIED_CGROUP_HIERARCHY": "1"})
         self.leader = None
         self.leader = self.found(self.its_systemd, "a systemd in the container")
         self.found(lambda: self.run("systemctl", "is-system-running")[1] in ("running\n", "degraded\n"), "the end of its start", 60)
@@ -52,8 +52,8 @@ class Container:
 
     def run(self, *words, user=None, wait=120):
         """The status, and all that was printed."""
-        told = subprocess.run(self.words(words, user), stdin=subprocess.DEVNULL, stdout=subprocess.PIPE, stderr=subprocess.STDOUT, text=True, timeout=wait)
-        return told.returncode, told.stdout
+        done = subprocess.run(self.words(words, user), stdin=subprocess.DEVNULL, stdout=subprocess.PIPE, stderr=subprocess.STDOUT, text=True, timeout=wait)
+        return done.returncode, done.stdout
 
     def shell(self, text, user=None):
         return self.run("sh", "-c", text, user=user)

@@ -6,13 +6,11 @@ import os
 import re
 import shutil
 import subprocess
-import tempfile
 from pathlib import Path
 
 from base import ALONE, make_base, unpack
-from cases import Cases
+from trial import TOP, Trial
 
-TOP = Path(__file__).resolve().parents[2]
 # base-files is in each Debian: nothing more than the smallest one
 NOTHING, NEEDED = "base-files", "binutils,dpkg-dev,python3"
 PLACE = "home/ana/acd"
@@ -20,9 +18,10 @@ LACKING = ("tools/package: not found: python3, nm, strip, dpkg-shlibdeps. As roo
 HALF = "tools/package: not found: python3. As root: apt-get install --no-install-recommends python3\n"
 
 
-def ran(words, **how):
-    told = subprocess.run([str(word) for word in words], stdin=subprocess.DEVNULL, stdout=subprocess.PIPE, stderr=subprocess.STDOUT, text=True, **how)
-    return told.returncode, told.stdout
+def printed(words, **how):
+    """The status, and all that a command prints."""
+    done = subprocess.run([str(word) for word in words], stdin=subprocess.DEVNULL, stdout=subprocess.PIPE, stderr=subprocess.STDOUT, text=True, **how)
+    return done.returncode, done.stdout
 
 
 def git(*words, at=TOP):
@@ -35,12 +34,14 @@ def archive(to):
     return to
 
 
-class Plain(Cases):
-    def __init__(self, folder, scratch):
-        super().__init__(None)
-        self.folder, self.scratch = folder, Path(scratch)
-        self.tar = archive(self.scratch / "acd.tar")
-        self.version, self.date = re.search(r"^# acd (\S+) \((\S+)\)", (TOP / "CHANGELOG.md").read_text(), re.MULTILINE).groups()
+class Plain(Trial):
+    BASES = NOTHING, NEEDED
+
+    @classmethod
+    def setUpClass(cls):
+        super().setUpClass()
+        cls.tar = archive(cls.folder / "acd.tar")
+        cls.date = re.search(r"^# acd \S+ \((\S+)\)", (TOP / "CHANGELOG.md").read_text(), re.MULTILINE)[1]
 
     def unpacked(self, to):
         to.mkdir(parents=True)
@@ -49,28 +50,28 @@ class Plain(Cases):
 
     def debian(self, name, included):
         """A Debian with these packages, and the tar file unpacked by a user of it."""
-        root = self.scratch / name
-        unpack(make_base(self.folder, included), root)
-        ran(["chroot", root, "useradd", "--create-home", "ana"])
+        root = self.folder / name
+        unpack(make_base(self.options.folder, included), root)
+        printed(["chroot", root, "useradd", "--create-home", "ana"])
         self.unpacked(root / PLACE)
-        ran(["chroot", root, "chown", "-R", "ana:", f"/{PLACE}"])
+        printed(["chroot", root, "chown", "-R", "ana:", f"/{PLACE}"])
         return root
 
     def made_in(self, root):
         path = "PATH=/usr/local/bin:/usr/bin:/bin:/usr/sbin:/sbin"
-        return ran([*ALONE, "--net", f"--mount-proc={root}/proc", "chroot", root, "env", "-i", path, "HOME=/home/ana", "runuser", "-u", "ana", "--", "sh", "-c", f"cd /{PLACE} && tools/package"])
+        return printed([*ALONE, "--net", f"--mount-proc={root}/proc", "chroot", root, "env", "-i", path, "HOME=/home/ana", "runuser", "-u", "ana", "--", "sh", "-c", f"cd /{PLACE} && tools/package"])
 
     def contents(self, folder):
         """What is in the packages of a folder, each unpacked."""
         for package in sorted(folder.glob("*.deb")):
             to = folder / package.name.partition("_")[0]
-            ran(["dpkg-deb", "-R", package, to])
+            printed(["dpkg-deb", "-R", package, to])
             yield to
 
     def stamp(self, folder):
         """The moment of the newest entry of the changelog, in seconds; 0 where there is none."""
-        found = re.search(r"^ -- .*>  (.*)$", ran(["zcat", folder / "acd/usr/share/doc/acd/changelog.gz"])[1], re.MULTILINE)
-        return int(ran(["date", "+%s", "-d", found[1]])[1]) if found else 0
+        found = re.search(r"^ -- .*>  (.*)$", printed(["zcat", folder / "acd/usr/share/doc/acd/changelog.gz"])[1], re.MULTILINE)
+        return int(printed(["date", "+%s", "-d", found[1]])[1]) if found else 0
 
     def expect_same(self, there, here):
         """The files are the same, but for what has the moment in it."""
@@ -89,9 +90,9 @@ class Plain(Cases):
             for wanted in ("License: MIT OR Apache-2.0", "Copyright 2026 the maintainers of acd", "Permission is hereby granted", "/usr/share/common-licenses/Apache-2.0"):
                 self.expect(f"{name}: {wanted}", wanted in text)
         text = (folder / "acd/usr/share/doc/acd/copyright").read_text()
-        symbols = set(re.findall(r" \w (\w+)::", ran(["nm", TOP / "release/acd"])[1]))
+        symbols = set(re.findall(r" \w (\w+)::", printed(["nm", TOP / "release/acd"])[1]))
         self.expect("crates that the symbols name, and the notices don't", sorted(name for name in symbols if not name.startswith("acd") and not re.search(rf"\b{name}\b", text)), [])
-        kit = Path(ran(["rt", "doc"])[1].strip()).parent if shutil.which("rt") else None
+        kit = Path(printed(["rt", "doc"])[1].strip()).parent if shutil.which("rt") else None
         for file in sorted(file for name in symbols for file in (kit / "rattle" / name).glob("LICENSE*")) if kit else ():
             notice = file.read_text().strip("\n")
             self.expect(f"the notice {file}", notice in text or (notice.lstrip().startswith("Apache License") and f"{file.parent.name} ({file.name}" in text.replace("\n", " ")))
@@ -109,36 +110,27 @@ class Plain(Cases):
         self.expect(f"a Debian with what it needs ({said[-300:]})", (status, said.count("\n")), (0, 2))
         if status:
             return
-        there, here = whole / PLACE / "out", self.scratch / "here"
-        self.expect("made here", ran([TOP / "tools/package", "--out", here])[0], 0)
+        there, here = whole / PLACE / "out", self.folder / "here"
+        self.expect("made here", printed([TOP / "tools/package", "--out", here])[0], 0)
         self.expect_same(there, here)
-        self.expect("its moment", self.stamp(there), int(ran(["date", "-u", "+%s", "-d", f"{self.date} 12:00"])[1]))
+        self.expect("its moment", self.stamp(there), int(printed(["date", "-u", "+%s", "-d", f"{self.date} 12:00"])[1]))
         self.expect("that of a clone", self.stamp(here), int(git("log", "-1", "--format=%ct")))
         self.expect_licences(there)
 
     def try_other_clones(self):
         """A tar file that is unpacked in the clone of something else; and a clone that is another user's."""
-        other = self.scratch / "other"
+        other = self.folder / "other"
         other.mkdir()
         git("init", "--quiet", at=other)
         git("-c", "user.name=a", "-c", "user.email=a@example", "commit", "--quiet", "--allow-empty", "-m", "other", at=other)
         tree = self.unpacked(other / "acd")
-        self.expect("in another clone", ran([tree / "tools/package"])[0], 0)
+        self.expect("in another clone", printed([tree / "tools/package"])[0], 0)
         list(self.contents(tree / "out"))
-        self.expect("its moment is the version's", self.stamp(tree / "out"), int(ran(["date", "-u", "+%s", "-d", f"{self.date} 12:00"])[1]))
-        clone = self.scratch / "clone"
+        self.expect("its moment is the version's", self.stamp(tree / "out"), int(printed(["date", "-u", "+%s", "-d", f"{self.date} 12:00"])[1]))
+        clone = self.folder / "clone"
         # by its address, so that it shares no file with this one
         git("clone", "--quiet", "--depth", "1", f"file://{TOP}", clone)
-        ran(["chown", "-R", "nobody:", clone])
-        self.expect("a clone of another user", ran([clone / "tools/package"], env={**os.environ, "HOME": "/nonexistent"})[0], 0)
+        printed(["chown", "-R", "nobody:", clone])
+        self.expect("a clone of another user", printed([clone / "tools/package"], env={**os.environ, "HOME": "/nonexistent"})[0], 0)
         list(self.contents(clone / "out"))
         self.expect("its moment is the commit's", self.stamp(clone / "out"), int(git("log", "-1", "--format=%ct")))
-
-
-def try_plain(folder):
-    """How many were tried, and how many went otherwise."""
-    with tempfile.TemporaryDirectory(dir=folder) as scratch:
-        trial = Plain(folder, scratch)
-        trial.try_plain()
-        trial.try_other_clones()
-    return trial.tried, trial.wrong

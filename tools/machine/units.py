@@ -1,12 +1,10 @@
 """Cases of the packages' units: each does its whole work under systemd, and whoever took its program over could do nothing else."""
 import json
-import socket
-import ssl
 import subprocess
 import sys
 from pathlib import Path
 
-from cases import Cases
+from edges import Edges
 
 HIGHEST = 2.0
 PROBE = "/usr/local/bin/probe"
@@ -39,25 +37,14 @@ MAY = {
 FOLDER = "/usr/lib/systemd/system"
 
 
-class Units(Cases):
-    def try_all(self):
-        self.try_scores()
-        self.try_desk()
-        self.try_gate()
-        self.try_copy()
-        self.try_restore()
-        self.try_exchange()
-        self.try_records()
-        self.try_two_users()
-        self.try_refusals()
-
+class Units(Edges):
     def units(self):
         return sorted(file.name for file in self.container.inside(FOLDER).glob("acd*.service"))
 
     def try_scores(self):
         self.expect("units that are no cases here", [unit for unit in self.units() if unit not in MAY], [])
         for unit in self.units():
-            said = self.run("systemd-analyze", "security", "--offline=true", "--no-pager", f"{FOLDER}/{unit}")[1].splitlines()[-1]
+            said = self.ran("systemd-analyze", "security", "--offline=true", "--no-pager", f"{FOLDER}/{unit}")[1].splitlines()[-1]
             score = float(said.split(":")[1].split()[0])
             self.expect(f"{unit} at {score}", score <= HIGHEST)
 
@@ -96,7 +83,7 @@ class Units(Cases):
         """Root puts the copy back, and takes that back: beside the desk it is refused, and says what stops it."""
         moment = [name for name in self.done("ls", "/var/lib/acd/copies").split() if name.endswith("Z")][-1]
         for words in (("--restore", moment), ("--undo",)):
-            refused = self.run("acd-copy", *words)
+            refused = self.ran("acd-copy", *words)
             self.expect_in(f"acd-copy {words} beside the desk, {refused[0]}", refused[1], r"^acd-copy: /var/lib/acd/desk.db is open in process \d+ \(acd serve .*\): systemctl stop acd; nothing was touched\n$")
             self.done("systemctl", "stop", "acd")
             self.done("acd-copy", *words)
@@ -113,9 +100,9 @@ class Units(Cases):
         self.done("chmod", "640", "/etc/acd/edge/edge.key")
         for name in ("201", "trunk"):
             self.expect(f"the account {name}", self.container.shell(f"echo open-sesame | acd-account {name}"), (0, ""))
-        self.run("systemctl", "disable", "--now", "kamailio")
+        self.ran("systemctl", "disable", "--now", "kamailio")
         self.done("systemctl", "enable", "--now", "acd-exchange", "acd-edge")
-        self.expect("the edge listens", self.eventually(lambda: "5060" in self.run("ss", "-Hlun", "sport", "=", "5060")[1], True), True)
+        self.expect("the edge listens", self.eventually(lambda: "5060" in self.ran("ss", "-Hlun", "sport", "=", "5060")[1], True), True)
         self.expect("a phone by its password, by another, the log-off of its agent, a caller's call, TLS", self.phones(), [200, 401, 200, 182, "SIP/2.0"])
         self.expect("the agent at the desk", self.eventually(lambda: '"device":"201"' in self.read("/agents/7"), False), False)
         self.expect("the caller at the desk", self.eventually(lambda: '"caller":"0409876"' in self.read("/snapshot"), True), True)
@@ -124,7 +111,7 @@ class Units(Cases):
 
     def phones(self):
         """What phones are answered, from within the container's network."""
-        words = ["nsenter", "--target", str(self.container.leader), "--net", sys.executable, __file__]
+        words = ["nsenter", "--target", str(self.container.leader), "--net", sys.executable, Path(__file__).with_name("phones.py")]
         return json.loads(subprocess.run(words, stdout=subprocess.PIPE, check=True, text=True).stdout)
 
     def try_records(self):
@@ -135,11 +122,11 @@ class Units(Cases):
         copies = "/var/lib/acd/copies"
         self.done("mv", f"{copies}/{[name for name in self.done('ls', copies).split() if name.endswith('Z')][-1]}", f"{copies}/{later}")
         self.done("systemctl", "start", "acd-records")
-        told = self.done("sh", "-c", "stat -c '%U %G %a %n' /var/lib/acd-records /var/lib/acd-records/records /var/lib/acd-records/records/*.csv").splitlines()
-        self.expect_in("whose they are", "\n".join(told), r"\A(acd acd-gate 750 \S+\n){2}acd acd-gate 640 \S+\.csv\Z")
+        lines = self.done("sh", "-c", "stat -c '%U %G %a %n' /var/lib/acd-records /var/lib/acd-records/records /var/lib/acd-records/records/*.csv").splitlines()
+        self.expect_in("whose they are", "\n".join(lines), r"\A(acd acd-gate 750 \S+\n){2}acd acd-gate 640 \S+\.csv\Z")
         for user, may in (("acd-gate", True), ("ben", False)):
-            self.expect(f"{user} reads them", self.run("test", "-r", told[-1].split()[-1], user=user)[0] == 0, may)
-        self.expect_in("the call", self.done("cat", told[-1].split()[-1]), r"'?0301234,100,")
+            self.expect(f"{user} reads them", self.ran("test", "-r", lines[-1].split()[-1], user=user)[0] == 0, may)
+        self.expect_in("the call", self.done("cat", lines[-1].split()[-1]), r"'?0301234,100,")
         self.done("rm", "-r", f"{copies}/{later}")
 
     # what they may not
@@ -150,14 +137,14 @@ class Units(Cases):
                                          ("acd-gate", "acd-gate", "acd", ["/var/lib/acd/desk.db", "/var/lib/acd/copies/."])):
             process = self.process(unit)
             self.expect(f"the user of {unit}", self.done("stat", "-c", "%U", f"/proc/{process}"), f"{user}\n")
-            self.expect(f"{other} signals it", self.run("kill", "-0", process, user=other)[0] != 0)
+            self.expect(f"{other} signals it", self.ran("kill", "-0", process, user=other)[0] != 0)
             for file in files:
-                self.expect(f"{user} reads {file}", self.run("test", "-r", file, user=user)[0], 1)
-                self.expect(f"{other} reads {file}", self.run("test", "-r", file, user=other)[0], 0)
+                self.expect(f"{user} reads {file}", self.ran("test", "-r", file, user=user)[0], 1)
+                self.expect(f"{other} reads {file}", self.ran("test", "-r", file, user=other)[0], 0)
 
     def try_refusals(self):
         """A probe in each unit's place. Unconfined it can do all that it tries, which shows that each attempt is one."""
-        self.prepare()
+        self.lay_probe()
         self.expect("what root, unconfined, can't", sorted(set(self.attempts()) - self.probed(["User=root"])), [])
         self.expect("what acd, unconfined, can't", sorted({"gain", "new namespace", "executable memory", "read a home"} - self.probed(["User=acd"])), [])
         for unit in self.units():
@@ -175,7 +162,7 @@ class Units(Cases):
     def attempts(self):
         return self.probed([], "--list")
 
-    def prepare(self):
+    def lay_probe(self):
         """What the probe tries to read, to see and to reach."""
         self.container.put(PROBE, (Path(__file__).parent / "probe").read_text(), 0o755)
         for note in ("/home/ben/note", "/root/note"):
@@ -194,52 +181,9 @@ class Units(Cases):
         text = "\n".join(["[Service]", *settings, "Type=oneshot", f"ExecStart={command}", "StandardOutput=truncate:/run/probe.json", "StandardError=journal"])
         self.done("sh", "-c", 'rm -f /run/probe.json; printf "%s\\n" "$0" >/run/systemd/system/probe.service && systemctl daemon-reload', text)
         self.done("systemctl", "start", "probe")
-        status, said = self.run("cat", "/run/probe.json")
+        status, said = self.ran("cat", "/run/probe.json")
         return set(json.loads(said)) if status == 0 else set()
 
 
 def name_of(line):
     return line.partition("=")[0]
-
-
-SDP = "v=0\r\no=- 1 1 IN IP4 127.0.0.1\r\ns=-\r\nc=IN IP4 127.0.0.1\r\nt=0 0\r\nm=audio 6000 RTP/AVP 8\r\n"
-
-
-def call(asks, ground):
-    """A call of the trunk, by its password: the first answer of the exchange behind the one that asks for it and that says 'trying'."""
-    more = ""
-    asks.settimeout(5)
-    for cseq in (1, 2):
-        asks.sendto((f"INVITE sip:100@127.0.0.1 SIP/2.0\r\nVia: SIP/2.0/UDP 127.0.0.1:{asks.getsockname()[1]};rport;branch=z9hG4bKcall{cseq}\r\n"
-                     f"From: <sip:0409876@127.0.0.1>;tag=call\r\nTo: <sip:100@127.0.0.1>\r\nCall-ID: call\r\nCSeq: {cseq} INVITE\r\n{more}"
-                     f"Contact: <sip:0409876@127.0.0.1:{asks.getsockname()[1]}>\r\nMax-Forwards: 70\r\nContent-Type: application/sdp\r\n"
-                     f"Content-Length: {len(SDP)}\r\n\r\n{SDP}").encode(), ("127.0.0.1", 5060))
-        status, text = 100, ""
-        while status == 100:
-            text = asks.recv(8192).decode("latin-1")
-            status = int(text.split(" ")[1])
-        if status not in (401, 407):
-            break
-        more = ground.credentials(text, status, "INVITE", "sip:100@127.0.0.1", "trunk", ground.PASSWORD)
-    return status
-
-
-def ask_edge():
-    """Asks the edge as phones and a caller do, by hand, and prints the statuses; 182 is that of a caller who waits."""
-    sys.path.insert(0, str(Path(__file__).resolve().parents[2] / "exchange/trial"))
-    import ground
-    with ground.Phone(5060) as asks:
-        contact = "Contact: <sip:201@127.0.0.1:5999>;expires=60\r\n"
-        told = [asks.request("REGISTER", "sip:127.0.0.1", "201", contact)[0], asks.request("REGISTER", "sip:127.0.0.1", "201", contact, password="wrong")[0],
-                asks.request("MESSAGE", "sip:*23@127.0.0.1", "201")[0], call(asks.socket, ground)]
-    unchecked = ssl.SSLContext(ssl.PROTOCOL_TLS_CLIENT)
-    unchecked.check_hostname, unchecked.verify_mode = False, ssl.CERT_NONE
-    with socket.create_connection(("127.0.0.1", 5061), timeout=5) as plain, unchecked.wrap_socket(plain) as secret:
-        secret.sendall(b"OPTIONS sip:127.0.0.1 SIP/2.0\r\nVia: SIP/2.0/TLS 127.0.0.1:5999;branch=z9hG4bKtls;rport\r\nFrom: <sip:201@127.0.0.1>;tag=tls\r\n"
-                       b"To: <sip:127.0.0.1>\r\nCall-ID: tls\r\nCSeq: 1 OPTIONS\r\nMax-Forwards: 70\r\nContent-Length: 0\r\n\r\n")
-        told.append(secret.recv(100).decode().partition(" ")[0])
-    print(json.dumps(told))
-
-
-if __name__ == "__main__":
-    ask_edge()

@@ -5,7 +5,7 @@ import re
 import subprocess
 import tempfile
 
-from cases import Cases
+from edges import Edges
 
 DESK, GATE, ETCD = "http://127.0.0.1:8080/", "http://127.0.0.1:8081/who", "http://127.0.0.1:2379/version"
 TABLE = ("nft", "list", "table", "inet", "acd")
@@ -35,20 +35,11 @@ with socket.create_connection(("127.0.0.1", 8080)) as desk:
 """
 
 
-class Users(Cases):
-    def try_all(self):
+class Users(Edges):
+    def try_group(self):
         self.done("useradd", "--create-home", "ana")
         self.done("adduser", "--quiet", "ana", "acd-local")
         self.container.put("/srv/page/index.html", "a page")
-        self.try_services()
-        self.try_members()
-        self.try_open_connection()
-        self.try_addresses()
-        self.try_impostor()
-        self.try_other_tables()
-        self.try_ports()
-        self.try_without_nft()
-        self.try_browser()
 
     def refused(self, *users):
         return [(user, port) for user in users for port in (DESK, GATE, ETCD) if self.curl(port, user=user) == 0]
@@ -59,9 +50,9 @@ class Users(Cases):
         self.eventually(lambda: self.refused("ana"), [])
         self.expect("refused of the services' users", self.refused(*allowed), [])
         self.expect("how often others are refused", len(self.refused("ben", "nobody", "games")), 9)
-        self.expect("an etcd asks itself", self.run("env", "ETCDCTL_API=3", "etcdctl", "put", "desk/none", "0", user="etcd"), (0, "OK\n"))
+        self.expect("an etcd asks itself", self.ran("env", "ETCDCTL_API=3", "etcdctl", "put", "desk/none", "0", user="etcd"), (0, "OK\n"))
         for port in (8080, 8081, 2379, 2380):
-            said = self.run("curl", "-sv", "--max-time", "3", f"http://127.0.0.1:{port}/", user="ben")[1]
+            said = self.ran("curl", "-sv", "--max-time", "3", f"http://127.0.0.1:{port}/", user="ben")[1]
             self.expect_in(f"port {port} is reset at once", said, "Connection refused")
 
     @contextlib.contextmanager
@@ -93,7 +84,7 @@ class Users(Cases):
 
     def is_let_in(self, number):
         """Whether the table names the user of this number."""
-        return bool(re.search(rf"skuid != {{[^}}]*\b{number}\b", self.run(*TABLE)[1]))
+        return bool(re.search(rf"skuid != {{[^}}]*\b{number}\b", self.ran(*TABLE)[1]))
 
     def try_open_connection(self):
         """Who leaves the group within a connection is answered there, and nowhere else. Cut off on one side alone, it would hold the desk without an end."""
@@ -123,7 +114,7 @@ class Users(Cases):
         """Another user who takes a port while its service is away answers nobody."""
         self.done("systemctl", "stop", "acd-gate")
         with self.site("ben", 8081):
-            self.expect("it listens", self.eventually(lambda: "8081" in self.run("ss", "-Hltn", "sport", "=", "8081")[1], True), True)
+            self.expect("it listens", self.eventually(lambda: "8081" in self.ran("ss", "-Hltn", "sport", "=", "8081")[1], True), True)
             for user in ("root", "www-data", "ben"):
                 self.expect(f"it answers {user}", self.curl("http://127.0.0.1:8081/", user=user), 0)
         self.done("systemctl", "start", "acd-gate")
@@ -165,13 +156,13 @@ class Users(Cases):
         self.expect("the desk is there", self.eventually(lambda: self.curl("http://127.0.0.1:8090/"), 404), 404)
         self.expect("for root alone", self.curl("http://127.0.0.1:8090/", user="ben"), 0)
         settings.write_text(before.replace("ACD_PORT=8080", "ACD_PORT=80x"))
-        self.expect("a port that is none", self.eventually(lambda: "acd-local.service" in self.run("systemctl", "--failed", "--quiet", "--no-legend")[1], True), True)
+        self.expect("a port that is none", self.eventually(lambda: "acd-local.service" in self.ran("systemctl", "--failed", "--quiet", "--no-legend")[1], True), True)
         self.expect("leaves the table as it was", "8090" in self.done(*TABLE), True)
         settings.write_text(before)
         self.done("systemctl", "restart", "acd-local", "acd")
         self.expect("and back", (self.eventually(lambda: self.curl(DESK), 404), self.curl(DESK, user="ben")), (404, 0))
         for words in (["--ports", "0"], ["--ports", "65536"], ["--ports", ""], ["--ports"], ["--ports", "8080;"], ["--other"]):
-            status, said = self.run("acd-local", *words)
+            status, said = self.ran("acd-local", *words)
             self.expect(f"acd-local {words}", (status, said.count("\n"), said.startswith("acd-local: ")), (2, 1, True))
 
     def try_without_nft(self):
@@ -184,7 +175,7 @@ class Users(Cases):
             self.done("systemctl", "restart", "acd")
             self.expect("the desk goes on", self.eventually(lambda: self.curl(DESK), 404), 404)
             self.expect(f"lines at start {count}", self.eventually(lambda: self.journal("acd-local").count(said), count), count)
-        self.expect("nothing has failed", self.run("systemctl", "--failed", "--quiet"), (0, ""))
+        self.expect("nothing has failed", self.ran("systemctl", "--failed", "--quiet"), (0, ""))
         nft.with_suffix(".away").rename(nft)
         self.done("systemctl", "restart", "acd")
         self.expect("with nft again", self.eventually(lambda: self.curl(DESK, user="ben"), 0), 0)
@@ -207,10 +198,10 @@ class Users(Cases):
 
     def try_browser(self):
         """A page of another site in the browser of a user who isn't allowed reaches nothing: neither by asking, nor as a site whose name turns to this machine."""
-        for user, station, told, turned in (("ben", "777", REFUSED, r"\A\Z"), ("ana", "778", REACHED, '"stations"')):
+        for user, station, reached, turned in (("ben", "777", REFUSED, r"\A\Z"), ("ana", "778", REACHED, '"stations"')):
             self.container.put("/srv/page/index.html", PAGE.replace("STATION", f"'{station}'"))
             with self.site("www-data", 9100):
                 self.expect("the site is there", self.eventually(lambda: self.curl("http://127.0.0.1:9100/"), 200), 200)
-                self.expect_in(f"a page in the browser of {user}", self.browse(user, "http://elsewhere.example:9100/"), told)
+                self.expect_in(f"a page in the browser of {user}", self.browse(user, "http://elsewhere.example:9100/"), reached)
             self.expect(f"what it asked for stands at the desk, of {user}", f'"{station}"' in self.read("/snapshot"), user == "ana")
             self.expect_in(f"a name that turns, of {user}", self.browse(user, "http://elsewhere.example:8080/snapshot"), turned)

@@ -1,16 +1,15 @@
 """Cases of a desk that is set up without the package, by the lines of OPERATING.md."""
 import re
 import shutil
-from pathlib import Path
 
 from office import FILE, HOME, Office
+from trial import TOP
 
-TOP = Path(__file__).resolve().parents[2]
 NEEDED = ("board", "clients", "docs", "release", "tools/operating")
 
 
 class ByHand(Office):
-    def try_all(self):
+    def try_by_hand(self):
         self.done("env", "ACD_PURGE_DESK=yes", "dpkg", "--purge", "acd")
         for name in NEEDED:
             shutil.copytree(TOP / name, self.inside(f"{HOME}/acd/{name}"))
@@ -22,10 +21,10 @@ class ByHand(Office):
         self.serves("by hand")
         self.expect_in("they make the first file", said, f"(?m)^made {FILE}$")
         self.expect("the file and the note are the desk's user's alone", self.done("stat", "-c", "%U %a", FILE, f"{FILE}-pair"), "acd 600\nacd 600\n")
-        self.expect("nothing has failed", self.run("systemctl", "--failed", "--quiet"), (0, ""))
+        self.expect("nothing has failed", self.ran("systemctl", "--failed", "--quiet"), (0, ""))
         self.restarts("again")
         self.done("rm", f"{FILE}-wal")
         self.done("mv", FILE, f"{HOME}/x")
         self.fails("a file that was moved away", f"{FILE} isn't there", f"acd-ready --make --file {FILE}")
-        self.expect("a new one, as the line says", self.run("acd-ready", "--make", "--file", FILE), (0, f"made {FILE}\n"))
+        self.expect("a new one, as the line says", self.ran("acd-ready", "--make", "--file", FILE), (0, f"made {FILE}\n"))
         self.restarts("over a new one")

@@ -1,10 +1,10 @@
 """Cases of a desk that goes on in a file without its old requests: by acd-carry.service, under load, killed and stopped, beside a unit that is down, and behind a power cut."""
-import json
 import re
 import threading
 import time
 
-from office import FILE, SETTINGS, STATE, Office
+from office import FILE, PLANNED, SETTINGS, STATE, Office
+from trial import Requests, lines
 
 DAYS, HOUR = 6, 3600
 RUN = "/run/acd-carry"
@@ -23,32 +23,18 @@ CUTS = [("ExecStartPre", "exit_group", 1), ("ExecStart", "mkdir", 1), ("ExecStar
 def history():
     """Lines of an office with a group, and a caller an hour for some days."""
     begin = int(time.time()) - DAYS * 24 * HOUR
-    plan = [("addGroup", {"device": "100", "name": "Billing", "ring": 3, "wrap": 2}), ("addStation", {"device": "201"}), ("addAgent", {"agent": "7", "name": "Ana"})]
-    for number, (service, members) in enumerate(plan, 1):
-        yield f"{begin} " + json.dumps({"requester": "plan", "invoke": number, "service": service, **members})
+    request = Requests()
+    asked = [(begin, it) for it in request.plan(PLANNED)]
     for number in range(1, DAYS * 24 - 1):
-        for at, service, members in ((0, "arriveCall", {"caller": "0301234", "called": "100"}), (10, "clearConnection", {"call": number, "device": "0301234"})):
-            yield f"{begin + HOUR * number + at} " + json.dumps({"requester": "pbx", "invoke": 2 * number + at // 10, "service": service, **members})
+        asked += [(begin + HOUR * number, request.arrive()), (begin + HOUR * number + 10, request.at("clearConnection", number, "0301234"))]
+    return lines(asked)
 
 
 class Carried(Office):
-    def try_all(self):
-        self.prepare()
-        self.try_off()
-        self.try_under_load()
-        self.try_nothing()
-        self.try_down()
-        self.try_meanwhile()
-        self.try_refused()
-        self.try_settings()
-        self.try_killed()
-        self.try_stopped()
-        self.try_power_cut()
-
-    def prepare(self):
+    def try_days(self):
         """Days that are over, as the desk's user feeds them."""
         self.done("systemctl", "stop", "acd-tick", "acd")
-        self.container.put("/history", "".join(f"{line}\n" for line in history()))
+        self.container.put("/history", history())
         said = self.typed(f"runuser -u acd -- acd lines --file {FILE} </history >/dev/null")
         self.expect("the days are fed", said, (0, ""))
         self.done("cp", "-a", STATE, BEFORE)
@@ -70,9 +56,9 @@ class Carried(Office):
     def carries(self, what, wanted=(0, "")):
         """By the unit, which ends within a time; what it has said since."""
         mark, begun = self.mark(), time.monotonic()
-        self.expect(what, self.run("systemctl", "start", "acd-carry"), wanted)
+        self.expect(what, self.ran("systemctl", "start", "acd-carry"), wanted)
         self.expect(f"{what}: soon", time.monotonic() - begun < 60)
-        return self.told(mark, "acd-carry")
+        return self.said_since(mark, "acd-carry")
 
     def is_back(self, what):
         self.serves(what)
@@ -86,7 +72,7 @@ class Carried(Office):
 
     def try_off(self):
         """Its timer is off as the package comes, and nothing of it runs."""
-        self.expect("its timer", self.run("systemctl", "is-enabled", "acd-carry.timer")[1], "disabled\n")
+        self.expect("its timer", self.ran("systemctl", "is-enabled", "acd-carry.timer")[1], "disabled\n")
         self.expect("its units", self.show("ActiveState", unit="acd-carry.timer") + self.show("ActiveState", unit="acd-carry"), ["inactive"] * 2)
 
     def try_under_load(self):
@@ -113,7 +99,7 @@ class Carried(Office):
         said = self.carries("with nothing to leave behind")
         self.expect(f"it says so: {said}", [bool(re.search(r"none of its \d+ kept requests may be left behind", line)) for line in said], [True])
         self.expect("the desk wasn't stopped", self.process(), process)
-        self.expect("nothing has failed", "acd-carry" in self.run("systemctl", "--failed", "--no-legend", "--plain")[1], False)
+        self.expect("nothing has failed", "acd-carry" in self.ran("systemctl", "--failed", "--no-legend", "--plain")[1], False)
 
     def try_down(self):
         """A desk that was down stays down."""
@@ -138,11 +124,11 @@ class Carried(Office):
 
     def change(self, line, call, number, how):
         """One line of the unit is run with this done before a call of its; the first one where there are two."""
-        lines = re.findall(rf"^{line}=(.*)$", self.inside(UNIT).read_text(), re.MULTILINE)
-        mark, command = re.fullmatch(r"([+-]*)(.*)", lines[0]).groups()
+        commands = re.findall(rf"^{line}=(.*)$", self.inside(UNIT).read_text(), re.MULTILINE)
+        mark, command = re.fullmatch(r"([+-]*)(.*)", commands[0]).groups()
         traced = f"{line}={mark}/usr/bin/strace -qq -o /dev/null -e trace={call} -e inject={call}:{how}:when={number} {command}"
         self.container.run("mkdir", "-p", CHANGED.rpartition("/")[0])
-        self.inside(CHANGED).write_text("[Service]\n" + OPENED + "\n".join([f"{line}=", traced, *(f"{line}={other}" for other in lines[1:])]) + "\n")
+        self.inside(CHANGED).write_text("[Service]\n" + OPENED + "\n".join([f"{line}=", traced, *(f"{line}={other}" for other in commands[1:])]) + "\n")
         self.done("systemctl", "daemon-reload")
 
     def unchange(self):
@@ -153,20 +139,20 @@ class Carried(Office):
         """Who starts the desk meanwhile starts nothing; a second carry waits for the first one's end; and one by hand is refused."""
         self.laid()
         self.change("ExecStart", "renameat2", 1, "delay_enter=3000000")
-        told = []
-        carrying = threading.Thread(target=lambda: told.append(self.run("systemctl", "start", "acd-carry")))
+        results = []
+        carrying = threading.Thread(target=lambda: results.append(self.ran("systemctl", "start", "acd-carry")))
         carrying.start()
         self.expect("it is down", self.eventually(lambda: self.inside(f"{RUN}/down").exists() and self.show("ActiveState")[0], "inactive"), "inactive")
-        second = threading.Thread(target=lambda: told.append(self.run("systemctl", "start", "acd-carry")))
+        second = threading.Thread(target=lambda: results.append(self.ran("systemctl", "start", "acd-carry")))
         second.start()
         for act in ("start", "restart"):
-            self.expect(f"a {act} meanwhile", (self.run("systemctl", act, "acd"), self.show("ActiveState")), ((0, ""), ["inactive"]))
+            self.expect(f"a {act} meanwhile", (self.ran("systemctl", act, "acd"), self.show("ActiveState")), ((0, ""), ["inactive"]))
         # by what the first one is at just then: its desk's program has the file open, or it waits to put the new one in its place
-        self.expect_in("by hand meanwhile", self.run("runuser", "-u", "acd", "--", "acd-carry", "--file", FILE)[1],
+        self.expect_in("by hand meanwhile", self.ran("runuser", "-u", "acd", "--", "acd-carry", "--file", FILE)[1],
                        r"just now; nothing was changed|is open elsewhere|is open in process \d+ \(/usr/bin/acd .*\): systemctl stop acd-carry; nothing was touched")
         carrying.join()
         second.join()
-        self.expect("both", told, [(0, "")] * 2)
+        self.expect("both", results, [(0, "")] * 2)
         self.is_back("behind both")
         self.expect("it was carried over once", len(self.archives()), 1)
         self.unchange()
@@ -185,14 +171,26 @@ class Carried(Office):
         stamp = 3 + 2 * (DAYS * 24 - 2)
         day = time.strftime("%Y-%m-%d", time.gmtime(int(self.done("tail", "-n", "1", "/history").split()[0])))
         self.done("touch", f"{STATE}/desk.db-{day}-{stamp}")
-        status, text = self.run("systemctl", "start", "acd-carry")
+        status, text = self.ran("systemctl", "start", "acd-carry")
         self.expect_in(f"a name that is taken, {status}", self.journal("acd-carry"), "is there already; nothing was changed")
         self.is_back("behind it")
         self.expect("it is the old file", (status, self.is_whole("behind it"), self.process() != process), (1, False, True))
-        self.expect_in("it is named", self.run("systemctl", "--failed", "--no-legend", "--plain")[1], "acd-carry.service")
+        self.expect_in("it is named", self.ran("systemctl", "--failed", "--no-legend", "--plain")[1], "acd-carry.service")
         self.done("rm", f"{STATE}/desk.db-{day}-{stamp}")
         self.carries("with that mended")
         self.is_back("with that mended")
+
+    def try_settings(self):
+        """How many days, by acd.env; what is none has failed before the desk is stopped."""
+        self.laid()
+        settings, process = self.inside(SETTINGS).read_text(), self.process()
+        self.set("ACD_CARRY_DAYS", "many")
+        self.expect("days that are none", self.ran("systemctl", "start", "acd-carry")[0], 1)
+        self.expect("the desk wasn't stopped", self.process(), process)
+        self.set("ACD_CARRY_DAYS", "4")
+        self.carries("four days")
+        self.expect("what is kept", 150 < len(self.kept("pbx")) < 200)
+        self.inside(SETTINGS).write_text(settings)
 
     def try_killed(self):
         """Each line of the unit, killed at some of its calls: the desk is back over one of the two, and the next one ends it."""
@@ -201,7 +199,7 @@ class Carried(Office):
             what = f"{line} killed at {call} {number}"
             self.laid()
             self.change(line, call, number, "signal=KILL")
-            status, _ = self.run("systemctl", "start", "acd-carry")
+            status, _ = self.ran("systemctl", "start", "acd-carry")
             # of the last line there are two
             self.expect(f"{what}: it has failed", status != 0, line != "ExecStopPost")
             self.is_back(what)
@@ -226,7 +224,7 @@ class Carried(Office):
                 time.sleep(wait)
                 begun = time.monotonic()
                 # one that waited for itself would be ended by systemd behind three minutes
-                self.run("timeout", "30", "systemctl", *words)
+                self.ran("timeout", "30", "systemctl", *words)
                 self.expect(f"{what}: soon", time.monotonic() - begun < 20)
                 self.expect(f"{what}: it ends", self.eventually(lambda: self.show("ActiveState", unit="acd-carry")[0] in ("inactive", "failed"), True), True)
                 self.is_back(what)
@@ -246,15 +244,3 @@ class Carried(Office):
             self.is_back(what)
             self.is_whole(what)
             self.ends(what)
-
-    def try_settings(self):
-        """How many days, by acd.env; what is none has failed before the desk is stopped."""
-        self.laid()
-        settings, process = self.inside(SETTINGS).read_text(), self.process()
-        self.set("ACD_CARRY_DAYS", "many")
-        self.expect("days that are none", self.run("systemctl", "start", "acd-carry")[0], 1)
-        self.expect("the desk wasn't stopped", self.process(), process)
-        self.set("ACD_CARRY_DAYS", "4")
-        self.carries("four days")
-        self.expect("what is kept", 150 < len(self.kept("pbx")) < 200)
-        self.inside(SETTINGS).write_text(settings)

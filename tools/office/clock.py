@@ -2,7 +2,8 @@
 import json
 import time
 
-from office import FILE, STATE, Office
+from office import FILE, STATE, Planned
+from trial import Requests, compact
 
 AHEAD = 720
 # what waits for the clock, in the place of systemd-time-wait-sync, which passes over a container
@@ -19,14 +20,11 @@ WantedBy=sysinit.target
 """
 
 
-class Clock(Office):
-    def try_all(self):
-        self.plan()
+class Clock(Planned):
+    def try_plan(self):
+        super().try_plan()
         self.set("ACD_STEP", "2")
         self.done("systemctl", "restart", "acd-tick")
-        self.try_ahead()
-        self.try_new_file()
-        self.try_late_clock()
 
     def offers(self, requester):
         """An agent who is ready, and a call that is offered for three seconds; whether a tick takes it back."""
@@ -47,13 +45,13 @@ class Clock(Office):
         """A request of twelve minutes ahead: the desk starts, an offer isn't taken back, and that is told."""
         self.done("systemctl", "stop", "acd")
         moment, mark = int(time.time()) + AHEAD, self.mark()
-        request = json.dumps({"requester": "early", "invoke": 1, "service": "tick"})
+        request = compact(Requests()("tick", "early"))
         self.expect("a request of a clock that is ahead", self.container.shell(f"echo '{moment} {request}' | acd lines --file {FILE}", user="acd")[1].startswith("200 "))
         self.restarts("with a moment ahead")
         self.expect("an offer isn't taken back", self.offers("ahead"), False)
-        told = self.told(mark, "acd-tick")
+        lines = self.said_since(mark, "acd-tick")
         wanted = f"acd-tick: the desk's time is over a minute ahead of this machine's clock: until {time.strftime('%Y-%m-%d %H:%M:%S', time.gmtime(moment))} UTC no ring and no after-call work ends by a tick"
-        self.expect("and that is told, once", told, [wanted])
+        self.expect("and that is told, once", lines, [wanted])
         said = self.container.shell(f"export TZ=UTC; {self.recipe('A clock that was ahead', 'date -d @')}")[1]
         self.expect("by hand, as the page says", said, time.strftime("%a %b %e %H:%M:%S UTC %Y\n", time.gmtime(moment)))
 
@@ -74,6 +72,6 @@ class Clock(Office):
         self.serves("behind a start of the machine")
         set_at, began = (int(self.show(f"{what}TimestampMonotonic", unit=unit)[0]) for what, unit in (("ActiveEnter", "clock-wait"), ("ExecMainStart", "acd")))
         self.expect("it began when the clock was set", set_at > 0 and began >= set_at)
-        self.expect("nothing has failed", self.run("systemctl", "--failed", "--quiet"), (0, ""))
+        self.expect("nothing has failed", self.ran("systemctl", "--failed", "--quiet"), (0, ""))
         self.expect("all is there", '"Ana"' in self.read("/snapshot"))
         self.expect("the copy's folder and the note are there", {"desk.db", "desk.db-pair"} <= set(self.names(STATE)))

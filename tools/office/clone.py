@@ -5,28 +5,23 @@ import time
 from pathlib import Path
 
 from office import HOME, Office
+from trial import TOP, Requests, line
 
-TOP = Path(__file__).resolve().parents[2]
 CLONE, AWAY = "/opt/acd", f"{HOME}/away"
-FIRST = '5 {"requester":"plan","invoke":1,"service":"addStation","device":"201"}'
+FIRST = line(5, Requests()("addStation", device="201")).rstrip()
 
 
 class Clone(Office):
-    included = ("binutils", "dpkg-dev", "nginx-light", "nodejs", "openssl", "python3-yaml")
+    included = (*Office.included, "binutils", "dpkg-dev", "nginx-light", "nodejs", "openssl", "python3-yaml")
 
-    def try_all(self):
+    def try_taken(self):
+        """What git has here is taken there, where no toolchain is."""
         self.done("systemctl", "stop", "acd-tick", "acd-gate", "acd")
-        # what git has here, and nothing that was made
         self.done("install", "-d", CLONE)
         files = subprocess.run(["git", "-C", TOP, "ls-files", "-z"], stdout=subprocess.PIPE, check=True).stdout.decode().split("\0")[:-1]
         subprocess.run(["tar", "-C", TOP, "-cf", self.inside(f"{HOME}/acd.tar"), *files], check=True)
         self.done("tar", "-C", CLONE, "--no-same-owner", "-xf", f"{HOME}/acd.tar")
-        self.expect("no toolchain is here", self.run("sh", "-c", "command -v rt")[0] != 0)
-        self.try_link()
-        self.try_editors_file()
-        self.try_package()
-        self.try_types()
-        self.try_board()
+        self.expect("no toolchain is here", self.ran("sh", "-c", "command -v rt")[0] != 0)
 
     def without(self, *paths):
         """These are away, until they are put back."""
@@ -55,11 +50,11 @@ class Clone(Office):
         """All that is lacking is said at once, with the command that brings it, and nothing is made; then with it."""
         tools = ("/usr/bin/python3", "/usr/bin/nm", "/usr/bin/strip", "/usr/bin/dpkg-shlibdeps")
         self.without(*tools)
-        self.expect("without them", self.run(f"{CLONE}/tools/package"),
+        self.expect("without them", self.ran(f"{CLONE}/tools/package"),
                     (1, "tools/package: not found: python3, nm, strip, dpkg-shlibdeps. As root: apt-get install --no-install-recommends python3 binutils dpkg-dev\n"))
         self.expect("nothing is made", self.inside(f"{CLONE}/out").exists(), False)
         self.with_it(*tools)
-        status, said = self.run(f"{CLONE}/tools/package")
+        status, said = self.ran(f"{CLONE}/tools/package")
         self.expect(f"with them ({said[-300:]})", status, 0)
         version = (TOP / "CHANGELOG.md").read_text().split()[2]
         self.expect("what is made", self.names(f"{CLONE}/out"), [f"acd-exchange_{version}_all.deb", f"acd_{version}_amd64.deb"])
@@ -82,13 +77,13 @@ class Clone(Office):
         """The demonstration where its port is taken, as by the proxy of the desk: told at once, with the option that takes another; where nginx fails by something
         else: its own line; and as it should be."""
         self.done("systemd-run", "--quiet", "--collect", "--unit=stranger", "--uid=www-data", "python3", "-m", "http.server", "8443", "--bind", "0.0.0.0", "--directory", "/srv")
-        self.expect("a stranger listens", self.eventually(lambda: ":8443 " in self.run("ss", "-Hltn")[1], True), True)
+        self.expect("a stranger listens", self.eventually(lambda: ":8443 " in self.ran("ss", "-Hltn")[1], True), True)
         began = time.monotonic()
-        self.expect("its port is taken", self.run(f"{CLONE}/tools/show-board"), (1, "tools/show-board: port 8443 is taken: take another one by --port P\n"))
+        self.expect("its port is taken", self.ran(f"{CLONE}/tools/show-board"), (1, "tools/show-board: port 8443 is taken: take another one by --port P\n"))
         self.expect("it is told within some seconds", time.monotonic() - began < 5)
         types = "/etc/nginx/mime.types"
         self.without(types)
-        status, said = self.run(f"{CLONE}/tools/show-board", "--port", "8444", wait=300)
+        status, said = self.ran(f"{CLONE}/tools/show-board", "--port", "8444", wait=300)
         self.expect(f"nginx says why it doesn't start: {said[-300:]}", (status, bool(re.search(rf"\ntools/show-board: .*\[emerg\].*{types}.*\n\Z", said))), (1, True))
         self.with_it(types)
         self.done("systemd-run", "--quiet", "--collect", "--unit=board", "--uid=www-data", f"{CLONE}/tools/show-board", "--port", "8444")

@@ -2,7 +2,7 @@
 import json
 import re
 
-from office import FILE, HOME, STATE, Office
+from office import FILE, HOME, STATE, Planned
 
 LOG, COPIES = f"{FILE}-wal", f"{STATE}/copies"
 MOMENT = r"\d{4}-\d\d-\d\dT\d{6}Z"
@@ -15,19 +15,7 @@ BEFORE = "/srv/before"
 UNENDED = r"^acd-ready: the (restore|undo) of \S+ isn't ended: (acd-copy --restore \S+ ends it, )?acd-copy --undo (takes it back|ends it)$"
 
 
-class Copies(Office):
-    def try_all(self):
-        self.plan()
-        self.try_one_behind_the_other()
-        self.try_from_anywhere()
-        self.try_plain_copy()
-        self.try_back_twice()
-        self.try_broken_off()
-        self.try_killed()
-        self.try_moved_file()
-        self.try_removed_log()
-        self.try_new_year()
-
+class Copies(Planned):
     def good(self):
         """The copies that are sound, the oldest first; none before the first one is made, by which the folder comes."""
         return [name for name in (self.names(COPIES) if self.inside(COPIES).exists() else ()) if re.fullmatch(MOMENT, name)]
@@ -35,7 +23,7 @@ class Copies(Office):
     def copied(self, what):
         """The name of a copy that is made by the unit, and is good."""
         before, mark = self.good(), self.mark()
-        self.expect(f"{what}: a copy", (self.run("systemctl", "start", "acd-copy"), self.told(mark, "acd-copy")), ((0, ""), []))
+        self.expect(f"{what}: a copy", (self.ran("systemctl", "start", "acd-copy"), self.said_since(mark, "acd-copy")), ((0, ""), []))
         self.expect(f"{what}: it is there", self.good()[-1] not in before)
         return self.good()[-1]
 
@@ -52,7 +40,7 @@ class Copies(Office):
         # a slow machine starts fewer in ten seconds
         self.expect("how many may be started isn't limited", self.show("StartLimitIntervalUSec", unit="acd-copy"), ["0"])
         for number in range(STARTS):
-            self.expect(f"copy {number}", self.run("systemctl", "start", "acd-copy"), (0, ""))
+            self.expect(f"copy {number}", self.ran("systemctl", "start", "acd-copy"), (0, ""))
         said, forms = self.lines(), (r"the desk was halted for \d+ ms", f"sound: {COPIES}/{MOMENT}", f"cleared away: {COPIES}/{MOMENT}")
         self.expect("what they say", ([line for line in said if not any(re.fullmatch(form, line) for form in forms)], sum(line.startswith("sound") for line in said)), ([], STARTS))
         self.expect("the last seven are kept", len(self.good()), 7)
@@ -67,7 +55,7 @@ class Copies(Office):
         """The file that is served is copied by `cp`, without its log: the audit says `sound` of what lacks the last answers. A copy by the unit has them."""
         self.sent("plain", 5)
         self.done("sh", "-c", f"mkdir {HOME}/plain && cp {FILE} {HOME}/plain")
-        self.expect("the audit says", self.run("acd", "audit", "--file", f"{HOME}/plain/desk.db"), (0, "sound\n"))
+        self.expect("the audit says", self.ran("acd", "audit", "--file", f"{HOME}/plain/desk.db"), (0, "sound\n"))
         self.expect("the last answers aren't there", self.kept("plain", f"{HOME}/plain"), [])
         self.expect_in("the page says so", self.page(BACK).replace("\n", " "), "`sound` .* Nor does it say that nothing is missing at the end: .* so is a file without its log")
         self.expect("a copy by the unit has them", self.kept("plain", f"{COPIES}/{self.copied('with its log')}"), [1, 2, 3, 4, 5])
@@ -83,7 +71,7 @@ class Copies(Office):
             self.expect(f"{name} is answered", self.sent(name, 3), [{}] * 3)
             held[name] = self.copied(name)
         self.sent("third", 3)
-        self.expect_in("beside the desk", self.run("acd-copy", "--restore", held["first"])[1],
+        self.expect_in("beside the desk", self.ran("acd-copy", "--restore", held["first"])[1],
                        rf"^acd-copy: {FILE} is open in process \d+ \(acd serve --file {FILE}\): systemctl stop acd; nothing was touched\n$")
         for moment, name in ((held["second"], "second"), (held["first"], "first"), (held["second"], "second")):
             status, said = self.put_back(moment)
@@ -93,7 +81,7 @@ class Copies(Office):
         self.expect("nobody else reads what was put away", (self.done("find", STATE, "-mindepth", "1", "-perm", "/077"), len([name for name in self.names() if "put-away" in name])), ("", 3))
         self.done("systemctl", "stop", "acd")
         for _ in range(3):
-            self.expect_in("--undo", self.run("acd-copy", "--undo")[1], rf"^{FILE} is what it was before the restore of {MOMENT}; what was in its place lies in {STATE}/taken-back-")
+            self.expect_in("--undo", self.ran("acd-copy", "--undo")[1], rf"^{FILE} is what it was before the restore of {MOMENT}; what was in its place lies in {STATE}/taken-back-")
         self.restarts("as before all of it")
         self.expect("nothing is lost", (self.kept("first"), self.kept("second"), self.kept("third")), ([1, 2, 3],) * 3)
 
@@ -103,11 +91,11 @@ class Copies(Office):
         self.sent("late", 2)
         self.done("systemctl", "stop", "acd")
         for words in (("--restore", moment), ("--undo",)):
-            self.run("strace", "-f", "-qq", "-o", "/dev/null", "-e", "inject=rename:signal=KILL:when=5", "acd-copy", "--restore", moment)
+            self.ran("strace", "-f", "-qq", "-o", "/dev/null", "-e", "inject=rename:signal=KILL:when=5", "acd-copy", "--restore", moment)
             says = f"the restore of {moment} isn't ended: acd-copy --restore {moment} ends it, acd-copy --undo takes it back"
-            self.expect("it is broken off", self.run("readlink", FILE), (0, f"/dev/null/{says}\n"))
+            self.expect("it is broken off", self.ran("readlink", FILE), (0, f"/dev/null/{says}\n"))
             self.fails(f"a start before acd-copy {words[0]}", says)
-            self.expect("a copy before it", self.run("acd-copy", user="acd"), (1, f"acd-copy: {says}\n"))
+            self.expect("a copy before it", self.ran("acd-copy", user="acd"), (1, f"acd-copy: {says}\n"))
             self.done("acd-copy", *words)
             self.restarts(f"behind acd-copy {words[0]}")
             self.expect("what it has", self.kept("late"), [] if words[0] == "--restore" else [1, 2])
@@ -131,7 +119,7 @@ class Copies(Office):
                 for end in ends:
                     what = f"{words[0]} killed at {call} {number}"
                     self.laid_out(moment, words)
-                    status, _ = self.run("strace", "-qq", "-o", "/tmp/steps", "-e", f"trace={','.join(CALLS)}", "-e", f"inject={call}:signal=KILL:when={number}", "acd-copy", *words)
+                    status, _ = self.ran("strace", "-qq", "-o", "/tmp/steps", "-e", f"trace={','.join(CALLS)}", "-e", f"inject={call}:signal=KILL:when={number}", "acd-copy", *words)
                     self.expect(f"{what}: it is killed", status not in (0, 1))
                     seen.add(self.start_of_one(what))
                     self.end_by(what, end)
@@ -155,26 +143,26 @@ class Copies(Office):
 
     def start_of_one(self, what):
         """What a start serves: the rows of a requester that only one of the two has, or none."""
-        said = self.run("acd", "audit", "--file", FILE, user="acd")
+        said = self.ran("acd", "audit", "--file", FILE, user="acd")
         self.expect(f"{what}: a whole one or none", said in ((0, "sound\n"), (1, f"acd: cannot open {FILE}\n")), True)
         mark = self.mark()
-        self.run("systemctl", "start", "acd")
+        self.ran("systemctl", "start", "acd")
         self.eventually(lambda: self.show("ActiveState")[0] == "failed" or self.curl("http://127.0.0.1:8080/snapshot") == 200, True)
         state, status = self.show("ActiveState", "ExecMainStatus")
-        kept, told = (str(self.kept("killed")) if state == "active" else "none"), self.told(mark)
-        self.run("systemctl", "stop", "acd")
+        kept, lines = (str(self.kept("killed")) if state == "active" else "none"), self.said_since(mark)
+        self.ran("systemctl", "stop", "acd")
         if kept == "none":
-            self.expect(f"{what}: none is served, and it is told why: {told}", (said[0], status, [bool(re.search(UNENDED, line)) for line in told]), (1, "64", [True]))
+            self.expect(f"{what}: none is served, and it is told why: {lines}", (said[0], status, [bool(re.search(UNENDED, line)) for line in lines]), (1, "64", [True]))
         else:
-            self.expect(f"{what}: one of the two is served: {told}", (said[0], kept in ("[]", "[1, 2]"), told), (0, True, []))
+            self.expect(f"{what}: one of the two is served: {lines}", (said[0], kept in ("[]", "[1, 2]"), lines), (0, True, []))
         return kept
 
     def end_by(self, what, words):
         """The command that ends it, or takes it back; what is there then."""
-        status, said = self.run("acd-copy", *words)
+        status, said = self.ran("acd-copy", *words)
         self.expect(f"{what}, then {words[0]}: {said}", status == 0 or words == ("--undo",) and "there is no restore to take back" in said)
         self.expect(f"{what}, then {words[0]}: what it has", self.kept("killed"), [1, 2] if words == ("--undo",) else [])
-        self.expect(f"{what}, then {words[0]}: it is whole", self.run("acd", "audit", "--file", FILE, user="acd"), (0, "sound\n"))
+        self.expect(f"{what}, then {words[0]}: it is whole", self.ran("acd", "audit", "--file", FILE, user="acd"), (0, "sound\n"))
 
     def try_moved_file(self):
         """The file is moved, then removed, and then the log, under load: told each minute and by the copy, and nothing that was answered is lost."""
@@ -186,13 +174,13 @@ class Copies(Office):
             with self.loaded(what):
                 mark = self.mark()
                 self.done(*wrong)
-                told = self.eventually(lambda: self.told(mark, "acd-tick"), [f"acd-tick: {line % process}"], 75)
-                self.expect(f"{what}: acd-tick tells it within a minute or so", told, [f"acd-tick: {line % process}"])
-            self.expect(f"{what}: the copy fails", self.run("systemctl", "start", "acd-copy")[0] != 0)
-            self.expect_in(f"{what}: and is named", self.run("systemctl", "--failed", "--no-legend", "--plain")[1], "acd-copy.service")
-            told = self.told(mark, "acd-copy")
-            made = re.search(rf"this copy is of what the desk has open; it lies in {COPIES}/(moved-{MOMENT}),", "\n".join(told))
-            self.expect(f"{what}: what it tells: {told}", (f"acd-copy: {line % process}" in told, bool(made)), (True, True))
+                lines = self.eventually(lambda: self.said_since(mark, "acd-tick"), [f"acd-tick: {line % process}"], 75)
+                self.expect(f"{what}: acd-tick tells it within a minute or so", lines, [f"acd-tick: {line % process}"])
+            self.expect(f"{what}: the copy fails", self.ran("systemctl", "start", "acd-copy")[0] != 0)
+            self.expect_in(f"{what}: and is named", self.ran("systemctl", "--failed", "--no-legend", "--plain")[1], "acd-copy.service")
+            lines = self.said_since(mark, "acd-copy")
+            made = re.search(rf"this copy is of what the desk has open; it lies in {COPIES}/(moved-{MOMENT}),", "\n".join(lines))
+            self.expect(f"{what}: what it tells: {lines}", (f"acd-copy: {line % process}" in lines, bool(made)), (True, True))
             self.expect(f"{what}: each answered request is in the copy, once", self.kept(what, f"{COPIES}/{made[1]}")[:len(self.answered)], self.answered)
             if what == "moved":
                 self.done("systemctl", "stop", "acd")
@@ -211,12 +199,12 @@ class Copies(Office):
         self.done("systemctl", "stop", "acd")
         self.expect("the last ones are in the log alone", self.inside(LOG).stat().st_size > 1000)
         self.done("rm", LOG)
-        self.expect("the audit says", self.run("acd", "audit", "--file", FILE, user="acd"), (0, "sound\n"))
+        self.expect("the audit says", self.ran("acd", "audit", "--file", FILE, user="acd"), (0, "sound\n"))
         now = self.executed(STATE)
         self.restarts("without its log")
         good = self.good()
         for _ in range(2):
-            self.expect("the copy fails", self.run("systemctl", "start", "acd-copy")[0] != 0)
+            self.expect("the copy fails", self.ran("systemctl", "start", "acd-copy")[0] != 0)
         lines = [line for line in self.lines() if "requests are missing" in line]
         self.expect("what it tells", (len(lines), lines[-1].startswith(f"acd-copy: the copy has {now} executed requests, and the last one of the same file had {before}: requests are missing; it lies in {COPIES}/fewer-")), (2, True))
         self.expect("nothing is cleared away", self.good(), good)

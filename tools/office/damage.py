@@ -4,25 +4,16 @@ import shutil
 import sys
 from pathlib import Path
 
-from office import FILE, HOME, STATE, Office
+from office import FILE, HOME, STATE, Planned
+from trial import TOP
 
 LOG, NOTE = f"{FILE}-wal", f"{FILE}-pair"
 
-sys.path.append(str(Path(__file__).resolve().parents[1] / "ready"))
+sys.path.append(str(TOP / "tools/ready"))
 from logs import Log  # noqa: E402
 
 
-class Damage(Office):
-    def try_all(self):
-        self.plan()
-        self.try_beside_the_desk()
-        self.try_older_file()
-        self.try_middle()
-        self.try_early_copy()
-        self.try_head()
-        self.try_torn_end()
-        self.try_no_room()
-
+class Damage(Planned):
     def killed(self, requester, count=20):
         """The desk is killed with so many ticks in its log, and nothing else there, and stays down: an audit empties the log."""
         self.done("systemctl", "stop", "acd")
@@ -90,15 +81,15 @@ class Damage(Office):
         folder, *more = self.folders() or ["none"]
         self.expect("one folder, the desk's user's alone", (more, self.done("stat", "-c", "%U %a", f"{STATE}/{folder}")), ([], "acd 700\n"))
         self.expect("it has both, to the byte", self.held(f"{STATE}/{folder}/desk.db", f"{STATE}/{folder}/desk.db-wal") == held)
-        self.expect("the line is there", self.told(mark), [f"acd-ready: the log {LOG} is damaged from its frame {frame} on (byte {whole.at(frame)}), and answered requests from there on are missing; "
+        self.expect("the line is there", self.said_since(mark), [f"acd-ready: the log {LOG} is damaged from its frame {frame} on (byte {whole.at(frame)}), and answered requests from there on are missing; "
                                                           f"both files, as they were, are in {STATE}/{folder} ('What a start looks at' in OPERATING.md)"])
         self.expect("what is before the damage is there", self.kept("middle"), list(range(1, 11)))
         self.restarts("the next start tells nothing")
         self.expect("what is before the damage is still there", self.kept("middle"), list(range(1, 11)))
         self.expect("nor keeps anything", self.folders(), [folder])
         mark = self.mark()
-        self.expect("each copy fails while it is there", [self.run("systemctl", "start", "acd-copy")[0] for _ in range(2)], [1, 1])
-        self.expect("and says why", self.told(mark, "acd-copy"), [f"acd-copy: {STATE}/{folder} is there: the log was damaged as the desk was started"] * 2)
+        self.expect("each copy fails while it is there", [self.ran("systemctl", "start", "acd-copy")[0] for _ in range(2)], [1, 1])
+        self.expect("and says why", self.said_since(mark, "acd-copy"), [f"acd-copy: {STATE}/{folder} is there: the log was damaged as the desk was started"] * 2)
         self.done("mv", f"{STATE}/{folder}", f"{HOME}/damaged")
         self.done("systemctl", "start", "acd-copy")
 
@@ -109,9 +100,9 @@ class Damage(Office):
         good = self.names(copies)
         self.spoiled("early", lambda whole: whole.flipped(whole.at(whole.marks[4] + 1) + 50))
         held, mark = self.held(), self.mark()
-        self.expect("the copy fails", self.run("systemctl", "start", "acd-copy")[0], 1)
-        told, more = self.told(mark, "acd-copy"), sorted(set(self.names(copies)) - set(good))
-        self.expect(f"it tells why: {told}", [(line.startswith("acd-copy: the copy's log ends early, answered requests are missing: "), f"it lies in {copies}/{name}," in line) for line, name in zip(told, more)], [(True, True)])
+        self.expect("the copy fails", self.ran("systemctl", "start", "acd-copy")[0], 1)
+        lines, more = self.said_since(mark, "acd-copy"), sorted(set(self.names(copies)) - set(good))
+        self.expect(f"it tells why: {lines}", [(line.startswith("acd-copy: the copy's log ends early, answered requests are missing: "), f"it lies in {copies}/{name}," in line) for line, name in zip(lines, more)], [(True, True)])
         self.expect("its name", bool(re.fullmatch(r"\d{4}-\d\d-\d\dT\d{6}Z\.early", more[0])))
         self.expect("its log is as it was copied", self.held(f"{copies}/{more[0]}/desk.db-wal"), held[1:])
         self.expect("the desk's own files too", self.held() == held)
@@ -126,8 +117,8 @@ class Damage(Office):
         self.done("systemctl", "start", "acd")
         self.serves("behind a damaged head")
         folder, *more = self.folders() or ["none"]
-        told = self.told(mark)
-        self.expect(f"a head that can't be read: {told}", (more, len(told), "can't be read (its head is damaged)" in str(told)), ([], 1, True))
+        lines = self.said_since(mark)
+        self.expect(f"a head that can't be read: {lines}", (more, len(lines), "can't be read (its head is damaged)" in str(lines)), ([], 1, True))
         self.expect("the log is kept, to the byte", self.held(f"{STATE}/{folder}/desk.db-wal"), log)
         self.done("rm", "-r", f"{STATE}/{folder}")
 
@@ -155,7 +146,7 @@ class Damage(Office):
         self.done("systemctl", "start", "acd")
         self.expect("it is started again", self.eventually(lambda: int(self.show("NRestarts")[0]) >= 2, True, 20), True)
         self.expect("the log is as it was, and no half copy stays", (self.held(LOG) == [log], [name for name in self.names() if "damaged" in name]), (True, []))
-        self.expect("each time it tells why", {bool(re.search("is damaged, and can't be kept as it is before the desk opens it: .*No space left", line)) for line in self.told(mark)}, {True})
+        self.expect("each time it tells why", {bool(re.search("is damaged, and can't be kept as it is before the desk opens it: .*No space left", line)) for line in self.said_since(mark)}, {True})
         self.done("mount", "-o", f"remount,size={3 * room}k", STATE)
         self.serves("with room")
         self.expect("and both are kept", self.held(f"{STATE}/{self.folders()[0]}/desk.db", f"{STATE}/{self.folders()[0]}/desk.db-wal") == [file, log])

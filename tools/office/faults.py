@@ -1,10 +1,30 @@
 """Faults that are planted in the package: in its units, its scripts, what it does as it is installed, and its page. The cases named have to find them."""
-from planted import Fault
+import subprocess
+from typing import NamedTuple
+
+from trial import planted
 
 UNITS, PAGE, POSTINST = "usr/lib/systemd/system", "usr/share/doc/acd/OPERATING.md", "DEBIAN/postinst"
 DESK, TICKS, COPY = f"{UNITS}/acd.service", f"{UNITS}/acd-tick.service", f"{UNITS}/acd-copy.service"
 CARRY = f"{UNITS}/acd-carry.service"
 AGAIN = "StartLimitIntervalSec=0\n"
+
+
+class Fault(NamedTuple):
+    """What is wrong; the file of the package, a text of it and what it changes it to; the part and its cases that have to find it."""
+    what: str
+    change: tuple
+    part: str
+    cases: tuple
+
+    def lay(self, package, folder):
+        """The package, made anew in a folder, with the text of one of its files changed."""
+        root, (path, old, new) = folder / "root", self.change
+        subprocess.run(["dpkg-deb", "--raw-extract", package, root], check=True)
+        (root / path).write_text(planted((root / path).read_text(), old, new))
+        subprocess.run(["dpkg-deb", "--root-owner-group", "-Zgzip", "-z1", "--build", root, folder / package.name], check=True, stdout=subprocess.DEVNULL)
+        return folder / package.name
+
 
 FAULTS = [
     Fault("the first installation makes no desk", (POSTINST, '[ -n "$2" ] || make_desk', ":"), "starting", ("try_installed",)),
@@ -24,12 +44,12 @@ FAULTS = [
     Fault("the ticks' user doesn't see what the desk has open", (TICKS, "User=acd\n", "User=acd-gate\n"), "copies", ("plan", "try_moved_file")),
     Fault("a restore that is killed leaves no link", ("usr/share/acd/acd_restore.py", "    if is_hidden(file):\n        return\n    if leaving", "    return\n    if leaving"), "copies", ("plan", "try_killed")),
     Fault("a recipe's files are for all to read", (PAGE, "        umask 077\n", ""), "copies", ("plan", "try_new_year")),
-    Fault("nothing keeps the desk down", (DESK, "ConditionPathExists=!/run/acd-carry/down\n", ""), "carried", ("prepare", "try_meanwhile")),
-    Fault("a killed carry leaves it down", (CARRY, "ExecStopPost=-+/usr/sbin/acd-carry --start\nExecStopPost=+/usr/sbin/acd-carry --start\n", ""), "carried", ("prepare", "try_killed")),
-    Fault("what starts it again isn't repeated", (CARRY, "ExecStopPost=-+", "ExecStopPost=+"), "carried", ("prepare", "try_killed")),
-    Fault("a stop waits for itself", ("usr/share/acd/acd_unit.py", '"start", "--no-block", UNIT', '"start", UNIT'), "carried", ("prepare", "try_stopped")),
-    Fault("what keeps it down lies elsewhere", ("usr/share/acd/acd_unit.py", 'Path("/run/acd-carry")', 'Path("/var/lib/acd-carry")'), "carried", ("prepare", "try_meanwhile")),
-    Fault("a desk that was down is started", ("usr/share/acd/acd_unit.py", "    if START.exists() or was_refused():", "    if True:"), "carried", ("prepare", "try_down")),
+    Fault("nothing keeps the desk down", (DESK, "ConditionPathExists=!/run/acd-carry/down\n", ""), "carried", ("try_days", "try_meanwhile")),
+    Fault("a killed carry leaves it down", (CARRY, "ExecStopPost=-+/usr/sbin/acd-carry --start\nExecStopPost=+/usr/sbin/acd-carry --start\n", ""), "carried", ("try_days", "try_killed")),
+    Fault("what starts it again isn't repeated", (CARRY, "ExecStopPost=-+", "ExecStopPost=+"), "carried", ("try_days", "try_killed")),
+    Fault("a stop waits for itself", ("usr/share/acd/acd_unit.py", '"start", "--no-block", UNIT', '"start", UNIT'), "carried", ("try_days", "try_stopped")),
+    Fault("what keeps it down lies elsewhere", ("usr/share/acd/acd_unit.py", 'Path("/run/acd-carry")', 'Path("/var/lib/acd-carry")'), "carried", ("try_days", "try_meanwhile")),
+    Fault("a desk that was down is started", ("usr/share/acd/acd_unit.py", "    if START.exists() or was_refused():", "    if True:"), "carried", ("try_days", "try_down")),
     Fault("a recipe that logs nobody off", (PAGE, '"requested":"loggedOff"}', '"requested":"notReady"}'), "plans", ("plan", "try_forgotten")),
     Fault("a mark of another system's editor is a part of the first login", ("usr/sbin/acd-gate", '.removeprefix(b"\\xef\\xbb\\xbf")', ""), "plans", ("plan", "try_roles")),
 ]

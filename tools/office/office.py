@@ -9,10 +9,12 @@ import tempfile
 import time
 from pathlib import Path
 
-from cases import Cases
+from booted import Booted
+from trial import Plan
 
 HOME, STATE, FILE, SETTINGS = "/root", "/var/lib/acd", "/var/lib/acd/desk.db", "/etc/acd/acd.env"
-PLAN = "kind,number,name,ring,wrap\ngroup,100,Billing,3,2\nstation,201,,,\nagent,7,Ana,,\n"
+PLANNED = Plan([("100", "Billing", 3, 2)], ["201"], [("7", "Ana")])
+PLAN = PLANNED.text()
 LOAD = "/usr/local/bin/load"
 
 # asks for ticks, one after the other, each until it is answered, and writes down those that were
@@ -37,14 +39,16 @@ with open(path, "a", buffering=1) as answered:
 """
 
 
-def prepare(container, packages, install):
-    """The package, as apt leaves it, and a plan; what dpkg said is kept for the cases."""
-    container.said = install(container, packages)
-    container.put(LOAD, LOADING, 0o755)
-    container.put("/plan.csv", PLAN)
+class Office(Booted):
+    """Over the package, as apt leaves it, with a plan and a load in files."""
 
+    included = ("strace",)
 
-class Office(Cases):
+    @classmethod
+    def prepare(cls):
+        cls.container.put(LOAD, LOADING, 0o755)
+        cls.container.put("/plan.csv", PLAN)
+
     # the desk and its files
 
     def inside(self, path=FILE):
@@ -83,7 +87,7 @@ class Office(Cases):
 
     def plan(self):
         self.done("systemctl", "stop", "acd")
-        self.expect("a plan is taken", self.run("acd", "import", "--file", FILE, "--plan", "/plan.csv", user="acd")[1].count("200 "), 3)
+        self.expect("a plan is taken", self.ran("acd", "import", "--file", FILE, "--plan", "/plan.csv", user="acd")[1].count("200 "), 3)
         self.done("systemctl", "start", "acd")
         self.serves("with a plan")
 
@@ -130,32 +134,39 @@ class Office(Cases):
         """A place in the journal."""
         return json.loads(self.done("journalctl", "--no-pager", "--lines=1", "--output=json"))["__CURSOR"]
 
-    def told(self, mark, name="acd-ready"):
-        """What a program has told since; the desk's own lines go by the name of acd-ready too, which it was."""
+    def said_since(self, mark, name="acd-ready"):
+        """What a program has said since that place; the desk's own lines go by the name of acd-ready too, which it was."""
         # journalctl passes over what is behind a place where only some of the journal is asked for
         said = self.done("journalctl", "--no-pager", "--quiet", "--output=cat", f"--after-cursor={mark}")
         return [line for line in said.splitlines() if line.startswith(f"{name}: ")]
 
-    def fails(self, what, *words, status="64", before=(), told=1):
+    def fails(self, what, *words, status="64", before=()):
         """The desk is started again: it has failed within two seconds, by one line with these words, isn't started again, and is named; the files are as they were."""
         were, mark = self.held(*before), self.mark()
-        self.run("systemctl", "restart", "acd")
+        self.ran("systemctl", "restart", "acd")
         self.expect(f"{what}: it has failed", self.eventually(lambda: self.show("ActiveState")[0], "failed", 10), "failed")
         began, ended, used = map(int, self.show("ExecMainStartTimestampMonotonic", "ExecMainExitTimestampMonotonic", "CPUUsageNSec"))
         took = (ended - began) / 1e6
         # a busy machine keeps it waiting: there it may take a second of a processor
         self.expect(f"{what}: within two seconds ({took:.1f}, {used / 1e9:.1f} of a processor)", 0 < took < 2 or (took > 0 and used < 1e9 and os.getloadavg()[0] > os.cpu_count()))
-        lines = self.told(mark)
-        self.expect(f"{what}: {lines}", (len(lines), [word for word in words if not any(word in line for line in lines)]), (told, []))
+        lines = self.said_since(mark)
+        self.expect(f"{what}: {lines}", (len(lines), [word for word in words if not any(word in line for line in lines)]), (1, []))
         self.expect(f"{what}: its status", self.show("ExecMainStatus"), [status])
-        self.expect_in(f"{what}: it is named", self.run("systemctl", "--failed", "--no-legend", "--plain")[1], "acd.service")
+        self.expect_in(f"{what}: it is named", self.ran("systemctl", "--failed", "--no-legend", "--plain")[1], "acd.service")
         time.sleep(3)
-        self.expect(f"{what}: it isn't started again", (self.show("ActiveState", "NRestarts"), len(self.told(mark))), (["failed", "0"], told))
+        self.expect(f"{what}: it isn't started again", (self.show("ActiveState", "NRestarts"), len(self.said_since(mark))), (["failed", "0"], 1))
         self.expect(f"{what}: the files are as they were", self.held(*before) == were)
 
-    def restarts(self, what, *told):
-        """It is started again, and tells these lines alone."""
+    def restarts(self, what):
+        """It is started again, and says nothing of faults."""
         mark = self.mark()
         self.done("systemctl", "restart", "acd")
         self.serves(what)
-        self.expect(f"{what}: what is told", self.told(mark), list(told))
+        self.expect(f"{what}: what it says", self.said_since(mark), [])
+
+
+class Planned(Office):
+    """With the plan, which the desk takes first."""
+
+    def try_plan(self):
+        self.plan()

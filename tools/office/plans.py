@@ -12,18 +12,6 @@ LINE = "acd-plan --changes plan.csv --from http://127.0.0.1:8080 --send"
 
 
 class Plans(Office):
-    def try_all(self):
-        self.try_home()
-        self.try_faulty()
-        self.try_second_plan()
-        self.try_later_ones()
-        self.try_stopped()
-        self.try_names()
-        self.try_served_file()
-        self.try_forgotten()
-        self.try_roles()
-        self.try_twice_and_too_many()
-
     def plan_now(self):
         """The plan of the desk that serves, as a file has it."""
         return self.done("acd-plan", "--from", DESK)
@@ -36,7 +24,7 @@ class Plans(Office):
     def imported(self, plan, what):
         """The status of an import by the desk's user over the stopped file, and the statuses of its rows."""
         self.container.put(f"{STATE}/plan.csv", plan)
-        status, said = self.run("acd", "import", "--file", FILE, "--plan", f"{STATE}/plan.csv", user="acd")
+        status, said = self.ran("acd", "import", "--file", FILE, "--plan", f"{STATE}/plan.csv", user="acd")
         self.expect(f"{what}: only rows are answered ({said[-200:]})", status == 1 or all(re.match(r"\d{3} \{", line) for line in said.splitlines()))
         return status, [line.partition(" ")[0] for line in said.splitlines()]
 
@@ -57,7 +45,7 @@ class Plans(Office):
                                  ("a name that isn't ASCII", HEADER + "group,100,Billing,3,2\nagent,9,Jos\u00e9 M\u00fcller,,\n", "plan row 2: name")):
             self.container.put(f"{STATE}/plan.csv", plan)
             for file in (FILE, f"{STATE}/none.db"):
-                self.expect(f"{what}, {file}", self.run("acd", "import", "--file", file, "--plan", f"{STATE}/plan.csv", user="acd"), (1, f"acd: {line}\n"))
+                self.expect(f"{what}, {file}", self.ran("acd", "import", "--file", file, "--plan", f"{STATE}/plan.csv", user="acd"), (1, f"acd: {line}\n"))
         self.expect("no desk is begun", [name for name in self.names() if name.startswith("none")], [])
         self.restarts("with the plan that it had")
         self.expect("which is as it was", self.plan_now(), PLAN)
@@ -108,14 +96,14 @@ class Plans(Office):
     def try_served_file(self):
         """A report, an export and the records of the file that is served are refused; what the page says in their place has them."""
         for words in (("report",), ("export",), ("import", "--plan", f"{STATE}/plan.csv")):
-            self.expect(f"{words[0]} over the served file", self.run("acd", *words, "--file", FILE, user="acd"), (4, f"acd: {FILE} is open elsewhere\n"))
-        self.expect("the records of the served file", self.run("acd-calls", "--file", FILE, user="acd"), (1, f"acd-calls: {FILE} is open elsewhere: take a copy of it, by acd-copy, or add --live\n"))
+            self.expect(f"{words[0]} over the served file", self.ran("acd", *words, "--file", FILE, user="acd"), (4, f"acd: {FILE} is open elsewhere\n"))
+        self.expect("the records of the served file", self.ran("acd-calls", "--file", FILE, user="acd"), (1, f"acd-calls: {FILE} is open elsewhere: take a copy of it, by acd-copy, or add --live\n"))
         self.expect_in("the page says what to ask", self.page("Fault lines, and what to do"), "is open elsewhere.*`/reports/queues` has the report, and a copy .* can be exported")
         self.expect_in("which has it", self.read("/reports/queues"), r"(?m)^100 .* Bills$")
-        self.expect("the records by --live", self.run("acd-calls", "--file", FILE, "--live", user="acd")[0], 0)
-        self.expect("a copy", self.run("systemctl", "start", "acd-copy"), (0, ""))
+        self.expect("the records by --live", self.ran("acd-calls", "--file", FILE, "--live", user="acd")[0], 0)
+        self.expect("a copy", self.ran("systemctl", "start", "acd-copy"), (0, ""))
         copy = f"{STATE}/copies/{self.names(f'{STATE}/copies')[0]}/desk.db"
-        self.expect_in("and the export of it", self.run("acd", "export", "--file", copy, user="acd")[1], r"\Anumber,moment,event,")
+        self.expect_in("and the export of it", self.ran("acd", "export", "--file", copy, user="acd")[1], r"\Anumber,moment,event,")
 
     def try_forgotten(self):
         """An agent who forgot to log off, and a call that nobody has any more: a supervisor can't, and the page's lines do."""
@@ -155,11 +143,11 @@ class Plans(Office):
         self.done("systemctl", "stop", "acd")
         for number, (what, plan, wanted) in enumerate((("twice", twice, "409"), ("too many", many, "409"))):
             self.container.put(f"{STATE}/plan.csv", plan)
-            status, said = self.run("acd", "import", "--file", f"{STATE}/other-{number}.db", "--plan", f"{STATE}/plan.csv", user="acd")
+            status, said = self.ran("acd", "import", "--file", f"{STATE}/other-{number}.db", "--plan", f"{STATE}/plan.csv", user="acd")
             self.expect(f"{what}, by an import", (status, said.splitlines()[-1][:3]), (0, wanted))
         self.restarts("with its own plan")
         self.expect("twice, by the page's line", self.at_noon(twice), (1, "acd-plan: plan row 6: 8 stands there twice\n"))
         self.expect("nothing is taken", self.plan_now(), before)
         status, said = self.at_noon(many)
-        told = [line for line in said.splitlines() if line.startswith("acd-plan: addGroup")]
-        self.expect(f"too many, by the page's line: {told}", (status, told), (1, [f"acd-plan: addGroup {300 + number}: 409 planFull" for number in (63, 64)]))
+        lines = [line for line in said.splitlines() if line.startswith("acd-plan: addGroup")]
+        self.expect(f"too many, by the page's line: {lines}", (status, lines), (1, [f"acd-plan: addGroup {300 + number}: 409 planFull" for number in (63, 64)]))

@@ -1,11 +1,11 @@
 """Cases of what the program itself says and leaves alone: a log without its file, an audit of the log, why at a terminal; done wrong first, and then right."""
 import re
 import sys
-from pathlib import Path
 
-from office import FILE, HOME, PLAN, STATE, Office
+from office import FILE, HOME, PLAN, STATE, Planned
+from trial import TOP
 
-sys.path.append(str(Path(__file__).resolve().parents[1] / "ready"))
+sys.path.append(str(TOP / "tools/ready"))
 from logs import Log  # noqa: E402
 
 LOG = f"{FILE}-wal"
@@ -13,18 +13,15 @@ LOG = f"{FILE}-wal"
 COMMANDS = (("lines",), ("import", "--plan", f"{STATE}/plan.csv"), ("serve", "--port", "8079", "--endless"), ("report",), ("export",), ("audit",))
 
 
-class Program(Office):
-    def try_all(self):
-        self.plan()
+class Program(Planned):
+    def try_plan(self):
+        super().try_plan()
         self.done("systemctl", "disable", "--now", "acd-tick")
         self.container.put(f"{STATE}/plan.csv", PLAN)
-        self.try_lone_log()
-        self.try_whole()
-        self.try_terminal()
 
     def acd(self, *words, wait=20):
         """A command by the desk's user; one that goes on is ended."""
-        return self.run("timeout", "5", "acd", *words, user="acd", wait=wait)
+        return self.ran("timeout", "5", "acd", *words, user="acd", wait=wait)
 
     # a log without its file
 
@@ -54,7 +51,7 @@ class Program(Office):
         file, log = self.held()
         whole = Log("of the desk", log, file, "kept")
         early, no_head = (r"the log of \S+ ends early: it is damaged in its middle", r"the head of the log of \S+ can't be read")
-        for what, data, wanted, told in (("whole", log, (0, "sound\n"), None), ("torn", whole.flipped(whole.at(whole.marks[-1]) + 50), (0, "sound\n"), None),
+        for what, data, wanted, reason in (("whole", log, (0, "sound\n"), None), ("torn", whole.flipped(whole.at(whole.marks[-1]) + 50), (0, "sound\n"), None),
                                          ("damaged", whole.flipped(whole.at(whole.marks[9] + 1) + 50), (5, "sound, but its log ends early\n"), early),
                                          ("without a head", whole.flipped(18), (5, "sound, but the head of its log can't be read\n"), no_head)):
             for option, said in (("--whole", wanted), (None, (0, "sound\n"))):
@@ -63,7 +60,7 @@ class Program(Office):
             for command in ("report", "audit"):
                 self.laid(file, data)
                 found = [line for line in self.at_terminal(command, "--file", FILE) if line.startswith("acd: ")]
-                self.expect(f"{command} at a terminal, over a log that is {what}: {found}", [bool(told and re.search(told, line)) for line in found], [True] if told else [])
+                self.expect(f"{command} at a terminal, over a log that is {what}: {found}", [bool(reason and re.search(reason, line)) for line in found], [True] if reason else [])
         self.laid(file, log)
         self.restarts("with the log as it was")
         self.expect("nothing is lost", self.kept("whole"), list(range(1, 21)))
@@ -78,13 +75,8 @@ class Program(Office):
 
     def at_terminal(self, *words):
         """What is said at a terminal, by lines."""
-        said = self.run("script", "--quiet", "--return", "--command", " ".join(["timeout", "5", "acd", *words]), "/dev/null", user="acd", wait=20)[1]
+        said = self.ran("script", "--quiet", "--return", "--command", " ".join(["timeout", "5", "acd", *words]), "/dev/null", user="acd", wait=20)[1]
         return said.replace("\r", "").splitlines()
-
-    def try_terminal(self):
-        self.done("systemctl", "stop", "acd")
-        self.try_files()
-        self.try_plans()
 
     def why(self, what, line, pattern, *words):
         """At a terminal the line that a pipe gets is followed by one that says why; a pipe gets no more than the line."""
@@ -93,6 +85,7 @@ class Program(Office):
         self.expect(f"{what}, by a pipe", self.acd(*words)[1], f"{line}\n")
 
     def try_files(self):
+        self.done("systemctl", "stop", "acd")
         other, meta, text, sheet = f"{STATE}/other.db", f"{STATE}/meta.db", f"{STATE}/notes.txt", f"{STATE}/plan.csv"
         for path, table in ((other, "t"), (meta, "meta")):
             self.done("runuser", "-u", "acd", "--", "python3", "-c", f"import sqlite3; book = sqlite3.connect('{path}'); book.execute('CREATE TABLE {table} (n)'); book.commit()")

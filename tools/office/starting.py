@@ -8,29 +8,12 @@ LOG, NOTE, ROUNDS, KILLS = f"{FILE}-wal", f"{FILE}-pair", 50, 20
 
 
 class Starting(Office):
-    def try_all(self):
-        self.try_installed()
-        self.try_killed_make()
-        self.plan()
-        self.try_moved_file()
-        self.try_lone_log()
-        self.try_mistyped_file()
-        self.try_disk_that_is_away()
-        self.try_rights()
-        self.try_taken_port()
-        self.try_wrong_port()
-        self.try_settings()
-        self.try_rounds()
-        self.try_full_disk()
-        self.try_opened_first()
-        self.try_upgrade()
-
     def try_installed(self):
         """The package makes the first file, and says so; nothing has failed."""
-        self.expect_in("what dpkg says", self.container.said, f"(?m)^made {FILE}$")
+        self.expect_in("what dpkg says", self.said, f"(?m)^made {FILE}$")
         self.serves("as it is installed")
         self.expect("its file is nobody else's", self.done("stat", "-c", "%U %a", FILE, NOTE), "acd 600\nacd 600\n")
-        self.expect("nothing has failed", self.run("systemctl", "--failed", "--quiet"), (0, ""))
+        self.expect("nothing has failed", self.ran("systemctl", "--failed", "--quiet"), (0, ""))
         self.expect("what runs is the program", self.done("cat", f"/proc/{self.show('MainPID')[0]}/comm"), "acd\n")
         after, wants, order = self.show("After", "Wants", "StartLimitIntervalUSec")
         self.expect("it comes behind a clock that is set, and is started again without an end", ("time-sync.target" in after.split(), "time-sync.target" in wants.split(), order), (True, True, "0"))
@@ -41,13 +24,16 @@ class Starting(Office):
         self.done("sh", "-c", f"mkdir {HOME}/first && mv {FILE}* {HOME}/first")
         self.fails("before a desk is made", f"{FILE} isn't there", f"acd-ready --make --file {FILE}")
         for number in range(KILLS):
-            self.run("timeout", "--signal=KILL", f"{0.02 + 0.01 * number:.2f}", "acd-ready", "--make", "--file", FILE)
-            said = self.run("acd-ready", "--make", "--file", FILE)
+            self.ran("timeout", "--signal=KILL", f"{0.02 + 0.01 * number:.2f}", "acd-ready", "--make", "--file", FILE)
+            said = self.ran("acd-ready", "--make", "--file", FILE)
             self.expect(f"made behind kill {number}", said in ((0, f"made {FILE}\n"), (0, f"{FILE} is there already\n")))
-            self.expect(f"it is whole, and alone, behind kill {number}", (self.run("acd", "audit", "--file", FILE, user="acd"), [name for name in self.names() if "new-desk" in name]), ((0, "sound\n"), []))
+            self.expect(f"it is whole, and alone, behind kill {number}", (self.ran("acd", "audit", "--file", FILE, user="acd"), [name for name in self.names() if "new-desk" in name]), ((0, "sound\n"), []))
             self.done("sh", "-c", f"rm {FILE}*")
         self.done("sh", "-c", f"mv {HOME}/first/* {STATE}")
         self.restarts("with the first one")
+
+    def try_plan(self):
+        self.plan()
 
     def try_moved_file(self):
         """The file is moved away under load. It goes on; a restart makes no other one, and the log stays: with the file back all is there."""
@@ -65,7 +51,7 @@ class Starting(Office):
             self.restarts("with the file back")
         self.done("systemctl", "stop", "acd")
         self.expect("each answered request is there, once", set(self.answered) <= set(self.kept("moved")) and len(self.answered) > 20)
-        self.expect("and the audit says so", self.run("acd", "audit", "--file", FILE, user="acd"), (0, "sound\n"))
+        self.expect("and the audit says so", self.ran("acd", "audit", "--file", FILE, user="acd"), (0, "sound\n"))
 
     def try_lone_log(self):
         """A file of no bytes beside a log that holds something, as a restore that ends half-way leaves it."""
@@ -101,12 +87,12 @@ class Starting(Office):
         self.done("systemctl", "daemon-reload")
         self.set("ACD_FILE", f"{place}/desk.db")
         self.fails("a disk that is away", f"{place}/desk.db isn't there")
-        status, said = self.run("acd-ready", "--make", "--file", f"{place}/desk.db", user="acd")
+        status, said = self.ran("acd-ready", "--make", "--file", f"{place}/desk.db", user="acd")
         self.expect("nor is a new desk made there by its user", (status, said.count("\n"), f"may not write in {place}" in said), (64, 1, True))
         self.done("mount", "-t", "tmpfs", "none", place)
         self.done("chown", "acd:acd", place)
         self.fails("a disk with no desk", f"{place}/desk.db isn't there", "acd-ready --make")
-        self.expect("made as the line says", self.run("acd-ready", "--make", "--file", f"{place}/desk.db"), (0, f"made {place}/desk.db\n"))
+        self.expect("made as the line says", self.ran("acd-ready", "--make", "--file", f"{place}/desk.db"), (0, f"made {place}/desk.db\n"))
         self.expect("by root, for the folder's owner", self.done("stat", "-c", "%U:%G %a", f"{place}/desk.db"), "acd:acd 600\n")
         self.restarts("on its own disk")
         self.done("rm", "/etc/systemd/system/acd.service.d/disk.conf")
@@ -133,7 +119,7 @@ class Starting(Office):
             self.done("systemctl", "stop", "acd")
         self.done("mv", FILE, f"{STATE}/x")
         self.done("rm", LOG)
-        self.expect("root makes the first file by an import", self.run("acd", "import", "--file", FILE, "--plan", "/plan.csv")[0], 0)
+        self.expect("root makes the first file by an import", self.ran("acd", "import", "--file", FILE, "--plan", "/plan.csv")[0], 0)
         self.fails("a file that root made", f"{FILE} is the user root's")
         self.done("rm", FILE, LOG)
         self.done("mv", f"{STATE}/x", FILE)
@@ -142,7 +128,7 @@ class Starting(Office):
     def stranger(self, port=8080):
         """Another program that listens."""
         self.done("systemd-run", "--quiet", "--collect", "--unit=stranger", "--uid=www-data", "python3", "-m", "http.server", str(port), "--bind", "127.0.0.1", "--directory", "/srv")
-        self.expect("a stranger listens", self.eventually(lambda: f":{port} " in self.run("ss", "-Hltn")[1], True), True)
+        self.expect("a stranger listens", self.eventually(lambda: f":{port} " in self.ran("ss", "-Hltn")[1], True), True)
 
     def try_taken_port(self):
         """Another program has the port: told at once, and it is sent no tick."""
@@ -153,11 +139,11 @@ class Starting(Office):
         self.stranger()
         self.fails("a taken port", "port 8080 is taken", "ss -ltnp sport = :8080", "ACD_PORT in /etc/acd/acd.env")
         self.expect_in("the line's own advice names who has it", self.done("ss", "-ltnp", "sport = :8080"), "python3")
-        told = self.eventually(lambda: self.told(ticks, "acd-tick"), ["acd-tick: who listens at port 8080 is no desk, and is sent nothing"])
-        self.expect("the ticks tell it too", told, ["acd-tick: who listens at port 8080 is no desk, and is sent nothing"])
+        lines = self.eventually(lambda: self.said_since(ticks, "acd-tick"), ["acd-tick: who listens at port 8080 is no desk, and is sent nothing"])
+        self.expect("the ticks tell it too", lines, ["acd-tick: who listens at port 8080 is no desk, and is sent nothing"])
         asked = self.journal("stranger")
         self.expect("the stranger is asked, and sent nothing", ("GET /snapshot" in asked, "POST" in asked), (True, False))
-        status, said = self.run("dpkg", "--install", *[f"{HOME}/{path.name}" for path in self.inside(HOME).glob("acd_*.deb")])
+        status, said = self.ran("dpkg", "--install", *[f"{HOME}/{path.name}" for path in self.inside(HOME).glob("acd_*.deb")])
         self.expect("an installation goes on", status, 0)
         self.expect_in("and says it", said, r"(?m)^acd: the desk isn't served: port 8080 is taken: end who listens there")
         self.done("systemctl", "stop", "stranger")
@@ -176,16 +162,16 @@ class Starting(Office):
         settings = self.inside(SETTINGS)
         before = settings.read_text()
         self.set("ACD_STEP", "1")
-        self.run("systemctl", "restart", "acd-tick")
+        self.ran("systemctl", "restart", "acd-tick")
         self.expect("a step of one second", self.eventually(lambda: self.show("ActiveState", "ExecMainStatus", "NRestarts", unit="acd-tick"), ["failed", "2", "0"], 5), ["failed", "2", "0"])
-        self.expect_in("it is named", self.run("systemctl", "--failed", "--no-legend", "--plain")[1], "acd-tick.service")
+        self.expect_in("it is named", self.ran("systemctl", "--failed", "--no-legend", "--plain")[1], "acd-tick.service")
         self.expect("and says why", "'1' isn't a whole number from 2 to 3600" in self.journal("acd-tick"))
         settings.write_bytes(before.replace(f"ACD_FILE={FILE}", f'ACD_FILE="{FILE}"').replace("\n", "\r\n").encode())
         self.restarts("with quotes, and lines of another system")
         self.done("systemctl", "restart", "acd-tick")
         self.expect("the ticks too", self.show("ActiveState", unit="acd-tick"), ["active"])
-        self.expect("a copy by the unit", self.run("systemctl", "start", "acd-copy"), (0, ""))
-        self.expect("and by hand", self.run("acd-copy", user="acd")[0], 0)
+        self.expect("a copy by the unit", self.ran("systemctl", "start", "acd-copy"), (0, ""))
+        self.expect("and by hand", self.ran("acd-copy", user="acd")[0], 0)
         settings.write_text(before)
         self.restarts("with the settings as they were")
 
@@ -194,11 +180,11 @@ class Starting(Office):
         mark, failed = self.mark(), []
         with self.loaded("rounds"):
             for number in range(ROUNDS):
-                status, said = self.run("systemctl", "restart", "acd")
+                status, said = self.ran("systemctl", "restart", "acd")
                 if status or self.eventually(lambda: self.curl("http://127.0.0.1:8080/snapshot"), 200) != 200:
                     failed.append((number, said))
         self.expect(f"of {ROUNDS} restarts under load failed", failed, [])
-        self.expect("none was started again by itself, none told anything", (self.show("NRestarts", "ActiveState"), self.told(mark)), (["0", "active"], []))
+        self.expect("none was started again by itself, none told anything", (self.show("NRestarts", "ActiveState"), self.said_since(mark)), (["0", "active"], []))
         self.done("systemctl", "stop", "acd")
         self.expect("each answered request is there, once", self.kept("rounds")[:len(self.answered)], self.answered)
         self.expect(f"under load: {len(self.answered)}", len(self.answered) > 4 * ROUNDS)
@@ -217,7 +203,7 @@ class Starting(Office):
         with self.loaded("full"):
             self.expect("it is full, and started again", self.eventually(lambda: int(self.show("NRestarts")[0]) >= 3, True, 90), True)
             self.inside(f"{STATE}/filler").touch()
-            self.run("sh", "-c", f"cat /dev/zero > {STATE}/filler")
+            self.ran("sh", "-c", f"cat /dev/zero > {STATE}/filler")
             self.expect("it hasn't failed for good", [state for state in (self.show("ActiveState")[0] for _ in range(10) if not time.sleep(0.5)) if state == "failed"], [])
             answered = self.inside(f"{HOME}/full").read_text().count("\n")
             self.done("mount", "-o", f"remount,size={4 * size + 40000}k", STATE)
@@ -233,10 +219,10 @@ class Starting(Office):
         words = ["strace", "-f", "-qq", "-e", "trace=open,openat,execve", "-o", "/tmp/calls", "acd-ready", "--serve", "--file", FILE, "--port", "8079"]
         process = subprocess.Popen(self.container.words(words, user="acd"), stdout=subprocess.DEVNULL, stderr=subprocess.DEVNULL)
         self.serves("by hand", 8079)
-        before, mark, behind = self.done("cat", "/tmp/calls").partition('execve("/usr/bin/acd", ["acd", "serve", "--file"')
+        before, mark, later = self.done("cat", "/tmp/calls").partition('execve("/usr/bin/acd", ["acd", "serve", "--file"')
         self.done("kill", before.splitlines()[-1].split()[0])
         process.wait()
-        opened = [[line for line in part.splitlines() if "open" in line and f'"{FILE}"' in line] for part in (before, behind)]
+        opened = [[line for line in part.splitlines() if "open" in line and f'"{FILE}"' in line] for part in (before, later)]
         self.expect(f"it opens the file as the program alone: {opened}", list(map(bool, opened)), [False, True])
         self.restarts("by the service")
 
@@ -244,7 +230,7 @@ class Starting(Office):
         """A package that is installed again over a desk whose file and log are away: nothing is made in their place."""
         self.done("systemctl", "stop", "acd")
         self.done("sh", "-c", f"mkdir {HOME}/away && mv {FILE} {LOG} {HOME}/away")
-        status, said = self.run("dpkg", "--install", *[f"{HOME}/{path.name}" for path in self.inside(HOME).glob("acd_*.deb")])
+        status, said = self.ran("dpkg", "--install", *[f"{HOME}/{path.name}" for path in self.inside(HOME).glob("acd_*.deb")])
         self.expect("it is installed", status, 0)
         self.expect_in("and says it", said, f"(?m)^acd: the desk isn't served: {FILE} isn't there")
         self.expect("nothing is made", self.inside().exists(), False)
