@@ -5,8 +5,9 @@ import random
 import re
 import shutil
 import signal
+import subprocess
 import time
-from collections.abc import Callable
+from collections.abc import Callable, Iterator
 from dataclasses import dataclass
 from pathlib import Path
 
@@ -32,7 +33,7 @@ class Day:
     down: float = 1.5
 
 
-def run(folder: Path, program: str, base: int, day: Day) -> Comparison:
+def run(folder: Path, program: Path, base: int, day: Day) -> Comparison:
     options = ("--waiting", "music" if day.music else "queued", "--trace")
     with Ground(folder, program, base, day.agents, day.agents, edge=day.edge, options=options) as ground:
         for place, station in enumerate(ground.stations):
@@ -44,11 +45,12 @@ def run(folder: Path, program: str, base: int, day: Day) -> Comparison:
         callers = start_callers(ground, day)
         live_through(ground, day, callers)
         quiet = ground.wait_until_quiet()
-        for process in ground.running[2:]:
-            ground.end(process, signal.SIGKILL)
+        for process in ground.running:
+            if process is not ground.exchange:
+                ground.end(process, signal.SIGKILL)
         faults = ground.said("exchange").count("a step was undone")
         ground.end(ground.exchange)
-        ground.end(ground.desk)
+        ground.desk.stop()
         (folder / "export.csv").write_text(ground.acd("export", "--file", "desk.db"))
         (folder / "report.txt").write_text(ground.acd("report", "--file", "desk.db"))
         audit = ground.acd("audit", "--file", "desk.db").strip()
@@ -57,7 +59,7 @@ def run(folder: Path, program: str, base: int, day: Day) -> Comparison:
     return found
 
 
-def start_callers(ground: Ground, day: Day) -> list[object]:
+def start_callers(ground: Ground, day: Day) -> list[subprocess.Popen[bytes]]:
     account = f"trunk:{PASSWORD}" if day.edge else ""
     gives = day.calls * day.give_up // 100
     numbers = [f"03{each:05d}" for each in range(1, day.calls + 1)]
@@ -66,15 +68,15 @@ def start_callers(ground: Ground, day: Day) -> list[object]:
             for name, part, patience in parts if part]
 
 
-def live_through(ground: Ground, day: Day, callers: list[object]) -> None:
+def live_through(ground: Ground, day: Day, callers: list[subprocess.Popen[bytes]]) -> None:
     """Until all callers are done: agents who let it ring press ready again; programs are killed, and started again."""
     began, kills = time.monotonic(), {"exchange": day.kill_exchange, "desk": day.kill_desk}
-    while any(caller.poll() is None for caller in callers) and time.monotonic() - began < 60 + 4 * day.calls / day.rate:  # type: ignore[attr-defined]
+    while any(caller.poll() is None for caller in callers) and time.monotonic() - began < 60 + 4 * day.calls / day.rate:
         time.sleep(0.3)
         for name, at in kills.items():
             if at and time.monotonic() - began > at:
                 kills[name] = 0.0
-                ground.end(getattr(ground, name), signal.SIGKILL)
+                ground.end(ground.exchange if name == "exchange" else ground.desk.process, signal.SIGKILL)
                 time.sleep(day.down)
                 setattr(ground, name, getattr(ground, f"start_{name}")())
         for place, station in enumerate(ground.stations):
@@ -131,18 +133,15 @@ def swap(text: str, one: str, other: str) -> str:
     return text.replace(f"sip:{one}@", "sip:\0@").replace(f"sip:{other}@", f"sip:{one}@").replace("sip:\0@", f"sip:{other}@")
 
 
-def plant(folder: Path) -> list[str]:
-    """The plants that aren't told in the files of a day."""
-    missed = []
+def planted(folder: Path) -> Iterator[tuple[str, bool]]:
+    """Each plant, and whether it is told in the files of a day."""
     for name, file, change, rule in PLANTS:
         copy = folder.with_name(folder.name + "-planted")
         shutil.rmtree(copy, ignore_errors=True)
         shutil.copytree(folder, copy)
         (copy / file).write_text(change((copy / file).read_text(errors="replace")))
-        if not Comparison(copy, music=False).differ[rule]:
-            missed.append(name)
+        yield name, Comparison(copy, music=False).differ[rule] > 0
         shutil.rmtree(copy)
-    return missed
 
 
 def random_kills(seed: int) -> Day:

@@ -11,17 +11,19 @@ import signal
 import socket
 import subprocess
 import sys
-import time
+from concurrent.futures import ThreadPoolExecutor
 from pathlib import Path
 from types import TracebackType
-from typing import IO, Any
+from typing import IO, Any, Self
 
 HERE = Path(__file__).resolve().parent
 EXCHANGE = HERE.parent
 TOP = EXCHANGE.parent
 sys.path[:0] = [str(EXCHANGE), str(TOP / "clients/python")]
+sys.path.append(str(TOP / "tools"))
 
 from acd_client import Answer, Client, Event  # noqa: E402
+from trial import Desk, Plan, ran, until, until_listening  # noqa: E402
 
 PASSWORD = "open-sesame"
 # the address that the edges of a trial take for a trunk's
@@ -130,23 +132,22 @@ class Programs:
     def start_kamailio(self, port: int) -> subprocess.Popen[bytes]:
         folder = self.folder / "edge"
         edge = self.start(["kamailio", "-DD", "-E", "-f", str(folder / "kamailio.cfg"), "-P", str(folder / "pid"), "-w", str(folder)], "edge")
-        wait_for_port(port)
+        assert until_listening(port), f"kamailio doesn't listen: {self.said('edge')[-400:]}"
         return edge
 
 
 class Ground(Programs):
     """Ports: desk, exchange, music and edge from base on; callers from base + 50, phones from base + 100, media from base + 300."""
 
-    def __init__(self, folder: Path, program: str, base: int, stations: int = 3, agents: int = 2, groups: str = "100", ring: int = 5, wrap: int = 2,
+    def __init__(self, folder: Path, program: Path, base: int, stations: int = 3, agents: int = 2, groups: str = "100", ring: int = 5, wrap: int = 2,
                  edge: bool = False, options: tuple[str, ...] = ()):
         super().__init__(folder)
         self.program, self.base, self.options = program, base, options
         self.desk_port, self.port, self.music_port, self.edge_port, self.tls_port = range(base, base + 5)
         self.stations = [str(201 + each) for each in range(stations)]
         self.callers, self.media = 0, base + 300
-        rows = ["kind,number,name,ring,wrap", *(f"group,{number},Group {number},{ring},{wrap}" for number in groups.split()),
-                *(f"station,{number},,," for number in self.stations), *(f"agent,{each + 1},Agent {each + 1},," for each in range(agents))]
-        (folder / "plan.csv").write_text("\n".join(rows) + "\n")
+        plan = Plan([(number, f"Group {number}", ring, wrap) for number in groups.split()], self.stations, [str(each + 1) for each in range(agents)])
+        (folder / "plan.csv").write_text(plan.text())
         (folder / "phones.json").write_text(json.dumps({number: f"sip:{number}@127.0.0.1:{self.phone_port(number)}" for number in self.stations}))
         self.acd("import", "--file", "desk.db", "--plan", "plan.csv")
         self.client = Client(f"http://127.0.0.1:{self.desk_port}", requester="supervisor")
@@ -158,23 +159,23 @@ class Ground(Programs):
             for number in self.stations:
                 assert self.register(number) == 200, f"{number} isn't registered"
 
-    def __enter__(self) -> Ground:
+    def __enter__(self) -> Self:
         return self
 
     def __exit__(self, *what: Any) -> None:
         self.client.disconnect()
         self.keys.socket.close()
+        self.desk.kill()
         super().__exit__(*what)
 
     # programs
 
     def acd(self, *words: str) -> str:
-        return subprocess.run([self.program, *words], cwd=self.folder, stdout=subprocess.PIPE, stderr=subprocess.STDOUT, text=True).stdout
+        done = ran(self.program, *words, cwd=self.folder)
+        return done.output + done.faults
 
-    def start_desk(self) -> subprocess.Popen[bytes]:
-        desk = self.start([self.program, "serve", "--file", "desk.db", "--port", str(self.desk_port), "--connections", "1000000"], "desk")
-        wait_for_port(self.desk_port)
-        return desk
+    def start_desk(self) -> Desk:
+        return Desk(self.program, "desk.db", 1000000, self.desk_port, cwd=self.folder)
 
     def start_exchange(self, stop_at: str = "") -> subprocess.Popen[bytes]:
         program = [str(HERE / "stopped.py"), stop_at] if stop_at else [str(EXCHANGE / "acd-exchange")]
@@ -182,10 +183,7 @@ class Ground(Programs):
         before = self.said("exchange").count("following")
         exchange = self.start([sys.executable, *program, *who, "--listen", f"127.0.0.1:{self.port}", "--desk",
                                f"http://127.0.0.1:{self.desk_port}", "--music-port", str(self.music_port), *self.options], "exchange")
-        for _ in range(1500):
-            if self.said("exchange").count("following") > before or exchange.poll() is not None:
-                break
-            time.sleep(0.02)
+        until(lambda: self.said("exchange").count("following") > before or exchange.poll() is not None, 30, 0.02)
         return exchange
 
     def start_ticks(self) -> None:
@@ -256,31 +254,33 @@ class Ground(Programs):
 
     def wait_until_quiet(self, seconds: float = 15) -> bool:
         """Until no call lives at the desk: each event's call is cleared."""
-        deadline = time.monotonic() + seconds
-        while time.monotonic() < deadline:
+        def is_quiet() -> bool:
             events = self.events()
-            if {e["call"] for e in events if "call" in e} == {e["call"] for e in events if e["event"] == "callCleared"}:
-                return True
-            time.sleep(0.2)
-        return False
+            return {e["call"] for e in events if "call" in e} == {e["call"] for e in events if e["event"] == "callCleared"}
+
+        return bool(until(is_quiet, seconds, 0.2))
 
 
-def wait_for_port(port: int) -> None:
-    for _ in range(250):
+def side_by_side(jobs: int, works: list[tuple[Any, ...]]) -> list[Any]:
+    """What each work returns, a function and its arguments; so many at a time. Where the trial is ended no further one begins."""
+    with ThreadPoolExecutor(max(1, jobs)) as pool:
+        made = [pool.submit(*work) for work in works]
         try:
-            socket.create_connection(("127.0.0.1", port), 1).close()
-            return
-        except OSError:
-            time.sleep(0.02)
-    raise AssertionError(f"nobody listens on port {port}")
+            return [each.result() for each in made]
+        except (SystemExit, KeyboardInterrupt):
+            pool.shutdown(wait=False, cancel_futures=True)
+            raise
 
 
 def wait_for(processes: list[subprocess.Popen[bytes]], seconds: float) -> list[int | None]:
     """The statuses of those that ended in time."""
-    deadline = time.monotonic() + seconds
-    while time.monotonic() < deadline and any(process.poll() is None for process in processes):
-        time.sleep(0.05)
+    until(lambda: None not in [process.poll() for process in processes], seconds)
     return [process.poll() for process in processes]
+
+
+def offer(port: int, host: str = "127.0.0.1") -> str:
+    """The body of an INVITE that asks for the sound there."""
+    return f"v=0\r\no=- 1 1 IN IP4 {host}\r\ns=-\r\nc=IN IP4 {host}\r\nt=0 0\r\nm=audio {port} RTP/AVP 8\r\n"
 
 
 def write_accounts(file: Path, accounts: list[tuple[str, str]]) -> None:

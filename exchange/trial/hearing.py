@@ -6,8 +6,11 @@ import socket
 import time
 from pathlib import Path
 
-from features import Features
-from ground import PASSWORD, Ground, credentials
+from ground import PASSWORD, Ground, credentials, offer
+from lone import field, routes_of
+from trial import Trial
+
+expect = Trial.expect
 
 
 class Caller:
@@ -19,7 +22,7 @@ class Caller:
         self.signal.bind((host, 0))
         self.sound.bind((asks, 0))
         self.place = f"{host}:{self.signal.getsockname()[1]}"
-        self.body = (f"v=0\r\no=- 1 1 IN IP4 {asks}\r\ns=-\r\nc=IN IP4 {asks}\r\nt=0 0\r\nm=audio {self.sound.getsockname()[1]} RTP/AVP 8\r\n")
+        self.body = offer(self.sound.getsockname()[1], asks)
         self.uri = f"sip:100@127.0.0.1:{to}"
 
     def __enter__(self) -> Caller:
@@ -65,17 +68,13 @@ class Caller:
         status, text = self.hear(182, 200)
         before = self.packets(0.4)
         if status == 200:
-            more = "".join(f"Route: {row.partition(':')[2].strip()}\r\n" for row in text.split("\r\n") if row.startswith("Record-Route:"))
+            more = "".join(f"Route: {route}\r\n" for route in routes_of(text))
             self.uri = field(text, "Contact").strip("<>")
             self.say("ACK", 2 if account else 1, field(text, "To"), more)
         return status, before > 0, self.packets(1) > 0
 
 
-def field(text: str, name: str) -> str:
-    return next(row.partition(":")[2].strip() for row in text.split("\r\n") if row.startswith(f"{name}:"))
-
-
-def run(folder: Path, program: str, base: int, seen: Features) -> None:
+def run(folder: Path, program: Path, base: int) -> None:
     heard, refused = (200, False, True), (182, False, False)
     cases = [("127.0.0.1", "127.0.0.1", heard), ("127.0.0.2", "127.0.0.2", heard), ("127.0.0.2", "127.0.0.1", refused), ("127.0.0.1", "127.0.0.2", refused),
              ("127.0.0.3", "127.0.0.1", refused)]
@@ -83,7 +82,7 @@ def run(folder: Path, program: str, base: int, seen: Features) -> None:
         with Ground(folder, program, base, edge=bool(account), options=("--waiting", "music", "--trace")) as ground:
             for host, asks, wanted in cases:
                 with Caller(ground.edge_port if account else ground.port, host, asks) as caller:
-                    seen.see(f"music: a sender at {host} {'with a password ' * bool(account)}asks for it at {asks}", caller.call(account), wanted)
+                    expect(f"music: a sender at {host} {'with a password ' * bool(account)}asks for it at {asks}", caller.call(account), wanted)
             lines = ground.said("exchange").count("no music goes to 127.0.0.1: a sender at 127.0.0.2 ")
-            seen.see("music: that is told once", lines, 1)
+            expect("music: that is told once", lines, 1)
             ground.end(ground.exchange)

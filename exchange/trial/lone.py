@@ -4,7 +4,6 @@ from __future__ import annotations
 import re
 import secrets
 import socket
-import ssl
 import struct
 import threading
 import time
@@ -12,6 +11,7 @@ from pathlib import Path
 from types import TracebackType
 
 from ground import PASSWORD, TRUNK, Ground, Phone, Programs, credentials
+from trial import ANY, until
 
 OTHER = "127.0.0.3"
 # how long is waited for what comes, with a repeat behind each, and for what shouldn't
@@ -64,9 +64,7 @@ class Sink(threading.Thread):
 
     def take(self, awaited: int = 0) -> list[str]:
         """What came through since it was asked last; so many are waited for."""
-        ends = time.monotonic() + 5
-        while len(self.heard) < awaited and time.monotonic() < ends:
-            time.sleep(0.01)
+        until(lambda: len(self.heard) >= awaited, 5, 0.01)
         time.sleep(0.2)
         heard, self.heard = self.heard, []
         return heard
@@ -177,9 +175,7 @@ class Line:
         else:
             self.line = socket.create_connection(("127.0.0.1", edge.tls_port if transport == "TLS" else edge.edge_port))
         if transport == "TLS":
-            context = ssl.create_default_context()
-            context.check_hostname, context.verify_mode = False, ssl.CERT_NONE
-            self.line = context.wrap_socket(self.line)
+            self.line = ANY.wrap_socket(self.line)
         self.port, self.rest, self.lock = self.line.getsockname()[1], b"", threading.Lock()
         self.heard: dict[str, list[str]] = {}
         self.over = False
@@ -225,12 +221,11 @@ class Line:
 
     def wait_for_all(self, names: list[str], begin: str, seconds: float = 10) -> list[str]:
         """The calls of which something has come that begins so, when all have it or the time is over."""
-        ends = time.monotonic() + seconds
-        while True:
-            found = [name for name in names if any(text.startswith(begin) for text in self.heard.get(name, ()))]
-            if len(found) == len(names) or time.monotonic() > ends:
-                return found
-            time.sleep(0.02)
+        def found() -> list[str]:
+            return [name for name in names if any(text.startswith(begin) for text in self.heard.get(name, ()))]
+
+        until(lambda: len(found()) == len(names), seconds, 0.02)
+        return found()
 
     def close(self) -> None:
         self.over = True
@@ -247,9 +242,7 @@ def over_connection(edge: LoneEdge, text: str, encrypted: bool = False, host: st
         plain.bind((host, source))
         plain.settimeout(5)
         plain.connect(("127.0.0.1", edge.tls_port if encrypted else edge.edge_port))
-        context = ssl.create_default_context()
-        context.check_hostname, context.verify_mode = False, ssl.CERT_NONE
-        with context.wrap_socket(plain) if encrypted else plain as line:
+        with ANY.wrap_socket(plain) if encrypted else plain as line:
             line.sendall(text.encode("latin-1"))
             try:
                 return line.recv(8192).decode("latin-1")

@@ -9,9 +9,8 @@ from dataclasses import dataclass
 from pathlib import Path
 
 import scenarios
-from ground import Ground, wait_for
-
-BODY = "v=0\r\no=- 1 1 IN IP4 127.0.0.1\r\ns=-\r\nc=IN IP4 127.0.0.1\r\nt=0 0\r\nm=audio 9 RTP/AVP 8\r\n"
+from ground import Ground, offer, wait_for
+from trial import Trial
 
 
 class Line:
@@ -46,7 +45,7 @@ def part(times: list[float], share: float) -> float:
     return sorted(times)[int(share * (len(times) - 1))]
 
 
-def ready_to_ring(folder: Path, program: str, base: int, count: int = 60, poll: str = "0.1") -> dict[str, list[float]]:
+def ready_to_ring(folder: Path, program: Path, base: int, count: int = 60, poll: str = "0.1") -> dict[str, list[float]]:
     """Milliseconds from ready, by the phone's own code and by a screen's request over HTTP, to the INVITE at the phone. Each caller gives up then."""
     found: dict[str, list[float]] = {"code": [], "screen": []}
     with Ground(folder, program, base, 1, 1, ring=0, wrap=0, options=("--poll", poll)) as ground:
@@ -55,7 +54,7 @@ def ready_to_ring(folder: Path, program: str, base: int, count: int = 60, poll: 
         keys.wait_for("SIP/2.0 200")
         for turn in range(2 * count):
             call, how = secrets.token_hex(6), "code" if turn % 2 else "screen"
-            caller.request("INVITE", "100", f"03{turn:05d}", call, BODY)
+            caller.request("INVITE", "100", f"03{turn:05d}", call, offer(9))
             caller.wait_for("SIP/2.0 182")
             time.sleep(0.15 + secrets.randbelow(100) / 1000)
             began = time.monotonic()
@@ -72,7 +71,7 @@ def ready_to_ring(folder: Path, program: str, base: int, count: int = 60, poll: 
             phone.answer(phone.wait_for("CANCEL"), "200 OK")
             phone.answer(invite, "487 Request Terminated")
             keys.request("MESSAGE", "*25", "201", secrets.token_hex(6))
-            ground.wait_until_quiet()
+            Trial.expect(f"the call of turn {turn} ends", ground.wait_until_quiet())
         for line in (phone, keys, caller):
             line.socket.close()
     return found
@@ -93,17 +92,17 @@ def processor_seconds(process: int) -> float:
     return sum(int(word) for word in Path(f"/proc/{process}/stat").read_text().rsplit(")", 1)[1].split()[11:13]) / 100
 
 
-def idle(folder: Path, program: str, base: int, seconds: int = 20) -> tuple[float, float]:
+def idle(folder: Path, program: Path, base: int, seconds: int = 20) -> tuple[float, float]:
     """The shares of a processor that bridge and desk take while nothing happens but polling."""
     with Ground(folder, program, base) as ground:
         time.sleep(2)
-        before = processor_seconds(ground.exchange.pid), processor_seconds(ground.desk.pid)
+        before = processor_seconds(ground.exchange.pid), processor_seconds(ground.desk.process.pid)
         time.sleep(seconds)
-        after = processor_seconds(ground.exchange.pid), processor_seconds(ground.desk.pid)
+        after = processor_seconds(ground.exchange.pid), processor_seconds(ground.desk.process.pid)
     return (after[0] - before[0]) / seconds, (after[1] - before[1]) / seconds
 
 
-def load(folder: Path, program: str, base: int, rate: float, seconds: int) -> Carried:
+def load(folder: Path, program: Path, base: int, rate: float, seconds: int) -> Carried:
     """Whole calls at a rate: a ring of 50 ms, a talk of half a second, over so many agents that none waits for one."""
     agents = min(1000, int(12 * rate) + 20)
     with Ground(folder, program, base, agents, agents, wrap=1, options=("--tick", "1")) as ground:
@@ -122,14 +121,14 @@ def load(folder: Path, program: str, base: int, rate: float, seconds: int) -> Ca
         count = int(rate * seconds)
         (folder / "numbers.csv").write_text("SEQUENTIAL\n" + "".join(f"03{each:06d};\n" for each in range(count)))
         time.sleep(2)
-        before = processor_seconds(ground.exchange.pid), processor_seconds(ground.desk.pid)
+        before = processor_seconds(ground.exchange.pid), processor_seconds(ground.desk.process.pid)
         began = time.monotonic()
         caller = ground.start(["sipp", "-sf", "caller.xml", "-inf", "numbers.csv", "-i", "127.0.0.1", "-p", str(base + 50),
                                f"127.0.0.1:{ground.port}", "-nostdin",
                                "-m", str(count), "-r", str(int(rate)), "-mp", str(base + 400), *quiet, "-stf", "caller.csv"], "callers")
         wait_for([caller], 3 * seconds + 60)
         took = time.monotonic() - began
-        after = processor_seconds(ground.exchange.pid), processor_seconds(ground.desk.pid)
+        after = processor_seconds(ground.exchange.pid), processor_seconds(ground.desk.process.pid)
         ground.wait_until_quiet(5)
         row, phone = last_row(folder / "caller.csv"), last_row(folder / "phone.csv")
     return Carried(count, int(row["SuccessfulCall(C)"]), int(row["FailedCall(C)"]), int(row["Retransmissions(C)"]) + int(phone["Retransmissions(C)"]), took,

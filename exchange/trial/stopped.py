@@ -4,11 +4,14 @@ from __future__ import annotations
 import os
 import signal
 import sys
+from pathlib import Path
 from typing import Any
 
-import ground  # noqa: F401  (the path)
-from bridge import loop
-from bridge.store import Store
+EXCHANGE = Path(__file__).resolve().parents[1]
+sys.path[:0] = [str(EXCHANGE), str(EXCHANGE.parent / "clients/python")]
+
+from bridge import loop  # noqa: E402
+from bridge.store import Store  # noqa: E402
 
 AT = sys.argv.pop(1)
 

@@ -2,12 +2,11 @@
 from __future__ import annotations
 
 import time
-from concurrent.futures import ThreadPoolExecutor
 from dataclasses import dataclass
 from pathlib import Path
 
 import scenarios
-from ground import Ground
+from ground import Ground, side_by_side
 
 OFFER = "queued@100 diverted@100 delivered@201"
 GIVEN_UP = "connectionCleared@0301234 connectionCleared@201 callCleared"
@@ -31,7 +30,7 @@ class Stopped:
     broken_off: bool
 
 
-def run_one(folder: Path, program: str, base: int, kind: str, at: str) -> Stopped:
+def run_one(folder: Path, program: Path, base: int, kind: str, at: str) -> Stopped:
     waiting = "music" if kind == "music" else "queued"
     ring, name = 6 if kind == "taken back" else 60, f"{kind.replace(' ', '-')}-{at}"
     with Ground(folder / name, program, base, 2, 2, ring=ring, options=("--waiting", waiting)) as ground:
@@ -66,7 +65,7 @@ def run_one(folder: Path, program: str, base: int, kind: str, at: str) -> Stoppe
     return Stopped(kind, at, reached, wrong, 1 in ends)
 
 
-def run(folder: Path, program: str, base: int, kinds: list[str], jobs: int, steps: int = 40) -> list[Stopped]:
+def run(folder: Path, program: Path, base: int, kinds: list[str], jobs: int, steps: int = 40) -> list[Stopped]:
     """All stops of these kinds of call; a step that isn't reached any more is the end of its kind."""
     points = [(kind, f"{step}-{when}") for kind in kinds for step in range(2, steps) for when in ("before", "after")]
 
@@ -79,5 +78,4 @@ def run(folder: Path, program: str, base: int, kinds: list[str], jobs: int, step
                     over.add(kind)
         return found
 
-    with ThreadPoolExecutor(jobs) as pool:
-        return [stopped for part in pool.map(work, range(jobs)) for stopped in part]
+    return [stopped for part in side_by_side(jobs, [(work, place) for place in range(jobs)]) for stopped in part]

@@ -8,10 +8,12 @@ import socket
 from pathlib import Path
 from typing import NamedTuple
 
-from features import Features
-from ground import Ground
+from ground import Ground, offer
+from trial import Trial
 
-SDP = ("v=0\r\no=- 1 1 IN IP4 127.0.0.1\r\ns=-\r\nc=IN IP4 127.0.0.1\r\nt=0 0\r\nm=audio 7000 RTP/AVP 8\r\n").encode()
+expect = Trial.expect
+
+SDP = offer(7000).encode()
 
 
 class Torture(NamedTuple):
@@ -154,11 +156,11 @@ def answers(port: int, data: bytes, count: int) -> tuple[int, ...]:
     return tuple(found)
 
 
-def run(folder: Path, program: str, base: int, seen: Features) -> None:
+def run(folder: Path, program: Path, base: int) -> None:
     """All of them, by UDP to a bridge without an edge, which has to live and to serve on."""
     with Ground(folder, program, base, options=("--trace",)) as ground:
         for each in TORTURES:
-            seen.see(f"torture, {each.section}, {each.name}", answers(ground.port, each.data, len(each.answers)), each.answers)
-        seen.see("torture: it serves on", answers(ground.port, request("OPTIONS", "afterwards"), 1), (200,))
-        seen.see("torture: steps undone", ground.said("exchange").count("a step was undone"), 0)
+            expect(f"torture, {each.section}, {each.name}", answers(ground.port, each.data, len(each.answers)), each.answers)
+        expect("torture: it serves on", answers(ground.port, request("OPTIONS", "afterwards"), 1), (200,))
+        expect("torture: steps undone", ground.said("exchange").count("a step was undone"), 0)
         ground.end(ground.exchange)
