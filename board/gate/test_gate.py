@@ -1,15 +1,12 @@
-#!/usr/bin/python3
+#!/usr/bin/python3 -B
 """Tests of the gate, over a stand-in for the desk that keeps the requests it gets.   usage: board/gate/test_gate.py
 
 Needs htpasswd of apache2-utils, python3-passlib and python3-bcrypt (Debian packages)."""
 import contextlib
-import http.client
 import importlib.machinery
 import importlib.util
 import io
 import json
-import os
-import socket
 import subprocess
 import sys
 import tempfile
@@ -22,7 +19,9 @@ from http.server import BaseHTTPRequestHandler, ThreadingHTTPServer
 from pathlib import Path
 from unittest import mock
 
-sys.dont_write_bytecode = True
+sys.path.append(str(Path(__file__).resolve().parents[2] / "tools"))
+from trial import Connection, bytes_back  # noqa: E402
+
 loader = importlib.machinery.SourceFileLoader("gate", str(Path(__file__).resolve().parent / "acd-gate"))
 gate = importlib.util.module_from_spec(importlib.util.spec_from_loader(loader.name, loader))
 loader.exec_module(gate)
@@ -97,8 +96,8 @@ class StandIn(BaseHTTPRequestHandler):
 
 class GateTest(unittest.TestCase):
     def setUp(self):
-        self.folder = tempfile.TemporaryDirectory()
-        self.roles, self.users = Path(self.folder.name) / "roles", Path(self.folder.name) / "users"
+        folder = Path(self.enterContext(tempfile.TemporaryDirectory()))
+        self.roles, self.users = folder / "roles", folder / "users"
         self.roles.write_text(ROLES)
         self.users.write_text(USERS)
         self.desk = ThreadingHTTPServer(("127.0.0.1", 0), StandIn)
@@ -111,16 +110,14 @@ class GateTest(unittest.TestCase):
         for server in (self.gate, self.desk):
             server.shutdown()
             server.server_close()
-        self.folder.cleanup()
 
     def exchange(self, method, path, body, fields):
-        """The reply's status, fields and body."""
-        connection = http.client.HTTPConnection("127.0.0.1", self.gate.server_port, timeout=5)
-        connection.request(method, path, body, fields)
-        reply = connection.getresponse()
-        answer = reply.status, reply.headers, reply.read()
-        connection.close()
-        return answer
+        with Connection(self.gate.server_port, seconds=5) as connection:
+            return connection.ask(method, path, body, fields.items())
+
+    def begins(self, sent, answer):
+        """What comes back for these bytes begins so."""
+        self.assertRegex(bytes_back(self.gate.server_port, sent, ends=True, seconds=5), answer)
 
     def ask(self, login, body, method="POST", path="/csta", **fields):
         named = {"X-Login": login.encode(), "X-Site": "https://desk:8443", **{name.replace("_", "-"): value for name, value in fields.items()}}
@@ -205,7 +202,7 @@ class RoleTest(GateTest):
         for login in ("planner", "Copy.2"):
             self.assertEqual(self.ask(login, None, "GET", "/requests?after=7"), (200, PAGE))
             status, fields, answer = self.exchange("HEAD", "/requests", None, {"X-Login": login})
-            self.assertEqual((status, fields["Content-Length"], answer), (200, str(len(PAGE)), b""))
+            self.assertEqual((status, fields["content-length"], answer), (200, str(len(PAGE)), b""))
         self.assertEqual(self.desk.got, ["/requests?after=7", "/requests?"] * 2)
         for login in ("pbx", "sup", "ana", "ben", "lea", "blind", "nobody", "Jürgen", ""):
             self.assertEqual(self.ask(login, None, "GET", "/requests?after=7"), FORBIDDEN, login)
@@ -213,9 +210,7 @@ class RoleTest(GateTest):
 
     def test_a_query_of_requests_goes_on(self):
         for query, sent in (("after=1&after=2", "after=1&after=2"), ("after=%31&x=?/#'\"<", "after=%31&x=?/#'\"<"), ("\xe4fter=1", "%E4fter=1"), ("after=1&x=\x7f", "after=1&x=%7F")):
-            with socket.create_connection(("127.0.0.1", self.gate.server_port), timeout=5) as connection:
-                connection.sendall(f"GET /requests?{query} HTTP/1.1\r\nX-Login: planner\r\n\r\n".encode("latin-1"))
-                self.assertRegex(connection.recv(100), rb"^HTTP/1.1 200 ")
+            self.begins(f"GET /requests?{query} HTTP/1.1\r\nX-Login: planner\r\n\r\n".encode("latin-1"), rb"\AHTTP/1.1 200 ")
             self.assertEqual(self.desk.got.pop(), f"/requests?{sent}")
 
     def test_two_lines_of_a_login(self):
@@ -332,9 +327,7 @@ class RequestTest(GateTest):
         self.assertEqual(self.ask("pbx", b"{}", "PUT"), (501, b'{"error":{"code":40,"name":"notImplemented"}}'))
         self.assertEqual(self.ask("pbx", None, "GET", "/" + "x" * 70000), (414, b'{"error":{"code":39,"name":"headTooLarge"}}'))
         for length in ("", "x", "-1", "+1", "٣", "1" * 5000):
-            with socket.create_connection(("127.0.0.1", self.gate.server_port), timeout=5) as connection:
-                connection.sendall(f"POST /csta HTTP/1.1\r\nX-Login: pbx\r\nContent-Length: {length}\r\n\r\n".encode())
-                self.assertRegex(connection.recv(100), rb"^HTTP/1.1 4(11|13) ")
+            self.begins(f"POST /csta HTTP/1.1\r\nX-Login: pbx\r\nContent-Length: {length}\r\n\r\n".encode(), rb"\AHTTP/1.1 4(11|13) ")
         self.assertEqual(len(self.desk.got), 1)
 
     def test_no_desk(self):
@@ -503,12 +496,8 @@ class FollowTest(unittest.TestCase):
 
 class SessionTest(unittest.TestCase):
     def setUp(self):
-        self.folder = tempfile.TemporaryDirectory()
-        self.file, self.hashes, self.now = Path(self.folder.name) / "sessions", {"ana": "hash", "ben": "other"}, 1e9
+        self.file, self.hashes, self.now = Path(self.enterContext(tempfile.TemporaryDirectory())) / "sessions", {"ana": "hash", "ben": "other"}, 1e9
         self.sessions = self.opened()
-
-    def tearDown(self):
-        self.folder.cleanup()
 
     def opened(self):
         return sessions.Sessions(self.file, types.SimpleNamespace(now=lambda: self.hashes), lambda: self.now)
@@ -583,7 +572,7 @@ class PasswordTest(GateTest):
         """Status, login and why."""
         named = {"X-Address": address, **({} if authorization is None else {"Authorization": authorization}), **fields}
         status, reply_fields, _ = self.exchange("GET", "/auth", None, named)
-        return status, reply_fields.get("X-Login"), reply_fields.get("X-Why")
+        return status, reply_fields.get("x-login"), reply_fields.get("x-why")
 
     def looks(self):
         """Counts the passwords that are looked at."""
@@ -599,7 +588,7 @@ class PasswordTest(GateTest):
         for login, password in (("ana", "Secret"), ("ana", ""), ("ana", SECRET), ("ben", "secret"), ("", "secret"), ("Ana", "secret"), ("ana ", "secret"), (" ana", "secret")):
             self.assertEqual(self.auth(basic(login, password)), self.WRONG, (login, password))
         status, reply_fields, body = self.exchange("GET", "/auth", None, {})
-        self.assertEqual((status, reply_fields["WWW-Authenticate"], body), (401, 'Basic realm="desk", charset="UTF-8"', b'{"error":{"code":42,"name":"unauthorized"}}'))
+        self.assertEqual((status, reply_fields["www-authenticate"], body), (401, 'Basic realm="desk", charset="UTF-8"', b'{"error":{"code":42,"name":"unauthorized"}}'))
 
     def test_odd_fields(self):
         right = basic("ana")[6:]
@@ -750,14 +739,12 @@ class PasswordTest(GateTest):
         self.assertEqual(len(passwords.wrong), 50)  # each new one in place of an old one
 
     def test_a_connection_stays(self):
-        connection = http.client.HTTPConnection("127.0.0.1", self.gate.server_port, timeout=5)
-        for authorization, wanted in ((basic("ana"), 204), (basic("ana", "x"), 401), (b"", 401), (basic("pbx"), 204)):
-            connection.request("GET", "/auth", headers={"Authorization": authorization, "X-Address": "192.0.2.1"})
-            port = connection.sock.getsockname()
-            reply = connection.getresponse()
-            reply.read()
-            self.assertEqual((reply.status, connection.sock.getsockname()), (wanted, port))
-        connection.close()
+        ports = set()
+        with Connection(self.gate.server_port, seconds=5) as one:
+            for authorization, wanted in ((basic("ana"), 204), (basic("ana", "x"), 401), (b"", 401), (basic("pbx"), 204)):
+                self.assertEqual(one.ask("GET", "/auth", fields=[("Authorization", authorization), ("X-Address", "192.0.2.1")]).status, wanted)
+                ports.add(one.connection.sock.getsockname())
+        self.assertEqual(len(ports), 1)
 
 
 if __name__ == "__main__":

@@ -8,9 +8,13 @@ with them, so that each request is granted: an agent in three serves two or thre
 The same words give the same lines. To carry the day on in real time is live.py's part."""
 import argparse
 import heapq
-import json
 import random
+import sys
 from itertools import count
+from pathlib import Path
+
+sys.path.append(str(Path(__file__).resolve().parents[1]))
+from trial import Plan, Requests, line  # noqa: E402
 
 NAMES = ["Billing", "Orders", "Returns", "Technical help", "Deliveries", "New customers", "Complaints", "Insurance", "Contracts",
          "Moving house", "Power failure", "Water", "Meter readings", "Business customers", "Internet", "Mobile", "Television",
@@ -39,7 +43,7 @@ class Day:
     def __init__(self, begin, end, groups, agents, load, seed):
         self.begin, self.end, self.load, self.chance = begin, end, load, random.Random(seed)
         self.now, self.stamp, self.last_call, self.live = begin, 0, 0, 0
-        self.invokes, self.ahead, self.serial, self.lines = {}, [], count(), []
+        self.request, self.ahead, self.serial, self.lines = Requests(), [], count(), []
         self.weights = [self.chance.uniform(0.4, 1.6) for _ in range(groups)]
         self.agents = [Agent(str(number + 1), self.some_groups(), str(2000 + number)) for number in range(agents)]
         self.waiting, self.ready = [[] for _ in self.weights], [[] for _ in self.weights]
@@ -58,11 +62,9 @@ class Day:
     def device(group):
         return str(100 + group)
 
-    def ask(self, requester, service, **members):
+    def ask(self, request):
         self.stamp += 1
-        self.invokes[requester] = self.invokes.get(requester, 0) + 1
-        request = {"requester": requester, "invoke": self.invokes[requester], "service": service, **members}
-        self.lines.append(f"{self.now} {json.dumps(request, separators=(',', ':'))}")
+        self.lines.append(line(self.now, request))
 
     def after(self, seconds, what, *things):
         heapq.heappush(self.ahead, (self.now + max(1, int(seconds)), next(self.serial), what, things))
@@ -117,27 +119,22 @@ class Day:
     # what people do
 
     def plan(self):
-        for group in range(len(self.weights)):
-            name = NAMES[group] if group < len(NAMES) else f"Group {group + 1}"
-            self.ask("plan", "addGroup", device=self.device(group), name=name, ring=RING, wrap=WRAP)
-        for group in filter(self.goes_first, range(len(self.weights))):
-            self.ask("plan", "setGroupPriority", device=self.device(group), priority=PRIORITY)
-        for agent in self.agents:
-            self.ask("plan", "addStation", device=agent.station)
-        for place, agent in enumerate(self.agents):
-            self.ask("plan", "addAgent", agent=agent.number, name=f"{FIRST[place % 26]} {LAST[(place // 26 + place) % 25]}")
+        groups = [(self.device(group), NAMES[group] if group < len(NAMES) else f"Group {group + 1}", RING, WRAP) for group in range(len(self.weights))]
+        agents = [(agent.number, f"{FIRST[place % 26]} {LAST[(place // 26 + place) % 25]}") for place, agent in enumerate(self.agents)]
+        for request in [*self.request.plan(Plan(groups, [], [])),
+                        *(self.request("setGroupPriority", device=device, priority=PRIORITY) for group, (device, *_) in enumerate(groups) if self.goes_first(group)),
+                        *self.request.plan(Plan([], [agent.station for agent in self.agents], agents))]:
+            self.ask(request)
 
     def log_on(self, agent):
-        groups = [self.device(group) for group in agent.groups]
-        named = {"group": groups[0]} if len(groups) == 1 else {"groups": groups}
-        self.ask("desk", "setAgentState", agent=agent.number, requested="loggedOn", device=agent.station, **named)
+        self.ask(self.request.log_on(agent.number, agent.station, *map(self.device, agent.groups)))
         self.become(agent, "notReady")
         self.after(self.chance.randrange(5, 90), self.say_ready, agent)
         self.after(self.chance.expovariate(1 / 4000), self.take_break, agent)
 
     def say_ready(self, agent):
         if agent.state in ("notReady", "workingAfterCall"):
-            self.ask("desk", "setAgentState", agent=agent.number, requested="ready")
+            self.ask(self.request.state(agent.number))
             self.become(agent, "ready")
 
     def take_break(self, agent):
@@ -152,7 +149,7 @@ class Day:
         """To a state at once, or behind the call that the agent has."""
         if agent.state == "null":
             return
-        self.ask("desk", "setAgentState", agent=agent.number, requested=requested)
+        self.ask(self.request.state(agent.number, requested))
         if agent.call:
             agent.pending = requested
         else:
@@ -166,7 +163,7 @@ class Day:
             return
         self.last_call, self.live = self.last_call + 1, self.live + 1
         call = Call(self.last_call, f"03{self.chance.randrange(10 ** 7):07}", group, 0)
-        self.ask("pbx", "arriveCall", caller=call.caller, called=self.device(group))
+        self.ask(self.request.arrive(call.caller, self.device(group)))
         self.enqueue(call, self.stamp)
         self.after(self.chance.expovariate(1 / 240) + 5, self.lose_patience, call)
 
@@ -176,19 +173,19 @@ class Day:
         if call.deflected or self.chance.random() > 0.08 or len(self.weights) == 1:
             return self.clear(call)
         to = (call.group + 1) % len(self.weights)
-        self.ask("sup", "deflectCall", call=call.number, device=self.device(call.group), to=self.device(to))
+        self.ask(self.request.at("deflectCall", call.number, self.device(call.group), requester="sup", to=self.device(to)))
         call.group, call.deflected = to, True
         self.enqueue(call, self.stamp)
         self.after(self.chance.expovariate(1 / 240) + 30, self.lose_patience, call)
 
     def clear(self, call):
-        self.ask("pbx", "clearConnection", call=call.number, device=call.caller)
+        self.ask(self.request.at("clearConnection", call.number, call.caller))
         call.state, self.live = "cleared", self.live - 1
 
     def answer(self, call, offered):
         if call.state != "ringing" or call.offered != offered:
             return
-        self.ask("desk", "answerCall", call=call.number, device=call.agent.station)
+        self.ask(self.request.at("answerCall", call.number, call.agent.station))
         call.state = call.agent.state = "busy"
         self.ringing.discard(call)
         talk, chance = self.chance.lognormvariate(0, 0.6) * TALK * 0.85, self.chance.random()
@@ -200,17 +197,17 @@ class Day:
             self.after(talk, self.hang_up, call)
 
     def hold(self, call, rest):
-        self.ask("desk", "holdCall", call=call.number, device=call.agent.station)
+        self.ask(self.request.at("holdCall", call.number, call.agent.station))
         self.after(self.chance.randrange(15, 90), self.retrieve, call, rest)
 
     def retrieve(self, call, rest):
-        self.ask("desk", "retrieveCall", call=call.number, device=call.agent.station)
+        self.ask(self.request.at("retrieveCall", call.number, call.agent.station))
         self.after(rest, self.hang_up, call)
 
     def transfer(self, call):
         agent = call.agent
         call.group = (call.group + self.chance.randrange(1, len(self.weights))) % len(self.weights)
-        self.ask("desk", "singleStepTransfer", call=call.number, device=agent.station, to=self.device(call.group))
+        self.ask(self.request.at("singleStepTransfer", call.number, agent.station, to=self.device(call.group)))
         self.enqueue(call, self.stamp)
         self.release(agent, answered=True)
         self.after(self.chance.expovariate(1 / 300) + 20, self.lose_patience, call)
@@ -221,7 +218,7 @@ class Day:
 
     def tick(self):
         self.after(TICK, self.tick)
-        self.ask("clock", "tick")
+        self.ask(self.request.tick())
         for call in sorted((call for call in self.ringing if self.now - call.offered >= RING), key=lambda call: call.number):
             agent = call.agent
             self.enqueue(call, call.place)
@@ -256,7 +253,7 @@ def main():
     parser.add_argument("--agents", type=int, default=150)
     parser.add_argument("--load", type=float, default=0.95)
     parser.add_argument("--seed", type=int, default=1)
-    print("\n".join(Day(**vars(parser.parse_args())).run()))
+    sys.stdout.writelines(Day(**vars(parser.parse_args())).run())
 
 
 if __name__ == "__main__":

@@ -7,8 +7,12 @@ Prints them as JSON: of each group and of all chosen ones entered, answered, aba
 (talk, hold, and the after-call work right behind it), also by quarters of an hour; of each agent calls, missed, talk, work, ready and notReady, from the first event of the day on to E."""
 import argparse
 import json
-import urllib.request
+import sys
 from collections import defaultdict
+from pathlib import Path
+
+sys.path.append(str(Path(__file__).resolve().parents[1]))
+from trial import Connection  # noqa: E402
 
 QUARTER = 900
 SPENT = {"agentBusy": "talk", "agentWorkingAfterCall": "work", "agentReady": "ready", "agentNotReady": "notReady", "agentLoggedOn": "notReady"}
@@ -17,8 +21,8 @@ SPENT = {"agentBusy": "talk", "agentWorkingAfterCall": "work", "agentReady": "re
 def events_of(port):
     found, after = [], 0
     while True:
-        with urllib.request.urlopen(f"http://127.0.0.1:{port}/history?after={after}", timeout=60) as reply:
-            page = json.load(reply)
+        with Connection(port) as connection:
+            page = connection.ask("GET", f"/history?after={after}").value
         found += page["events"]
         if not page["events"] or found[-1]["number"] >= page["last"]:
             return found

@@ -10,12 +10,16 @@ halted within a request would hold the desk."""
 import argparse
 import heapq
 import http.client
-import json
 import random
 import signal
+import sys
 import time
 from collections import Counter
 from itertools import count
+from pathlib import Path
+
+sys.path.append(str(Path(__file__).resolve().parents[1]))
+from trial import Connection, Requests, compact  # noqa: E402
 
 PATIENCE, TALK, TICK = 240, 150, 5
 
@@ -23,7 +27,7 @@ PATIENCE, TALK, TICK = 240, 150, 5
 class Office:
     def __init__(self, port, calls, seed):
         self.port, self.calls, self.chance = port, calls, random.Random(seed)
-        self.requester, self.invoke, self.told = f"live-{random.SystemRandom().randrange(10 ** 12)}", 0, Counter()
+        self.requester, self.request, self.told = f"live-{random.SystemRandom().randrange(10 ** 12)}", Requests(), Counter()
         self.ahead, self.serial, self.last = [], count(), 0
         self.groups, self.stations, self.outside = [], set(), {}
         self.is_halted = False
@@ -44,16 +48,12 @@ class Office:
     def send(self, method, path, body=None):
         while self.is_halted:
             time.sleep(0.02)
-        connection = http.client.HTTPConnection("127.0.0.1", self.port, timeout=30)
-        connection.request(method, path, body)
-        reply = connection.getresponse()
-        told = reply.status, json.loads(reply.read())
-        connection.close()
-        return told
+        with Connection(self.port, seconds=30) as connection:
+            reply = connection.ask(method, path, body)
+            return reply.status, reply.value
 
     def ask(self, service, **members):
-        self.invoke += 1
-        status, reply = self.answered("POST", "/csta", json.dumps({"requester": self.requester, "invoke": self.invoke, "service": service, **members}))
+        status, reply = self.answered("POST", "/csta", compact(self.request(service, self.requester, **members)))
         self.told["granted" if status == 200 else "too late"] += 1
         return reply.get("result", {})
 
