@@ -28,8 +28,9 @@ TOP = DEBIAN.parents[1]
 OPERATING = TOP / "tools/operating"
 MAINTAINER = "Hullapricot maintainers <maintainers@users.noreply.hullapricot.example>"
 UNITS = ("acd.service", "acd-tick.service", "acd-gate.service", "acd-copy.service", "acd-copy.timer", "acd-local.service",
-         "acd-node.service", "acd-node-upkeep.service", "acd-node-upkeep.timer", "acd-records.service", "acd-follow.service", "acd-carry.service", "acd-carry.timer")
-MANUAL = ("acd.1", "acd-calls.1", "acd-plan.1", "acd-trail.1", "acd-ready.8", "acd-tick.8", "acd-gate.8", "acd-copy.8", "acd-carry.8", "acd-follow.8", "acd-forget.8", "acd-export.1", "acd-local.8", "acd-node.8")
+         "acd-node.service", "acd-node-upkeep.service", "acd-node-upkeep.timer", "acd-records.service", "acd-follow.service", "acd-carry.service", "acd-carry.timer",
+         "acd-certificate.service", "acd-certificate.timer")
+MANUAL = ("acd.1", "acd-calls.1", "acd-plan.1", "acd-trail.1", "acd-ready.8", "acd-tick.8", "acd-gate.8", "acd-copy.8", "acd-carry.8", "acd-follow.8", "acd-forget.8", "acd-export.1", "acd-local.8", "acd-node.8", "acd-certificate.8")
 BOARD = TOP / "board"
 PAGES = (".html", ".css", ".js")
 
@@ -264,7 +265,7 @@ def lay_out(root, options, moment):
     put = putter(root)
     put("usr/bin/acd", program.read_bytes(), 0o755)
     told("strip", "--strip-unneeded", "--remove-section=.comment", "--remove-section=.note", root / "usr/bin/acd")
-    for name in ("acd-ready", "acd-tick", "acd-copy", "acd-carry", "acd-follow", "acd-forget", "acd-local"):
+    for name in ("acd-ready", "acd-tick", "acd-copy", "acd-carry", "acd-follow", "acd-forget", "acd-local", "acd-certificate"):
         put(f"usr/sbin/{name}", (OPERATING / name).read_bytes(), 0o755)
     put("usr/sbin/acd-gate", (BOARD / "gate/acd-gate").read_bytes(), 0o755)
     for name in ("acd-calls", "acd-export", "acd-plan", "acd-trail"):
