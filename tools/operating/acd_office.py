@@ -43,7 +43,7 @@ def office(file, report):
     except ValueError:
         said = None
     if not isinstance(said, dict):
-        report(f"{file} is no JSON object: it is passed over")
+        report(f"{file} is not a JSON object; ignored")
         return Office()
     zone, names = texts(said).get("zone"), said.get("names")
     if zone is not None and not is_zone(zone):

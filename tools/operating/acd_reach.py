@@ -1,7 +1,9 @@
 """How a person's command reaches a desk: by its address, over TLS, and with a login whose password is on no command line."""
 import argparse
 import getpass
+import grp
 import os
+import pwd
 import re
 import secrets
 import ssl
@@ -14,6 +16,8 @@ from acd_client import Client, Unanswered
 # seconds: of one attempt, between two, and of all attempts where nothing was asked of the desk yet, and where something was
 WAIT, PAUSE, SOON, PATIENCE = 10, 1, 5, 60
 THIS_MACHINE = ("127.0.0.1", "::1", "localhost")
+# who reaches the desk's own port, as acd-local has it: a group, and users besides root
+GROUP, USERS = "acd-local", ("root", "acd", "acd-gate", "acd-exchange", "www-data", "etcd")
 
 
 class Fault(Exception):
@@ -87,21 +91,38 @@ def desk_at(options):
     return Client(parts.geturl(), wait=WAIT, context=context)
 
 
-def insisted(attempt, patience):
+def insisted(desk, attempt, patience):
     """The answer to an attempt, which is made again while there is none, or one that says no more than that (429, 502, 503, 504)."""
     end = time.monotonic() + patience
     while True:
         try:
             return attempt()
         except Unanswered as fault:
-            if time.monotonic() > end:
-                raise Fault(f"no answer: {fault.__cause__ or fault}") from None
+            if fault.is_lasting or time.monotonic() > end:
+                raise Fault(f"no answer: {fault.__cause__ or fault}{hint(desk, fault)}") from None
             time.sleep(PAUSE)
+
+
+def hint(desk, fault):
+    """What acd-local does to this user, if the desk's own port was asked: it resets the connection."""
+    parts = desk.addresses[0]
+    if parts.scheme != "http" or parts.hostname not in THIS_MACHINE or not isinstance(fault.__cause__, ConnectionError) or is_let_in():
+        return ""
+    return f"; only root and the group {GROUP} reach this port: be one of them, or use https://.. with --login"
+
+
+def is_let_in():
+    """Whether this user reaches the desk's own port, as far as accounts say. Without the group nobody is kept from it."""
+    try:
+        group = grp.getgrnam(GROUP).gr_gid
+        return pwd.getpwuid(os.geteuid()).pw_name in USERS or group in (os.getegid(), *os.getgroups())
+    except KeyError:
+        return True
 
 
 def read(desk, path):
     """The desk's answer at a path."""
-    answer = insisted(lambda: desk.attempt("GET", path), SOON)
+    answer = insisted(desk, lambda: desk.attempt("GET", path), SOON)
     if answer.status != 200:
         raise Fault(f"the desk answered {answer.status} {answer.error}".rstrip())
     return answer.body
@@ -109,4 +130,4 @@ def read(desk, path):
 
 def sent(desk, request):
     """The answer to a request, which acts once however often it is sent."""
-    return insisted(lambda: desk.send(request), PATIENCE)
+    return insisted(desk, lambda: desk.send(request), PATIENCE)

@@ -135,7 +135,7 @@ class Calls(Records):
         self.expect("the group's limit", [line.split(",")[6:10] for line in quarters[1:]], [["60", "1", "0", "100"], ["60", "1", "0", "100"]])
         told = ran(self.scripts["acd-calls"], *words, "--agents", env={name: value for name, value in os.environ.items() if name != "TZ"}).output
         self.expect("the office's zone", told.splitlines()[1].split(",")[:4], ["1970-01-01", "7", "Ana", "270"])
-        for text, said in (("[]", "is no JSON object"), ("{", "is no JSON object"), ('{"zone":"Mars/Crater"}', "there is no zone Mars/Crater"), ('{"zone":"../../etc"}', "there is no zone")):
+        for text, said in (("[]", "is not a JSON object; ignored"), ("{", "is not a JSON object; ignored"), ('{"zone":"Mars/Crater"}', "there is no zone Mars/Crater"), ('{"zone":"../../etc"}', "there is no zone")):
             status, has, fault = self.script("--file", self.story, "--office", self.written(text))
             self.expect(f"an office that says {text}", (status, has, said in fault, fault.count("\n")), (0, story.CALLS, True, 1))
         self.expect("an office that isn't there", self.script("--file", self.story, "--office", "/none")[0], 1)

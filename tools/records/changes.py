@@ -61,18 +61,20 @@ READ = [
         b"agent,7," + b"n" * 41 + b",,\n", b"station,1,n,x,x\n", b"group,1,n,3601,x\n", b"group,1,n,00020,x\n", b"group,1,n,+20,x\n", b"group,1,n,,x\n", b"group,1,n,20,-1\n", b"group,1,n,20,\n",
         b"agent,7,A,0,x\n", b"agent,7,A,,0\n", b"station,1,,,0\n")),
 ]
-# what a terminal is told of a plan besides: the line of the file, and what is wanted there
-WANTED = "line 1 is to be kind,number,name,ring,wrap, and not "
+# what is told of a plan besides, at a terminal and in a pipe: the line of the file, and what is wanted there
+WANTED = "line 1 must be kind,number,name,ring,wrap; it is "
 FAULTY = [
-    (b"", "plan header", WANTED + "nothing"), (HEADER.replace(b",", b";"), "plan header", WANTED + "kind;number;name;ring;wrap"), (b"n\xfcmber\n", "plan header", WANTED + "n\\xFCmber"),
-    (b"\n\nkind\n", "plan header", WANTED.replace("1", "3") + "kind"), (HEADER + b'agent,7,"A\nb",,\n', "plan row 1: name", "that is line 2: an agent's name is to be 1 to 40 characters of ASCII, from the blank to ~ (Mueller for M\u00fcller)"),
-    (b"k" * 61 + b"\n", "plan header", WANTED + "k" * 60), (HEADER + b"\n\nstation,20a,,,\n", "plan row 1: number", "that is line 4: a station's number is to be 1 to 15 digits"),
-    (HEADER + "agent,9,M\u00fcller,,\n".encode(), "plan row 1: name", "that is line 2: an agent's name is to be 1 to 40 characters of ASCII, from the blank to ~ (Mueller for M\u00fcller)"),
-    (HEADER + b"agent,7,Ana,,\nagent,1234567890,A,,\n", "plan row 2: number", "that is line 3: an agent's number is to be 1 to 9 digits"),
-    (HEADER + b"group,1,n,3601,0\n", "plan row 1: ring", "that is line 2: a group's ring is to be seconds from 0 to 3600"),
-    (HEADER + b"station,1,n,,\n", "plan row 1: name", "that is line 2: a station's name is to be empty"),
-    (HEADER + b",,,,\n", "plan row 1: kind", "that is line 2: its kind is to be group, station or agent"),
-    (HEADER + b"agent,7,\xff,,\n", "plan row 1: fields", "that is line 2: a row has 5 fields, with commas between them, in UTF-8"),
+    (b"", "plan header", WANTED.replace("it is ", "the file is empty")), (b"\n\n", "plan header", WANTED.replace("it is ", "the file is empty")), (HEADER.replace(b",", b";"), "plan header", WANTED + "kind;number;name;ring;wrap"), (b"n\xfcmber\n", "plan header", WANTED + "n\\xFCmber"),
+    (b"\n\nkind\n", "plan header", WANTED.replace("1", "3") + "kind"), (HEADER + b'agent,7,"A\nb",,\n', "plan row 1: name", "that is line 2: an agent's name must be 1 to 40 characters of ASCII, from the blank to ~ (Mueller for M\u00fcller)"),
+    (b"k" * 61 + b"\n", "plan header", WANTED + "k" * 60), (HEADER + b"\n\nstation,20a,,,\n", "plan row 1: number", "that is line 4: a station's number must be 1 to 15 digits"),
+    (HEADER + "agent,9,M\u00fcller,,\n".encode(), "plan row 1: name", "that is line 2: an agent's name must be 1 to 40 characters of ASCII, from the blank to ~ (Mueller for M\u00fcller)"),
+    (HEADER + b"agent,7,Ana,,\nagent,1234567890,A,,\n", "plan row 2: number", "that is line 3: an agent's number must be 1 to 9 digits"),
+    (HEADER + b"group,1,n,3601,0\n", "plan row 1: ring", "that is line 2: a group's ring must be 0 to 3600 seconds"),
+    (HEADER + b"station,1,n,,\n", "plan row 1: name", "that is line 2: a station's name must be empty"),
+    (HEADER + b",,,,\n", "plan row 1: kind", "that is line 2: its kind must be group, station or agent"),
+    (HEADER + b"agent,7,M\xfcller,,\n", "plan row 1: fields", "that is line 2: it isn't UTF-8: save the file as UTF-8"),
+    (HEADER + b"agent,7,Ana,\n", "plan row 1: fields", "that is line 2: a row has 5 fields, with commas between them; this one has 4"),
+    (HEADER + b"agent;7;Ana;;\n", "plan row 1: fields", "that is line 2: a row has 5 fields, with commas between them; this one has 1"),
 ]
 
 
@@ -212,20 +214,20 @@ class Changes(Records):
         """Sent to a desk that is busy, doesn't answer, or loses an answer: each acts once."""
         with self.desk() as desk, Front(desk.port, [503, "lose", "pass", 429, 502, "pass", 504, "lose"], "/berlin") as front:
             status, said, told = self.script("--changes", self.file, "--from", f"{front.address}/", "--send")
-            self.expect("sent", (status, told), (0, BEYOND))
+            self.expect("sent", (status, told), (0, f"{BEYOND}acd-plan: 3 added, 4 changed, 0 refused\n"))
             self.expect_lines("what was sent", said, "plan")
             sent = [line[2:].encode() for line in said.splitlines()]
             times = [front.asked.count(body) for body in sent]
             self.expect("the same bytes again, where there was no answer", (times, len(front.asked)), ([3, 3, 3, 1, 1, 1, 1], 13))
             self.expect_plan("the plan behind what was sent", desk)
-            self.expect("nothing more to send", self.script("--changes", self.file, "--from", front.address, "--send"), (0, "", BEYOND))
+            self.expect("nothing more to send", self.script("--changes", self.file, "--from", front.address, "--send"), (0, "", f"{BEYOND}acd-plan: 0 added, 0 changed, 0 refused\n"))
             self.expect("and nothing was", len(front.asked), 13)
 
     def try_refused(self):
         """What isn't granted is told, and what is behind it is sent all the same."""
         with self.desk(Requests().arrive("203", "100")) as desk, Front(desk.port, ["pass", 403]) as front:
             status, said, told = self.script("--changes", self.file, "--from", front.address, "--send")
-            self.expect("refused", (status, told.removeprefix(BEYOND)), (1, "acd-plan: changeGroup 110: 403 forbidden\nacd-plan: addStation 203: 409 deviceExists\n"))
+            self.expect("refused", (status, told.removeprefix(BEYOND)), (1, "acd-plan: changeGroup 110: 403 forbidden\nacd-plan: addStation 203: 409 deviceExists\nacd-plan: 2 added, 3 changed, 2 refused\n"))
             self.expect_lines("sent all the same", said, "plan")
             status, said, _ = self.script("--changes", self.file, "--from", front.address)
             self.expect("what is left", status, 0)
@@ -238,7 +240,7 @@ class Changes(Records):
             self.expect("crossed", self.script("--changes", self.file, "--from", front.address, "--send"), (1, "", CROSSINGS))
             self.expect("nothing was sent", front.asked, [])
             self.file.write_text(TWICE)
-            self.expect("twice", self.script("--changes", self.file, "--from", front.address), (1, "", "acd-plan: plan row 3: 201 stands there twice\n"))
+            self.expect("twice", self.script("--changes", self.file, "--from", front.address), (1, "", "acd-plan: plan row 3: number 201 appears twice\n"))
         self.file.write_text(PLAN)
 
     def try_read(self):
@@ -251,9 +253,10 @@ class Changes(Records):
             status, answers, told = self.ran([self.program, "import", "--file", book, "--plan", file])
             wanted = (status, len(answers.splitlines()), told.replace("acd:", "acd-plan:"))
             status, said, told = self.script("--changes", file, given=empty)
-            self.expect(f"plan {plan[:80]}", (status, len(said.splitlines()), told), wanted)
+            self.expect(f"plan {plan[:80]}", (status, len(said.splitlines()), "".join(told.splitlines(keepends=True)[:1])), wanted)
         for plan, first, why in FAULTY:
             file.write_bytes(plan)
+            self.expect(f"in a pipe, plan {plan[:80]}", self.script("--changes", file, given=empty), (1, "", f"acd-plan: {first}\nacd-plan: {why}\n"))
             shown, status = at_a_terminal([self.scripts["acd-plan"], "--changes", file], b"")
             self.expect(f"at a terminal, plan {plan[:80]}", (status, shown), (1, f"acd-plan: {first}\r\nacd-plan: {why}\r\n"))
         self.expect("no plan", self.script("--changes", "/absent.csv", given=empty), (1, "", "acd-plan: cannot open /absent.csv\n"))
@@ -276,7 +279,7 @@ class Changes(Records):
             status, said, told = self.script(*words, password="p:w ü")
             self.expect("a certificate that nobody trusts", (status, said, "CERTIFICATE_VERIFY_FAILED" in told, told.count("\n")), (1, "", True, 1))
             status, said, told = self.script(*words, "--ca", file, "--send", password="p:w ü")
-            self.expect("sent by a login", (status, told), (0, BEYOND))
+            self.expect("sent by a login", (status, told), (0, f"{BEYOND}acd-plan: 3 added, 4 changed, 0 refused\n"))
             self.expect_lines("what was sent by it", said, "planner")
             self.expect_plan("the plan behind that", desk)
         for ca in ("/absent.crt", self.file):

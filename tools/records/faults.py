@@ -90,7 +90,9 @@ PLAN = [
     ("no stations", 'for station in desk["stations"]', 'for station in []'),
     ("names without quotes", 'csv.writer(sys.stdout, lineterminator="\\n").writerows([HEADER, *rows])',
      'sys.stdout.writelines(",".join(map(str, row)) + "\\n" for row in [HEADER, *rows])'),
-    ("a pipe is told more than the fault", "if why and sys.stderr.isatty():", "if why:"),
+    ("a fault's second line isn't told", "        for text in fault.args:\n            report(text)\n        sys.exit(1)", "        report(fault.args[0])\n        sys.exit(1)"),
+    ("what is refused counts as done", 'if answer.status == 200:', "if True:"),
+    ("changes count as additions", '"add" if one["service"].startswith("add") else "change"', '"add"'),
     ("a row is told by its last line", "            yield line, fields", "            yield reader.line_num, fields"),
     ("a row is taken for a line", "that is line {at}", "that is line {number}"),
     ("priorities under invoke numbers of the plan", "requester_of(options.login), len(rows))", "requester_of(options.login), 0)"),
@@ -103,7 +105,7 @@ PLAN = [
     ("what the desk has more isn't told", "if key(row) not in wanted):", "if False):"),
     ("a crossed number goes out", "    if crossed:\n        raise Fault(*crossed)\n", ""),
     ("a number may stand there twice", "        if key(row) in found:", "        if False:"),
-    ("what is refused has the status 0", "            good = False\n", ""),
+    ("what is refused has the status 0", 'return not done["refused"]', "return True"),
     ("one requester for ever", 'acd_reach.new_requester(options.login, "plan")', '"plan-0123456789abcdef"'),
     ("it sends what it is to print", "    if options.send:", "    if client:"),
     ("one mark alone", "data.removeprefix(MARK).removeprefix(MARK)", "data.removeprefix(MARK)"),
@@ -112,7 +114,7 @@ PLAN = [
     ("a plan of any length", "    if len(data) > LONGEST:", "    if False:"),
 ]
 REACH = [
-    ("it isn't sent again", "            if time.monotonic() > end:", "            if True:"),
+    ("it isn't sent again", "            if fault.is_lasting or time.monotonic() > end:", "            if True:"),
     ("the password is shown", "return getpass.getpass(", "return input("),
     ("any certificate", "ssl.create_default_context(cafile=options.ca)", "ssl._create_unverified_context()"),
     ("the login isn't told", "    if options.login:\n        parts", "    if False:\n        parts"),

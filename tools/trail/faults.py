@@ -14,6 +14,7 @@ FAULTS = [
     ("story", "one filter is enough", "acd-trail", "    return all((not options.requester", "    return any((not options.requester"),
     ("story", "the ticks' requester is told", "acd-trail", 're.sub("^clock-.*", "clock-..", self.request["requester"])', 'self.request["requester"]'),
     ("story", "what is pending isn't told", "acd-trail", 'STATES = ("call", "monitor"), ("state", "pending")', 'STATES = ("call", "monitor"), ("state",)'),
+    ("story", "an import is of 1970", "acd-trail", "if moment == 0:", "if False:"),
     ("story", "moments of another zone", "acd-trail", "datetime.datetime.fromtimestamp(moment)", "datetime.datetime.utcfromtimestamp(moment)"),
     ("story", "a formula goes out", "acd_sheets.py", "changes = FORMULA.match(field) or", "changes ="),
     ("story", "a requester may seem a date", "acd-trail", '{"requester", "name", *', '{"name", *'),

@@ -61,4 +61,4 @@ def table(lines, answers):
 def told(rows, where="1", values=()):
     """The lines of CSV of those that a condition finds."""
     for stamp, moment, *more in rows.execute(f"SELECT * FROM trail WHERE {where} ORDER BY stamp", values):
-        yield [str(stamp), time.strftime("%Y-%m-%d %H:%M:%S", time.localtime(moment)), *map(str, more)]
+        yield [str(stamp), time.strftime("%Y-%m-%d %H:%M:%S", time.localtime(moment)) if moment else "-", *map(str, more)]

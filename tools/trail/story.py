@@ -27,10 +27,10 @@ REQUESTS = [
 LINES = "".join(f"{moment} {request}\n" for moment, request in REQUESTS)
 
 TOLD = """\
-1970-01-01 01:00:00  plan  addGroup device 100, name "Billing", ring 20, wrap 30: done  (#1, invoke 1)
-1970-01-01 01:00:00  plan  addGroup device 0110, name "=1+1", ring 0, wrap 0: done  (#2, invoke 2)
-1970-01-01 01:00:00  plan  addStation device 201: done  (#3, invoke 3)
-1970-01-01 01:00:00  plan  addAgent agent 7, name "Ana \\"A\\" M, senior": done  (#4, invoke 4)
+-  plan  addGroup device 100, name "Billing", ring 20, wrap 30: done  (#1, invoke 1)
+-  plan  addGroup device 0110, name "=1+1", ring 0, wrap 0: done  (#2, invoke 2)
+-  plan  addStation device 201: done  (#3, invoke 3)
+-  plan  addAgent agent 7, name "Ana \\"A\\" M, senior": done  (#4, invoke 4)
 2026-11-28 14:30:00  ana-3f  setAgentState agent 7, requested loggedOn, device 201, groups 100 0110: state notReady  (#5, invoke 1)
 2026-11-28 14:31:59  lea  setGroupPriority device 100, priority 3: done  (#6, invoke 1)
 2026-11-28 14:32:00  lea-2  setGroupPriority device 100, priority 5: done  (#7, invoke 1)
@@ -75,7 +75,7 @@ OFFICE = '{"names":{"agents":{"7":"Änna"}},"zone":"Europe/Berlin"}'
 HEAD = "stamp,when,requester,invoke,service,agent,requested,call,caller,called,device,to,groups,name,ring,wrap,priority,monitor,outcome"
 CSV = f"""\
 {HEAD}
-2,1970-01-01 01:00:00,plan,2,addGroup,,,,,,0110,,,=1+1,0,0,,,done
+2,-,plan,2,addGroup,,,,,,0110,,,=1+1,0,0,,,done
 5,2026-11-28 14:30:00,ana-3f,1,setAgentState,7,loggedOn,,,,201,,100 0110,,,,,,state notReady
 10,2026-11-28 14:33:00,pbx,1,arriveCall,,,1,0301234567890,100,,,,,,,,,call 1
 12,2026-11-28 14:33:21,1-2,999999999,holdCall,,,1,,,201,,,,,,,,"refused, unknownConnection"
@@ -83,7 +83,7 @@ CSV = f"""\
 """
 EXCEL = f"""\
 \ufeff{HEAD},agent_name,called_name,device_name,to_name,group_names
-2,1970-01-01 01:00:00,plan,2,addGroup,,,,,,'0110,,,'=1+1,0,0,,,done,,,'=1+1,,
+2,-,plan,2,addGroup,,,,,,'0110,,,'=1+1,0,0,,,done,,,'=1+1,,
 5,2026-11-28 14:30:00,ana-3f,1,setAgentState,7,loggedOn,,,,201,,100 0110,,,,,,state notReady,Änna,,,,Billing; =1+1
 10,2026-11-28 14:33:00,pbx,1,arriveCall,,,1,'0301234567890,100,,,,,,,,,call 1,,Billing,,,
 12,2026-11-28 14:33:21,'1-2,999999999,holdCall,,,1,,,201,,,,,,,,"refused, unknownConnection",,,,,
