@@ -283,7 +283,8 @@ def lay_out(root, options, moment):
     # records are written behind each copy, so their unit is wanted by that of the copies
     put("usr/share/lintian/overrides/acd", "acd: systemd-service-file-refers-to-unusual-wantedby-target acd-copy.service *\n")
     put("usr/share/bash-completion/completions/acd", (OPERATING / "acd.bash").read_bytes())
-    (root / "usr/share/bash-completion/completions/acd-plan").symlink_to("acd")
+    for name in ("acd-calls", "acd-export", "acd-plan", "acd-trail"):
+        (root / "usr/share/bash-completion/completions" / name).symlink_to("acd")
     doc = "usr/share/doc/acd/"
     for page in [TOP / "README.md", TOP / "docs/openapi.yaml", *sorted((TOP / "docs").glob("*.md")), *sorted((TOP / "docs").glob("*.png"))]:
         put(doc + page.name, page.read_bytes())

@@ -32,9 +32,21 @@ MAY = {
     "acd-node-upkeep.service": (INTERNET | {"read the desk's file", "signal the desk"}, INTERNET | OF_ROOT),
     "acd-exchange.service": (NETWORK | {"write the exchange's folder"}, NETWORK | OF_ROOT - {"read the accounts"}),
     "acd-edge.service": (NETWORK | {"read the accounts", "AF_NETLINK"}, NETWORK | OF_ROOT | {"AF_NETLINK"}),
+    "acd-certificate.service": (LOOPBACK, LOOPBACK | OF_ROOT),
     "acd-records.service": ({"read the desk's file", "signal the desk"}, {"read the accounts", "see another user's process"}),
 }
 FOLDER = "/usr/lib/systemd/system"
+# shows a certificate where nginx would
+SHOWS = """import socket, ssl
+context = ssl.SSLContext(ssl.PROTOCOL_TLS_SERVER)
+context.load_cert_chain("desk.crt", "desk.key")
+with socket.create_server(("127.0.0.1", 8443)) as port:
+    while True:
+        try:
+            context.wrap_socket(port.accept()[0], server_side=True).close()
+        except OSError:
+            pass
+"""
 
 
 class Units(Edges):
@@ -128,6 +140,23 @@ class Units(Edges):
             self.expect(f"{user} reads them", self.ran("test", "-r", lines[-1].split()[-1], user=user)[0] == 0, may)
         self.expect_in("the call", self.done("cat", lines[-1].split()[-1]), r"'?0301234,100,")
         self.done("rm", "-r", f"{copies}/{later}")
+
+    def try_certificate(self):
+        """Where nobody shows a certificate there is none to look at; one that ends in a week is told, and one that lasts isn't."""
+        self.expect("its timer", self.done("systemctl", "is-enabled", "acd-certificate.timer"), "enabled\n")
+        self.done("systemctl", "start", "acd-certificate")
+        self.expect_in("nobody listens", self.journal("acd-certificate"), "acd-certificate: nobody listens at 127.0.0.1:8443")
+        root = self.container.inside("/root")
+        (root / "show.py").write_text(SHOWS)
+        for days, told in ((7, "ends in 6 days, on "), (30, "ends on ")):
+            words = f"req -x509 -newkey rsa:2048 -nodes -subj /CN=desk -days {days} -keyout {root}/desk.key -out {root}/desk.crt".split()
+            subprocess.run(["openssl", *words], stderr=subprocess.DEVNULL, check=True)
+            self.done("systemd-run", "--quiet", "--unit=shows", "--working-directory=/root", "python3", "show.py")
+            self.expect("it listens", self.eventually(lambda: "8443" in self.ran("ss", "-Hltn", "sport", "=", "8443")[1], True), True)
+            self.expect(f"of {days} days", self.ran("systemctl", "start", "acd-certificate")[0] != 0, days == 7)
+            self.expect(f"of {days} days, told", f"the certificate at 127.0.0.1:8443 {told}" in self.journal("acd-certificate"), True)
+            self.expect(f"of {days} days, as failed", "acd-certificate" in self.done("systemctl", "--failed", "--no-legend"), days == 7)
+            self.done("systemctl", "stop", "shows")
 
     # what they may not
 

@@ -58,7 +58,7 @@ class Clock(Planned):
     def try_new_file(self):
         """One of the ways out: the same plan in a new file, by the page's recipe, as root, while no call is live."""
         self.clear("out")
-        self.expect("the recipe", self.typed(self.recipe("A new year in a new file", "systemctl stop acd"))[0], 0)
+        self.expect("the recipe", self.typed(self.recipe("A new year in a new file", "curl -s http"))[0], 0)
         self.serves("in a new file")
         self.expect("the note of the old pair went with it", [name for name in self.names() if name.startswith("desk.db")], ["desk.db", "desk.db-pair", "desk.db-wal"])
         self.expect("an offer is taken back", self.offers("new"), True)

@@ -214,7 +214,7 @@ class Copies(Planned):
 
     def try_new_year(self):
         """A new year by the page's recipe, typed in root's home: nobody else reads any of its files."""
-        status, said = self.typed(self.recipe("A new year in a new file", "systemctl stop acd"))
+        status, said = self.typed(self.recipe("A new year in a new file", "curl -s http"))
         self.expect(f"the recipe ({said[-200:]})", status, 0)
         self.serves("in the new year")
         self.expect("the plan is there", [one["name"] for one in json.loads(self.read("/snapshot"))["agents"]], ["Ana"])

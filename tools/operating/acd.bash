@@ -1,4 +1,4 @@
-# completion of acd and acd-plan in bash; tools/package compares their commands and options with what --help says
+# completion in bash of acd, acd-plan, acd-calls, acd-export and acd-trail; tools/package and tools/unit compare their commands and options with what --help says
 _acd() {
     local word=${COMP_WORDS[COMP_CWORD]} before=${COMP_WORDS[COMP_CWORD - 1]} command=${COMP_WORDS[1]} offered
     COMPREPLY=()
@@ -35,3 +35,22 @@ _acd_plan() {
     fi
 }
 complete -F _acd_plan acd-plan
+# $1 is the command
+_acd_options() {
+    local word=${COMP_WORDS[COMP_CWORD]} before=${COMP_WORDS[COMP_CWORD - 1]} offered
+    COMPREPLY=()
+    case $1 in
+        acd-calls) offered='--file --copies --archive --live --legs --agents --groups --days --since --until --names --excel --office --help' ;;
+        acd-export) offered='--file --archive --desk --help' ;;
+        acd-trail) offered='--file --live --archive --login --ca --since --until --at --requester --service --agent --device --call --invoke --stamp --names --csv --excel --office --help' ;;
+    esac
+    case $before in
+        --file | --copies | --archive | --days | --office | --desk | --ca)
+            mapfile -t COMPREPLY < <(compgen -f -- "$word")
+            compopt -o filenames 2>/dev/null
+            ;;
+        --since | --until | --at | --login | --requester | --service | --agent | --device | --call | --invoke | --stamp) ;;
+        *) mapfile -t COMPREPLY < <(compgen -W "$offered" -- "$word") ;;
+    esac
+}
+complete -F _acd_options acd-calls acd-export acd-trail

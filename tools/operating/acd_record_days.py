@@ -9,6 +9,19 @@ KINDS = ("records", "agents", "groups")
 AGAIN = 7
 
 
+def newest_of(folder, kind):
+    """The newest day of which there is a file, as its text; empty where there is none."""
+    return max((file.stem for file in (folder / kind).glob("*.csv")), default="")
+
+
+def wanted_from(folder):
+    """The first day that hasn't its files yet; None where that may be any."""
+    try:
+        return min(datetime.date.fromisoformat(newest_of(folder, kind)) for kind in KINDS) + datetime.timedelta(days=1)
+    except ValueError:
+        return None
+
+
 class Days:
     """The files below a folder. `first` is the first day that is there as a whole, and `today` the first that isn't over; `writer_of` makes a writer of rows of a stream."""
 
@@ -20,7 +33,7 @@ class Days:
             # the remains of a run that was killed
             for left in (folder / kind).glob(".*.new"):
                 left.unlink()
-            self.newest[kind] = max((file.stem for file in (folder / kind).glob("*.csv")), default="")
+            self.newest[kind] = newest_of(folder, kind)
 
     def lacks(self):
         """Whether days before the first one would be the next, after those that are written."""

@@ -444,7 +444,81 @@ class Calls(Records):
                 for lines in (tables["groups"], self.script("--file", file, "--groups", zone="UTC")[1].splitlines())] if zone == "UTC" else [[], []]
         self.expect(f"{what} without its archives, the quarters", [row for row in rows[1] if row not in rows[0]], [])
         status, said, fault = self.script("--file", file, "--agents", zone=zone)
-        self.expect(f"{what} without its archives, the agents: {fault}", status, 0)
+        self.expect(f"{what} without its archives, the agents: {fault}", (status, fault), (3, self.before(begin, zone)))
+        first = datetime.datetime.fromtimestamp(begin, zoneinfo.ZoneInfo(zone)).date()
+        for words, wanted in (((), 3), (("--since", str(first)), 3), (("--until", str(first - datetime.timedelta(days=1))), 3), (("--since", str(first + datetime.timedelta(days=1))), 0)):
+            status, said, fault = self.script("--file", file, *words, zone=zone)
+            self.expect(f"{what} without its archives, {words}", (status, fault), (wanted, self.before(begin, zone) if wanted else ""))
+
+    @staticmethod
+    def before(begin, zone):
+        """What is told where requests of before are in a file that isn't there."""
+        return f"acd-calls: what was before {datetime.datetime.fromtimestamp(begin, zoneinfo.ZoneInfo(zone)):%Y-%m-%d %H:%M:%S} isn't there: name the archives that have it, by --archive\n"
+
+    def noted(self, file, folder):
+        """The same files in a folder as acd-carry leaves them, with a note beside each that goes on from another one: the file, the archives from the oldest on, and where the file begins."""
+        archives, last, begin = self.carried(file)
+        folder.mkdir()
+        names, place, note = [], folder / "desk.db", ""
+        for archive in archives:
+            with contextlib.closing(sqlite3.connect(archive)) as book:
+                stamp, moment = book.execute("SELECT last_stamp, last_moment FROM meta").fetchone()
+            names.append(folder / f"desk.db-{time.strftime('%Y-%m-%d', time.gmtime(moment))}-{stamp}")
+            shutil.copy(archive, names[-1])
+            if note:
+                Path(f"{names[-1]}.archive").write_text(note)
+            note = f"archive {names[-1].name}\nlast {stamp}\ndigest {'0' * 64}\nwas 1 {moment}.5\n"
+        shutil.copy(last, place)
+        Path(f"{place}.archive").write_text(note)
+        return place, names, begin
+
+    def try_notes(self):
+        """Nobody names an archive: the notes beside the files do; beside a copy, those of the folder of copies. What isn't there is told, where it may have been asked for."""
+        file, zone, tables, moment = self.longest()
+        where = Path(tempfile.mkdtemp(dir=self.folder))
+        place, archives, begin = self.noted(file, where / "desk")
+        copies = self.copy_of(place, moment)
+        made = self.named(copies, moment)
+        shutil.copy(f"{place}.archive", made)
+        (copies / "archives").mkdir()
+        for part in (*archives, *where.glob("desk/desk.db-*.archive")):
+            shutil.copy(part, copies / "archives")
+        for of in (("--file", place), ("--copies", copies), ("--file", made / "desk.db")):
+            for name, (more, _, _) in TABLES.items():
+                status, said, fault = self.script(*of, *more, zone=zone)
+                self.expect(f"{of[0]}, {name}, by the notes", (status, fault), (0, ""))
+                self.expect_lines(f"{of[0]}, {name}, by the notes", said.splitlines(), tables[name])
+        days = sorted({line[:10] for line in tables["agents"][1:]})
+        for day in days:
+            status, said, fault = self.script("--file", place, "--since", day, "--until", day, zone=zone)
+            self.expect(f"the calls of {day}", (status, fault, said.splitlines()[1:]), (0, "", [line for line in tables["calls"][1:] if next(csv.reader([line]))[3][:10] == day]))
+        self.days_by_notes(copies, where / "written", file, zone, moment)
+        self.without_archives(place, archives, begin, zone)
+
+    def days_by_notes(self, copies, folder, file, zone, moment):
+        """Files of all days, as out of a file that was never carried over."""
+        self.expect("files by the notes", self.write(folder, copies, zone)[::2], (0, ""))
+        has = self.files(folder)
+        shutil.rmtree(folder)
+        self.write(folder, self.copy_of(file, moment), zone)
+        self.expect("the same files", has == self.files(folder), True)
+
+    def without_archives(self, place, archives, begin, zone):
+        """An archive isn't opened where the file has all of the days; one that isn't there is told else, and so is one whose own archive isn't."""
+        first = datetime.datetime.fromtimestamp(begin, zoneinfo.ZoneInfo(zone)).date()
+        whole = ("--since", str(first + datetime.timedelta(days=1)))
+        with contextlib.closing(sqlite3.connect(archives[1])) as book:
+            begins, = book.execute("SELECT moment FROM kept ORDER BY stamp LIMIT 1").fetchone()
+        archives[0].unlink()
+        status, said, fault = self.script("--file", place, zone=zone)
+        self.expect("the oldest isn't there", (status, fault), (3, self.before(begins, zone)))
+        archives[1].write_text("no desk\n" * 100)
+        self.expect("one that isn't needed isn't opened", self.script("--file", place, *whole, zone=zone)[::2], (0, ""))
+        self.expect("one that is no desk's", self.script("--file", place, zone=zone)[:2], (1, ""))
+        archives[1].unlink()
+        self.expect("none is there", self.script("--file", place, zone=zone)[::2], (3, self.before(begin, zone)))
+        Path(f"{place}.archive").write_text("no note\n")
+        self.expect("a note that is none", self.script("--file", place, zone=zone), (1, "", f"acd-calls: {place}.archive is no note of an archive\n"))
 
     @staticmethod
     def without(lines, column):
@@ -464,7 +538,7 @@ class Calls(Records):
         self.expect("beside whole ones", (self.write(folder, copies, zone)[::2], {name for name in whole if self.files(folder).get(name) != whole[name]}), ((0, ""), set()))
         shutil.rmtree(folder)
         status, said, fault = self.write(folder, copies, zone)
-        self.expect(f"told: {fault}", (status, fault.count("\n"), "aren't there as a whole" in fault), (0, 1, True))
+        self.expect(f"told: {fault}", (status, fault.count("\n"), "aren't there as a whole" in fault), (3, 1, True))
         self.expect("of these none is made", {name.rpartition("/")[2][:10] <= day for name in self.files(folder)} - {False}, set())
         folder.mkdir(exist_ok=True)
         words = [word for archive in archives for word in ("--archive", archive)]

@@ -9,6 +9,12 @@ CALLS = [
     ("until leaves its day out", "day <= self.options.until", "day < self.options.until"),
     ("names of the desk alone", "            names[kind] |= office.names[kind]", "            pass"),
     ("the oldest copy", "made, place = max(found)", "made, place = min(found)"),
+    ("archives that are named alone", "archives = [] if is_whole(book, since) else archives_of(file, since)", "archives = []"),
+    ("what is missing has the status 0", "sys.exit(0 if do(options, folder) else MISSING)", "sys.exit(0 * do(options, folder))"),
+    ("what is missing isn't told", "        has_all = is_whole(book, since)\n", "        has_all = True\n"),
+    ("the day of the file's begin is whole", "since > datetime.date.fromtimestamp(begins)", "since >= datetime.date.fromtimestamp(begins)"),
+    ("each archive is opened", "[] if is_whole(book, since) else archives_of(file, since)", "archives_of(file, None)"),
+    ("copies of archives aren't found", "folders = [file.parent, acd_chain.copies_of(file.parent.parent)]", "folders = [file.parent]"),
     ("a day ends with the last request", "end = max(book.last_moment(), made)", "end = book.last_moment()"),
 ]
 BOOK = [
