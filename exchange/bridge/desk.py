@@ -97,7 +97,7 @@ class DeskLine:
         if shown.status != 200:
             return True
         try:
-            return acd_due.is_due(shown.body, self.x.steps.now())
+            return acd_due.is_due(shown.body, self.x.steps.wall())
         except (LookupError, TypeError) as fault:
             raise Unanswered("the reply is no snapshot") from fault
 

@@ -143,6 +143,13 @@ class Dialogs:
     def watch(self, leg: Leg) -> None:
         leg.due = self.now() + (leg.session / 2 if leg.refreshes else leg.session - min(32, leg.session / 3))
 
+    def watch_on(self, leg: Leg) -> None:
+        """At a start. If the peer's time to refresh is over by then, a probe asks whether it is there, and it gets another interval."""
+        due = leg.due
+        self.watch(leg)
+        if leg.refreshes or due > self.now():
+            leg.due = min(due, leg.due)
+
     def leg_due(self, leg: Leg) -> None:
         if leg.state == "in" and leg.call:
             self.entertain(leg)

@@ -1,28 +1,26 @@
 """The exchange: its parts, each over those that it gets, the messages that come to them, and its start."""
-import time
 from collections.abc import Callable
 
 from acd_client import Answer
 
 from .calls import Calls
-from .dialogs import Dialogs
+from .dialogs import REMIND, Dialogs
 from .message import Message, Refused
 from .music import Music
 from .phones import DESK_WAIT, Phones
 from .settings import Settings
 from .steps import Steps
 from .store import Store
-from .transactions import ACK_WAIT, LONGEST_WAIT, ROUND_TRIP, Transactions
+from .transactions import ACK_WAIT, LIFE, LONGEST_WAIT, ROUND_TRIP, Transactions
 
 # seconds: until peers have sent again what came to nobody; for an answer to a probe
 GRACE, PROBE_WAIT = 3 * ROUND_TRIP, 2.0
 
 
 class Exchange:
-    def __init__(self, settings: Settings, store: Store, send: Callable[[bytes, str], None],
-                 clock: Callable[[], float] = time.time):
-        self.settings, self.now = settings, clock
-        self.steps = Steps(settings, store, send, clock)
+    def __init__(self, settings: Settings, store: Store, send: Callable[[bytes, str], None]):
+        self.settings, self.now = settings, store.now
+        self.steps = Steps(settings, store, send)
         self.rows = self.steps.rows
         self.transactions = Transactions(self.steps)
         self.music = Music(self.steps, self.transactions)
@@ -55,8 +53,11 @@ class Exchange:
             self.phones.take(message, *new)
 
     def resume(self) -> None:
-        """Messages that came to nobody while the exchange was down may come again now. It asks for those that don't come soon."""
+        """Messages that came to nobody while the exchange was down may come again now. It asks for those that don't come soon. If the machine's clock was set
+        meanwhile, moments of the file are too far off: nothing waits longer than it would from now on."""
         now = self.now()
+        for row in (*self.rows.asked.values(), *self.rows.served.values()):
+            row.due, row.ends = min(row.due, now + LIFE), min(row.ends, now + LIFE)
         for asked in self.rows.asked.values():
             leg = self.rows.legs.get(asked.leg)
             if asked.over:
@@ -73,8 +74,12 @@ class Exchange:
             unheard = self.rows.served.get(leg.transaction)
             if leg.state == "in" and not leg.call:
                 leg.due = now + DESK_WAIT
-            elif leg.state == "up" and not (unheard and unheard.interval):
-                self.transactions.request(leg, "OPTIONS", patience=PROBE_WAIT)
+            elif leg.state == "in":
+                leg.due = min(leg.due, now + REMIND)
+            elif leg.state == "up":
+                self.dialogs.watch_on(leg)
+                if not (unheard and unheard.interval):
+                    self.transactions.request(leg, "OPTIONS", patience=PROBE_WAIT)
 
     def compare(self, key: str, answer: Answer) -> None:
         """Compares the desk's connections of a call with its legs: it ends a leg without a connection, a connection without a leg, and a call

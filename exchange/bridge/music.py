@@ -1,6 +1,5 @@
 """Music for everybody who waits: the addresses that it may be sent to, and 20 ms of G.711 in each packet of RTP."""
 import asyncio
-import audioop
 import errno
 import itertools
 import socket
@@ -10,7 +9,7 @@ import wave
 from collections.abc import Callable, Iterator
 from ipaddress import IPv4Address, IPv4Network
 
-from . import sdp
+from . import g711, sdp
 from .records import Leg
 from .steps import Steps
 from .transactions import Transactions
@@ -93,7 +92,7 @@ def sounds(file: str) -> dict[int, bytes]:
         if played.getparams()[:3] != (1, 2, 8000):
             raise ValueError(f"{file} isn't of 8000 Hz, 16 bits and one channel")
         frames = played.readframes(played.getnframes())
-    return {0: audioop.lin2ulaw(frames, 2), 8: audioop.lin2alaw(frames, 2)}
+    return {0: g711.encode(g711.ulaw, frames), 8: g711.encode(g711.alaw, frames)}
 
 
 async def play(music: Music, sound: dict[int, bytes], send: Callable[[bytes, tuple[str, int]], None]) -> None:

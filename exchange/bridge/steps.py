@@ -3,7 +3,6 @@ import heapq
 import secrets
 import sqlite3
 import sys
-import time
 import traceback
 from collections.abc import Callable
 from typing import Any
@@ -18,9 +17,8 @@ SAID_AGAIN, MOST_SAID = 3600.0, 1000
 
 
 class Steps:
-    def __init__(self, settings: Settings, store: Store, send: Callable[[bytes, str], None],
-                 clock: Callable[[], float] = time.time):
-        self.settings, self.store, self.send, self.now = settings, store, send, clock
+    def __init__(self, settings: Settings, store: Store, send: Callable[[bytes, str], None]):
+        self.settings, self.store, self.send, self.now, self.wall = settings, store, send, store.now, store.wall
         self.rows = Rows(store)
         # each start has another requester, so that no key is used twice, whatever a power cut has undone
         login = unquote(urlsplit(settings.desk).username or "exchange")
@@ -78,6 +76,8 @@ class Steps:
 
     def ring_alarms(self) -> float:
         """Rings some of the alarms that are due, and returns the seconds until the next one."""
+        if self.store.clock_was_set():
+            self.step(self.store.follow_clock)
         for _ in range(20):
             if not self.alarms or self.alarms[0][0] > self.now():
                 break
@@ -105,4 +105,4 @@ class Steps:
 
     def trace(self, mark: str, where: str, text: str) -> None:
         if self.settings.trace:
-            self.say(f"{self.now():.3f} {self.steps} {mark} {where} {text.partition(chr(13))[0]}")
+            self.say(f"{self.wall():.3f} {self.steps} {mark} {where} {text.partition(chr(13))[0]}")

@@ -32,13 +32,16 @@ class Bench:
         self.folder = tempfile.TemporaryDirectory()
         settings.setdefault("phones", PHONES)
         self.settings = Settings(**settings)
+        # how far the wall clock is ahead of the monotonic one
+        self.ahead = 0.0
         self.now, self.branch, self.event = 1000.0, 0, 0
         self.sent: list[tuple[str, Message]] = []
         self.looks = True
         self.open()
 
     def open(self) -> None:
-        self.x = Exchange(self.settings, Store(str(Path(self.folder.name) / "exchange.db")), self.keep, lambda: self.now)
+        store = Store(str(Path(self.folder.name) / "exchange.db"), now=lambda: self.now, wall=lambda: self.now + self.ahead)
+        self.x = Exchange(self.settings, store, self.keep)
         setattr(self.x.steps, "say", lambda text: None)
         assert self.x.steps.step(self.x.resume)
 
