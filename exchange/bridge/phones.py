@@ -16,7 +16,7 @@ from .steps import Steps
 from .transactions import ALLOW, Transactions
 
 SDP = "application/sdp"
-STATES = {"22": "loggedOn", "23": "loggedOff", "24": "ready", "25": "notReady", "26": "workingAfterCall"}
+STATES = {"23": "loggedOff", "24": "ready", "25": "notReady", "26": "workingAfterCall"}
 DESK_WAIT = 5.0
 
 
@@ -183,17 +183,22 @@ class Phones:
 
     # feature codes, dialled or sent as a message
     def feature(self, message: Message, row: Served) -> None:
-        """*22AGENT*GROUP*GROUP.. logs on at the phone; *23 off, *24 ready, *25 not ready, *26 in after-call work."""
+        """*22AGENT*GROUP*GROUP.. logs on at the phone; *23 off, *24 ready, *25 not ready, *26 in after-call work: the agent at this phone, and no other one."""
         code, sender, leg = message.uri.number, self.sender(message, row.back), self.rows.legs.get(row.leg)
         station = sender.phone if sender is not None else ""
-        found = re.fullmatch(r"\*(2[2-6])([0-9]{0,9})((?:\*[0-9]{1,15}){0,8})",
-                             code if code.startswith("*") else message.body.strip())
+        found = re.fullmatch(r"\*(?:(22)([0-9]{1,9})((?:\*[0-9]{1,15}){1,8})|(2[3-6]))", code if code.startswith("*") else message.body.strip())
         logged_on = self.rows.agents.get(station)
-        agent = found and found[2] or (logged_on.agent if logged_on else "")
-        if not found or not agent or not station or (found[1] == "22") != bool(found[3]):
-            return self.answer_code(row, leg, 404)
-        more = {"device": station, "groups": found[3][1:].split("*")} if found[3] else {}
-        self.steps.ask("setAgentState", "featured", leg, row.key, agent=agent, requested=STATES[found[1]], **more)
+        if found is None or not station:
+            self.answer_code(row, leg, 404)
+        elif found[1] and not self.settings.may_log_on(station, found[2]):
+            self.answer_code(row, leg, 403)
+        elif found[1]:
+            groups = found[3][1:].split("*")
+            self.steps.ask("setAgentState", "featured", leg, row.key, agent=found[2], requested="loggedOn", device=station, groups=groups)
+        elif logged_on is not None:
+            self.steps.ask("setAgentState", "featured", leg, row.key, agent=logged_on.agent, requested=STATES[found[4]])
+        else:
+            self.answer_code(row, leg, 404)
 
     def featured(self, row: Request, leg: Leg | None, answer: Answer) -> None:
         if answer.status == 200 and "device" in row.body:

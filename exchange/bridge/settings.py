@@ -1,7 +1,8 @@
 """The options of the command line, each at most once."""
 import json
 import os
-from argparse import ArgumentDefaultsHelpFormatter, ArgumentParser, FileType
+import re
+from argparse import ArgumentDefaultsHelpFormatter, ArgumentParser, ArgumentTypeError, FileType
 from dataclasses import dataclass, field, fields, replace
 from ipaddress import IPv4Address, IPv4Network
 from typing import Any
@@ -17,6 +18,20 @@ def option(default: Any, text: str, **more: Any) -> Any:
     return field(default=default, metadata={"help": text, **kind, **more})
 
 
+def read_agents(path: str) -> dict[str, set[str]] | None:
+    """Each line a phone and the agents that it may log on; None without a file."""
+    if not path:
+        return None
+    with FileType()(path) as file:
+        lines = [line.partition("#")[0].split() for line in file]
+    agents: dict[str, set[str]] = {}
+    for phone, *rest in filter(None, lines):
+        if not rest or phone in agents or not re.fullmatch("[0-9]+", phone) or not all(re.fullmatch("[0-9]+|any", word) for word in rest):
+            raise ArgumentTypeError(f"{path}: the line of {phone} isn't one of a phone and its agents, or the second one of this phone")
+        agents[phone] = set(rest)
+    return agents
+
+
 @dataclass(frozen=True)
 class Settings:
     edge: str = option("", "HOST:PORT of the proxy in front, which alone is heard, and which knows where phones are")
@@ -29,6 +44,8 @@ class Settings:
     tick: int = option(0, "looks each so many seconds whether a tick ends something, and sends the desk its ticks; with 0 acd-tick does")
     waiting: str = option("queued", "callers who wait get 182, or are answered with music", choices=("queued", "music"))
     refused: str = option("reject", "offers that a phone refuses are rejected, or wait for the end of their ring", choices=("reject", "wait"))
+    agents: dict[str, set[str]] | None = option(None, "FILE with lines as '201 7 8' or '202 any': which agents a phone may log on; without it any agent who is logged off",
+                                                type=read_agents)
     music: str = option("", "a WAV file of 8000 Hz, 16 bits, one channel; without it silence")
     music_port: int = option(16000, "where the music is sent from")
     media: str = option("", "NETWORKS as 192.0.2.0/24,198.51.100.7: where music may go besides the address that its caller sends from")
@@ -42,6 +59,9 @@ class Settings:
     @property
     def networks(self) -> list[IPv4Network]:
         return [IPv4Network(text.strip()) for text in self.media.split(",") if text.strip()]
+
+    def may_log_on(self, phone: str, agent: str) -> bool:
+        return self.agents is None or bool({agent, "any"} & self.agents.get(phone, set()))
 
     @classmethod
     def read(cls) -> "Settings":

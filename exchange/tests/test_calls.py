@@ -1,6 +1,7 @@
 """Calls over a bench: what the exchange sends and asks, input by input."""
 from __future__ import annotations
 
+import itertools
 import unittest
 from typing import Any
 
@@ -425,6 +426,24 @@ class Codes(OnABench):
             b.request("MESSAGE", f"sip:{code}@x", number=number, call_id=code + number)
             self.assertEqual((b.firsts(), b.asked()), (["SIP/2.0 404"], []))
 
+    def test_a_phone_rules_the_agent_who_sits_at_it(self) -> None:
+        """An agent's number is for logging on alone: no code of another phone, or of its own, names one."""
+        b = self.bench
+        b.report("agentLoggedOn@201")
+        for number, code in itertools.product(("201", "202"), ("*231", "*241", "*251", "*261", "*232", "*2", "*22*100", "*221", "*231*100")):
+            b.request("MESSAGE", f"sip:{code}@x", number=number, call_id=code[1:] + number)
+            self.assertEqual((b.firsts(), b.asked()), (["SIP/2.0 404"], []), (number, code))
+
+    def test_which_agents_a_phone_may_log_on(self) -> None:
+        b = Bench(agents={"201": {"1", "7"}, "202": {"any"}})
+        self.addCleanup(b.close)
+        for number, agent, is_asked in (("201", "1", True), ("201", "7", True), ("201", "8", False), ("201", "17", False), ("202", "8", True)):
+            b.request("MESSAGE", f"sip:*22{agent}*100@x", number=number, call_id=agent + number)
+            self.assertEqual(([members["agent"] for _, members in b.asked()], b.firsts()), ([agent], []) if is_asked else ([], ["SIP/2.0 403"]), (number, agent))
+            if is_asked:
+                b.answer("wrongAgentState")
+                b.take()
+        self.assertFalse(b.settings.may_log_on("203", "1"))
 
     def test_a_code_that_is_dialled(self) -> None:
         """It is answered, and hung up by the exchange once the phone has heard so; a refusal is a refusal of the call."""

@@ -3,13 +3,24 @@ from __future__ import annotations
 
 import os
 import unittest
+from collections.abc import Callable
 from contextlib import redirect_stderr
 from io import StringIO
+from pathlib import Path
+from tempfile import TemporaryDirectory
 from typing import Any
 from unittest import mock
 
 import bench  # noqa: F401  (the path)
 from bridge.settings import Settings
+
+
+def status_of(work: Callable[[], Any]) -> int:
+    try:
+        work()
+    except SystemExit as ended:
+        return int(str(ended.code))
+    return 0
 
 
 class Command(unittest.TestCase):
@@ -44,6 +55,24 @@ class Command(unittest.TestCase):
             with self.assertRaises(SystemExit) as ended:
                 Settings.read()
         self.assertEqual(ended.exception.code, 2)
+
+    def test_agents_of_phones(self) -> None:
+        cases: list[tuple[str, dict[str, set[str]] | None]] = [
+            ("", {}), ("# nobody\n\n201 7 8 # two\n202\tany\n", {"201": {"7", "8"}, "202": {"any"}}), ("201\n", None), ("201 7\n201 8\n", None), ("Ana 7\n", None),
+            ("201 Ana\n", None), ("201 7,8\n", None)]
+        with TemporaryDirectory() as folder:
+            path = f"{folder}/agents"
+            for text, wanted in cases:
+                Path(path).write_text(text)
+                with mock.patch("sys.argv", ["acd-exchange", "--edge", "127.0.0.1:5060", "--agents", path]), redirect_stderr(StringIO()) as told:
+                    if wanted is None:
+                        self.assertRaises(SystemExit, Settings.read)
+                        self.assertIn(path, told.getvalue())
+                    else:
+                        self.assertEqual(Settings.read().agents, wanted)
+            for words, status in (([f"--agents={folder}/none"], 2), (["--agents="], 0)):
+                with mock.patch("sys.argv", ["acd-exchange", "--edge", "127.0.0.1:5060", *words]), redirect_stderr(StringIO()):
+                    self.assertEqual(status_of(Settings.read), status)
 
     def test_networks(self) -> None:
         self.assertEqual([str(each) for each in Settings(media=" 198.51.100.0/24,203.0.113.9 ").networks], ["198.51.100.0/24", "203.0.113.9/32"])

@@ -69,6 +69,9 @@ def log_on_and_off(ground: Stage, music: bool) -> None:
     shown = ground.client.read("/agents/1") or {}
     expect("in two groups, ready", (shown.get("groups"), shown.get("state")), (["100", "101"], "ready"))
     expect("logged on twice", ground.key("201", "*221*100"), 403)
+    expect("logged on elsewhere", ground.key("202", "*221*100"), 403)
+    expect("a code for an agent who sits at another phone", [ground.key("202", code) for code in ("*231", "*241", "*251", "*261")], 4 * [404])
+    expect("who is still there, and ready", state(ground, 1), "ready")
     expect("a code that isn't one", ground.key("201", "*29"), 404)
     expect("a group that isn't one", ground.key("202", "*222*109"), 403)
     expect("no group", ground.key("202", "*222"), 404)
