@@ -62,6 +62,12 @@ class Sink(threading.Thread):
         rows = lines_of(text, "via", "v", "from", "f", "call-id", "i", "cseq", "record-route")
         return "\r\n".join(["SIP/2.0 200 OK", *rows, to if "tag=" in to else f"{to};tag=sink", "Contact: <sip:sink@127.0.0.1>", "Content-Length: 0", "", ""])
 
+    def ask(self, to: int, method: str, number: str) -> str:
+        """A request of the exchange's to a phone: its Call-ID."""
+        text = message(method, f"sip:{number}@127.0.0.1:{to}", "UDP", f"127.0.0.1:{self.socket.getsockname()[1]}", f"<sip:{number}@x>")
+        self.socket.sendto(text.encode(), ("127.0.0.1", to))
+        return field(text, "Call-ID")
+
     def take(self, awaited: int = 0) -> list[str]:
         """What came through since it was asked last; so many are waited for."""
         until(lambda: len(self.heard) >= awaited, 5, 0.01)
@@ -131,6 +137,10 @@ class Sender(Phone):
 
     def put(self, text: str) -> None:
         self.socket.sendto(text.encode("latin-1"), ("127.0.0.1", self.to))
+
+    def drain(self) -> int:
+        """How many have come."""
+        return len(self.hears(0.01))
 
     def hears(self, seconds: float = 0.5) -> list[str]:
         """What comes until nothing has come for so long."""
