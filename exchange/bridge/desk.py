@@ -1,21 +1,45 @@
 """The line to the desk: requests in their order, each until it has its reply, then the events that they made."""
 import asyncio
+import socket
+import ssl
 import time
 from collections.abc import Callable
 from contextlib import suppress
 from typing import Any
 
 import acd_due
-from acd_client import Client, Missed, Unanswered
+from acd_client import Client, Missed, Request, Unanswered
 
 from .exchange import Exchange
 
-SLOW, SILENT = 2.0, 5.0
+# seconds: from when on a desk is slow, and silent; between two attempts, and where the last one was refused, since a gate counts wrong passwords
+SLOW, SILENT, AGAIN, REFUSED_AGAIN = 2.0, 5.0, 0.2, 10.0
+
+
+class Unable(Unanswered):
+    """No answer came, and none will until somebody has changed a setting."""
+
+
+class Desk(Client):
+    def exchange(self, method: str, path: str, body: Request | None = None) -> tuple[int, bytes]:
+        try:
+            status, data = super().exchange(method, path, body)
+        except Unanswered as fault:
+            if isinstance(fault.__cause__, ssl.SSLCertVerificationError):
+                raise Unable(f"the desk's certificate isn't trusted: {fault.__cause__.verify_message}; EXCHANGE_CA says whose are") from fault
+            if isinstance(fault.__cause__, (ssl.SSLError, socket.gaierror)):
+                raise Unable(f"the desk can't be asked at the address of EXCHANGE_DESK: {fault.__cause__}") from fault
+            raise
+        if status == 401:
+            raise Unable("the desk's gate refuses the login of EXCHANGE_DESK with the password of EXCHANGE_PASSWORD (401)")
+        if status == 403 and path.startswith("/events"):
+            raise Unable("the desk's gate lets the login of EXCHANGE_DESK read no events (403): its role is exchange")
+        return status, data
 
 
 class DeskLine:
     def __init__(self, exchange: Exchange):
-        self.x, self.client = exchange, Client(exchange.settings.desk)
+        self.x, self.client = exchange, Desk(exchange.settings.desk, context=exchange.settings.context())
         self.wake, self.heard, self.ticked = asyncio.Event(), time.monotonic(), 0.0
         exchange.steps.wake = self.wake.set
 
@@ -46,9 +70,12 @@ class DeskLine:
                     self.wake.clear()
                     with suppress(asyncio.TimeoutError):
                         await asyncio.wait_for(self.wake.wait(), self.x.settings.poll)
+            except Unable as fault:
+                self.x.steps.say_hourly(str(fault))
+                await asyncio.sleep(REFUSED_AGAIN)
             except Unanswered as fault:
                 self.x.steps.trace("!", "desk", str(fault))
-                await asyncio.sleep(0.2)
+                await asyncio.sleep(AGAIN)
 
     async def start(self) -> None:
         """Takes all missing replies and events first. Then it finds the calls in which no phone has a part, and clears them."""

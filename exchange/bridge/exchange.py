@@ -8,6 +8,7 @@ from .dialogs import REMIND, Dialogs
 from .message import Message, Refused
 from .music import Music
 from .phones import DESK_WAIT, Phones
+from .records import Asked, Served
 from .settings import Settings
 from .steps import Steps
 from .store import Store
@@ -56,7 +57,8 @@ class Exchange:
         """Messages that came to nobody while the exchange was down may come again now. It asks for those that don't come soon. If the machine's clock was set
         meanwhile, moments of the file are too far off: nothing waits longer than it would from now on."""
         now = self.now()
-        for row in (*self.rows.asked.values(), *self.rows.served.values()):
+        transactions: list[Asked | Served] = [*self.rows.asked.values(), *self.rows.served.values()]
+        for row in transactions:
             row.due, row.ends = min(row.due, now + LIFE), min(row.ends, now + LIFE)
         for asked in self.rows.asked.values():
             leg = self.rows.legs.get(asked.leg)

@@ -2,10 +2,12 @@
 import json
 import os
 import re
+import ssl
 from argparse import ArgumentDefaultsHelpFormatter, ArgumentParser, ArgumentTypeError, FileType
 from dataclasses import dataclass, field, fields, replace
 from ipaddress import IPv4Address, IPv4Network
 from typing import Any
+from urllib.parse import quote, unquote, urlsplit
 
 from .grammar import Malformed, read_uri
 
@@ -23,12 +25,12 @@ def read_agents(path: str) -> dict[str, set[str]] | None:
     if not path:
         return None
     with FileType()(path) as file:
-        lines = [line.partition("#")[0].split() for line in file]
+        lines: list[list[str]] = [line.partition("#")[0].split() for line in file]
     agents: dict[str, set[str]] = {}
-    for phone, *rest in filter(None, lines):
-        if not rest or phone in agents or not re.fullmatch("[0-9]+", phone) or not all(re.fullmatch("[0-9]+|any", word) for word in rest):
-            raise ArgumentTypeError(f"{path}: the line of {phone} isn't one of a phone and its agents, or the second one of this phone")
-        agents[phone] = set(rest)
+    for words in filter(None, lines):
+        if words[0] in agents or not re.fullmatch("[0-9]+(?: (?:[0-9]+|any))+", " ".join(words)):
+            raise ArgumentTypeError(f"{path}: the line of {words[0]} isn't one of a phone and its agents, or the second one of this phone")
+        agents[words[0]] = set(words[1:])
     return agents
 
 
@@ -38,7 +40,9 @@ class Settings:
     phones: dict[str, str] = option(None, 'without a proxy, for a trial on loopback: a file {"201": "sip:201@127.0.0.1:5201"}',
                                     type=lambda path: json.load(FileType()(path)))
     listen: str = option("127.0.0.1:5070", "where it speaks SIP over UDP; with --phones on loopback alone")
-    desk: str = option("", f"the desk; without it EXCHANGE_DESK of the environment, which others can't read, or {DESK}")
+    desk: str = option("", f"the desk, {DESK} or by its gate https://LOGIN@HOST:8443; without it EXCHANGE_DESK of the environment. The login's password is EXCHANGE_PASSWORD "
+                       "of the environment, which others can't read")
+    ca: str = option("", "a FILE with the certificate of the desk's authority, or the desk's own one; without it EXCHANGE_CA of the environment, or whom this machine trusts")
     file: str = option("exchange.db", "its own file")
     poll: float = option(0.1, "seconds between two looks for events")
     tick: int = option(0, "looks each so many seconds whether a tick ends something, and sends the desk its ticks; with 0 acd-tick does")
@@ -60,6 +64,15 @@ class Settings:
     def networks(self) -> list[IPv4Network]:
         return [IPv4Network(text.strip()) for text in self.media.split(",") if text.strip()]
 
+    @property
+    def login(self) -> str:
+        """The login at the desk's gate; empty if the exchange speaks with the desk itself."""
+        return unquote(urlsplit(self.desk).username or "")
+
+    def context(self) -> ssl.SSLContext | None:
+        """Whose certificates are trusted; None for those whom this machine trusts."""
+        return ssl.create_default_context(cafile=self.ca) if self.ca else None
+
     def may_log_on(self, phone: str, agent: str) -> bool:
         return self.agents is None or bool({agent, "any"} & self.agents.get(phone, set()))
 
@@ -69,11 +82,13 @@ class Settings:
         for each in fields(cls):
             parser.add_argument("--" + each.name.replace("_", "-"), default=each.default, **each.metadata)
         given = cls(**vars(parser.parse_args()))
-        read = replace(given, desk=given.desk or os.environ.get("EXCHANGE_DESK") or DESK)
-        fault = read.fault()
+        named = os.environ.get
+        read = replace(given, desk=given.desk or named("EXCHANGE_DESK") or DESK, ca=given.ca or named("EXCHANGE_CA", ""))
+        password = named("EXCHANGE_PASSWORD", "")
+        fault = read.fault() or ("EXCHANGE_PASSWORD is the one of a login, and EXCHANGE_DESK names none" if password and not read.login else "")
         if fault:
             parser.error(fault)
-        return read
+        return replace(read, desk=with_password(read.desk, password)) if password else read
 
     def fault(self) -> str:
         """Why the exchange can't run with these settings."""
@@ -87,7 +102,22 @@ class Settings:
             self.networks
         except ValueError as fault:
             return f"--media: {fault}"
+        if self.desk and (urlsplit(self.desk).scheme not in ("http", "https") or not urlsplit(self.desk).hostname):
+            return f"the desk's address is http://HOST:PORT or https://LOGIN@HOST:PORT, and not {without_password(self.desk)}"
+        try:
+            self.context()
+        except OSError as fault:
+            return f"--ca: no certificates in {self.ca}: {fault}"
         return ""
+
+
+def with_password(address: str, password: str) -> str:
+    parts = urlsplit(address)
+    return parts._replace(netloc=f"{parts.username}:{quote(password, safe='')}@{parts.netloc.rpartition('@')[2]}").geturl()
+
+
+def without_password(address: str) -> str:
+    return re.sub(r"(?<=//)([^/@:]*):[^/@]*@", r"\1:...@", address)
 
 
 def is_place(text: str) -> bool:

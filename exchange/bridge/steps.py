@@ -6,7 +6,6 @@ import sys
 import traceback
 from collections.abc import Callable
 from typing import Any
-from urllib.parse import unquote, urlsplit
 
 from .records import Leg, Place, Request, Rows
 from .settings import Settings
@@ -21,8 +20,7 @@ class Steps:
         self.settings, self.store, self.send, self.now, self.wall = settings, store, send, store.now, store.wall
         self.rows = Rows(store)
         # each start has another requester, so that no key is used twice, whatever a power cut has undone
-        login = unquote(urlsplit(settings.desk).username or "exchange")
-        self.requester = f"{login}-{secrets.token_hex(4)}"
+        self.requester = f"{settings.login or 'exchange'}-{secrets.token_hex(4)}"
         self.out: list[tuple[bytes, str]] = []
         self.alarms: list[tuple[float, str, str]] = []
         # the function for the alarms of a kind of row

@@ -2,14 +2,19 @@
 from __future__ import annotations
 
 import asyncio
+import socket
+import ssl
 import time
 import unittest
+from collections.abc import Callable
 from contextlib import redirect_stdout, suppress
 from io import StringIO
 from typing import Any
+from unittest import mock
 
 from acd_client import Answer, Event, Missed, Page, Unanswered
 from bench import Bench
+from bridge import desk
 from bridge.desk import DeskLine
 
 
@@ -172,6 +177,35 @@ class Line(unittest.TestCase):
                 with suppress(Unanswered):
                     asyncio.run(line.once())
             self.assertEqual(said, wanted)
+
+    def test_what_no_attempt_mends_is_told(self) -> None:
+        """By the client's own faults: a certificate that isn't trusted, a name that isn't there, a login that is refused. Other faults are told by silence alone."""
+        def fails(fault: Exception) -> Callable[..., Any]:
+            def exchange(*_: Any) -> tuple[int, bytes]:
+                raise Unanswered("planted") from fault
+            return exchange
+
+        untrusted = ssl.SSLCertVerificationError(1, "planted")
+        untrusted.verify_message = "unable to get local issuer certificate"
+        cases: list[tuple[Callable[..., Any], str, str]] = [
+            (fails(untrusted), "/events", "isn't trusted: unable to get local issuer certificate; EXCHANGE_CA"), (fails(socket.gaierror(-2, "Name not known")), "/events", "Name not known"),
+            (fails(ssl.SSLError(1, "WRONG_VERSION_NUMBER")), "/events", "WRONG_VERSION_NUMBER"), (fails(ConnectionRefusedError()), "/events", ""),
+            (lambda *_: (401, b"{}"), "/events", "EXCHANGE_PASSWORD"), (lambda *_: (401, b"<html>"), "/csta", "EXCHANGE_PASSWORD"),
+            (lambda *_: (403, b"{}"), "/events?after=0", "its role is exchange"), (lambda *_: (403, b"{}"), "/snapshot", "")]
+        for answers, path, wanted in cases:
+            bench, line = self.line(Desk({}))
+            client = desk.Desk("https://pbx:x@desk:8443")
+            said = list[str]()
+            setattr(bench.x.steps, "say", said.append)
+
+            async def once() -> None:
+                await line.call(client.attempt, "GET", path)
+                raise Unanswered("planted")
+
+            setattr(line, "start", once)
+            with mock.patch("acd_client.Client.exchange", answers), suppress(asyncio.TimeoutError):
+                asyncio.run(asyncio.wait_for(line.run(), 0.3))
+            self.assertEqual((len(said), [wanted in text for text in said]), (1, [True]) if wanted else (0, []), said)
 
     def test_a_desk_that_is_silent(self) -> None:
         """For 3 s it is slow, for 6 s the exchange is closed for new callers; it opens with the next answer."""

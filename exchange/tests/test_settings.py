@@ -46,6 +46,29 @@ class Command(unittest.TestCase):
             with mock.patch.dict(os.environ, environment), mock.patch("sys.argv", ["acd-exchange", "--edge", "127.0.0.1:5060", *words]):
                 self.assertEqual(Settings.read().desk, wanted)
 
+    def test_the_password_and_the_authority(self) -> None:
+        """They are settings by themselves: a password may have any signs, and stands on no command line."""
+        words = ["acd-exchange", "--edge", "127.0.0.1:5060"]
+        cases: list[tuple[dict[str, str], str]] = [
+            ({"EXCHANGE_DESK": "https://pbx@h:8443", "EXCHANGE_PASSWORD": "a:b@c/d%"}, "https://pbx:a%3Ab%40c%2Fd%25@h:8443"),
+            ({"EXCHANGE_DESK": "https://pbx@h:8443", "EXCHANGE_PASSWORD": ""}, "https://pbx@h:8443"),
+            ({"EXCHANGE_DESK": "https://pbx:old@h:8443", "EXCHANGE_PASSWORD": "new"}, "https://pbx:new@h:8443"),
+            # refused, with what it says
+            ({"EXCHANGE_PASSWORD": "x"}, "names none"), ({"EXCHANGE_DESK": "https://h:8443", "EXCHANGE_PASSWORD": "x"}, "names none"),
+            ({"EXCHANGE_DESK": "https://pbx@h:8443", "EXCHANGE_CA": "/none"}, "/none"), ({"EXCHANGE_DESK": "https://pbx@h:8443", "EXCHANGE_CA": __file__}, __file__),
+            ({"EXCHANGE_DESK": "h:8443"}, "https://LOGIN@HOST:PORT"), ({"EXCHANGE_DESK": "ftp://pbx:secret@h:8443"}, "ftp://pbx:...@h:8443")]
+        for environment, wanted in cases:
+            with mock.patch.dict(os.environ, environment), mock.patch("sys.argv", words), redirect_stderr(StringIO()) as told:
+                status = status_of(Settings.read)
+                self.assertEqual((status, wanted in told.getvalue()), (0, False) if "://pbx" in wanted and not told.getvalue() else (2, True), told.getvalue())
+                self.assertNotIn("secret", told.getvalue())
+                if not status:
+                    self.assertEqual((Settings.read().desk, Settings.read().login), (wanted, "pbx"))
+        with mock.patch.dict(os.environ, {"EXCHANGE_CA": "/authority"}), mock.patch("sys.argv", words), mock.patch("ssl.create_default_context") as made:
+            self.assertIs(Settings.read().context(), made.return_value)
+        made.assert_called_with(cafile="/authority")
+        self.assertIsNone(Settings().context())
+
     def test_what_becomes_of_an_offer_that_is_refused(self) -> None:
         cases: list[tuple[list[str], str]] = [([], "reject"), (["--refused", "reject"], "reject"), (["--refused", "wait"], "wait")]
         for words, wanted in cases:

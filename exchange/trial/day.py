@@ -28,6 +28,7 @@ class Day:
     talks: int = 3000
     music: bool = False
     edge: bool = False
+    gate: bool = False
     kill_exchange: float = 0.0
     kill_desk: float = 0.0
     down: float = 1.5
@@ -35,7 +36,7 @@ class Day:
 
 def run(folder: Path, program: Path, base: int, day: Day) -> Comparison:
     options = ("--waiting", "music" if day.music else "queued", "--trace")
-    with Ground(folder, program, base, day.agents, day.agents, edge=day.edge, options=options) as ground:
+    with Ground(folder, program, base, day.agents, day.agents, edge=day.edge, options=options, gate=day.gate) as ground:
         for place, station in enumerate(ground.stations):
             talks = scenarios.LONG if place % 2 else 2 * day.talks
             ground.phone(station, scenarios.phone(400 + 100 * (place % 4), str(place % 10) if day.silent else "", talks), 100000)

@@ -20,9 +20,10 @@ HERE = Path(__file__).resolve().parent
 EXCHANGE = HERE.parent
 TOP = EXCHANGE.parent
 sys.path[:0] = [str(EXCHANGE), str(TOP / "clients/python")]
-sys.path.append(str(TOP / "tools"))
+sys.path += [str(TOP / "tools"), str(TOP / "tools/gate")]
 
 from acd_client import Answer, Client, Event  # noqa: E402
+from place import SECRET, Place  # noqa: E402
 from trial import Desk, Plan, ran, until, until_listening  # noqa: E402
 
 PASSWORD = "open-sesame"
@@ -90,10 +91,11 @@ class Programs:
         for file in self.files:
             file.close()
 
-    def start(self, words: list[str], name: str) -> subprocess.Popen[bytes]:
+    def start(self, words: list[str], name: str, **environment: str) -> subprocess.Popen[bytes]:
         said = (self.folder / f"{name}.out").open("ab")
         self.files.append(said)
-        process = subprocess.Popen(words, cwd=self.folder, stdin=subprocess.DEVNULL, stdout=said, stderr=said, start_new_session=True)
+        process = subprocess.Popen(words, cwd=self.folder, stdin=subprocess.DEVNULL, stdout=said, stderr=said, start_new_session=True,
+                                   env={**os.environ, **environment})
         self.running.append(process)
         return process
 
@@ -140,10 +142,12 @@ class Ground(Programs):
     """Ports: desk, exchange, music and edge from base on; callers from base + 50, phones from base + 100, media from base + 300."""
 
     def __init__(self, folder: Path, program: Path, base: int, stations: int = 3, agents: int = 2, groups: str = "100", ring: int = 5, wrap: int = 2,
-                 edge: bool = False, options: tuple[str, ...] = ()):
+                 edge: bool = False, options: tuple[str, ...] = (), gate: bool = False):
         super().__init__(folder)
         self.program, self.base, self.options = program, base, options
         self.desk_port, self.port, self.music_port, self.edge_port, self.tls_port = range(base, base + 5)
+        # where the exchange finds the desk
+        self.reached_by = {"EXCHANGE_DESK": f"http://127.0.0.1:{self.desk_port}"}
         self.stations = [str(201 + each) for each in range(stations)]
         self.callers, self.media = 0, base + 300
         plan = Plan([(number, f"Group {number}", ring, wrap) for number in groups.split()], self.stations, [str(each + 1) for each in range(agents)])
@@ -153,7 +157,9 @@ class Ground(Programs):
         self.client = Client(f"http://127.0.0.1:{self.desk_port}", requester="supervisor")
         self.keys = Phone(self.edge_port if edge else self.port)
         self.by_edge = edge
-        self.desk, self.exchange = self.start_desk(), self.start_exchange()
+        self.desk = self.start_desk()
+        self.gate = self.start_gate() if gate else None
+        self.exchange = self.start_exchange()
         if edge:
             self.start_edge()
             for number in self.stations:
@@ -165,6 +171,8 @@ class Ground(Programs):
     def __exit__(self, *what: Any) -> None:
         self.client.disconnect()
         self.keys.socket.close()
+        if self.gate:
+            self.gate.doClassCleanups()
         self.desk.kill()
         super().__exit__(*what)
 
@@ -177,14 +185,31 @@ class Ground(Programs):
     def start_desk(self) -> Desk:
         return Desk(self.program, "desk.db", 1000000, self.desk_port, cwd=self.folder)
 
+    def start_gate(self) -> type[Place]:
+        """The gate and nginx before the desk, with a login for the exchange."""
+        folder = self.folder / "gate"
+        folder.mkdir()
+        (folder / "roles").write_text("pbx exchange\n")
+        (folder / "users").write_text(f"pbx:{SECRET}\n")
+        ports = {"desk_port": self.desk_port, "gate_port": self.base + 5, "port": self.base + 6}
+        gate = type("Gate", (Place,), {"folder": folder, **ports})
+        gate.start_gate()
+        gate.start_nginx()
+        self.reached_by = {"EXCHANGE_DESK": f"https://pbx@127.0.0.1:{gate.port}", "EXCHANGE_PASSWORD": "secret", "EXCHANGE_CA": str(folder / "desk.crt")}
+        return gate
+
     def start_exchange(self, stop_at: str = "") -> subprocess.Popen[bytes]:
-        program = [str(HERE / "stopped.py"), stop_at] if stop_at else [str(EXCHANGE / "acd-exchange")]
-        who = ["--edge", f"127.0.0.1:{self.edge_port}"] if self.by_edge else ["--phones", "phones.json"]
         before = self.said("exchange").count("following")
-        exchange = self.start([sys.executable, *program, *who, "--listen", f"127.0.0.1:{self.port}", "--desk",
-                               f"http://127.0.0.1:{self.desk_port}", "--music-port", str(self.music_port), *self.options], "exchange")
+        exchange = self.start_alone(stop_at)
         until(lambda: self.said("exchange").count("following") > before or exchange.poll() is not None, 30, 0.02)
         return exchange
+
+    def start_alone(self, stop_at: str = "") -> subprocess.Popen[bytes]:
+        """Without waiting for the desk."""
+        program = [str(HERE / "stopped.py"), stop_at] if stop_at else [str(EXCHANGE / "acd-exchange")]
+        who = ["--edge", f"127.0.0.1:{self.edge_port}"] if self.by_edge else ["--phones", "phones.json"]
+        return self.start([sys.executable, *program, *who, "--listen", f"127.0.0.1:{self.port}",
+                               "--music-port", str(self.music_port), *self.options], "exchange", **self.reached_by)
 
     def start_ticks(self) -> None:
         self.start([str(TOP / "tools/operating/acd-tick"), "--port", str(self.desk_port), "--step", "2"], "ticks")
