@@ -320,23 +320,28 @@ def lay_out_exchange(root, version, moment):
     for module in ("acd_client.py", "acd_due.py"):
         put(f"usr/share/acd-exchange/{module}", (TOP / "clients/python" / module).read_bytes())
     put("usr/share/acd-exchange/acd-exchange", (EXCHANGE / "acd-exchange").read_bytes(), 0o755)
-    put("usr/sbin/acd-account", (EXCHANGE / "acd-account").read_bytes(), 0o755)
+    for name in ("acd-account", "acd-edge-limit"):
+        put(f"usr/sbin/{name}", (EXCHANGE / name).read_bytes(), 0o755)
     (root / "usr/sbin/acd-exchange").symlink_to("../share/acd-exchange/acd-exchange")
-    for name in ("acd-exchange.8", "acd-account.8"):
+    for name in ("acd-exchange.8", "acd-account.8", "acd-edge-limit.8"):
         put(f"usr/share/man/man8/{name}.gz", manual_page(EXCHANGE / name, version, versions[0][1]))
-    for name in ("acd-exchange.service", "acd-edge.service"):
+    for name in ("acd-exchange.service", "acd-edge.service", "acd-edge-limit.service"):
         put(f"usr/lib/systemd/system/{name}", (EXCHANGE / name).read_bytes())
-    put("etc/acd/exchange.env", (EXCHANGE / "exchange.env").read_bytes())
+    # no conffiles, so that no upgrade asks: postinst makes each of them once. It mayn't need what is below /usr/share/doc
+    for name in ("exchange.env", "local.cfg"):
+        put(f"usr/share/acd-exchange/{name}", (EXCHANGE / name).read_bytes())
+        (root / doc / "examples").mkdir(parents=True, exist_ok=True)
+        (root / doc / "examples" / name).symlink_to(f"../../../acd-exchange/{name}")
     put("etc/acd/edge/kamailio.cfg", (EXCHANGE / "kamailio.cfg").read_bytes())
     put(doc + "EXCHANGE.md", (TOP / "docs/EXCHANGE.md").read_bytes())
     put(doc + "changelog.gz", packed(debian_changelog(versions, moment, "acd-exchange")))
     put(doc + "copyright", copyright_text(version))
     size, sums = sizes_and_sums(root)
     put("DEBIAN/control", f"Package: acd-exchange\nVersion: {version}\nArchitecture: all\nMaintainer: {MAINTAINER}\nInstalled-Size: {size}\n"
-                          "Depends: adduser, kamailio, kamailio-tls-modules, python3 (>= 3.11)\nRecommends: acd\nSuggests: asterisk-moh-opsound-wav\n"
+                          "Depends: adduser, kamailio, kamailio-tls-modules, python3 (>= 3.11)\nRecommends: acd, nftables\nSuggests: asterisk-moh-opsound-wav\n"
                           f"Section: net\nPriority: optional\nDescription: {EXCHANGE_DESCRIPTION}")
     put("DEBIAN/md5sums", sums)
-    put("DEBIAN/conffiles", "/etc/acd/exchange.env\n/etc/acd/edge/kamailio.cfg\n")
+    put("DEBIAN/conffiles", "/etc/acd/edge/kamailio.cfg\n")
     for script in ("postinst", "prerm", "postrm"):
         put(f"DEBIAN/{script}", (EXCHANGE / "debian" / script).read_bytes(), 0o755)
 
