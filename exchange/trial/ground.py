@@ -133,7 +133,7 @@ class Programs:
 
     def start_kamailio(self, port: int) -> subprocess.Popen[bytes]:
         folder = self.folder / "edge"
-        edge = self.start(["kamailio", "-DD", "-E", "-f", str(folder / "kamailio.cfg"), "-P", str(folder / "pid"), "-w", str(folder)], "edge")
+        edge = self.start(["kamailio", "-m", "1280", "-DD", "-E", "-f", str(folder / "kamailio.cfg"), "-P", str(folder / "pid"), "-w", str(folder)], "edge")
         assert until_listening(port), f"kamailio doesn't listen: {self.said('edge')[-400:]}"
         return edge
 

@@ -85,12 +85,13 @@ class Sink(threading.Thread):
 class LoneEdge(Programs):
     """Ports as of a ground."""
 
-    def __init__(self, folder: Path, base: int, values: dict[str, object] | None = None, changes: dict[str, str] | None = None):
+    def __init__(self, folder: Path, base: int, values: dict[str, object] | None = None, changes: dict[str, str] | None = None,
+                 names: tuple[str, ...] = ("201", "202", "203")):
         super().__init__(folder)
         self.port, self.edge_port, self.tls_port = base + 1, base + 3, base + 4
         self.sink = Sink(self.port)
         ports = {"EDGE_PORT": self.edge_port, "TLS_PORT": self.tls_port, "EXCHANGE_PORT": self.port}
-        self.edge = self.make_edge({**ports, "TRUNK_ADDRESSES": TRUNK, **(values or {})}, ["201", "202", "203"], changes)
+        self.edge = self.make_edge({**ports, "TRUNK_ADDRESSES": TRUNK, **(values or {})}, list(names), changes)
 
     def __enter__(self) -> LoneEdge:
         return self
