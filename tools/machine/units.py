@@ -10,7 +10,7 @@ HIGHEST = 2.0
 PROBE = "/usr/local/bin/probe"
 # what a unit's probe goes without: it ends, prints to a file, has no settings, and takes no folder from the unit
 LEFT_OUT = {"Type", "Restart", "RestartSec", "RestartPreventExitStatus", "Environment", "EnvironmentFile", "RuntimeDirectory",
-            "ExecStart", "ExecStartPre", "ExecStopPost", "ExecReload", "ExecCondition"}
+            "ExecStart", "ExecStartPre", "ExecStop", "ExecStopPost", "ExecReload", "ExecCondition", "RemainAfterExit"}
 AS_ROOT = {"User", "Group", "DynamicUser", "AmbientCapabilities", "StateDirectory"}
 
 LOOPBACK = {"connect to loopback"}
@@ -33,6 +33,7 @@ MAY = {
     "acd-exchange.service": (NETWORK | {"write the exchange's folder"}, NETWORK | OF_ROOT - {"read the accounts"}),
     "acd-edge.service": (NETWORK | {"read the accounts", "AF_NETLINK"}, NETWORK | OF_ROOT | {"AF_NETLINK"}),
     "acd-certificate.service": (LOOPBACK, LOOPBACK | OF_ROOT),
+    "acd-edge-limit.service": (OF_ROOT | {"AF_UNIX", "AF_NETLINK", "load a table"}, OF_ROOT | {"AF_UNIX", "AF_NETLINK", "load a table"}),
     "acd-records.service": ({"read the desk's file", "signal the desk"}, {"read the accounts", "see another user's process"}),
 }
 FOLDER = "/usr/lib/systemd/system"
@@ -108,7 +109,7 @@ class Units(Edges):
         edge = self.container.inside("/etc/acd/edge")
         subprocess.run(["openssl", "req", "-x509", "-newkey", "rsa:2048", "-nodes", "-subj", "/CN=edge", "-keyout", edge / "edge.key", "-out", edge / "edge.crt"],
                        stderr=subprocess.DEVNULL, check=True)
-        self.done("chgrp", "acd-exchange", "/etc/acd/edge/edge.key")
+        self.done("chgrp", "acd-edge", "/etc/acd/edge/edge.key")
         self.done("chmod", "640", "/etc/acd/edge/edge.key")
         for name in ("201", "trunk"):
             self.expect(f"the account {name}", self.container.shell(f"echo open-sesame | acd-account {name}"), (0, ""))
@@ -118,6 +119,7 @@ class Units(Edges):
         self.expect("a phone by its password, by another, the log-off of its agent, a caller's call, TLS", self.phones(), [200, 401, 200, 182, "SIP/2.0"])
         self.expect("the agent at the desk", self.eventually(lambda: '"device":"201"' in self.read("/agents/7"), False), False)
         self.expect("the caller at the desk", self.eventually(lambda: '"caller":"0409876"' in self.read("/snapshot"), True), True)
+        self.expect("the limit of connections comes with the edge", self.ran("nft", "list", "table", "inet", "acd_edge")[0], 0)
         for unit in ("acd-exchange", "acd-edge"):
             self.expect(f"{unit} was started once", self.done("systemctl", "show", "--value", "-p", "NRestarts", unit), "0\n")
 

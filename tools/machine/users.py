@@ -49,7 +49,7 @@ class Users(Edges):
         allowed = ("root", "acd", "acd-gate", "acd-exchange", "www-data", "etcd", "ana")
         self.eventually(lambda: self.refused("ana"), [])
         self.expect("refused of the services' users", self.refused(*allowed), [])
-        self.expect("how often others are refused", len(self.refused("ben", "nobody", "games")), 9)
+        self.expect("how often others are refused, the edge of the telephone exchange too", len(self.refused("ben", "nobody", "games", "acd-edge")), 12)
         self.expect("an etcd asks itself", self.ran("env", "ETCDCTL_API=3", "etcdctl", "put", "desk/none", "0", user="etcd"), (0, "OK\n"))
         for port in (8080, 8081, 2379, 2380):
             said = self.ran("curl", "-sv", "--max-time", "3", f"http://127.0.0.1:{port}/", user="ben")[1]
