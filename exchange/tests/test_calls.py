@@ -197,7 +197,6 @@ class Queued(OnABench):
         [(address, invite)] = b.take()
         self.assertEqual((address, invite.method, f":{b.settings.music_port}" in invite.body or str(b.settings.music_port) in invite.body), (PHONE, "INVITE", True))
 
-
     def test_a_private_call_to_a_busy_phone(self) -> None:
         b = self.bench
         b.invite("202", "201")

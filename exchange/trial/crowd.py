@@ -2,16 +2,17 @@
 from __future__ import annotations
 
 import ctypes
+import multiprocessing
 import os
 import secrets
 import socket
 import ssl
 import struct
 import subprocess
-import threading
 import time
 from collections.abc import Iterator
 from contextlib import ExitStack, contextmanager
+from multiprocessing.process import BaseProcess
 from pathlib import Path
 from types import TracebackType
 
@@ -66,8 +67,8 @@ class Cable:
         plain.connect((HERE, port))
         return ANY.wrap_socket(plain) if encrypted else plain
 
-    def flood(self, port: int, seconds: float, a_second: int, source: str = "") -> threading.Thread:
-        """SYNs to a port of here, of ever new addresses, or of one and ever new ports."""
+    def flood(self, port: int, seconds: float, a_second: int, source: str = "") -> BaseProcess:
+        """SYNs to a port of here, of ever new addresses, or of one and ever new ports; by a process of its own, so that it holds up nobody who measures."""
         with self.outside():
             raw = socket.socket(socket.AF_INET, socket.SOCK_RAW, socket.IPPROTO_RAW)
 
@@ -78,11 +79,11 @@ class Cable:
                     raw.sendto(syn(socket.inet_aton(source) if source else b"\x0b" + secrets.token_bytes(3), port), (HERE, 0))
                     sent += 1
                 time.sleep(max(0.0, began + sent / a_second - time.monotonic()))
-            raw.close()
 
-        thread = threading.Thread(target=work, daemon=True)
-        thread.start()
-        return thread
+        process = multiprocessing.get_context("fork").Process(target=work, daemon=True)
+        process.start()
+        raw.close()
+        return process
 
 
 def syn(source: bytes, port: int) -> bytes:
@@ -207,38 +208,42 @@ class Crowd:
         while time.monotonic() < ends:
             times.append(self.page())
             time.sleep(0.02)
-        return sorted(times)
+        return times
 
     def forged(self, seconds: float) -> None:
-        """SYNs of forged addresses, fifteen hundred a second: nginx answers others as fast as before, and phones connect; and some in the name of the office."""
-        before = tracked()
-        for _ in range(50):
-            self.page()
-        expect("nginx's connections aren't tracked", tracked() <= before + 5)
-        quiet = self.pages(5)
-        threads = [self.cable.flood(self.edge.edge_port, seconds, 1500), self.cable.flood(self.edge.edge_port, seconds, 50, OFFICE)]
-        times = self.pages(seconds - 5)
-        part = int(0.95 * len(times))
-        expect(f"nginx answered {len(times)} times, 95 % within {times[part]:.3f} s (quiet {quiet[int(0.95 * len(quiet))]:.3f} s), all within {times[-1]:.2f} s",
-               times[part] < quiet[int(0.95 * len(quiet))] + 0.1 and times[-1] < 5)
+        """SYNs of forged addresses, fifteen hundred a second, and some in the name of the office: nginx answers others as fast as without them, and phones connect. By
+        turns with them and without, since what else runs on the machine takes time too."""
+        self.pages(1)
+        expect("nginx's connections that the kernel tracks", tracked(self.web), 0)
+        without, beside = list[float](), list[float]()
+        for _ in range(int(seconds / 10)):
+            without += self.pages(5)
+            floods = [self.cable.flood(self.edge.edge_port, 10, 1500), self.cable.flood(self.edge.edge_port, 10, 50, OFFICE)]
+            beside += self.pages(9)
+            kept = tracked(self.edge.edge_port)
+            expect(f"handshakes that the kernel keeps: {kept}", 0 < kept < 1550 * 20)
+            for flood in floods:
+                flood.join()
+        quiet, busy = (sorted(times)[int(0.95 * len(times))] for times in (without, beside))
+        expect(f"nginx answered {len(beside)} times, 95 % within {busy:.3f} s (without {quiet:.3f} s), all within {max(beside):.2f} s",
+               busy < quiet + 0.1 and max(beside) < 5)
+        floods = [self.cable.flood(self.edge.edge_port, 10, 1500), self.cable.flood(self.edge.edge_port, 10, 50, OFFICE)]
+        time.sleep(2)
         for number in ("1000", "1001"):
             for host in (ELSEWHERE, OFFICE):
                 phone = Phone(self.cable, self.edge, number, host, False)
                 expect(f"a phone of {host} beside the forged ones", phone.request("REGISTER"), 200)
                 phone.line.close()
-        expect(f"handshakes that the kernel keeps: {tracked()}", tracked() < 1550 * 20)
-        for thread in threads:
-            thread.join()
+        for flood in floods:
+            flood.join()
 
     def other_tables(self) -> None:
         """Where a table of somebody else needs connections they stay tracked, and it stays as it is."""
-        for rules, wanted in (("ct state invalid drop", True), ("ip saddr 192.0.2.1 drop", False)):
+        for rules, wanted in (("ip saddr 192.0.2.1 drop", False), ("ct state invalid drop", True)):
             subprocess.run(["nft", "-f", "-"], input=f"table inet office {{ chain input {{ type filter hook input priority filter; {rules}\n }}\n}}\n", text=True, check=True)
             self.limit()
-            before = tracked()
-            for _ in range(50):
-                self.page()
-            expect(f"beside {rules!r} nginx's connections are tracked", tracked() > before + 20, wanted)
+            self.pages(1)
+            expect(f"beside {rules!r} nginx's connections are tracked", tracked(self.web) > 0, wanted)
             listed = subprocess.run(["nft", "list", "table", "inet", "office"], capture_output=True, text=True).stdout
             expect("the other table is as it was", rules in listed)
             subprocess.run(["nft", "delete", "table", "inet", "office"], check=True)
@@ -248,8 +253,9 @@ class Crowd:
             expect(f"acd-edge-limit {words}", subprocess.run([EXCHANGE / "acd-edge-limit", *words], capture_output=True).returncode, 2)
 
 
-def tracked() -> int:
-    return int(Path("/proc/sys/net/netfilter/nf_conntrack_count").read_text())
+def tracked(port: int) -> int:
+    """How many connections to a port the kernel tracks."""
+    return sum(f" dport={port} src=" in line or f" dport={port} [UNREPLIED]" in line for line in Path("/proc/net/nf_conntrack").read_text().splitlines())
 
 
 def start_nginx(edge: LoneEdge, port: int) -> None:
