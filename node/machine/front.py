@@ -2,6 +2,7 @@
 import json
 import os
 import re
+import socket
 import ssl
 import sys
 import threading
@@ -9,6 +10,7 @@ import traceback
 from http.server import BaseHTTPRequestHandler, ThreadingHTTPServer
 
 from machine.entries import LONGEST, request_of
+from machine.handshakes import SECONDS, Handshakes
 
 
 def malformed(member):
@@ -55,12 +57,7 @@ class Handler(BaseHTTPRequestHandler):
     protocol_version = "HTTP/1.1"
     default_request_version = "HTTP/1.0"                   # a request without a version gets a status all the same
     disable_nagle_algorithm = True
-    timeout = 75                                           # seconds for a read, a write and the handshake of TLS: a silent client holds one thread so long
-
-    def handle(self):
-        if isinstance(self.connection, ssl.SSLSocket):
-            self.connection.do_handshake()                 # in the thread of this connection, and not in the one that accepts all
-        super().handle()
+    timeout = 75                                           # seconds for a read and a write: a silent client holds one thread so long
 
     def send(self, status, body, kind="application/json"):
         self.send_response(status)
@@ -108,28 +105,45 @@ class Handler(BaseHTTPRequestHandler):
 
 class Front(ThreadingHTTPServer):
     daemon_threads = True
-    request_queue_size = 128
-    most = 2000                                            # connections at a time; each further one is closed, and its client sends again
+    request_queue_size = 1024
+    most = 2000                                            # connections at a time, over TLS those whose handshake is over; each further one is closed, and its client sends again
 
     def __init__(self, address, bridge, context=None):
+        self.address_family = socket.AF_INET6 if ":" in address[0] else socket.AF_INET
         super().__init__(address, Handler)
-        self.bridge, self.room = bridge, threading.BoundedSemaphore(self.most)
+        self.bridge, self.room, self.handshakes = bridge, threading.BoundedSemaphore(self.most), None
         # a front that asks for certificates has no gate before it that would look at the role
         self.hides_requests = context is not None and context.verify_mode == ssl.CERT_REQUIRED
         if context:
+            self.handshakes = Handshakes(super().process_request, lambda request, _: self.shutdown_request(request))
+            threading.Thread(target=self.handshakes.run, daemon=True).start()
             self.socket = context.wrap_socket(self.socket, server_side=True, do_handshake_on_connect=False)
 
     def process_request(self, request, client_address):
-        if self.room.acquire(blocking=False):
+        if self.handshakes:
+            self.handshakes.begin(request, client_address)
+        elif self.room.acquire(blocking=False):
             super().process_request(request, client_address)
         else:
             self.shutdown_request(request)
 
     def process_request_thread(self, request, client_address):
+        if self.handshakes and not self.is_met(request, client_address):
+            return self.shutdown_request(request)
         try:
             super().process_request_thread(request, client_address)
         finally:
             self.room.release()
+
+    def is_met(self, request, client_address):
+        """Does the handshake, in the thread of this connection; whether it succeeded, in time, and there is room."""
+        try:
+            request.settimeout(SECONDS)
+            request.do_handshake()
+        except OSError:                                    # a client that left, was given up, or has no certificate
+            self.handshakes.end(request, client_address)
+            return False
+        return self.handshakes.end(request, client_address) and self.room.acquire(blocking=False)
 
     def handle_error(self, request, client_address):
         if not isinstance(sys.exc_info()[1], OSError):     # a client that left, or that has no certificate, is no fault

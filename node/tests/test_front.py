@@ -1,4 +1,5 @@
 """The answers to a client: the refusals of the desk. A body that can't be an entry makes none."""
+import contextlib
 import random
 import socket
 import ssl
@@ -13,6 +14,7 @@ sys.path.insert(0, str(Path(__file__).resolve().parent))
 
 from bench import Bench  # noqa: E402
 from machine.front import Front  # noqa: E402
+from machine.handshakes import network_of  # noqa: E402
 
 JSON = b'{"error":{"code":30,"member":"json","name":"malformed"}}'
 HEAD = b'{"error":{"code":30,"member":"head","name":"malformed"}}'
@@ -206,6 +208,88 @@ class Certificates(Fronting):
         self.assertTrue(self.tried(self.client(ours, ours)).endswith(b"{}"))
         self.assertLess(time.monotonic() - start, 5)
         silent.close()
+
+    def silent(self, many, address="127.0.0.1"):
+        """Connections from an address that send nothing. They are closed at the end."""
+        found = [socket.create_connection(self.server.server_address, timeout=20, source_address=(address, 0)) for _ in range(many)]
+        self.addCleanup(lambda: [connection.close() for connection in found])
+        return found
+
+    def served_after(self, context):
+        """The least time of three, since a machine may be busy."""
+        times = []
+        for _ in range(3):
+            start = time.monotonic()
+            self.assertTrue(self.tried(context).endswith(b"{}"))
+            times.append(time.monotonic() - start)
+        return min(times)
+
+    def test_who_has_no_handshake_takes_nobodys_place(self):
+        ours = self.certify("ours")
+        self.front_of(ours)
+        client, counts, strangers = self.client(ours, ours), [], self.silent(600)
+        self.assertLess(self.served_after(client), 1)      # of the same address, too
+        for number in range(1, 61):
+            strangers += self.silent(10, f"127.0.1.{number}")
+            counts.append(self.server.handshakes.many)
+        self.assertLess(self.served_after(client), 1)
+        self.until(lambda: self.server.handshakes.many >= 497, 4)   # the client took the place of some, and has gone
+        self.assertTrue(counts[0] <= 60 and max(counts) <= 500, counts)
+        self.until(lambda: self.server.room._value == Front.most == 2000)
+        held = {network: len(connections) for network, connections in self.server.handshakes.of.items()}
+        self.assertTrue(all(held.get(f"127.0.1.{number}") for number in range(1, 61)), held)   # nobody's only ones were given up for another's many
+        self.until(lambda: self.server.handshakes.many == 0 and not self.server.handshakes.of, 6)
+        self.assertEqual([read_all(connection) for connection in strangers], [b""] * 1200)
+
+    def test_one_that_is_given_up_before_its_handshake(self):
+        """An end of the process would end the tests."""
+        self.front_of(self.certify("ours"))
+        met = []
+        self.server.handshakes.meet = lambda *one: met.append(one)
+        self.silent(1)[0].sendall(b"\x16")
+        self.until(lambda: met)
+        self.server.handshakes.give_up(network_of("127.0.0.1"))
+        self.assertFalse(self.server.is_met(*met[0]))
+        met[0][0].close()
+
+    def test_a_handshake_is_over_in_time(self):
+        """However often a byte comes."""
+        ours = self.certify("ours")
+        self.front_of(ours)
+        hello, start = b"\x16\x03\x01\x02\x00" + b"\x01" * 500, time.monotonic()
+        with self.silent(1)[0] as slow, contextlib.suppress(ConnectionError):
+            slow.settimeout(0.25)
+            for at in range(len(hello)):
+                slow.sendall(hello[at:at + 1])
+                with contextlib.suppress(TimeoutError):
+                    if not slow.recv(1):
+                        break
+        self.assertTrue(4 < time.monotonic() - start < 7)
+
+    def test_those_with_a_handshake_have_a_limit_of_their_own(self):
+        ours = self.certify("ours")
+        context = ssl.SSLContext(ssl.PROTOCOL_TLS_SERVER)
+        context.load_cert_chain(ours / "m.crt", ours / "m.key")
+        self.front(context, most=20)
+        met = [self.client(ours).wrap_socket(connection, server_hostname="127.0.0.1") for connection in self.silent(20)]
+        self.until(lambda: self.server.room._value == 0)
+        self.assertEqual((self.tried(self.client(ours)), self.server.handshakes.many), (b"", 0))
+        for connection in met:
+            connection.close()
+        self.until(lambda: self.server.room._value == 20)
+        self.assertLess(self.served_after(self.client(ours)), 1)
+
+    def test_who_counts_as_one(self):
+        for one, other, same in [("10.0.0.1", "10.0.0.1", True), ("10.0.0.1", "10.0.0.2", False), ("2001:db8::1", "2001:db8::ffff:1", True), ("2001:db8::1", "2001:db8:0:1::1", False),
+                                 ("::ffff:10.0.0.1", "10.0.0.1", True), ("::ffff:10.0.0.1", "::ffff:10.0.0.2", False), ("fe80::1%lo", "fe80::2", True)]:
+            self.assertEqual(network_of(one) == network_of(other), same, (one, other))
+
+    def test_an_address_of_ipv6(self):
+        Front.most = 2000
+        with Front(("::1", 0), Answers()) as front:
+            threading.Thread(target=front.serve_forever, kwargs={"poll_interval": 0.05}, daemon=True).start()
+            self.addCleanup(front.shutdown)
+            self.assertEqual(self.exchange(b"GET /x HTTP/1.1\r\nHost: desk\r\n\r\n", front.server_address[:2]), (200, b"/x"))
 
     def test_executed_requests_are_read_by_no_certificate(self):
         ours = self.certify("ours")
