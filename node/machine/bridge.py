@@ -1,20 +1,19 @@
 """Feeds this machine's desk from the log, and finds the answers to what was asked here."""
 import hashlib
+import http.client
 import itertools
-import os
 import subprocess
 import threading
 import time
 import uuid
-from collections import deque, namedtuple
+from collections import deque
 
 from machine.entries import entry_of, parts
+from machine.folder import Checked, Folder, Reached, State
 from machine.log import Forgotten
 
 PERIOD = 1000                                              # entries between two digests
-# How far a machine came: the place of the last entry, the number of entries, and a digest of their replies (of its bytes, for one without the form of an entry).
-Reached = namedtuple("Reached", "place count digest")
-NOTHING = Reached(0, 0, b"0" * 64)
+HOUR = 3600
 
 
 def moment():
@@ -30,28 +29,22 @@ def has_reads(program):
 class Bridge:
     """Feeds every entry, in order, one at a time, and writes the place after the reply. All machines alike pass over an entry that hasn't the form of one."""
 
-    def __init__(self, folder, program, log, journal, patience=10):
-        self.folder, self.program, self.log, self.journal, self.patience = folder, program, log, journal, patience
+    def __init__(self, folder, program, log, journal, patience=10, pause=10):
+        self.folder, self.program, self.log, self.journal, self.patience, self.pause = Folder(folder), program, log, journal, patience, pause
         self.waiting, self.lock = {}, threading.Lock()
         self.desk, self.turn = None, threading.Lock()      # the desk, and whose line it answers
         self.reads = ["--reads"] if has_reads(program) else []
-        self.at = os.open(f"{folder}/at", os.O_RDWR | os.O_CREAT, 0o644)
-        self.reached, self.passed = self.read_place(), 0
+        self.passed = 0
         self.due = deque(maxlen=10)                        # digests that are yet to be published
         self.held = False                                  # whether requests are refused, since etcd is nearly full
+        self.lacks = self.differs = False                  # whether all is refused, since the log lacks entries that this desk needs, or its replies differ from two others'
 
-    def read_place(self):
-        try:
-            place, count, digest = os.pread(self.at, 200, 0).split()
-            return Reached(int(place), int(count), digest)
-        except ValueError:
-            return NOTHING                                 # from the beginning of the log: what was executed is repeated
+    @property
+    def reached(self):
+        return self.folder.state.reached
 
-    def durable_place(self):
-        """How far this machine came, once that is on its disk. The log may then forget all earlier entries."""
-        reached = self.reached
-        os.fsync(self.at)
-        return reached
+    def answers_nothing(self):
+        return self.lacks or self.differs
 
     def ask(self, desk, line, tries=0):
         """The desk's answer line. While the desk has no memory, it is asked again, at most so often. Empty if the desk ended, as it does after a store fault."""
@@ -84,24 +77,26 @@ class Bridge:
             self.pass_over(place)
             token, answer = None, entry
         count, digest = self.reached.count + 1, hashlib.sha256(self.reached.digest + answer).hexdigest().encode()
-        os.pwrite(self.at, b"%020d %020d %s\n" % (place, count, digest), 0)
-        self.reached = Reached(place, count, digest)
+        checked = Checked(count, digest) if count % PERIOD == 0 else self.folder.state.checked
+        self.folder.write(State(Reached(place, count, digest), checked, place))
         with self.lock:
             waiter = self.waiting.pop(token, None)
         if waiter:
             waiter.append(answer)
             waiter[0].set()
         if count % PERIOD == 0:
-            self.due.append((count, digest))
+            self.due.append(checked)
         return True
 
     def feed(self):
         """Ends when the desk ends, with its status. The caller starts the desk again, from the place that it reached."""
-        words = [self.program, "lines", *self.reads, "--end-on-store-fault", "--file", f"{self.folder}/desk.db"]
+        words = [self.program, "lines", *self.reads, "--end-on-store-fault", "--file", f"{self.folder.path}/desk.db"]
         desk = self.desk = subprocess.Popen(words, stdin=subprocess.PIPE, stdout=subprocess.PIPE)
         try:
-            for place, entry in self.log.follow(self.reached.place):
-                if not self.take(place, entry):
+            for place, entry in self.log.follow(self.reached.place, self.folder.state.seen):
+                if entry is None:
+                    self.folder.write(self.folder.state._replace(seen=place))
+                elif not self.take(place, entry):
                     break
         finally:
             desk.kill()
@@ -114,14 +109,32 @@ class Bridge:
             try:
                 status = self.feed()
             except Forgotten as fault:
-                self.journal.report(str(fault))
-                os._exit(2)
+                self.wait_for_folder(fault)
+                continue
             self.journal.report(f"the desk ended with status {status}, and is started again", f"ended {status}", 60)
             time.sleep(0.2 if time.monotonic() > start + 2 else 1)
 
+    def wait_for_folder(self, fault):
+        """Refuses all until another machine's folder is there, or the log has the entries after all; the desk doesn't run meanwhile."""
+        self.lacks = True
+        first = before = self.folder.look()
+        while not self.folder.is_replaced(first, before) and not (before == first and self.has_entries()):
+            self.journal.report(f"{fault}. Until that is done all requests and reads get 503", f"lacks {self.reached.place}", HOUR)
+            before = self.folder.look()
+            time.sleep(self.pause)
+        self.journal.report(f"the log has what comes after place {self.reached.place}, where this folder goes on")
+        self.lacks = False
+
+    def has_entries(self):
+        try:
+            self.log.begin(self.reached.place, self.folder.state.seen)
+        except (Forgotten, OSError, http.client.HTTPException):
+            return False
+        return True
+
     def answer(self, request):
         """The answer line to a request, found by the token of its entry. Empty if it doesn't come in time, or if requests are refused."""
-        if self.held:
+        if self.held or self.answers_nothing():
             return b""
         token, waiter = uuid.uuid4().hex.encode(), [threading.Event()]
         with self.lock:
@@ -133,11 +146,11 @@ class Bridge:
             self.journal.report(f"a request gets 503: {fault}", "append", 60)
         with self.lock:
             self.waiting.pop(token, None)
-        return waiter[1] if len(waiter) > 1 else b""
+        return waiter[1] if len(waiter) > 1 and not self.answers_nothing() else b""
 
     def read(self, target):
-        """The answer line to a read, after the entries that the desk has answered. Empty if there is no desk, or if the read doesn't get its turn in time."""
-        if not self.turn.acquire(timeout=5):
+        """The answer line to a read, after the entries that the desk has answered. Empty if there is no desk, if the read doesn't get its turn in time, or if all is refused."""
+        if self.answers_nothing() or not self.turn.acquire(timeout=5):
             return b""
         try:
             return self.ask(self.desk, b"%d GET %s" % (moment(), target), tries=1) if self.desk and self.reads else b""

@@ -1,7 +1,6 @@
 """What a machine does for the log besides feeding its desk: it publishes its place and its digests, compares digests, lets the log forget entries that all
 machines have, and watches the room in etcd."""
 import http.client
-import os
 import time
 
 from machine.bridge import PERIOD
@@ -15,7 +14,6 @@ class Keeper:
     def __init__(self, name, machines, gone, log, bridge, journal, clock=time.monotonic, minute=MINUTE):
         self.name, self.machines, self.gone, self.minute = name.encode(), [machine.encode() for machine in machines], gone * HOUR, minute
         self.log, self.bridge, self.journal, self.clock = log, bridge, journal, clock
-        self.last_digest = 0, b""                          # the last digest that it published, and after how many entries
         self.published_at, self.published_count = None, 0
         self.measured_at, self.is_large = None, False      # when etcd's files were looked at, and whether one had half of its quota
         self.seen, self.silent, self.looked_at = {}, {machine: 0 for machine in self.machines}, clock()
@@ -60,31 +58,45 @@ class Keeper:
         while self.bridge.due:
             count, digest = self.bridge.due[0]
             self.log.publish_digest(count, self.name, digest)
-            self.last_digest = count, digest
             self.bridge.due.popleft()
-            self.log.forget_digests(count - KEPT_DIGESTS)
+            self.log.forget_digests(count - KEPT_DIGESTS, self.name)
 
     def compare(self):
-        """A machine whose last digest differs from those of two others says so, and ends. It may be the first to publish its digest, so it compares again and again."""
-        count, digest = self.last_digest
-        digests = self.log.digests(count) if count else {}
+        """A machine whose last digest differs from those of two others says so, and answers nothing until another one has its digest. It may be the first to publish its
+        digest, so it compares again and again. What others than --machines put counts for nothing."""
+        count, digest = self.bridge.folder.state.checked
+        if not count or not self.machines:
+            return
+        digests = self.log.digests(count, self.machines)
         others = [other for name, other in digests.items() if name != self.name]
         if any(others.count(other) > 1 and other != digest for other in others):
-            self.journal.report(f"the replies up to entry {count} differ from those of two other machines: {self.bridge.folder} is not to be used")
-            os._exit(3)
+            self.bridge.differs = True
+            self.journal.report(f"the replies up to entry {count} differ from those of two other machines, so all requests and reads get 503: {self.bridge.folder.path} isn't to be used, "
+                                "copy another machine's folder", "differs", HOUR)
+        elif digest in others and self.bridge.differs:
+            self.bridge.differs = False
+            self.journal.report(f"the replies up to entry {count} are those of another machine: requests and reads are answered again")
+        if digests.get(self.name) != digest:
+            self.publish_again(count, digest, self.name in digests)
+
+    def publish_again(self, count, digest, is_other):
+        """So what somebody else put in its name doesn't last."""
+        if is_other:
+            self.journal.report(f"etcd had another digest of this machine after {count} entries, of an earlier folder or by somebody else's hand", "digest", HOUR)
+        self.log.publish_digest(count, self.name, digest)
 
     # Places, and the entries before them
 
     def look_after(self):
         """Publishes the place, and forgets the entries that all machines have. A full etcd refuses the first and does the second, so a fault of the first is raised last."""
-        reached, place, fault = self.bridge.durable_place(), None, None
+        (reached, _, seen), place, fault = self.bridge.folder.durable_state(), None, None
         self.published_at, self.published_count = self.clock(), reached.count
         try:
-            self.log.begin(reached.place)                  # a folder that is too old for the log isn't to be waited for
+            self.log.begin(reached.place, seen)            # a folder that is too old for the log isn't to be waited for
             place = reached.place
             self.log.publish_place(self.name, place)
         except Forgotten:
-            return                                         # the bridge finds it too, and ends
+            return                                         # the bridge finds it too, and waits for another folder
         except OSError as error:
             fault = error
         if self.machines:

@@ -14,7 +14,8 @@ Member = namedtuple("Member", "end size used quota")
 # The place that a machine published, and the revision by which it did.
 Published = namedtuple("Published", "revision place")
 QUOTA = 2 * 2 ** 30                                        # etcd's default, if a member doesn't show its quota
-NO_SUCH_REVISION = 11                                      # etcd's code: one that was compacted, or is yet to come
+# etcd's codes: a revision that was compacted, or is yet to come; and what a user has no right to. Another member says the same.
+NO_SUCH_REVISION, PERMISSION_DENIED = 11, 7
 
 
 class Forgotten(Exception):
@@ -29,12 +30,22 @@ class Compacted(OSError):
         self.revision = revision
 
 
+def fields_of(token):
+    return {"Authorization": token} if token else {}
+
+
 class Refused(OSError):
     """A member refuses to do this."""
 
     def __init__(self, text, code):
         super().__init__(text)
         self.code = code
+
+
+def wants_token(text, token):
+    """Whether a member says so that it no longer knows this token: it ends after five minutes without use, and with each start of a member. Without one etcd's gateway
+    says at times that its own certificate, which has no CN, has no right."""
+    return "user name is empty" in text or "invalid auth token" in text or token is None and "permission denied" in text
 
 
 def text(data):
@@ -62,8 +73,9 @@ def said(status, body):
     return json.loads(body)
 
 
-def events(line, place, version):
-    """The entries of one line of a watch after a place, each with its revision and how often the key had been put by then. It passes over entries that came before."""
+def events(line, key, place, version):
+    """The entries of one line of a watch after a place, each with its revision and how often the key had been put by then. It passes over entries that came before.
+    Changes of other keys after them come as their last revision, without an entry: up to there all entries were told."""
     if not line.endswith(b"\n"):
         raise OSError("a member broke off within a line")
     result = json.loads(line).get("result")
@@ -73,22 +85,29 @@ def events(line, place, version):
         raise Compacted(int(result["compact_revision"]))
     if result.get("canceled"):
         raise OSError(f"a member ended the watch: {result.get('cancel_reason')}")
+    last = place
     for event in result.get("events", []):
         kv, deleted = event["kv"], event.get("type") == "DELETE"
         revision = int(kv["mod_revision"])
-        if revision <= place:
+        last = max(last, revision)
+        if revision <= place or data_of(kv, "key") != key:
             continue
         if not deleted and int(kv["version"]) != version + 1:
             raise OSError(f"a member told the entry at {revision} before one that comes first")
         place, version = revision, 0 if deleted else version + 1
         yield place, version, data_of(kv, "value")
+    if last > place and not result.get("fragment"):        # a part of a line may end within the changes of one revision
+        yield last, version, None
 
 
 class Log:
-    def __init__(self, ends, line, context, journal, patience=1.5, silence=5):
+    """`user` is a user of etcd and the file of its password, or None."""
+
+    def __init__(self, ends, line, context, journal, user=None, patience=1.5, silence=5):
         self.ends, self.line, self.context, self.journal = [tuple(end.rsplit(":", 1)) for end in ends], line, context, journal
         self.patience, self.silence = patience, silence    # seconds: for an answer, and for a silent watch
         self.idle, self.at, self.lock = [], random.randrange(len(self.ends)), threading.Lock()
+        self.user, self.token, self.renewing = user, None, threading.Lock()
 
     # One call
 
@@ -125,12 +144,10 @@ class Log:
         for _ in range(len(self.ends) + 1):
             end, connection = self.taken()
             try:
-                connection.request("POST", path, json.dumps(body))
-                answer = connection.getresponse()
-                found = said(answer.status, answer.read())
+                found = self.exchange(connection, path, body)
             except (OSError, http.client.HTTPException) as error:
                 connection.close()
-                if isinstance(error, Refused) and error.code == NO_SUCH_REVISION:
+                if isinstance(error, Refused) and error.code in (NO_SUCH_REVISION, PERMISSION_DENIED):
                     raise
                 self.leave(end)
                 fault = error
@@ -140,15 +157,41 @@ class Log:
         raise OSError(f"no member of etcd acknowledged: {fault}")
 
     def ask(self, end, path, body, wait=None):
-        """One call to this very member."""
+        """One POST to this very member."""
         connection = self.connect(end, wait or self.patience)
         try:
-            connection.request("GET" if body is None else "POST", path, None if body is None else json.dumps(body))
-            answer = connection.getresponse()
-            reply = answer.read()
-            return reply if body is None else said(answer.status, reply)
+            return self.exchange(connection, path, body)
         finally:
             connection.close()
+
+    def exchange(self, connection, path, body):
+        """One POST; and once more with a new token where the member wants one."""
+        token = self.token
+        try:
+            return self.post(connection, path, body, token)
+        except Refused as fault:
+            if not self.user or not wants_token(str(fault), token):
+                raise
+        return self.post(connection, path, body, self.renewed(connection, token))
+
+    def post(self, connection, path, body, token):
+        connection.request("POST", path, json.dumps(body), fields_of(token))
+        answer = connection.getresponse()
+        return said(answer.status, answer.read())
+
+    def renewed(self, connection, stale):
+        """A token in place of this one; another thread may have asked for it meanwhile. The password is read each time, so that a new one needs no start."""
+        with self.renewing:
+            if self.token == stale:
+                name, file = self.user
+                with open(file) as words:
+                    self.token = self.post(connection, "/v3/auth/authenticate", {"name": name, "password": words.read().strip()}, None)["token"]
+            return self.token
+
+    def forget_token(self, stale):
+        with self.renewing:
+            if self.token == stale:
+                self.token = None
 
     # The entries
 
@@ -161,14 +204,15 @@ class Log:
         found = self.call("/v3/kv/range", {"key": text(self.line)})
         return int(found["header"]["revision"]), found.get("kvs", [])
 
-    def begin(self, place):
-        """The revision from which on the entries after a place are, and how often the key had been put by then, confirmed by a majority. Raises Forgotten if no log has them."""
+    def begin(self, place, seen=0):
+        """The revision from which on the entries after a place are, and how often the key had been put by then, confirmed by a majority. Up to `seen` there are none. Raises
+        Forgotten if no log has them."""
         last, kvs = self.last()
-        if last < place:
-            raise Forgotten(f"the log ends at {last}, before this machine's place {place}: it isn't the log that this folder was fed from")
+        if last < max(place, seen):
+            raise Forgotten(f"the log ends at {last}, before this machine's place {max(place, seen)}: it isn't the log that this folder was fed from")
         if kvs and int(kvs[0]["mod_revision"]) == place:   # no entry came since, so the log may be compacted up to its end
             return last + 1, int(kvs[0]["version"])
-        known = place or 1                                 # etcd's first revision, before the first put
+        known = max(place, seen) or 1                      # etcd's first revision, before the first put
         kvs = self.entry_up_to(known)
         if kvs is None:                                    # compacted further: perhaps up to places that the machines published while nobody called
             known = self.compaction_after(known)
@@ -199,24 +243,35 @@ class Log:
         raise OSError(f"a member doesn't say up to where it is compacted, which no longer knows {revision}")
 
     def watched(self, end, start, place, version):
-        """The entries from a revision on, as one member reports them, until it breaks off."""
-        connection = self.connect(end, self.silence)
+        """The entries from a revision on, as one member reports them, until it breaks off; and revisions without an entry, up to which it has told all. Without fragments a
+        line might be as long as all that the log has."""
+        connection, token = self.connect(end, self.silence), self.token
+        request = {"key": text(self.line), "range_end": text(self.line + b"0"), "start_revision": str(start), "fragment": True}  # the log's key, and those below it
         try:
-            connection.request("POST", "/v3/watch", json.dumps({"create_request": {"key": text(self.line), "start_revision": str(start)}}))
+            connection.request("POST", "/v3/watch", json.dumps({"create_request": request}), fields_of(token))
             answer = connection.getresponse()
+            if answer.status != 200:
+                said(answer.status, answer.read())
             while line := answer.readline():
-                for place, version, entry in events(line, place, version):
-                    yield place, entry
+                for revision, version, entry in events(line, self.line, place, version):
+                    place = place if entry is None else revision
+                    yield revision, entry
+        except OSError as fault:
+            if wants_token(str(fault), token):
+                self.forget_token(token)
+            raise
         finally:
             connection.close()
 
-    def follow(self, place):
-        """The entries after a place, in order, for ever, each with its place. It waits out faults of members. Raises Forgotten if the log no longer has the entries."""
+    def follow(self, place, seen=0):
+        """The entries after a place, in order, for ever, each with its place; and revisions without an entry (None), up to which there is no other. It waits out faults of
+        members. Raises Forgotten if the log no longer has the entries."""
         for end in itertools.cycle(random.sample(self.ends, len(self.ends))):
             try:
-                start, version = self.begin(place)
-                for place, entry in self.watched(end, start, place, version):
-                    yield place, entry
+                start, version = self.begin(place, seen)
+                for revision, entry in self.watched(end, start, place, version):
+                    place, seen = (place, revision) if entry is None else (revision, seen)
+                    yield revision, entry
             except TimeoutError:                           # nothing came
                 pass
             except (OSError, http.client.HTTPException) as fault:
@@ -236,18 +291,20 @@ class Log:
 
     def publish_digest(self, count, name, digest):
         """Puts a machine's digest after so many entries."""
-        self.publish(b"digest", b"%d/%s" % (count, name), digest)
+        self.publish(b"digest", b"%s/%d" % (name, count), digest)
 
-    def digests(self, count):
-        """Those of all machines after so many entries, by the machine's name."""
-        return {name: data_of(kv, "value") for name, kv in self.listed(b"digest/%d" % count).items()}
+    def digests(self, count, names):
+        """Those of these machines after so many entries, by the machine's name. Where one has none below its name it may be as versions before 1.15 put it."""
+        keys = [b"/digest/%s/%d" % (name, count) for name in names] + [b"/digest/%d/%s" % (count, name) for name in names]
+        answers = self.call("/v3/kv/txn", {"success": [{"request_range": {"key": text(self.line + key)}} for key in keys]})["responses"]
+        found = [answer["response_range"].get("kvs") for answer in answers]
+        return {name: data_of(kvs[0], "value") for name, kvs in reversed(list(zip([*names, *names], found))) if kvs}
 
-    def forget_digests(self, count):
-        """Deletes those of fewer entries."""
-        for key in self.listed(b"digest", keys_only=True):
-            number = key.partition(b"/")[0]
+    def forget_digests(self, count, name):
+        """Deletes a machine's digests of fewer entries."""
+        for number in self.listed(b"digest/" + name, keys_only=True):
             if number.isdigit() and int(number) < count:
-                self.call("/v3/kv/deleterange", {"key": text(self.line + b"/digest/" + key)})
+                self.call("/v3/kv/deleterange", {"key": text(self.line + b"/digest/%s/%s" % (name, number))})
 
     def publish_place(self, name, place):
         self.publish(b"place", name, b"%d" % place)
@@ -275,11 +332,19 @@ class Log:
     def member(self, end):
         """The state of a member; None if it doesn't answer."""
         try:
-            status, metrics = self.ask(end, "/v3/maintenance/status", {}), self.ask(end, "/metrics", None)
+            status, metrics = self.ask(end, "/v3/maintenance/status", {}), self.metrics(end)
         except (OSError, http.client.HTTPException):
             return None
         quota = re.search(rb"^etcd_server_quota_backend_bytes ([0-9.e+]+)$", metrics, re.MULTILINE)
         return Member(end, int(status.get("dbSize", 0)), int(status.get("dbSizeInUse", 0)), int(float(quota.group(1))) if quota else QUOTA)
+
+    def metrics(self, end):
+        connection = self.connect(end, self.patience)
+        try:
+            connection.request("GET", "/metrics")
+            return connection.getresponse().read()
+        finally:
+            connection.close()
 
     def is_full(self):
         """Whether etcd refuses every put, since a member passed its quota."""

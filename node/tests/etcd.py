@@ -15,10 +15,12 @@ def data(word):
 
 
 class Store:
-    """The common state of the members: each change with its revision, the revision up to which changes are forgotten, and the alarm of a full etcd."""
+    """The common state of the members: each change with its revision, the revision up to which changes are forgotten, the alarm of a full etcd, and the users with their
+    passwords and what they may write; without any everybody may write everything."""
 
     def __init__(self):
         self.changes, self.revision, self.compacted, self.full, self.changed = [], 1, 0, False, threading.Condition()
+        self.users, self.rights = {}, {}
 
     def put(self, key, value):
         with self.changed:
@@ -68,6 +70,9 @@ FUTURE = 400, 11, "etcdserver: mvcc: required revision is a future revision"
 COMPACTED = 400, 11, "etcdserver: mvcc: required revision has been compacted"
 FULL = 429, 8, "etcdserver: mvcc: database space exceeded"
 NO_LEADER = 503, 14, "etcdserver: no leader"
+UNKNOWN = 401, 16, "etcdserver: invalid auth token"
+WRONG = 400, 3, "etcdserver: authentication failed, invalid user ID or password"
+DENIED = 403, 7, "etcdserver: permission denied"
 
 
 class Member:
@@ -78,7 +83,7 @@ class Member:
     def __init__(self, store, port=0):
         self.store, self.lag, self.late, self.size, self.used, self.quota = store, 0, 0, 1000, 500, 2 * 2 ** 30
         self.twice = self.shuffled = self.broken = self.away = self.garbage = False
-        self.asked, self.ended, self.leaves = [], False, []
+        self.asked, self.ended, self.leaves, self.tokens = [], False, [], {}
         self.server = ThreadingHTTPServer(("127.0.0.1", port), Handler)
         self.server.daemon_threads, self.server.member = True, self
         self.end = f"127.0.0.1:{self.server.server_address[1]}"
@@ -97,6 +102,25 @@ class Member:
         for _ in range(2 if self.twice else 1):
             self.store.put(data(body["key"]), data(body.get("value", "")))
         return {}
+
+    def txn(self, body):
+        return {"succeeded": True, "responses": [{"response_range": self.range(one["request_range"])} for one in body["success"]]}
+
+    def authenticate(self, body):
+        if self.store.users.get(body["name"]) != body["password"]:
+            raise Refused(*WRONG)
+        token = f"token.{len(self.tokens)}"
+        self.tokens[token] = body["name"]
+        return {"token": token}
+
+    def admit(self, path, body, token):
+        """Refuses who has no token of this member, and who may not write this."""
+        if not self.store.users or path.startswith(("/v3/auth", "/v3/maintenance")) and "defrag" not in path:
+            return
+        if token not in self.tokens:
+            raise Refused(*(UNKNOWN if token else DENIED))
+        if path.endswith(("put", "deleterange")) and not self.store.rights[self.tokens[token]](data(body["key"])):
+            raise Refused(*DENIED)
 
     def range(self, body):
         store, revision = self.store, int(body.get("revision", 0))
@@ -135,34 +159,39 @@ class Member:
         self.size = self.used
         return {}
 
-    def answer(self, path, body):
-        calls = {"/v3/kv/put": self.put, "/v3/kv/range": self.range, "/v3/kv/deleterange": self.delete, "/v3/kv/compaction": self.compact,
+    def answer(self, path, body, token):
+        calls = {"/v3/auth/authenticate": self.authenticate, "/v3/kv/txn": self.txn, "/v3/kv/put": self.put, "/v3/kv/range": self.range, "/v3/kv/deleterange": self.delete, "/v3/kv/compaction": self.compact,
                  "/v3/maintenance/status": self.status, "/v3/maintenance/alarm": self.alarm, "/v3/maintenance/defragment": self.defragment}
         with self.store.changed:
             if self.away:
                 raise Refused(*NO_LEADER)
             self.asked.append((path, body))
+            self.admit(path, body, token)
             return {"header": {"revision": str(self.store.revision)}, **calls[path](body)}
 
-    def news(self, key, start):
-        """The changes of a key from a revision on, as far as this member knows; waits for some."""
+    def news(self, first, last, start):
+        """The changes of some keys from a revision on, as far as this member knows; waits for some."""
         with self.store.changed:
-            known = [change for change in self.store.changes if change["key"] == key and change["mod"] >= start]
+            known = [change for change in self.store.changes if first <= change["key"] < last and change["mod"] >= start]
             known = known[:len(known) - self.lag] if self.lag else known
             if not known:
                 self.store.changed.wait(0.05)
             return known
 
-    def lines(self, body):
+    def lines(self, body, token=None):
         """The results that a watch reports, a line after another."""
         request = body["create_request"]
-        key, start, header = data(request["key"]), int(request["start_revision"]), {"revision": str(self.store.revision)}
+        first, start, header = data(request["key"]), int(request["start_revision"]), {"revision": str(self.store.revision)}
+        last = data(request["range_end"]) if "range_end" in request else first + b"\0"
+        if self.store.users and token not in self.tokens:
+            yield {"header": header, "created": True, "canceled": True, "cancel_reason": f"rpc error: code = Unauthenticated desc = {(UNKNOWN if token else DENIED)[2]}"}
+            return
         yield {"header": header, "created": True}
         if start < self.store.compacted:
             yield {"header": header, "canceled": True, "compact_revision": str(self.store.compacted)}
             return
         while not self.ended:
-            known = self.news(key, start)
+            known = self.news(first, last, start)
             if not known:
                 yield None
                 continue
@@ -191,7 +220,7 @@ class Handler(BaseHTTPRequestHandler):
         try:
             if self.path == "/v3/watch":
                 return self.watch(member, body)
-            answer = member.answer(self.path, body)
+            answer = member.answer(self.path, body, self.headers["Authorization"])
             time.sleep(member.late)                        # it is done, and nobody knows
             self.send(200, b"{garbage" if member.garbage else json.dumps(answer).encode())
         except Refused as fault:
@@ -203,7 +232,7 @@ class Handler(BaseHTTPRequestHandler):
         self.send_response(200)
         self.send_header("Transfer-Encoding", "chunked")
         self.end_headers()
-        for result in member.lines(body):
+        for result in member.lines(body, self.headers["Authorization"]):
             if result is None:
                 if member.away or member.ended:
                     break

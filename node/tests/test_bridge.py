@@ -1,15 +1,18 @@
 """The feeding loop: each entry once, in order, none passed over but what is no entry; and answers to what was asked here."""
 import hashlib
 import os
+import shutil
 import sys
 import threading
+import time
 import unittest
 from pathlib import Path
 
 sys.path.insert(0, str(Path(__file__).resolve().parent))
 
 from bench import HERE, LINE, Bench, token  # noqa: E402
-from machine.bridge import PERIOD, Bridge, Reached  # noqa: E402
+from machine.bridge import PERIOD, Bridge  # noqa: E402
+from machine.folder import NOTHING, UNCHECKED, Checked, Folder, Reached, State  # noqa: E402
 
 DESK = str(HERE / "desk.py")
 
@@ -21,7 +24,7 @@ def digest_of(replies):
     return found
 
 
-class Feeding(Bench):
+class Bridging(Bench):
     def bridge(self, folder=None, feeds=True, **times):
         folder = folder or self.folder
         folder.mkdir(exist_ok=True)
@@ -33,12 +36,14 @@ class Feeding(Bench):
 
     def end(self, bridge):
         """Lets the thread end with its desk."""
-        bridge.log.begin = lambda place: sys.exit()
+        bridge.log.begin = lambda *_: sys.exit()
 
     def fed(self, folder=None):
         file = (folder or self.folder) / "desk.db"
         return file.read_text("latin-1").splitlines() if file.exists() else []
 
+
+class Feeding(Bridging):
     def test_in_order_and_the_place_after_it(self):
         self.member()
         self.entries(30)
@@ -46,7 +51,7 @@ class Feeding(Bench):
         replies = [b"200 line %d\n" % number for number in range(1, 31)]
         self.until(lambda: bridge.reached == Reached(31, 30, digest_of(replies)))
         self.assertEqual(self.fed(), [f"5 line {number}" for number in range(1, 31)])
-        self.assertEqual((self.folder / "at").read_bytes(), b"%020d %020d %s\n" % (31, 30, digest_of(replies)))
+        self.assertEqual((self.folder / "at").read_bytes().split(b"\n")[0].rstrip(), b"%020d %020d %s" % (31, 30, digest_of(replies)))
 
     def test_members_that_lag_repeat_break_off_and_shuffle(self):
         for faults in [{"lag": 2}, {"twice": True}, {"broken": True}, {"shuffled": True}, {"away": True}]:
@@ -103,7 +108,7 @@ class Feeding(Bench):
     def test_a_place_that_is_lost_or_no_place(self):
         self.member()
         self.entries(3)
-        for number, text in enumerate(["", "x", "1 2", "1 2 3 4", "a b c"]):
+        for number, text in enumerate(["", "x", "1 2", "1 2 3 4", "a b c", "1 2 x".ljust(198) + "y\n1 1 x"]):
             folder = self.folder / str(number)
             folder.mkdir()
             (folder / "at").write_text(text)
@@ -183,15 +188,136 @@ class Feeding(Bench):
         bridge = self.bridge()
         self.until(lambda: bridge.reached.count == PERIOD + 1)
         self.assertEqual([count for count, _ in bridge.due], [PERIOD])
+        self.assertEqual(Folder(str(self.folder)).state, State(bridge.reached, bridge.due[0], 4))  # a start knows it
+
+    def test_up_to_where_nothing_came_is_written_after_it(self):
+        self.member()
+        self.entries(2)
+        self.store.put(LINE + b"/place/m2", b"3")
+        bridge = self.bridge()
+        self.until(lambda: bridge.folder.state.seen == 4)
+        self.assertEqual((bridge.reached.place, Folder(str(self.folder)).state.seen), (3, 4))
+        self.store.delete(LINE)
+        self.store.put(LINE + b"/place/m2", b"3")
+        self.until(lambda: bridge.folder.state.seen == 6)
+        self.store.compacted = 6                           # nothing in it shows the place 5
+        self.until(lambda: bridge.log.begin(5, 6) == (7, 0))
+        self.assertEqual(bridge.answer(b"mine"), b"200 mine\n")
+        self.assertNotIn("copy the folder", self.said.getvalue())
 
     def test_a_disk_that_takes_no_place_is_no_fault_of_etcd(self):
         self.member()
         self.entries(1)
         bridge = self.bridge(feeds=False)
-        self.addCleanup(os.close, bridge.at)
-        bridge.at = os.open(self.folder / "at", os.O_RDONLY)
+        self.addCleanup(os.close, bridge.folder.at)
+        bridge.folder.at = os.open(self.folder / "at", os.O_RDONLY)
         with self.assertRaises(OSError):                   # the process ends, and systemd starts it
             bridge.run()
+
+    def test_nothing_is_answered_while_the_replies_differ(self):
+        self.member()
+        bridge = self.bridge()
+        self.assertEqual(bridge.answer(b"x"), b"200 x\n")
+        bridge.differs = True
+        self.assertEqual((bridge.answer(b"x"), bridge.read(b"/snapshot"), self.store.revision), (b"", b"", 2))
+        self.entries(1)
+        self.until(lambda: bridge.reached.count == 2)      # it is fed all the same, so that its digests are told
+        bridge.differs = False
+        self.assertEqual((bridge.answer(b"y"), bridge.read(b"/snapshot")), (b"200 y\n", b"200 GET /snapshot\n"))
+
+
+class Mending(Bridging):
+    """A folder that needs entries which the log no longer has, and another one in its place."""
+
+    def lacking(self):
+        """A bridge over such a folder, and the folder of a machine that has all."""
+        self.member()
+        self.entries(9)
+        good = self.bridge(self.folder / "good")
+        self.until(lambda: good.reached.place == 10)
+        self.end(good)
+        self.store.compacted = 8
+        bad = self.bridge(self.folder / "bad", feeds=False)
+        bad.pause = 0.1
+        (self.folder / "bad/desk.db").write_text("older")
+        threading.Thread(target=bad.run, daemon=True).start()
+        self.until(lambda: bad.lacks)
+        return bad
+
+    def copy(self, *names):
+        for name in names:
+            shutil.copy(self.folder / "good" / name, self.folder / "bad" / name)
+
+    def test_it_says_so_and_answers_nothing(self):
+        bridge = self.lacking()
+        self.assertEqual((bridge.answer(b"x"), bridge.read(b"/snapshot"), self.store.revision), (b"", b"", 10))
+        self.until(lambda: "place 0: copy the folder of another machine. Until that is done all requests and reads get 503" in self.said.getvalue())
+        time.sleep(0.5)
+        self.assertEqual((self.said.getvalue().count("copy the folder"), self.fed(self.folder / "bad")), (1, ["older"]))
+
+    def test_it_goes_on_with_another_folder(self):
+        bridge = self.lacking()
+        self.copy("at", "desk.db")
+        self.until(lambda: not bridge.lacks)
+        self.assertEqual(bridge.answer(b"mine"), b"200 mine\n")
+        self.assertEqual(len(self.fed(self.folder / "bad")), 10)
+
+    def test_it_goes_on_with_another_folder_at_its_path(self):
+        bridge = self.lacking()
+        shutil.rmtree(self.folder / "bad")
+        time.sleep(0.3)
+        shutil.copytree(self.folder / "good", self.folder / "bad")
+        self.until(lambda: not bridge.lacks)
+        self.assertEqual(bridge.answer(b"mine"), b"200 mine\n")
+
+    def test_it_goes_on_where_the_log_has_the_entries_after_all(self):
+        """A member of etcd said otherwise."""
+        bridge = self.lacking()
+        time.sleep(0.3)
+        self.assertTrue(bridge.lacks)
+        self.store.compacted = 0
+        self.until(lambda: not bridge.lacks)
+        self.assertEqual(bridge.answer(b"mine"), b"200 mine\n")
+
+    def test_the_place_alone_is_no_folder(self):
+        bridge = self.lacking()
+        self.copy("at")
+        time.sleep(0.5)
+        self.assertTrue(bridge.lacks)
+        self.copy("desk.db")
+        self.until(lambda: not bridge.lacks)
+
+    def test_another_folder_that_lacks_entries_too(self):
+        bridge = self.lacking()
+        (self.folder / "bad/at").write_text("4 3 " + "a" * 64)
+        self.copy("desk.db")
+        self.until(lambda: "place 4: copy the folder" in self.said.getvalue())
+        self.assertEqual((bridge.answer(b"x"), bridge.reached.place), (b"", 4))
+
+
+class Folders(Bench):
+    def test_a_part_of_a_folder_or_one_that_is_being_copied_is_none(self):
+        for name, words in (("at", "1 1 " + "a" * 64), ("desk.db", "older")):
+            (self.folder / name).write_text(words)
+        folder = Folder(str(self.folder))
+        first = before = folder.look()
+        self.assertFalse(folder.is_replaced(first, before))
+        for name, words in (("at", "3 2 " + "b" * 64), ("desk.db", "ne"), ("desk.db", "newer"), ("desk.db-wal", "newer")):
+            (self.folder / name).write_text(words)
+            self.assertFalse(folder.is_replaced(first, before), name)   # it has changed since
+            before = folder.look()
+            if name == "at":
+                self.assertFalse(folder.is_replaced(first, before))     # and is a part
+        self.assertEqual((folder.is_replaced(first, before), folder.state.reached), (True, Reached(3, 2, b"b" * 64)))
+
+    def test_what_at_says(self):
+        (self.folder / "at").write_bytes(b"%020d %020d %s\n" % (7, 6, b"a" * 64))   # as versions before 1.15 wrote it
+        folder = Folder(str(self.folder))
+        self.assertEqual(folder.state, State(Reached(7, 6, b"a" * 64), UNCHECKED, 0))
+        for state in (State(Reached(8, 7, b"b" * 64), UNCHECKED, 9), State(Reached(8, 7, b"b" * 64), Checked(5, b"c" * 64), 9), State(NOTHING, UNCHECKED, 3)):
+            folder.write(state)
+            self.assertEqual(Folder(str(self.folder)).state, state)
+            self.assertEqual((self.folder / "at").read_bytes()[:200].split(), (b"%020d %020d %s" % state.reached).split())   # and read it
 
 
 if __name__ == "__main__":

@@ -8,18 +8,28 @@ sys.path.insert(0, str(Path(__file__).resolve().parent))
 
 from bench import LINE, Bench  # noqa: E402
 from collections import deque  # noqa: E402
-from machine.bridge import Reached  # noqa: E402
+from machine.folder import UNCHECKED, Checked, Reached, State  # noqa: E402
 from machine.keeper import Keeper  # noqa: E402
 
 
 class Machine:
-    """How far a machine came, as its bridge says."""
+    """How far a machine came, as its bridge and its folder say."""
 
     def __init__(self):
-        self.folder, self.reached, self.due, self.held = "FOLDER", Reached(0, 0, b""), deque(), False
+        self.folder, self.path, self.due, self.held, self.differs = self, "FOLDER", deque(), False, False
+        self.reached, self.checked, self.seen = Reached(0, 0, b""), UNCHECKED, 0
 
-    def durable_place(self):
-        return self.reached
+    @property
+    def state(self):
+        return State(self.reached, self.checked, self.seen)
+
+    def durable_state(self):
+        return self.state
+
+    def check(self, count, digest):
+        """So many entries were fed."""
+        self.checked = Checked(count, digest)
+        self.due.append(self.checked)
 
 
 class Keeping(Bench):
@@ -177,47 +187,86 @@ class Keeping(Bench):
         self.look("m1", after=86400)
         self.assertEqual(self.store.compacted, 10)
 
-    def test_digests_are_published_and_old_ones_deleted(self):
+    def test_digests_are_published_and_the_own_old_ones_deleted(self):
         for count in range(1000, 15000, 1000):
-            self.machines["m1"].due.append((count, b"%d" % count))
+            self.machines["m1"].check(count, b"%d" % count)
             self.look("m1", after=1)
-        self.assertEqual(sorted(int(key.partition(b"/")[0]) for key in self.keepers["m1"].log.listed(b"digest")), list(range(4000, 15000, 1000)))
-        self.assertEqual(self.keepers["m1"].last_digest, (14000, b"14000"))
+        self.store.put(LINE + b"/digest/m2/1000", b"x")
+        self.machines["m1"].check(15000, b"15000")
+        self.look("m1", after=1)
+        self.assertEqual(sorted(int(key) for key in self.keepers["m1"].log.listed(b"digest/m1")), list(range(5000, 16000, 1000)))
+        self.assertEqual(list(self.keepers["m1"].log.listed(b"digest/m2")), [b"1000"])
 
     def test_digests_wait_for_etcd(self):
         self.store.full = True
-        self.machines["m1"].due.append((1000, b"x"))
+        self.machines["m1"].check(1000, b"x")
         self.look("m1")
         self.assertEqual(len(self.machines["m1"].due), 1)
         self.store.full = False
         self.look("m1")
-        self.assertEqual((len(self.machines["m1"].due), self.keepers["m1"].log.digests(1000)), (0, {b"m1": b"x"}))
+        self.assertEqual((len(self.machines["m1"].due), self.keepers["m1"].log.digests(1000, [b"m1", b"m2"])), (0, {b"m1": b"x"}))
 
-    def ends(self, **digests):
-        """The status with which each machine ends if these are their digests; 0 if it doesn't end."""
-        with mock.patch("os._exit") as ended:
-            for name, digest in digests.items():
-                self.machines[name].due.append((1000, digest))
-                self.look(name, after=1)
-            statuses = []
-            for name in digests:
-                ended.reset_mock()
-                self.look(name, after=1)
-                statuses.append(ended.call_args.args[0] if ended.called else 0)
-        return statuses
+    def differ(self, **digests):
+        """Which machines answer nothing if these are their digests."""
+        for name, digest in digests.items():
+            self.machines[name].check(1000, digest)
+            self.look(name, after=1)
+        self.look(*digests, after=1)
+        return [name for name in digests if self.machines[name].differs]
 
-    def test_one_that_differs_from_two_ends(self):
-        self.assertEqual(self.ends(m1=b"x", m2=b"y", m3=b"y"), [3, 0, 0])
-        self.assertIn("differ from those of two other machines: FOLDER is not to be used", self.said.getvalue())
+    def test_one_that_differs_from_two_answers_nothing(self):
+        self.assertEqual(self.differ(m1=b"x", m2=b"y", m3=b"y"), ["m1"])
+        self.assertIn("differ from those of two other machines, so all requests and reads get 503: FOLDER isn't to be used", self.said.getvalue())
+        self.now += 3600
+        self.look("m1", "m2", "m3")
+        self.assertEqual(self.said.getvalue().count("differ from"), 2)
+
+    def test_one_with_another_folder_answers_again(self):
+        self.assertEqual(self.differ(m1=b"x", m2=b"y", m3=b"y"), ["m1"])
+        self.machines["m1"].checked = Checked(1000, b"y")
+        self.look("m1", after=1)
+        self.assertFalse(self.machines["m1"].differs)
+        self.assertEqual(self.keepers["m1"].log.digests(1000, [b"m1"]), {b"m1": b"y"})
+
+    def test_one_that_differs_does_so_until_another_has_its_digest(self):
+        self.assertEqual(self.differ(m1=b"x", m2=b"y", m3=b"y"), ["m1"])
+        self.machines["m1"].check(2000, b"xx")
+        self.look("m1", after=1)
+        self.assertTrue(self.machines["m1"].differs)       # nobody else has come so far
 
     def test_equal_ones_go_on(self):
-        self.assertEqual(self.ends(m1=b"x", m2=b"x", m3=b"x"), [0, 0, 0])
+        self.assertEqual(self.differ(m1=b"x", m2=b"x", m3=b"x"), [])
 
     def test_of_three_that_all_differ_nobody_knows(self):
-        self.assertEqual(self.ends(m1=b"x", m2=b"y", m3=b"z"), [0, 0, 0])
+        self.assertEqual(self.differ(m1=b"x", m2=b"y", m3=b"z"), [])
 
     def test_of_two_nobody_knows(self):
-        self.assertEqual(self.ends(m1=b"x", m2=b"y"), [0, 0])
+        self.assertEqual(self.differ(m1=b"x", m2=b"y"), [])
+
+    def test_what_no_machine_put_counts_for_nothing(self):
+        """Two digests below other names, in both forms, and of one machine in both."""
+        for key in (b"1000/zz1", b"1000/zz2", b"zz1/1000", b"zz2/1000"):
+            self.store.put(LINE + b"/digest/" + key, b"0000")
+        self.store.put(LINE + b"/digest/m3/1000", b"0000")
+        self.store.put(LINE + b"/digest/1000/m3", b"0000")
+        self.assertEqual(self.differ(m1=b"x", m2=b"x"), [])
+        self.keepers["m1"].machines = []
+        self.look("m1", after=1)
+        self.assertFalse(self.machines["m1"].differs)
+
+    def test_a_machine_of_before_is_compared(self):
+        for name in (b"m2", b"m3"):
+            self.store.put(LINE + b"/digest/1000/" + name, b"y")
+        self.assertEqual(self.differ(m1=b"x"), ["m1"])
+
+    def test_what_somebody_puts_in_the_names_of_all_doesnt_last(self):
+        self.differ(m1=b"x", m2=b"x", m3=b"x")
+        for name in (b"m1", b"m2", b"m3"):
+            self.store.put(LINE + b"/digest/" + name + b"/1000", b"0000")
+        self.look("m1", "m2", "m3", after=1)
+        self.look("m1", "m2", "m3", after=1)
+        self.assertEqual([name for name in self.machines if self.machines[name].differs], [])
+        self.assertIn("another digest of this machine after 1000 entries", self.said.getvalue())
 
     def test_half_of_the_quota(self):
         member, other = self.members[0], self.member(quota=1000, size=499, used=10)

@@ -1,5 +1,6 @@
 """The log over an etcd that lags, forgets, compacts, breaks off, answers late, twice, and out of order."""
 import itertools
+import json
 import sys
 import threading
 import time
@@ -10,12 +11,14 @@ from unittest import mock
 sys.path.insert(0, str(Path(__file__).resolve().parent))
 
 from bench import LINE, Bench, token  # noqa: E402
+from etcd import text  # noqa: E402
 from machine.log import QUOTA, Compacted, Forgotten, Refused, events  # noqa: E402
 
 
-def followed(many, log, place=0):
+def followed(many, log, place=0, seen=0):
     """The numbers of so many entries after a place."""
-    return [int(entry.rsplit(b" ", 1)[1]) for _, entry in itertools.islice(log.follow(place), many)]
+    entries = (entry for _, entry in log.follow(place, seen) if entry is not None)
+    return [int(entry.rsplit(b" ", 1)[1]) for entry in itertools.islice(entries, many)]
 
 
 class Following(Bench):
@@ -137,6 +140,27 @@ class Following(Bench):
         with self.assertRaises(Forgotten):                 # of the deletion, which counts as one
             log.begin(6)
 
+    def test_deleted_and_compacted(self):
+        """Up to where nothing came the log may be forgotten, though no entry shows it."""
+        self.member()
+        self.entries(2)
+        self.store.delete(LINE)
+        for _ in range(3):
+            self.store.put(LINE + b"/place/m1", b"x")
+        log, told = self.log(), []
+        for told in log.follow(3):
+            if told[1] is None:
+                break
+        self.assertEqual(told, (7, None))
+        log.compact(7)
+        self.entries(1, 3)
+        self.assertEqual((log.begin(4, 7), followed(1, log, 4, 7)), ((8, 0), [3]))
+        with self.assertRaises(Forgotten):
+            log.begin(4, 6)
+        self.store.forget_all()
+        with self.assertRaisesRegex(Forgotten, "ends at 1, before this machine's place 7"):
+            log.begin(0, 7)
+
     def test_compacted_again_while_it_asks(self):
         self.member()
         self.entries(1)
@@ -164,8 +188,8 @@ class Following(Bench):
         self.entries(2)
         log, begin = self.log(), self.log().begin
 
-        def begin_late(place):
-            found = begin(place)
+        def begin_late(place, seen):
+            found = begin(place, seen)
             for _ in range(3 if self.store.compacted == 0 else 0):
                 self.store.put(LINE + b"/place/m1", b"3")
             log.compact(log.end_of(place))
@@ -207,11 +231,25 @@ class Following(Bench):
     def test_lines_of_a_watch(self):
         for line in [b'{"result":{"created":true}}', b'{"error":{"grpc_code":14}}\n', b'{"result":{"canceled":true}}\n']:
             with self.assertRaises(OSError):
-                list(events(line, 0, 0))
+                list(events(line, LINE, 0, 0))
         with self.assertRaises(Compacted):
-            list(events(b'{"result":{"canceled":true,"compact_revision":"9"}}\n', 0, 0))
+            list(events(b'{"result":{"canceled":true,"compact_revision":"9"}}\n', LINE, 0, 0))
         with self.assertRaises(ValueError):                # no fault of a line: it ends the process
-            list(events(b"{garbage\n", 0, 0))
+            list(events(b"{garbage\n", LINE, 0, 0))
+
+    def test_changes_of_other_keys_are_told_behind_the_entries_of_their_line(self):
+        changes = [(b"desk/line/place/m1", 5, 1), (LINE, 5, 1), (b"desk/line/place/m1", 6, 2)]
+        for last, part, wanted in [(3, False, [(5, 1, b"x"), (6, 1, None)]), (2, False, [(5, 1, b"x")]), (1, False, [(5, 0, None)]), (3, True, [(5, 1, b"x")])]:
+            told = [{"kv": {"key": text(key), "mod_revision": str(revision), "version": str(version), "value": "eA=="}} for key, revision, version in changes[:last]]
+            line = json.dumps({"result": {"events": told, "fragment": part}}).encode() + b"\n"
+            self.assertEqual(list(events(line, LINE, 0, 0)), wanted)
+
+    def test_a_watch_asks_for_lines_of_a_bounded_length(self):
+        self.member()
+        self.entries(1)
+        with mock.patch.object(self.members[0], "lines", side_effect=self.members[0].lines) as asked:
+            followed(1, self.log())
+        self.assertIs(asked.call_args.args[0]["create_request"]["fragment"], True)
 
 
 class Calling(Bench):
@@ -258,11 +296,19 @@ class Calling(Bench):
         for count in (1000, 2000, 11000, 12000):
             for name in (b"m1", b"m2"):
                 log.publish_digest(count, name, b"%d of %s" % (count, name))
-        self.assertEqual(log.digests(1000), {b"m1": b"1000 of m1", b"m2": b"1000 of m2"})
-        self.assertEqual(log.digests(1), {})
-        self.store.put(LINE + b"/digest/x/m1", b"by hand")
-        log.forget_digests(2000)
-        self.assertEqual(sorted(log.listed(b"digest")), [b"11000/m1", b"11000/m2", b"12000/m1", b"12000/m2", b"2000/m1", b"2000/m2", b"x/m1"])
+        self.assertEqual(log.digests(1000, [b"m1", b"m2", b"m3"]), {b"m1": b"1000 of m1", b"m2": b"1000 of m2"})
+        self.assertEqual(log.digests(1000, [b"m2"]), {b"m2": b"1000 of m2"})
+        self.assertEqual(log.digests(1, [b"m1", b"m2"]), {})
+        self.store.put(LINE + b"/digest/m1/x", b"by hand")
+        log.forget_digests(2000, b"m1")
+        self.assertEqual(sorted(log.listed(b"digest")), [b"m1/11000", b"m1/12000", b"m1/2000", b"m1/x", b"m2/1000", b"m2/11000", b"m2/12000", b"m2/2000"])
+
+    def test_digests_as_they_were_before(self):
+        self.member()
+        log = self.log()
+        for key in (b"1000/m1", b"1000/m2", b"m1/1000"):
+            self.store.put(LINE + b"/digest/" + key, key)
+        self.assertEqual(log.digests(1000, [b"m1", b"m2", b"m3"]), {b"m1": b"m1/1000", b"m2": b"1000/m2"})
 
     def test_places(self):
         self.member()
@@ -298,6 +344,89 @@ class Calling(Bench):
         self.assertTrue(self.log().is_full())
         with self.assertRaises(Refused):
             self.log().call("/v3/kv/range", {"key": "eA==", "revision": "99"})
+
+
+class Users(Bench):
+    """Of an etcd that asks who one is."""
+
+    def setUp(self):
+        super().setUp()
+        self.member()
+        self.store.users, self.store.rights = {"m1": "one", "m2": "two"}, {"m1": lambda key: key == LINE, "m2": lambda key: False}
+        (self.folder / "password").write_text("one\n")
+
+    def user(self, name="m1"):
+        return self.log(user=(name, self.folder / "password"))
+
+    def asked(self, path="/v3/auth/authenticate"):
+        return sum(one == path for member in self.members for one, _ in member.asked)
+
+    def test_nobody(self):
+        with self.assertRaisesRegex(OSError, "permission denied"):
+            self.log().append(b"x")
+
+    def test_a_token_for_all_calls(self):
+        log = self.user()
+        for number in range(5):
+            log.append(b"%d" % number)
+        log.defragment(log.ends[0])
+        self.assertEqual((self.asked(), len(self.store.changes)), (1, 5))
+
+    def test_a_token_that_is_known_no_longer(self):
+        log = self.user()
+        log.append(b"x")
+        self.members[0].tokens.clear()
+        log.append(b"y")
+        self.assertEqual((self.asked(), len(self.store.changes)), (2, 2))
+
+    def test_many_at_once_ask_for_one(self):
+        log = self.user()
+        calls = [threading.Thread(target=log.append, args=(b"x",)) for _ in range(12)]
+        for call in calls:
+            call.start()
+        for call in calls:
+            call.join()
+        self.assertEqual((self.asked(), len(self.store.changes)), (1, 12))
+
+    def test_a_watch_of_a_member_that_knows_no_token(self):
+        self.entries(2)
+        log = self.user()
+        self.assertEqual(followed(1, log), [1])
+        log.token = "token.old"
+        with mock.patch.object(log, "begin", return_value=(2, 0)):
+            following = log.follow(0)
+            threading.Timer(0.5, log.renewed, (log.connect(log.ends[0], 5), None)).start()
+            self.assertEqual(next(following)[0], 2)
+        self.assertIn("invalid auth token", self.said.getvalue())
+
+    def test_a_wrong_password_and_no_file_are_waited_out(self):
+        (self.folder / "password").write_text("none")
+        log = self.user()
+        with self.assertRaisesRegex(OSError, "authentication failed"):
+            log.append(b"x")
+        (self.folder / "password").unlink()
+        with self.assertRaisesRegex(OSError, "No such file"):
+            log.append(b"x")
+        (self.folder / "password").write_text("one")
+        log.append(b"x")
+
+    def test_what_a_user_has_no_right_to(self):
+        for _ in range(2):
+            self.member()
+        (self.folder / "password").write_text("two")
+        log = self.user("m2")
+        with self.assertRaisesRegex(Refused, "permission denied"):
+            log.append(b"x")
+        self.assertEqual(self.asked("/v3/kv/put"), 2)      # without a token, and with one; no other member says otherwise
+
+    def test_an_etcd_that_asks_nobody(self):
+        self.store.users = {}
+        log = self.user()
+        log.append(b"x")
+        self.assertEqual(self.asked(), 0)
+        self.store.users = {"m1": "one"}                   # and now it does
+        log.append(b"y")
+        self.assertEqual((self.asked(), len(self.store.changes)), (1, 2))
 
 
 if __name__ == "__main__":

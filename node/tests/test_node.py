@@ -1,9 +1,12 @@
 """The command as a process: with which status it ends, and what it waits out."""
 import http.client
+import os
 import signal
 import socket
 import subprocess
 import sys
+import tempfile
+import threading
 import time
 import unittest
 from pathlib import Path
@@ -82,7 +85,7 @@ class Processes(Bench):
         self.member()
         process = self.start()
         self.answers(process)
-        self.members[0].lines = lambda body: iter([{"header": {}, "events": [{"kv": {"no": "revision"}}]}])
+        self.members[0].lines = lambda *_: iter([{"header": {}, "events": [{"kv": {"no": "revision"}}]}])
         self.assertEqual(process.wait(30), 1)
         self.assertIn("KeyError", process.stderr.read())
 
@@ -95,30 +98,42 @@ class Processes(Bench):
         self.assertEqual(process.wait(30), 1)
         self.assertIn("JSONDecodeError", process.stderr.read())
 
+    def says(self, process, words):
+        """Reads the lines of a node that goes on, until one has these words."""
+        found = threading.Timer(30, process.kill)
+        found.start()
+        self.assertIn(words, next((line for line in process.stderr if words in line), ""))
+        found.cancel()
+
     def test_a_log_that_was_compacted_or_forgot(self):
         self.member()
         self.entries(9)
         self.store.compacted = 5
         process = self.start()
-        self.assertEqual(process.wait(30), 2)
-        self.assertIn("the log begins behind this machine's place 0: copy the folder of another machine", process.stderr.read())
+        self.says(process, "the log begins behind this machine's place 0: copy the folder of another machine")
+        self.assertEqual((self.ask(b"x")[0], self.ask(target="/snapshot")[0], process.poll()), (503, 503, None))
+        process.kill()
         self.store.compacted = 0
         process = self.start()
         self.answers(process)
         self.store.forget_all()
-        self.assertEqual(process.wait(30), 2)
-        self.assertIn("it isn't the log that this folder was fed from", process.stderr.read())
+        self.says(process, "it isn't the log that this folder was fed from")
+        self.assertEqual((self.ask(b"x")[0], process.poll()), (503, None))
 
     def test_one_that_differs_from_two(self):
         self.member()
         for name in (b"m2", b"m3"):
-            self.store.put(LINE + b"/digest/1000/" + name, b"other")
+            self.store.put(LINE + b"/digest/" + name + b"/1000", b"other")
         (self.folder / "m1").mkdir()
-        (self.folder / "m1/at").write_text("1 999 " + "0" * 64)
-        process = self.start()
-        self.entries(1)
-        self.assertEqual(process.wait(30), 3)
-        self.assertIn("differ from those of two other machines", process.stderr.read())
+        (self.folder / "m1/at").write_text("3 999 " + "0" * 64)
+        for turn in range(2):                              # and so does a start
+            process = self.start("--machines", "m1,m2,m3")
+            if turn == 0:
+                self.entries(1)
+            self.says(process, "differ from those of two other machines")
+            self.assertEqual((self.ask(b"x")[0], self.ask(target="/snapshot")[0], process.poll()), (503, 503, None))
+            process.kill()
+            process.wait()
 
     def test_a_folder_that_takes_no_place(self):
         self.member()
@@ -141,8 +156,20 @@ class CommandLines(unittest.TestCase):
         for words in [[], NEEDED[2:], NEEDED[:2] + NEEDED[4:], NEEDED[:4], [*NEEDED, "--gone", "0"], [*NEEDED, "--gone", "nan"], [*NEEDED, "--gone", "x"],
                       [*NEEDED, "--machines", "m2,m3"], [*NEEDED, "--machines", "m1,m1"], [*NEEDED, "--machines", "m1,"], [*NEEDED, "--name", "a/b"], [*NEEDED, "--etcd", "127.0.0.1"],
                       [*NEEDED, "--client-ca", "c"], [*NEEDED, "--cert", "c"], [*NEEDED, "--key", "k"], [*NEEDED, "--upkeep", "now"], [*NEEDED, "--upkeep", "later", "--machines", "m1"],
-                      [*NEEDED, "--etcd-cert", "c"]]:
+                      [*NEEDED, "--etcd-cert", "c"], [*NEEDED, "--etcd-user", "m1"], [*NEEDED, "--etcd-user", "m1", "--etcd-password", "/nonexistent"]]:
             self.refused(*words)
+
+    def test_a_password_that_everybody_may_read(self):
+        with tempfile.NamedTemporaryFile() as file:
+            words = [*NEEDED, "--upkeep", "now", "--machines", "m1", "--etcd-user", "m1", "--etcd-password", file.name]
+            os.chmod(file.name, 0o644)
+            self.assertIn(f"chmod o= {file.name}", self.refused(*words))
+            os.chmod(file.name, 0o640)
+            self.assertEqual(subprocess.run([NODE, *words], stderr=subprocess.PIPE, timeout=20).returncode, 1)   # no etcd is there
+
+    def test_no_user(self):
+        done = subprocess.run([NODE, *NEEDED, "--upkeep", "now", "--machines", "m1", "--etcd-user", "", "--etcd-password", "/nonexistent"], stderr=subprocess.PIPE, timeout=20)
+        self.assertEqual(done.returncode, 1)
 
     def test_upkeep_without_etcd(self):
         done = subprocess.run([NODE, "--name", "m1", "--machines", "m1", "--etcd", "127.0.0.1:9", "--upkeep", "now"], stderr=subprocess.PIPE, text=True, timeout=20)

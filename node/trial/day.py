@@ -247,7 +247,7 @@ def gone_and_back(machines, chance):
     machines.see("it is named", wait_until(is_named, step=0))
     load(machines, "without", 1600, chance, (1, 2))
     machines.start_node(3)
-    machines.see("it stops, with status 2", machines.ends_with(3, 2), machines.said(3)[-300:])
+    machines.see("it answers nothing, and says why", machines.refuses(3, "copy the folder of another machine"), machines.said(3)[-300:])
     machines.copy_folder(3, 1)
     load(machines, "back", 800, chance)
     machines.see("with a copied folder it goes on, with one digest", machines.wait_until_equal(), machines.places())

@@ -16,6 +16,7 @@ from trial import Connection, Trial, free_ports, until
 HERE = Path(__file__).resolve().parents[1]
 LINE = base64.b64encode(b"desk/line").decode()
 NAMES = "m1,m2,m3"
+USERS = [*NAMES.split(","), "upkeep", "root"]
 # An entry, as docs/OPERATING.md says: written anew here, so that a node that reads it otherwise is found.
 ENTRY = re.compile(rb"[0-9a-fA-F]{32} ([0-9]{1,10} [^\r\n]{1,4096})", re.DOTALL)
 # Seconds: until a request has its answer, and what waits for the machines ends; and for a program that ends by itself.
@@ -39,27 +40,39 @@ def wait_until(so, seconds=PATIENCE, step=1.0):
     return until(so, seconds, step)
 
 
+def set_up_network():
+    """Loopback, and an address that isn't."""
+    for words in ("link set lo up", "link add eth0 type veth peer name eth1", "address add 10.0.0.1/24 dev eth0", "link set eth0 up", "link set eth1 up"):
+        run(["ip", *words.split()], check=True)
+
+
 class NoAnswer(Exception):
     """A request that had only 503 for so long that what comes after it means nothing."""
 
 
 class Machines:
-    """With names each machine puts its place into etcd, and the log is shortened; a quota is etcd's."""
+    """With names each machine puts its place into etcd, and the log is shortened; a quota is etcd's. With users each machine and the upkeep has one at etcd, which asks for
+    them from `ask_for_users` on."""
 
-    def __init__(self, program, folder, encrypted, see, names=False, quota=0, gone=72.0):
+    def __init__(self, program, folder, encrypted, see, names=False, quota=0, gone=72.0, users=False):
         self.program, self.folder, self.see, self.etcd, self.nodes = program, Path(folder), see, {}, {}
         self.names, self.quota, self.gone = names, quota, gone
+        self.passwords = {user: os.urandom(8).hex() for user in USERS} if users else {}
+        self.user, self.tokens = None, {}                  # as whom this trial asks etcd
         ports = free_ports(9)
         self.ports, self.clients, self.peers = ([0, *ports[at:at + 3]] for at in (0, 3, 6))
         self.ends = ",".join(f"127.0.0.1:{port}" for port in self.clients[1:])
         self.context = self.certify() if encrypted else None
+        for user, password in self.passwords.items():
+            (self.folder / f"{user}.password").write_text(f"{password}\n")
+            (self.folder / f"{user}.password").chmod(0o640)
 
     def certify(self):
-        """One certificate for all, which a new authority of ours has signed."""
+        """One certificate for all, which a new authority of ours has signed. It has no CN, since etcd refuses one where it asks for users."""
         ca, key = [self.folder / "ca.crt", "-CAkey", self.folder / "ca.key"], ["req", "-newkey", "rsa:2048", "-nodes", "-subj"]
         (self.folder / "names").write_text("subjectAltName=IP:127.0.0.1\nextendedKeyUsage=serverAuth,clientAuth\n")
         for words in [[*key, "/CN=desks", "-x509", "-days", "2", "-keyout", self.folder / "ca.key", "-out", self.folder / "ca.crt"],
-                      [*key, "/CN=desk", "-keyout", self.folder / "m.key", "-out", self.folder / "m.csr"],
+                      [*key, "/O=desk", "-keyout", self.folder / "m.key", "-out", self.folder / "m.csr"],
                       ["x509", "-req", "-in", self.folder / "m.csr", "-CA", *ca, "-CAcreateserial", "-days", "2", "-extfile", self.folder / "names", "-out", self.folder / "m.crt"]]:
             run(["openssl", *words], check=True, stderr=subprocess.DEVNULL)
         context = ssl.create_default_context(cafile=self.folder / "ca.crt")
@@ -102,11 +115,25 @@ class Machines:
             words += [f"--{to}cert-file", self.folder / "m.crt", f"--{to}key-file", self.folder / "m.key", f"--{to}client-cert-auth", f"--{to}trusted-ca-file", self.folder / "ca.crt"]
         self.etcd[n] = subprocess.Popen(list(map(str, words)), stdout=subprocess.DEVNULL, stderr=subprocess.DEVNULL)
 
-    def etcd_options(self):
-        return ["--etcd", self.ends, *(["--etcd-ca", self.folder / "ca.crt", "--etcd-cert", self.folder / "m.crt", "--etcd-key", self.folder / "m.key"] if self.context else [])]
+    def etcd_options(self, user):
+        words = ["--etcd", self.ends, *(["--etcd-ca", self.folder / "ca.crt", "--etcd-cert", self.folder / "m.crt", "--etcd-key", self.folder / "m.key"] if self.context else [])]
+        return words + (["--etcd-user", user, "--etcd-password", self.folder / f"{user}.password"] if self.passwords else [])
+
+    def ask_for_users(self):
+        """As docs/OPERATING.md has it: a machine may write the log and what is below its own name."""
+        grant, may = ["role", "grant-permission"], "--prefix=true"
+        commands = [["role", "add", "node"], [*grant, "node", "read", may, "desk/line"], [*grant, "node", "readwrite", "desk/line"]]
+        for user in USERS:
+            commands.append(["user", "add", user, "--interactive=false"])
+            if user in NAMES:
+                commands += [["role", "add", user], [*grant, user, "readwrite", f"desk/line/place/{user}"], [*grant, user, "readwrite", may, f"desk/line/digest/{user}/"]]
+            commands += [["user", "grant-role", user, role] for role in (["node", user] if user in NAMES else ["root"])]
+        for words in [*commands, ["auth", "enable"]]:
+            self.see(f"etcdctl {' '.join(words)}", self.etcdctl(*words, value=f"{self.passwords.get(words[2], '')}\n".encode() if "add" in words else None))
+        self.user = "root"
 
     def start_node(self, n):
-        words = [HERE / "node", "--name", f"m{n}", "--folder", self.folder / f"m{n}", "--port", self.ports[n], "--desk", self.program, *self.etcd_options()]
+        words = [HERE / "node", "--name", f"m{n}", "--folder", self.folder / f"m{n}", "--port", self.ports[n], "--desk", self.program, *self.etcd_options(f"m{n}")]
         words += ["--machines", NAMES, "--gone", self.gone] if self.names else []
         if self.context:
             words += ["--cert", self.folder / "m.crt", "--key", self.folder / "m.key", "--client-ca", self.folder / "ca.crt"]
@@ -115,15 +142,16 @@ class Machines:
 
     def upkeep(self):
         """What the timer does, done now: its status and its lines."""
-        done = run([HERE / "node", "--upkeep", "now", "--name", "m1", "--machines", NAMES, *self.etcd_options()], stderr=subprocess.STDOUT, text=True)
+        done = run([HERE / "node", "--upkeep", "now", "--name", "m1", "--machines", NAMES, *self.etcd_options("upkeep")], stderr=subprocess.STDOUT, text=True)
         return done.returncode, done.stdout
 
     def said(self, n):
         return (self.folder / f"node{n}.log").read_text()
 
     def kill_node(self, n):
-        os.killpg(self.nodes[n].pid, signal.SIGKILL)
-        self.nodes[n].wait()
+        if self.nodes[n].poll() is None:
+            os.killpg(self.nodes[n].pid, signal.SIGKILL)
+            self.nodes[n].wait()
 
     def restart_nodes(self, names):
         """All of them, with the machines' names or without: then none shortens the log."""
@@ -133,12 +161,10 @@ class Machines:
         for n in (1, 2, 3):
             self.start_node(n)
 
-    def ends_with(self, n, status):
-        """Whether the node ends of itself with this status."""
-        try:
-            return self.nodes[n].wait(60) == status
-        except subprocess.TimeoutExpired:
-            return False
+    def refuses(self, n, words):
+        """Whether the node goes on and says this, and answers 503 to requests and reads."""
+        body = '{"requester":"refused","invoke":1,"service":"tick"}'
+        return wait_until(lambda: words in self.said(n) and self.ask(n, body)[0] == self.ask(n, None, 5, "/snapshot")[0] == 503 and self.nodes[n].poll() is None, 60)
 
     def kill_desk(self, n):
         """Whether the node had one."""
@@ -170,14 +196,28 @@ class Machines:
             time.sleep(1)
             self.start_node(n)
 
-    def etcd_call(self, n, path, body):
-        with Connection(self.clients[n], self.context, 20) as connection:
-            return connection.ask("POST", path, json.dumps(body)).value
+    def fields(self, n, user=None, anew=False):
+        """With a token, where etcd asks for users."""
+        user = user or self.user
+        if user and (anew or (n, user) not in self.tokens):
+            with Connection(self.clients[n], self.context, 20) as connection:
+                body = json.dumps({"name": user, "password": self.passwords[user]})
+                self.tokens[n, user] = connection.ask("POST", "/v3/auth/authenticate", body).value["token"]
+        return [("Authorization", self.tokens[n, user])] if user else []
 
-    def etcdctl(self, *words, value=None):
+    def etcd_call(self, n, path, body, user=None):
+        for anew in (False, True):                         # a token ends where nobody uses it
+            with Connection(self.clients[n], self.context, 20) as connection:
+                found = connection.ask("POST", path, json.dumps(body), self.fields(n, user, anew)).value
+            if "invalid auth token" not in str(found.get("error")):
+                break
+        return found
+
+    def etcdctl(self, *words, value=None, user=None):
         """Whether etcdctl did it; the value is its standard input."""
-        ends = [f"https://{end}" if self.context else end for end in self.ends.split(",")]
+        ends, user = [f"https://{end}" if self.context else end for end in self.ends.split(",")], user or self.user
         files = [f"--cacert={self.folder}/ca.crt", f"--cert={self.folder}/m.crt", f"--key={self.folder}/m.key"] if self.context else []
+        files += [f"--user={user}:{self.passwords[user]}"] if user else []
         done = run(["etcdctl", f"--endpoints={','.join(ends)}", *files, *words], input=value, stderr=subprocess.STDOUT, env={**os.environ, "ETCDCTL_API": "3"})
         return done.returncode == 0
 
@@ -186,7 +226,7 @@ class Machines:
         last = max([int(kv["mod_revision"]) for kv in self.etcd_call(1, "/v3/kv/range", {"key": LINE}).get("kvs", [])], default=0)
         place, found = begin - 1, []
         with Connection(self.clients[1], self.context) as watch:
-            watch.connection.request("POST", "/v3/watch", json.dumps({"create_request": {"key": LINE, "start_revision": str(begin)}}))
+            watch.connection.request("POST", "/v3/watch", json.dumps({"create_request": {"key": LINE, "start_revision": str(begin)}}), dict(self.fields(1)))
             answer = watch.connection.getresponse()
             while place < last:
                 for event in json.loads(answer.readline())["result"].get("events", []):
@@ -203,7 +243,8 @@ class Machines:
         return "header" in self.etcd_call(1, "/v3/kv/compaction", {"revision": str(place), "physical": True})
 
     def places(self):
-        return [(self.folder / f"m{n}/at").read_text().split() if (self.folder / f"m{n}/at").exists() else None for n in (1, 2, 3)]
+        """The place, the count and the digest of each machine; what follows them in `at` may differ."""
+        return [(self.folder / f"m{n}/at").read_text().split()[:3] if (self.folder / f"m{n}/at").exists() else None for n in (1, 2, 3)]
 
     def are_equal(self):
         places = self.places()
@@ -236,8 +277,9 @@ class Machines:
             self.ask_until_answered(json.dumps(body), chance, [], machines)
 
     def copy_folder(self, to, source):
-        """As docs/OPERATING.md has it: the machine that is copied from is stopped until the other one has started."""
-        self.kill_node(source)
+        """As docs/OPERATING.md has it: both are stopped, and the machine that is copied from is so until the other one has started."""
+        for n in (to, source):
+            self.kill_node(n)
         run(["rm", "-rf", self.folder / f"m{to}"], check=True)
         run(["cp", "-a", self.folder / f"m{source}", self.folder / f"m{to}"], check=True)
         self.start_node(to)
@@ -250,9 +292,9 @@ class OfMachines(Trial):
 
     chance = None
 
-    def begin(self, program=None, **how):
+    def begin(self, program=None, encrypted=None, **how):
         """Three machines, which are stopped with the method."""
-        machines = Machines(program or self.program, self.folder, self.options.tls, self.see, **how)
+        machines = Machines(program or self.program, self.folder, encrypted or self.options.tls, self.see, **how)
         self.addCleanup(machines.stop)
         machines.start()
         return machines

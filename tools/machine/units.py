@@ -29,7 +29,7 @@ MAY = {
     "acd-local.service": ({"AF_UNIX", "AF_NETLINK", "load a table"}, OF_ROOT | {"AF_UNIX", "AF_NETLINK", "load a table"}),
     "acd-node.service": (INTERNET | DESK - {"see what the desk has open"}, INTERNET | OF_ROOT),
     "acd-follow.service": (INTERNET | DESK - {"see what the desk has open"}, INTERNET | OF_ROOT),
-    "acd-node-upkeep.service": (INTERNET | {"read the desk's file", "signal the desk"}, INTERNET | OF_ROOT),
+    "acd-node-upkeep.service": (INTERNET, INTERNET | OF_ROOT),
     "acd-exchange.service": (NETWORK | {"write the exchange's folder"}, NETWORK | OF_ROOT - {"read the accounts"}),
     "acd-edge.service": (NETWORK | {"read the accounts", "AF_NETLINK"}, NETWORK | OF_ROOT | {"AF_NETLINK"}),
     "acd-certificate.service": (LOOPBACK, LOOPBACK | OF_ROOT),
