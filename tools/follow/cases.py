@@ -181,12 +181,12 @@ class Cases(Ground):
         follower = Follower(self, between.address, file)
         self.expect("silent: it goes on", until(lambda: len(between.asked) > 14, PATIENCE, 0.01))
         status, said = follower.end()
-        self.expect(f"silent: it says so once, {said}", (status, said.count("no answer: "), said.count("the desk answers again")), (0, 1, 1))
+        self.expect(f"silent: it says so once, {said}", (status, said.count("no answer ("), said.count("the desk answers again")), (0, 1, 1))
         self.judge("silent", file, self.desk)
 
     def try_nobody(self):
         with contextlib.closing(Between(self.desk, lambda *_: None).listener) as listener:
-            told, state = self.follow("nobody", f"http://127.0.0.1:{listener.getsockname()[1]}", self.new_file(), FAULT, "no answer: ")
+            told, state = self.follow("nobody", f"http://127.0.0.1:{listener.getsockname()[1]}", self.new_file(), FAULT, "no answer (")
             self.expect("nobody: the state", state, (0, None))
 
     def try_refusals(self):
@@ -342,6 +342,64 @@ class Cases(Ground):
             has, wanted = held(file), desk.rows()
             kept = {table: rows[-len(wanted[table]):] if table in ("kept", "events") else rows for table, rows in has.items()}
             self.expect(f"carried over, {what}, later: row for row", [table for table in wanted if kept[table] != wanted[table]], [])
+        desk.kill()
+
+    def try_carried_at_the_cut(self):
+        """A copy whose last request is the last one that the cut left behind: it continues; one with another history, whose next replies are others, doesn't."""
+        whole, new = self.folder / "cut/whole.db", self.folder / "cut/desk.db"
+        whole.parent.mkdir()
+        self.feed(whole, self.lines)
+        status, _, told = self.script("acd-carry", "--from", whole, "--to", new, "--keep", 90)
+        self.expect(f"acd-carry: {told}", status, 0)
+        first = held(new)["kept"][0][0]
+        desk = Served(self, new).start()
+        for number in range(3):
+            ask(desk.port, "/csta", b'{"requester":"later","invoke":%d,"service":"arriveCall","caller":"0309%03d","called":"100"}' % (number + 1, number))
+
+        def beginning(count, *more):
+            """A copy of the first so many requests, and of others."""
+            file = self.new_file()
+            self.feed(file, [f"{row[3]} {row[4]}" for row in held(whole)["kept"][:count]] + list(more))
+            return file
+
+        file = beginning(first - 1)
+        told, _ = self.follow("up to the cut", desk.address, file, 0)
+        has, wanted = held(file), desk.rows()
+        self.expect("up to the cut: row for row", [table for table in wanted if (has[table][-len(wanted[table]):] if table in ("kept", "events") else has[table]) != wanted[table]], [])
+        self.follow("up to the cut, and again", desk.address, file, 0)
+        file = beginning(first - 2)
+        self.follow("one before the cut", desk.address, file, LACKS, f"request {first - 2} is needed", f"is {first}: ")
+        moment = held(whole)["kept"][first - 3][3]
+        file = beginning(first - 2, f'{moment} {{"requester":"other","invoke":1,"service":"arriveCall","caller":"0308","called":"100"}}')
+        self.follow("another history up to the cut", desk.address, file, DIFFERS)
+        desk.kill()
+
+    def try_caught_up(self):
+        """It says so once, and again behind a silence; and what it said last is there afterwards, beside a desk over the file too."""
+        quiet = []
+
+        def alter(number, path, status, body):
+            return None if quiet and len(quiet) > number - quiet[0] else (status, body)
+
+        desk, file = self.day_at("caught.db", self.lines[:50]), self.new_file()
+        between, count = Between(desk, alter), len(held(self.folder / "caught.db")["kept"])
+        self.expect("nothing was said yet", self.script("acd-follow", "--last", "--file", file)[:2], (FAULT, ""))
+        follower = Follower(self, between.address, file)
+        self.expect("it asks on", until(lambda: len(between.asked) > 20, PATIENCE, 0.01))
+        self.expect("what it has meanwhile", state_in(self.script("acd-follow", "--last", "--file", file).output), (count, count))
+        quiet += [len(between.asked)] * 3
+        self.expect("it says so again", until(lambda: follower.text().count(f"caught up at {count}\n") == 2, PATIENCE, 0.05))
+        ask(desk.port, "/csta", b'{"requester":"later","invoke":1,"service":"tick"}')
+        self.expect("it goes on", until(lambda: (state_in(self.script("acd-follow", "--last", "--file", file).output) or [0])[0] == count + 1, PATIENCE, 0.5))
+        status, said = follower.end()
+        self.expect(f"it says that it has caught up, {said}", (status, said.count("caught up at ")), (0, 2))
+        taken_over = Served(self, file).start()
+        ask(taken_over.port, "/csta", b'{"requester":"later","invoke":2,"service":"tick"}')
+        done = self.script("acd-follow", "--last", "--file", file)
+        self.expect("what it said last", (done.status, done.output), (0, said.splitlines(keepends=True)[-1]))
+        for words in (("--last", desk.address), ("--file", file), (desk.address,)):
+            self.expect(f"{words}", self.script("acd-follow", *words).status, REFUSED)
+        taken_over.kill()
         desk.kill()
 
     # the copy's desk

@@ -25,7 +25,7 @@ import tables  # noqa: E402
 
 # that of Debian, which the scripts are run by
 PYTHON = "/usr/bin/python3"
-STATE = re.compile(r" has the requests up to (\d+); (?:the desk told nothing yet|the last that the desk told of is (\d+), at ([-0-9: ]+ UTC))\n$")
+STATE = re.compile(r" has the requests up to (\d+); (?:the desk hasn't answered yet|the last that the desk told of is (\d+), at ([-0-9: ]+ UTC))\n$")
 # what acd-carry keeps at least; a short day has less
 CARRY = planted((OPERATING / "acd-carry").read_text(), "LEAST, HOUR, DAY = 1000, 3600, 86400", "LEAST, HOUR, DAY = 1, 0, 86400")
 PATIENCE = 120
