@@ -76,9 +76,11 @@ class Copying(Part):
     # what a copy lacks
 
     def killed(self):
-        """A desk with two good copies, and six more callers, who are in its log alone; the offsets of the frames."""
+        """A desk with good copies of two days, and six more callers, who are in its log alone; the offsets of the frames."""
         office = self.office()
-        office.before = [self.good("before", office) for _ in range(2)]
+        office.before = ["2026-01-01T000000Z", "2026-01-02T000000Z"]
+        for name in office.before:
+            (office.copies / self.good("before", office)).rename(office.copies / name)
         office.feed([call(number) for number in range(11, 17)], kills=True)
         return office, frames(log_of(office.file))
 
@@ -249,7 +251,7 @@ class Copying(Part):
         (slow / "cp").chmod(0o755)
         office.program = slow / "acd"
         (slow / "acd").symlink_to(self.program)
-        self.bad("moved meanwhile", office, "its file was moved, meanwhile; no copy is kept")
+        self.bad("moved meanwhile", office, "its file was written, or moved, while it was copied; no copy is kept")
         self.expect("no copy is there", [path.name for path in office.copies.iterdir()], [])
 
     def try_started_meanwhile(self):
@@ -261,7 +263,7 @@ class Copying(Part):
         (slow / "cp").write_text(f'#!/bin/sh\n/bin/cp "$@"\n[ -e pid ] || {{ acd serve --file {office.file} --port {port} --endless >/dev/null 2>&1 & echo $! >pid; sleep 0.5; }}\n')
         (slow / "cp").chmod(0o755)
         office.program = slow / "acd"
-        self.bad("started meanwhile", office, "the desk was started, .* no copy is kept")
+        self.bad("started meanwhile", office, "its file was written, or moved, while it was copied; no copy is kept")
         os.kill(int((office.folder / "pid").read_text()), signal.SIGKILL)
 
     def try_full_disk(self):

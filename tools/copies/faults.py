@@ -1,13 +1,26 @@
 """Faults that are planted in acd-copy and its modules: of each file what each is, the text that it changes, and what it changes it to; and the cases that find it."""
 
 COPY = [
-    ("a moved desk is passed over", "if desk.process in holding or desk.moved]", "if desk.process in holding]", "try_removed"),
     ("what was moved isn't told", "        report(line)\n", "        pass\n", "try_moved"),
-    ("the places are copied, whatever the desk has open", "if not (desk and desk.moved):", "if True:", "try_removed"),
+    ("the places are copied, whatever the desk has open", "    if desk and desk.moved:\n        has =", "    if False:\n        has =", "try_removed"),
     ("a copy of what was moved is a good one", "if desk and desk.moved:\n        kept_aside", "if False:\n        kept_aside", "try_moved_log"),
     ("the desk isn't let go on where its file was moved", "for desk in desks_over(options.file):", "for desk in []:", "try_moved"),
-    ("files that were moved meanwhile are kept", "if part] != before or not desk and desks_over(file):", "if part] is None:", "try_moved_meanwhile"),
-    ("a desk that was started meanwhile isn't seen", " or not desk and desks_over(file):", ":", "try_started_meanwhile"),
+    ("files that were moved meanwhile are kept", "        if [state(part) for _, part in early] != before:", "        if False:", "try_moved_meanwhile"),
+    ("files that were written meanwhile are kept", "        if [state(part) for _, part in early] != before:", "        if False:", "try_changed"),
+    ("what a desk that was started meanwhile writes isn't seen", "found.st_size, found.st_mtime_ns", "0, 0", "try_started_meanwhile"),
+    ("the file is copied while the desk is halted", "copied(parts, desk, new, BRIEF, 1)", "copied(parts, desk, new, 60, 0)", "try_running"),
+    ("a copy of before stays as it was", "                copy.write(block)\n", "                pass\n", "try_changed"),
+    ("its copy takes as long as it takes", "timeout=end and max(end - time.monotonic(), 0))", "timeout=None)", "try_bounded"),
+    ("it is halted in each case at last", "        if is_last and not seconds:", "        if False:", "try_always"),
+    ("at last it is as before", "seconds if is_last else None)", "None)", "try_always"),
+    ("another's setting", '"ACD_HALT"', '"ACD_HALTS"', "try_limits"),
+    ("what is wholly sound goes", "(is_sound(made) or not is_sound(copy))", "True", "try_again"),
+    ("what isn't wholly sound isn't noted", "    if found.verdict == acd_audit.AGAIN:\n        acd_chain.write", "    if False:\n        acd_chain.write", "try_again"),
+    ("the first days stay", "sorted(by_day.items())[-days:]", "sorted(by_day.items())[:days]", "try_days"),
+    ("the first copy of a day stays", "of_day[-1] for", "of_day[0] for", "try_days"),
+    ("today's go", " | set(by_day.get(today(), [])[-MOST:])", "", "try_days"),
+    ("the disk's room isn't looked at", " and not has_room(made):", " and False:", "try_little_room"),
+    ("other days' go for room", "copy.name.startswith(today()) and not has_room(made):", "not has_room(made):", "try_little_room"),
     ("a copy that wasn't made whole is kept", "if done.returncode:", "if False:", "try_full_disk"),
     ("a log that ends early isn't kept aside", "if found.verdict == acd_audit.EARLY:", "if False:", "try_early"),
     ("fewer requests are a good copy", "if then in (same, *earlier) and executed < before:", "if False:", "try_fewer"),
@@ -17,7 +30,7 @@ COPY = [
     ("the note isn't written", "    os.replace(new, note)\n", "    pass\n", "try_fewer"),
     ("a damaged log that was kept isn't told", "for left in damaged(file)]", "for left in []]", "try_damaged"),
     ("another desk's damaged log is told", 'and any(folder.glob(f"{file.name}*"))', "and True", "try_damaged"),
-    ("a bad copy clears away", "    raise Fault(f\"{why}; it lies", "    clear_away(folder, 1)\n    raise Fault(f\"{why}; it lies", "try_early"),
+    ("a bad copy clears away", "    raise Fault(f\"{why}; it lies", "    clear_away(folder, 1, new)\n    raise Fault(f\"{why}; it lies", "try_early"),
     ("others may read it", "os.umask(0o077)", "os.umask(0o022)", "try_modes"),
     ("others' settings", "ACD_COPY_FOLDER", "ACD_FOLDER", "try_settings"),
     ("copies of one second are one", "exists():\n        time.sleep(0.1)", "exists() and False:\n        time.sleep(0.1)", "try_one_second"),
@@ -26,17 +39,23 @@ COPY = [
 ]
 AUDIT = [
     ("the log isn't put back", "os.replace(aside, log)", "os.unlink(aside)", "try_early"),
-    ("that of an unsound copy isn't put back", "and found.verdict == SOUND:", "and found.verdict != EARLY:", "try_no_desk"),
+    ("that of an unsound copy isn't put back", "if os.path.exists(aside) and found.is_good():", "if os.path.exists(aside) and found.verdict != EARLY:", "try_no_desk"),
     ("the log isn't looked at", '"audit", "--whole", "--count"', '"audit", "--count"', "try_early"),
     ("a log that ends early isn't another thing than an unsound file", "if status == ENDS_EARLY:", "if False:", "try_early"),
+    ("a request that was sent again is a fault", "        if again:\n", "        if False:\n", "try_again"),
+    ("any request was sent again", "AND new.stamp > (SELECT last_stamp FROM old.meta)\n                                    AND old.kept.stamp < (SELECT min(stamp) FROM main.kept)", "", "try_others"),
+    ("behind such a request no log ends early", "if found.verdict == AGAIN and os.path.exists(aside) and isinstance", "if False and isinstance", "try_others"),
     ("all is sound", "    return Finding(UNSOUND, said)", "    return Finding(SOUND, said)", "try_unsound"),
 ]
 HELD = [
-    ("a connection that is closed just now hides the files", "with contextlib.suppress(OSError):", "with contextlib.suppress(KeyError):", "try_busy"),
+    ("a connection that is closed just now hides the files", "        with contextlib.suppress(OSError):\n            file, flags", "        with contextlib.suppress(KeyError):\n            file, flags", "try_busy"),
     ("a log isn't looked for", "if len(has) > 1 and all(one.which != log_now for one in has):", "if False:", "try_moved_log"),
     ("a file isn't looked for", "if has and all(one.which != file_now for one in has):", "if False:", "try_moved"),
     ("what was removed was moved", 'if name.endswith(" (deleted)"):', "if False:", "try_removed"),
     ("a link's link is passed over", "for _ in range(LINKS):", "for _ in range(1):", "try_by_a_link"),
+    ("anybody's process is a desk", "and user_of(process) in users and", "and", "try_beside_a_stranger"),
+    ("who has root's rights is root", 'return int((PROCESSES / f"{process}/status").read_text().partition("\\nUid:")[2].split()[0])', "return os.stat(PROCESSES / str(process)).st_uid", "try_beside_a_stranger"),
+    ("words as somebody wrote them", "word if word.isprintable() else repr(word)", "word", "try_beside_a_stranger"),
     ("a link that leads nowhere is a fault", "except (FileNotFoundError, NotADirectoryError):", "except FileNotFoundError:", "try_broken_off"),
 ]
 RESTORE = [
@@ -47,10 +66,14 @@ RESTORE = [
     ("root's", "    become(*owner)\n", "", "try_owner"),
     ("by anybody", "if os.geteuid() not in (0, found.st_uid):", "if False:", "try_owner"),
     ("of several machines", "    refuse_machines(file)\n    with", "    with", "try_node"),
-    ("an unsound copy", "if found.verdict != acd_audit.SOUND:", "if False:", "try_unsound"),
+    ("an unsound copy", "if not found.is_good():", "if False:", "try_unsound"),
+    ("a request that was sent again is a fault", "if not found.is_good():", "if found.verdict != acd_audit.SOUND:", "try_good"),
+    ("a request that was sent again isn't told", "    if found.verdict == acd_audit.AGAIN:\n        say", "    if False:\n        say", "try_good"),
+    ("half a copy is offered", 'copies.glob("[!.]*")', 'copies.glob("*")', "try_half"),
+    ("half a copy is put back", ' or moment.startswith(".") or', " or", "try_half"),
     ("a half copy", " and subprocess.run([\"cp\", \"--reflink=auto\", \"--preserve=timestamps\", \"--\", part, target]).returncode:", " and subprocess.run([\"cp\", \"--\", part, target]).returncode and False:", "try_room"),
     ("others may read it", "part.chmod(0o600)", "part.chmod(0o644)", "try_mask"),
-    ("any name is a copy", '    if moment in ("", ".", "..") or "/" in moment or not', "    if not", "try_names"),
+    ("any name is a copy", '    if not moment or moment.startswith(".") or "/" in moment or not', "    if not", "try_names"),
     ("the note isn't written", "            write_note(self.file)\n", "            pass\n", "try_note"),
     ("the first is taken back first", "key=lambda one: one.number)", "key=lambda one: -one.number)", "try_several"),
     ("another desk's is taken back", 'if said["file"] == file.name:', "if True:", "try_two_desks"),
@@ -77,4 +100,11 @@ RESTORE = [
     ("what is in place of nothing is taken for what came", "if not self.new.is_at_home():", "if not is_hidden(self.file) and not self.old.is_at(self.file):", "no file"),
     ("an empty log is made", "        log_of(new).unlink()\n", "        pass\n", "try_no_log"),
 ]
-FAULTS = {"acd-copy": COPY, "acd_audit.py": AUDIT, "acd_held.py": HELD, "acd_restore.py": RESTORE}
+HALT = [
+    ("a moved desk is passed over", "if desk.process in holding or desk.moved]", "if desk.process in holding]", "try_removed"),
+    ("nothing lets it continue", "        select.select([pipe], [], [], seconds)\n    finally:\n        desk.go_on()\n", "        select.select([pipe], [], [], seconds)\n    finally:\n", "try_killed"),
+    ("it continues by the pipe alone", "select.select([pipe], [], [], seconds)", "select.select([pipe], [], [])", "try_suspended"),
+    ("it is suspended too", "        os.setsid()\n", "", "try_suspended"),
+]
+FORGET = [("a request that was sent again isn't told", "acd_audit.sent_again(answer[1].strip(), file, archive) or answer[1].strip()", "answer[1].strip()", "try_forgotten")]
+FAULTS = {"acd-copy": COPY, "acd-forget": FORGET, "acd_halt.py": HALT, "acd_audit.py": AUDIT, "acd_held.py": HELD, "acd_restore.py": RESTORE}

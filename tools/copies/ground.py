@@ -134,8 +134,8 @@ def ask(port, request):
 class Load:
     """Callers without an end, one request after the other; what was answered is noted."""
 
-    def __init__(self, port):
-        self.port, self.answered, self.goes_on = port, {}, True
+    def __init__(self, port, pause=0.002):
+        self.port, self.pause, self.answered, self.goes_on = port, pause, {}, True
         self.thread = threading.Thread(target=self.work, daemon=True)
         self.thread.start()
 
@@ -151,7 +151,7 @@ class Load:
             # a refusal is kept too, as that behind the greatest number of callers is
             if status in (200, 409):
                 self.answered[number] = status, said
-            time.sleep(0.002)
+            time.sleep(self.pause)
 
     def until(self, count):
         """Waits for so many more answers."""
@@ -190,15 +190,30 @@ class Part(Trial):
         super().setUpClass()
         cls.folder.chmod(0o755)
 
-    def office(self, owner=None):
+    def office(self, owner=None, folder=None):
         """A desk with a plan and two callers."""
-        office = Office(tempfile.mkdtemp(dir=self.folder), self.program, self.script)
+        office = Office(folder or tempfile.mkdtemp(dir=self.folder), self.program, self.script)
         self.addCleanup(office.end)
         office.plan()
         office.feed([call(1), call(2)])
         if owner:
             subprocess.run(["chown", "-R", f"{owner}:{owner}", office.folder], check=True)
         return office
+
+    @contextlib.contextmanager
+    def ext4(self, gigabytes):
+        """A disk of this size in a file of this machine's disk, with a file system that copies no file by reference."""
+        with tempfile.TemporaryDirectory(dir="/var/tmp") as scratch:
+            image, folder = Path(scratch) / "image", Path(scratch) / "disk"
+            folder.mkdir()
+            subprocess.run(["truncate", "--size", f"{gigabytes}G", image], check=True)
+            subprocess.run(["mkfs.ext4", "-q", "-m", "0", image], check=True)
+            subprocess.run(["mount", "-o", "loop", image, folder], check=True)
+            try:
+                (folder / "desk").mkdir()
+                yield folder / "desk"
+            finally:
+                subprocess.run(["umount", folder], check=True)
 
     @contextlib.contextmanager
     def disk(self, size):

@@ -10,8 +10,8 @@ from pathlib import Path
 from ground import OTHER, PYTHON, Part, call, frames, kept, listing, log_of, spoil, sums
 from trial import free_port
 
-DONE = r"%s is the copy of %s; what was in its place lies in (\S+), and acd-copy --undo puts it back\n"
-UNDONE = r"%s is what it was before the restore of %s(?:; what was in its place lies in (\S+))?\n"
+DONE = r"Restored %s into %s\. The previous files are in (\S+); acd-copy --undo brings them back\n"
+UNDONE = r"Took the restore of %s back: %s is as before(?:\. The files of meanwhile are in (\S+))?\n"
 HOLD = "import fcntl, sys, time; file = open(sys.argv[1], 'rb+'); fcntl.lockf(file, fcntl.LOCK_EX, 512, 1 << 30); print(flush=True); time.sleep(60)"
 
 
@@ -29,13 +29,13 @@ class Restores(Part):
     def restored(self, what, office, moment, **how):
         """The folder of what was put away."""
         status, said, faults = office.copy("--restore", moment, **how)
-        found = re.fullmatch(DONE % (re.escape(str(office.file)), re.escape(moment)), said)
+        found = re.fullmatch(DONE % (re.escape(moment), re.escape(str(office.file))), said)
         self.expect(f"{what}: {said}{faults}", (status, bool(found), faults), (0, True, ""))
         return Path(found[1]) if found else office.folder / "none"
 
     def undone(self, what, office, moment, **how):
         status, said, faults = office.copy("--undo", **how)
-        found = re.fullmatch(UNDONE % (re.escape(str(office.file)), re.escape(moment)), said)
+        found = re.fullmatch(UNDONE % (re.escape(moment), re.escape(str(office.file))), said)
         self.expect(f"{what}: {said}{faults}", (status, bool(found), faults), (0, True, ""))
         return Path(found[1]) if found and found[1] else None
 
@@ -159,6 +159,36 @@ class Restores(Part):
         self.refused("beside another restore", office, "or restores it: stop it first; nothing", "--restore", office.moment)
         os.close(folder)
 
+    def try_beside_a_stranger(self):
+        """A process that another user calls by a desk's name and words stops no restore and no copy, also one that runs with root's rights, as a program with that mode does;
+        what the owner writes into the words of one is spelt out."""
+        office = self.copied()
+        subprocess.run(["chown", "-R", f"{OTHER}:{OTHER}", office.folder], check=True)
+        runs = "import ctypes; ctypes.CDLL(None).prctl(15, b'acd'); import time; print(flush=True); time.sleep(60)"
+        for user, how in (("games", "--reuid"), ("games", "--ruid"), (OTHER, "--reuid")):
+            process = subprocess.Popen(["setpriv", how, user, "--clear-groups", "--", PYTHON, "-c", runs,
+                                        "\x1b[2J\x1b[1;31m\x1b]0;title\x07", f"--file={office.file}"], stdout=subprocess.PIPE)
+            try:
+                process.stdout.readline()
+                if user == "games":
+                    self.restored(f"beside one of {user}'s, by {how}", office, office.moment)
+                    self.expect("a copy beside it", office.copy(user=OTHER)[0], 0)
+                    self.undone("back", office, office.moment)
+                else:
+                    status, said, faults = office.copy("--restore", office.moment)
+                    self.expect(f"beside one of the owner's: {faults!r}", (status, said, f"is open in process {process.pid} (" in faults, "\x1b" in faults, "\x07" in faults), (1, "", True, False, False))
+            finally:
+                process.kill()
+                process.communicate()
+
+    def try_half(self):
+        """Half a copy, which a power cut left, is none: it isn't offered, and not put back."""
+        office = self.copied()
+        half = office.copies / ".new.xzaz7miu"
+        shutil.copytree(office.copies / office.moment, half)
+        for name in ("2026-01-01T000000Z", half.name):
+            self.refused(f"a copy {name}", office, rf"there is no copy {re.escape(name)} of desk.db in {office.copies}; there are: {office.moment}\n", "--restore", name)
+
     def try_unsound(self):
         office = self.copied()
         copy = office.copies / office.moment / "desk.db"
@@ -224,7 +254,7 @@ class Restores(Part):
             office.file = link
             self.broken_off(office, 5, "--restore", office.moment)
             status, said, faults = office.copy(*words, *([office.moment] if words == ("--restore",) else []))
-            self.expect(f"{words} by the link: {said}{faults}", (status, said.startswith(f"{place} is ")), (0, True))
+            self.expect(f"{words} by the link: {said}{faults}", (status, bool(re.search(rf"( into|back:) {re.escape(str(place))}(\. | is )", said))), (0, True))
             self.expect("the link is as it was", (os.readlink(link), place.is_symlink(), len(office.folders("elsewhere/*"))), ("../desk.db", False, 1))
 
     def try_two_names(self):

@@ -36,20 +36,21 @@ class Copies(Planned):
         return int(said.partition("executed ")[2])
 
     def try_one_behind_the_other(self):
-        """More copies by hand than a unit may be started in ten seconds, and more than are kept: each is good, and says nothing else."""
+        """More copies by hand than a unit may be started in ten seconds: each is good, and says nothing else, and all of a day stay, twenty at most."""
+        before = len(self.good())
         # a slow machine starts fewer in ten seconds
         self.expect("how many may be started isn't limited", self.show("StartLimitIntervalUSec", unit="acd-copy"), ["0"])
         for number in range(STARTS):
             self.expect(f"copy {number}", self.ran("systemctl", "start", "acd-copy"), (0, ""))
         said, forms = self.lines(), (r"the desk was halted for \d+ ms", f"sound: {COPIES}/{MOMENT}", f"cleared away: {COPIES}/{MOMENT}")
         self.expect("what they say", ([line for line in said if not any(re.fullmatch(form, line) for form in forms)], sum(line.startswith("sound") for line in said)), ([], STARTS))
-        self.expect("the last seven are kept", len(self.good()), 7)
+        self.expect("all of today are kept", len(self.good()), min(before + STARTS, 20))
         self.expect("nobody else reads them", self.done("find", COPIES, "-perm", "/077"), "")
 
     def try_from_anywhere(self):
         """As the desk's user, from a folder that this one may not enter."""
         status, said = self.typed("runuser -u acd -- acd-copy")
-        self.expect_in(f"from root's home, {status}", said, rf"\Athe desk was halted for \d+ ms\nsound: {COPIES}/{MOMENT}\ncleared away: {COPIES}/{MOMENT}\n\Z")
+        self.expect_in(f"from root's home, {status}", said, rf"\Athe desk was halted for \d+ ms\nsound: {COPIES}/{MOMENT}\n(cleared away: {COPIES}/{MOMENT}\n)?\Z")
 
     def try_plain_copy(self):
         """The file that is served is copied by `cp`, without its log: the audit says `sound` of what lacks the last answers. A copy by the unit has them."""
@@ -75,13 +76,13 @@ class Copies(Planned):
                        rf"^acd-copy: {FILE} is open in process \d+ \(acd serve --file {FILE}\): systemctl stop acd; nothing was touched\n$")
         for moment, name in ((held["second"], "second"), (held["first"], "first"), (held["second"], "second")):
             status, said = self.put_back(moment)
-            self.expect(f"the {name} copy is put back ({said})", (status, said.startswith(f"{FILE} is the copy of {moment};")), (0, True))
+            self.expect(f"the {name} copy is put back ({said})", (status, said.startswith(f"Restored {moment} into {FILE}. ")), (0, True))
             self.serves(f"of the {name} copy")
             self.expect("what it has", (self.kept("first"), self.kept("second"), self.kept("third")), ([1, 2, 3], [1, 2, 3] if name == "second" else [], []))
         self.expect("nobody else reads what was put away", (self.done("find", STATE, "-mindepth", "1", "-perm", "/077"), len([name for name in self.names() if "put-away" in name])), ("", 3))
         self.done("systemctl", "stop", "acd")
         for _ in range(3):
-            self.expect_in("--undo", self.ran("acd-copy", "--undo")[1], rf"^{FILE} is what it was before the restore of {MOMENT}; what was in its place lies in {STATE}/taken-back-")
+            self.expect_in("--undo", self.ran("acd-copy", "--undo")[1], rf"^Took the restore of {MOMENT} back: {FILE} is as before\. The files of meanwhile are in {STATE}/taken-back-")
         self.restarts("as before all of it")
         self.expect("nothing is lost", (self.kept("first"), self.kept("second"), self.kept("third")), ([1, 2, 3],) * 3)
 

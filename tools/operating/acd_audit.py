@@ -1,6 +1,8 @@
-"""The program's verdict on a copy of a desk's file: it is sound, its log ends early, or something else is wrong. Tested, not proved."""
+"""The program's verdict on a copy of a desk's file: it is sound, a request was sent again after a cut, its log ends early, or something else is wrong. Tested,
+not proved."""
 import contextlib
 import os
+import re
 import shutil
 import signal
 import sqlite3
@@ -11,7 +13,7 @@ import acd_chain
 import acd_log
 from acd_pair import holds_something, log_of
 
-SOUND, EARLY, UNSOUND, UNAUDITED = "sound", "early", "unsound", "unaudited"
+SOUND, AGAIN, EARLY, UNSOUND, UNAUDITED = "sound", "again", "early", "unsound", "unaudited"
 # what `acd audit --whole` ends with where the log ends early
 ENDS_EARLY = 5
 QUIETLY = ["nice", "-n", "19", "acd"]
@@ -24,6 +26,9 @@ class Finding:
     verdict: str
     said: str
     executed: int = 0
+
+    def is_good(self):
+        return self.verdict in (SOUND, AGAIN)
 
 
 def run(*words):
@@ -48,6 +53,26 @@ def last_stamp(file):
         return book.execute("SELECT last_stamp FROM meta").fetchone()[0]
 
 
+def sent_again(said, file, archive):
+    """The line where the audit with the archive says that the file differs at a request, and that one has the key of one that the archive alone has: the desk
+    can't know it any more, and did once more what it asks for. Else None. Nobody learns by it who the ticks' requester is."""
+    differs, found = re.fullmatch(r"differs at request (\d+)", said), None
+    if not differs:
+        return None
+    with contextlib.suppress(sqlite3.Error), contextlib.closing(sqlite3.connect(acd_chain.immutable(file), uri=True)) as book:
+        book.execute("ATTACH ? AS old", (acd_chain.immutable(archive),))
+        found = book.execute("""SELECT requester, invoke, json_extract(new.request, '$.service'), old.kept.stamp
+                                FROM main.kept AS new JOIN old.kept USING (requester, invoke)
+                                WHERE new.stamp = ? AND new.stamp > (SELECT last_stamp FROM old.meta)
+                                    AND old.kept.stamp < (SELECT min(stamp) FROM main.kept)""", (differs[1],)).fetchone()
+    if not found:
+        return None
+    requester, invoke, service, earlier = found
+    key = f"{service}, requester {re.sub('^clock-[a-z]+$', 'clock-..', requester)}, invoke {invoke}"
+    return (f"sound up to request {int(differs[1]) - 1}; request {differs[1]} ({key}) was sent again after the cut (request {earlier} of {archive.name} has its "
+            "key), and the requests after it weren't looked at")
+
+
 def carried(file, archive):
     """The verdict on a file that was carried over. A program that can't audit it with its archive opens it, and SQL compares the rows of both."""
     log_existed = log_of(archive).exists()
@@ -57,9 +82,11 @@ def carried(file, archive):
         log_of(archive).unlink(missing_ok=True)
     if audit:
         found = finding(audit[0], audit[1].splitlines())
+        again = sent_again(found.said, file, archive)
+        if again:
+            return Finding(AGAIN, again, last_stamp(file))
         return Finding(SOUND, found.said, last_stamp(file)) if found.verdict == SOUND else found
-    damage = acd_log.look(log_of(file))
-    if isinstance(damage, (acd_log.Damaged, acd_log.Unreadable)):
+    if isinstance(acd_log.look(log_of(file)), (acd_log.Damaged, acd_log.Unreadable)):
         return Finding(EARLY, "its log ends early")
     status, lines = run("lines", "--file", file)
     if status:
@@ -76,7 +103,10 @@ def audited(file, archive=None):
     if log.exists():
         shutil.copy2(log, aside)
     found = carried(file, archive) if archive else finding(*run("audit", "--whole", "--count", "--file", file))
-    if os.path.exists(aside) and found.verdict == SOUND:
+    # of a file that differs the audit doesn't say it
+    if found.verdict == AGAIN and os.path.exists(aside) and isinstance(acd_log.look(aside), (acd_log.Damaged, acd_log.Unreadable)):
+        found = Finding(EARLY, f"{found.said}, and its log ends early")
+    if os.path.exists(aside) and found.is_good():
         os.unlink(aside)
     elif os.path.exists(aside):
         os.replace(aside, log)

@@ -23,6 +23,8 @@ from pathlib import Path
 import acd_pair
 
 NOTE, DIGEST = ".archive", ".sha256"
+# beside a copy that isn't wholly sound: which request was sent again after a cut
+AGAIN = ".again"
 # the folder beside a file in which acd-carry makes the file that replaces it
 BESIDE = ".carry"
 FOLDER = "archives"

@@ -90,6 +90,11 @@ def words(process):
         return []
 
 
+def printable(process):
+    """The first of its words, for a terminal: a word that has a control character is spelt out."""
+    return " ".join(word if word.isprintable() else repr(word) for word in words(process)[:4])
+
+
 def named(process):
     """The file that a desk's command line names; nothing where it names none."""
     said = words(process)
@@ -100,9 +105,26 @@ def named(process):
         return None
 
 
+def user_of(process):
+    """The user who started a process, whatever rights it has by now; None if it has ended."""
+    try:
+        return int((PROCESSES / f"{process}/status").read_text().partition("\nUid:")[2].split()[0])
+    except (OSError, LookupError):
+        return None
+
+
+def users_of(path):
+    """Root, and whose the file at this path is, or would be: anybody else may give a process the name of a desk."""
+    with contextlib.suppress(OSError):
+        return {0, os.lstat(path if os.path.lexists(path) else path.parent).st_uid}
+    return {0}
+
+
 def desks(path):
-    """The desks whose command line names the file at this path, whichever they have open."""
-    return [process for process in processes() if is_desk(process) and named(process) == place(path)]
+    """The desks of root and of the file's owner whose command line names the file at this path, whichever they have open."""
+    path = place(path)
+    users = users_of(path)
+    return [process for process in processes() if is_desk(process) and user_of(process) in users and named(process) == path]
 
 
 def seen(process, path):

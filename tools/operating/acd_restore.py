@@ -267,7 +267,7 @@ def refuse_beside(file):
     """A restore isn't for a file that a program has open, or that a desk was started over, whichever it has open."""
     found = [process for process in dict.fromkeys(acd_held.holders(file) + acd_held.desks(file)) if process != os.getpid()]
     if found:
-        programs = ", ".join(f"process {process} ({' '.join(acd_held.words(process)[:4])})" for process in found)
+        programs = ", ".join(f"process {process} ({acd_held.printable(process)})" for process in found)
         raise Fault(f"{file} is open in {programs}: {' && '.join(dict.fromkeys(map(acd_held.stopping, found)))}; nothing was touched")
 
 
@@ -348,13 +348,14 @@ def missing_archives(file, copy, new):
 def copy_of(file, copies, moment):
     """The folder of a copy."""
     copy = copies / moment
-    if moment in ("", ".", "..") or "/" in moment or not (copy / file.name).is_file():
-        there = sorted(path.name for path in copies.glob("*") if (path / file.name).is_file())
+    # what begins with a dot is half a copy, or none
+    if not moment or moment.startswith(".") or "/" in moment or not (copy / file.name).is_file():
+        there = sorted(path.name for path in copies.glob("[!.]*") if (path / file.name).is_file())
         raise Fault(f"there is no copy {moment} of {file.name} in {copies}; there are: {', '.join(there) or 'none'}")
     return copy
 
 
-def copied(file, copy, home):
+def copied(file, copy, home, say):
     """Copies the copy, for the owner alone, and audits it as it will be in its place. Returns the names of the archives that come with it."""
     home.mkdir()
     new = home / file.name
@@ -369,8 +370,10 @@ def copied(file, copy, home):
         found = acd_audit.audited(new, acd_chain.place(note, file.parent, home) if note else None)
     except acd_chain.Broken as fault:
         raise Fault(f"{fault}; nothing was touched") from None
-    if found.verdict != acd_audit.SOUND:
+    if not found.is_good():
         raise Fault(f"the copy isn't sound: the audit says '{found.said}'; nothing was touched")
+    if found.verdict == acd_audit.AGAIN:
+        say(found.said)
     # the audit made one, and left nothing in it
     if not log_existed and log_of(new).exists() and log_of(new).stat().st_size <= acd_pair.EMPTY:
         log_of(new).unlink()
@@ -380,11 +383,11 @@ def copied(file, copy, home):
     return archives
 
 
-def prepared(file, copy, number):
+def prepared(file, copy, number, say):
     """Makes a folder beside the file with all the new files; until it gets its name, nobody looks at it."""
     half = PutAway(Path(tempfile.mkdtemp(prefix=HALF, dir=file.parent)), file)
     try:
-        archives = copied(file, copy, half.new.home)
+        archives = copied(file, copy, half.new.home, say)
         half.number, half.moment = number, copy.name
         half.old.found(file, unshared_archives(file, half.new.at_home()))
         half.new.found(half.new.at_home(), archives)
@@ -408,9 +411,9 @@ def restore(file, copies, moment, say):
             begun = None
         if begun and (begun.way == BACK or begun.moment != moment):
             raise Fault(begun.advice())
-        one = begun or prepared(file, copy, 1 + max((one.number for one in known), default=0))
+        one = begun or prepared(file, copy, 1 + max((one.number for one in known), default=0), say)
         one.go()
-        say(f"{file} is the copy of {moment}; what was in its place lies in {one.folder}, and acd-copy --undo puts it back")
+        say(f"Restored {moment} into {file}. The previous files are in {one.folder}; acd-copy --undo brings them back")
         one.new.home.rmdir()
         sync(one.folder)
 
@@ -429,6 +432,6 @@ def undo(file, say):
         if one.was_in_place and any(one.new.home.iterdir()):
             taken = unused_name(file, "taken-back")
             move(one.new.home, taken)
-            was = f"; what was in its place lies in {taken}"
-        say(f"{file} is what it was before the restore of {one.moment}{was}")
+            was = f". The files of meanwhile are in {taken}"
+        say(f"Took the restore of {one.moment} back: {file} is as before{was}")
         one.forget()

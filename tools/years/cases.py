@@ -61,7 +61,7 @@ class Cases:
             self.ground.expect(f"{words}: {faults}", (status, len(moments) + 1 - firsts(new)[0] if new.exists() else None), (0, wanted))
             new.unlink(missing_ok=True)
         self.ground.expect("the modes of both", (file.stat().st_mode, file.with_name("new.db").exists()), (file.stat().st_mode, False))
-        self.refused("nothing to leave behind", file, 3, "none of its 7922 kept requests may be left behind", "--days", 4)
+        self.refused("nothing to leave behind", file, 3, "acd-carry: Nothing is older than 4 days; nothing to do", "--days", 4)
         for words in (("--keep", 999), ("--keep", 0), ("--days", 0), ("--days", 1, "--keep", 1000), ("--keep", "x"), ("--other",)):
             self.refused(f"{words}", file, 2, "", *words)
 
@@ -150,11 +150,28 @@ class Cases:
             with contextlib.suppress(sqlite3.Error):
                 self.refused(what, file, 1, wanted)
 
+    def look(self):
+        """Beside a desk whose requests are all in its log, of five days or of one."""
+        for what, moments, wanted in (("of five days", (1000, 1000 + 5 * DAY), (0, "")), ("of a day", (1000, 1000 + HOUR), (1, "acd-carry: Nothing is older than 2 days; nothing to do\n"))):
+            file = self.folder / what.replace(" ", "-") / "desk.db"
+            file.parent.mkdir()
+            desk = subprocess.Popen([self.ground.program, "lines", "--file", file], stdin=subprocess.PIPE, stdout=subprocess.PIPE)
+            try:
+                for number, moment in enumerate(moments, 1):
+                    desk.stdin.write(f"{TICK.format(moment=moment, number=number)}\n".encode())
+                    desk.stdin.flush()
+                    desk.stdout.readline()
+                done = self.ground.carry("--look", "--file", file, short=False)
+                self.ground.expect(f"a look at requests {what}: {done}", (done[0], done[2]), wanted)
+            finally:
+                desk.kill()
+                desk.communicate()
+
     def still(self):
         """A clock that stands still leaves no place for a cut."""
         file = self.folder / "still.db"
         self.ground.feed(file, PLAN + [TICK.format(moment=1000, number=number) for number in range(1, 2001)])
-        self.refused("a clock that stands still", file, 3, "none of its 2002 kept requests may be left behind", "--keep", 1000)
+        self.refused("a clock that stands still", file, 3, "Nothing is older than the last 1000 requests and the last hour; nothing to do", "--keep", 1000)
 
     def full(self):
         """On disks of each size from too small to great enough it says so and leaves nothing, or goes through."""
@@ -172,7 +189,7 @@ class Cases:
         self.ground.expect("the rows of the old file", held(source) == held(self.whole))
 
     def all(self):
-        for case in (self.keeps, self.taken, self.rights, self.opened, self.audits, self.others, self.still, self.full):
+        for case in (self.keeps, self.taken, self.rights, self.opened, self.audits, self.others, self.look, self.still, self.full):
             case()
 
 

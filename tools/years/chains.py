@@ -174,6 +174,8 @@ class Chains:
         ground, office = self.ground, self.office("copied")
         before = office.good("before the first cut")
         ground.expect("it has no archive", [path.name for path in before.iterdir() if "archive" in path.name], [])
+        # one of another day, that goes where anything is cleared away
+        before.rename(office.copies / "1970-01-05T000000Z")
         office.carry()
         first = office.archives()[0]
         made = office.good("behind it")

@@ -58,7 +58,7 @@ FAULTS = [
     ("acd_chain.py", "events aren't compared", '("kept", "stamp", "last_stamp"), ("events", "number", "last_event")):', '("kept", "stamp", "last_stamp"),):', "chains.copied"),
     ("acd_chain.py", "a row is missing", " or count != newest - first + 1:", ":", "chains.copied"),
     ("acd-copy", "counted anew over a cut", "    if then in (same, *earlier) and executed", "    if then == same and executed", "chains.copied"),
-    ("acd-copy", "the note stays behind", "zip((*parts, note), (file.name, log_of(file).name, note.name))", "zip(parts, (file.name, log_of(file).name))", "chains.copied"),
+    ("acd-copy", "the note stays behind", "    take(note, new / note.name)\n", "", "chains.copied"),
     ("acd-copy", "a broken archive clears away", "    if not broken:\n", "    if True:\n", "chains.copied"),
     ("acd-copy", "a broken archive has the status 0", "    return not wrong + broken", "    return not wrong", "chains.copied"),
     ("acd-copy", "an exchange that was broken off isn't told", "acd_restore.unfinished(file) or acd_chain.unfinished(file)", "acd_restore.unfinished(file)", "places"),

@@ -166,7 +166,7 @@ class Forgets:
         ground.expect("the audit of all", self.whole(office), sound)
         ground.expect("the desk's file", {path: path.read_bytes() for path in desk} == desk)
         self.digests(office, archives)
-        listed = {line.rpartition(" ")[2] for line in printed.splitlines() if " still stands in " in line}
+        listed = {line.rpartition(" ")[2] for line in printed.splitlines() if " is still in " in line}
         ground.expect("the copies that have it yet are listed", listed,
                       {str(path.parent) for path in office.copies.glob("*Z/desk.db") if f'"{caller}"'.encode() in path.read_bytes()})
         return {path: held(path) for path in archives}, self.calls(office)
@@ -193,16 +193,16 @@ class Forgets:
 
     def refused(self):
         office = self.office("refused")
-        self.says(office, STAYS, "stands in", "yet")
-        self.says(office, STATION, "is none of an outside caller")
-        self.says(office, REQUESTER, "stands in a requester of kept")
-        self.says(office, NAMED, "stands in a name of agents")
+        self.says(office, STAYS, "is still in", "removes it")
+        self.says(office, STATION, "isn't an outside caller's number")
+        self.says(office, REQUESTER, "is in a requester of kept")
+        self.says(office, NAMED, "is in a name of agents")
         self.says(office, CALLERS[0], "goes on from", named=office.archives()[1:])
         self.says(office, CALLERS[0], "goes on from", named=[])
         for words in (("--caller", "05551"), ("--caller", "0305550123456789"), ("--caller", "x"), ("--confirm", "--caller", CALLERS[0]), ()):
             self.ground.expect(f"{words}", self.forget(office, *words)[0], 2)
         status, printed, faults = self.forget(office, "--caller", "99999999")
-        self.ground.expect(f"who never called: {faults}", (status, printed), (0, "99999999 stands in no archive\n"))
+        self.ground.expect(f"who never called: {faults}", (status, printed), (0, "99999999 is in no archive\n"))
         altered = office.archives()[1]
         digest = sha256(altered)
         changed(altered, "UPDATE events SET moment = moment + 1 WHERE number = (SELECT max(number) FROM events)")
@@ -252,7 +252,7 @@ class Forgets:
                 desk.stdin.write(f'{DAY * 99} {{"requester":"late","invoke":{number},"service":"arriveCall","caller":"{caller}","called":"100"}}\n')
                 desk.stdin.flush()
                 desk.stdout.readline()
-            self.says(office, "0305559999", "stands in", "yet")
+            self.says(office, "0305559999", "is still in", "removes it")
             status, printed, faults = self.forget(office, "--caller", CALLERS[0])
             self.ground.expect(f"beside a desk: {faults}", (status, any(stands(path, CALLERS[0]) for path in office.archives())), (0, False))
         finally:

@@ -297,7 +297,7 @@ class Service:
         (self.place / "at").write_text("7\n")
         self.refused("one of several machines", "one of several machines", is_stopped=False)
         (self.place / "at").unlink()
-        for days, wanted, ended in (("9", "none of its", "passed over"), ("x", "isn't a whole number", "failed"), ("0", "isn't a whole number", "failed")):
+        for days, wanted, ended in (("9", "Nothing is older than 9 days", "passed over"), ("x", "isn't a whole number", "failed"), ("0", "isn't a whole number", "failed")):
             self.set({"ACD_CARRY_DAYS": days})
             self.refused(f"{days} days", wanted, ended, is_stopped=False)
         self.set({})
