@@ -1,7 +1,6 @@
 """Sessions of people who logged in by a form: a cookie for the browser, and its digest in a file that outlives a start. Unproved."""
 import hashlib
 import json
-import os
 import re
 import secrets
 import sys
@@ -9,6 +8,8 @@ import threading
 import time
 from dataclasses import dataclass
 from pathlib import Path
+
+import acd_put
 
 COOKIE = "__Host-acd"
 UNUSED, LONGEST = 12 * 3600, 24 * 3600
@@ -76,13 +77,8 @@ class Sessions:
         if self.file is None:
             return
         text = "".join(json.dumps({"digest": name, **vars(session)}) + "\n" for name, session in self.found.items())
-        new = self.file.with_name(self.file.name + ".new")
         try:
-            with os.fdopen(os.open(new, os.O_WRONLY | os.O_CREAT | os.O_TRUNC, 0o600), "w") as out:
-                out.write(text)
-                out.flush()
-                os.fsync(out.fileno())
-            new.replace(self.file)
+            acd_put.put(self.file, text)
         except OSError as fault:
             print(f"acd-gate: {self.file} can't be written: {fault.strerror}", file=sys.stderr, flush=True)
 

@@ -21,6 +21,7 @@ from dataclasses import dataclass
 from pathlib import Path
 
 import acd_pair
+import acd_put
 
 NOTE, DIGEST = ".archive", ".sha256"
 # beside a copy that isn't wholly sound: which request was sent again after a cut
@@ -66,20 +67,8 @@ def read_note(file):
         raise Broken(f"{note_of(file)} is no note of an archive") from None
 
 
-def write(file, text):
-    """Writes a file in one step, and onto the disk; for its owner alone, as all files beside the desk's file."""
-    new = file.with_name(f".{file.name}.new")
-    new.unlink(missing_ok=True)
-    with open(os.open(new, os.O_WRONLY | os.O_CREAT | os.O_EXCL, 0o600), "w") as out:
-        out.write(text)
-        out.flush()
-        os.fsync(out.fileno())
-    os.replace(new, file)
-    acd_pair.sync_folder(file.parent)
-
-
 def put_note(file, note):
-    write(note_of(file), note.text())
+    acd_put.put(note_of(file), note.text())
 
 
 def change_digest(note, name, old, new):
@@ -151,7 +140,7 @@ def read_digest(copy):
 
 def put_digest(copy, found):
     """Writes the digest as sha256sum --check reads it."""
-    write(Path(f"{copy}{DIGEST}"), f"{found}  {copy.name}\n")
+    acd_put.put(Path(f"{copy}{DIGEST}"), f"{found}  {copy.name}\n")
 
 
 def keep(archive, note, copies):
@@ -175,7 +164,7 @@ def keep(archive, note, copies):
         put_note(copy, archive_note)
     put_digest(copy, note.digest)
     os.replace(new, copy)
-    acd_pair.sync_folder(copies)
+    acd_put.sync_folder(copies)
 
 
 def look(copies):

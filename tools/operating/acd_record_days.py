@@ -2,6 +2,9 @@
 import contextlib
 import datetime
 import os
+from pathlib import Path
+
+import acd_put
 
 KINDS = ("records", "agents", "groups")
 # that ended so many days ago at most are written anew where they differ: a call that went on is over by now, say. Older ones stay as they are, also
@@ -58,7 +61,7 @@ class Days:
     def begin(self, kind, day):
         stream = writer = None
         if self.wants(kind, day):
-            stream = open(self.folder / kind / f".{day}.new", "w", newline="", encoding="utf-8")
+            stream = acd_put.opened(self.place(kind, day), 0o640)
             writer = self.writer_of(stream)
             writer.writerow(self.heads[kind])
         self.open[kind] = day, stream, writer
@@ -68,14 +71,12 @@ class Days:
         day, stream, _ = self.open.pop(kind, (None, None, None))
         if not stream:
             return
+        place = self.place(kind, day)
         with stream:
             stream.flush()
-            os.fchmod(stream.fileno(), 0o640)
-            os.fsync(stream.fileno())
-        place, new = self.place(kind, day), self.folder / kind / f".{day}.new"
-        if place.exists() and place.read_bytes() == new.read_bytes():
-            return new.unlink()
-        os.replace(new, place)
+            if place.exists() and place.read_bytes() == Path(stream.name).read_bytes():
+                return os.unlink(stream.name)
+            acd_put.settle(stream, place)
         self.written += 1
 
     def __enter__(self):
@@ -89,8 +90,8 @@ class Days:
                 self.drop(each)
 
     def drop(self, kind):
-        day, stream, _ = self.open.pop(kind)
+        _, stream, _ = self.open.pop(kind)
         if stream:
             with contextlib.suppress(OSError):
                 stream.close()
-            (self.folder / kind / f".{day}.new").unlink(missing_ok=True)
+            Path(stream.name).unlink(missing_ok=True)

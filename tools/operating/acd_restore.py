@@ -22,6 +22,7 @@ import acd_audit
 import acd_chain
 import acd_held
 import acd_pair
+import acd_put
 from acd_pair import log_of
 
 NOWHERE = "/dev/null/"
@@ -188,11 +189,8 @@ class PutAway:
 
     def save(self):
         """Writes the state in one step, so that there is always a whole one."""
-        new = self.folder / ".state.json"
-        new.write_text(json.dumps({"file": self.file.name, "number": self.number, "moment": self.moment, "way": self.way, "was_in_place": self.was_in_place,
-                                   "old": self.old.parts, "new": self.new.parts}) + "\n")
-        sync(new)
-        move(new, self.state())
+        acd_put.put(self.state(), json.dumps({"file": self.file.name, "number": self.number, "moment": self.moment, "way": self.way, "was_in_place": self.was_in_place,
+                                              "old": self.old.parts, "new": self.new.parts}) + "\n")
 
     def is_ended(self):
         return self.way == IN and not self.new.home.exists()
