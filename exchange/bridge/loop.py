@@ -7,6 +7,7 @@ import sqlite3
 import sys
 from contextlib import suppress
 
+import acd_notify
 from acd_client import AnotherHistory
 
 from .desk import DeskLine
@@ -54,6 +55,7 @@ async def run(settings: Settings) -> None:
     line = DeskLine(exchange)
     exchange.steps.step(exchange.resume)
     print(f"listening on {settings.listen}", flush=True)
+    acd_notify.ready()
     await asyncio.gather(line.run(), line.watch(), wire.run(exchange), play(exchange.music, sound, tune.sendto))
 
 

@@ -8,7 +8,7 @@ from pathlib import Path
 from typing import Any
 
 EXCHANGE = Path(__file__).resolve().parents[1]
-sys.path[:0] = [str(EXCHANGE), str(EXCHANGE.parent / "clients/python")]
+sys.path[:0] = [str(EXCHANGE), str(EXCHANGE.parent / "clients/python"), str(EXCHANGE.parent / "tools/operating")]
 
 from bridge import loop  # noqa: E402
 from bridge.store import Store  # noqa: E402

@@ -319,6 +319,7 @@ def lay_out_exchange(root, version, moment):
         put(f"usr/share/acd-exchange/bridge/{file.name}", file.read_bytes())
     for module in ("acd_client.py", "acd_due.py"):
         put(f"usr/share/acd-exchange/{module}", (TOP / "clients/python" / module).read_bytes())
+    put("usr/share/acd-exchange/acd_notify.py", (OPERATING / "acd_notify.py").read_bytes())
     put("usr/share/acd-exchange/acd-exchange", (EXCHANGE / "acd-exchange").read_bytes(), 0o755)
     for name in ("acd-account", "acd-edge-limit"):
         put(f"usr/sbin/{name}", (EXCHANGE / name).read_bytes(), 0o755)

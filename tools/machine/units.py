@@ -9,7 +9,7 @@ from edges import Edges
 HIGHEST = 2.0
 PROBE = "/usr/local/bin/probe"
 # what a unit's probe goes without: it ends, prints to a file, has no settings, and takes no folder from the unit
-LEFT_OUT = {"Type", "Restart", "RestartSec", "RestartPreventExitStatus", "Environment", "EnvironmentFile", "RuntimeDirectory",
+LEFT_OUT = {"Type", "NotifyAccess", "TimeoutStartSec", "Restart", "RestartSec", "RestartPreventExitStatus", "Environment", "EnvironmentFile", "RuntimeDirectory",
             "ExecStart", "ExecStartPre", "ExecStop", "ExecStopPost", "ExecReload", "ExecCondition", "RemainAfterExit"}
 AS_ROOT = {"User", "Group", "DynamicUser", "AmbientCapabilities", "StateDirectory"}
 
@@ -21,9 +21,9 @@ DESK = {"read the desk's file", "write the desk's folder", "signal the desk", "s
 OF_ROOT = {"read the roles", "read the users", "read the accounts", "see another user's process"}
 # what a program that took over the unit could do, as the unit's own user and, were it root there, as root
 MAY = {
-    "acd.service": (LOOPBACK | DESK, LOOPBACK | OF_ROOT),
+    "acd.service": (LOOPBACK | DESK | {"AF_UNIX"}, LOOPBACK | OF_ROOT | {"AF_UNIX"}),
     "acd-tick.service": (LOOPBACK | {"signal the desk", "see what the desk has open"}, LOOPBACK | OF_ROOT),
-    "acd-gate.service": (LOOPBACK | {"read the roles", "read the users"}, LOOPBACK | OF_ROOT),
+    "acd-gate.service": (LOOPBACK | {"AF_UNIX", "read the roles", "read the users"}, LOOPBACK | OF_ROOT | {"AF_UNIX"}),
     "acd-copy.service": (DESK | {"priority"}, OF_ROOT | {"priority"}),
     "acd-carry.service": (DESK, OF_ROOT),
     "acd-local.service": ({"AF_UNIX", "AF_NETLINK", "load a table"}, OF_ROOT | {"AF_UNIX", "AF_NETLINK", "load a table"}),

@@ -28,13 +28,12 @@ class Damage(Planned):
     # file and log of two times
 
     def try_beside_the_desk(self):
-        """What an office does while its desk is stopped, none of it a fault: twice a start behind stock sqlite3, an import, an audit, a log that was removed, a copy put back whole."""
+        """What an office does while its desk is stopped, none of it a fault: twice a start behind stock sqlite3, an import, an audit, a copy put back whole."""
         count = "import sqlite3; print(sqlite3.connect('/var/lib/acd/desk.db').execute('SELECT count(*) FROM kept').fetchone()[0])"
         for what, *steps in (
                 ("sqlite3", ("python3", "-c", count)),
                 ("an import", ("runuser", "-u", "acd", "--", "acd", "import", "--file", FILE, "--plan", "/plan.csv")),
                 ("an audit", ("runuser", "-u", "acd", "--", "acd", "audit", "--file", FILE)),
-                ("a log that was removed", ("rm", LOG)),
                 ("a copy put back whole", ("sh", "-c", f"mkdir {HOME}/copy && cp -p {FILE}* {HOME}/copy && rm {FILE}* && cp -p {HOME}/copy/* {STATE}"))):
             self.killed(what.replace(" ", "-"), 2)
             for step in steps:
@@ -43,6 +42,28 @@ class Damage(Planned):
                 self.restarts(f"start {number} behind {what}")
                 self.expect("it answers", self.service("beside", len(what) + 100 * number, "tick").get("result"), {})
         self.expect("the note is of what is there", re.findall(r"(\d+) ", self.inside(NOTE).read_text()), [str(self.inside(path).stat().st_ino) for path in (FILE, LOG)])
+
+    def try_removed_log(self):
+        """Behind a stop the log may go, and behind a kill it may not: told until it is back, or a copy is."""
+        self.restarts("before a stop")
+        self.expect("requests are answered", self.sent("removed", 5), [{}] * 5)
+        self.done("systemctl", "stop", "acd")
+        self.done("rm", LOG)
+        self.restarts("behind a log that was removed")
+        self.done("runuser", "-u", "acd", "--", "acd-copy")
+        copy, = [name for name in self.names(f"{STATE}/copies") if name.endswith("Z")]
+        self.killed("lost", 5)
+        self.done("mv", LOG, f"{HOME}/away")
+        for _ in range(2):
+            self.fails("a log that was removed behind a kill", f"the log {LOG} is gone", "answered requests are lost", f"acd-copy --restore {copy}", f"remove {NOTE}", before=(FILE,))
+        self.done("mv", f"{HOME}/away", LOG)
+        self.restarts("with the log back")
+        self.expect("nothing is lost", (self.kept("removed"), self.kept("lost")), ([1, 2, 3, 4, 5], [1, 2, 3, 4, 5]))
+        self.killed("restored", 2)
+        self.done("rm", LOG)
+        self.done("acd-copy", "--restore", copy)
+        self.restarts("with the copy")
+        self.expect("it has what the copy has", (self.kept("removed"), self.kept("lost")), ([1, 2, 3, 4, 5], []))
 
     def try_older_file(self):
         """An older file beside the newer log, and the other way round."""
@@ -143,7 +164,7 @@ class Damage(Planned):
             self.inside(path).write_bytes(data)
             self.done("chown", "acd:acd", path)
         mark = self.mark()
-        self.done("systemctl", "start", "acd")
+        self.expect("the command says so", self.ran("systemctl", "start", "acd")[0], 1)
         self.expect("it is started again", self.eventually(lambda: int(self.show("NRestarts")[0]) >= 2, True, 20), True)
         self.expect("the log is as it was, and no half copy stays", (self.held(LOG) == [log], [name for name in self.names() if "damaged" in name]), (True, []))
         self.expect("each time it tells why", {bool(re.search("is damaged, and can't be kept as it is before the desk opens it: .*No space left", line)) for line in self.said_since(mark)}, {True})

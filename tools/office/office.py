@@ -142,8 +142,10 @@ class Office(Booted):
 
     def fails(self, what, *words, status="64", before=()):
         """The desk is started again: it has failed within two seconds, by one line with these words, isn't started again, and is named; the files are as they were."""
+        # a clean stop writes the log into the file
+        self.done("systemctl", "stop", "acd")
         were, mark = self.held(*before), self.mark()
-        self.ran("systemctl", "restart", "acd")
+        self.expect(f"{what}: the command says so", self.ran("systemctl", "restart", "acd")[0], 1)
         self.expect(f"{what}: it has failed", self.eventually(lambda: self.show("ActiveState")[0], "failed", 10), "failed")
         began, ended, used = map(int, self.show("ExecMainStartTimestampMonotonic", "ExecMainExitTimestampMonotonic", "CPUUsageNSec"))
         took = (ended - began) / 1e6
@@ -158,10 +160,10 @@ class Office(Booted):
         self.expect(f"{what}: the files are as they were", self.held(*before) == were)
 
     def restarts(self, what):
-        """It is started again, and says nothing of faults."""
+        """It is started again, answers as soon as the command returns, and says nothing of faults."""
         mark = self.mark()
         self.done("systemctl", "restart", "acd")
-        self.serves(what)
+        self.expect(f"{what}: it answers", self.curl("http://127.0.0.1:8080/snapshot"), 200)
         self.expect(f"{what}: what it says", self.said_since(mark), [])
 
 

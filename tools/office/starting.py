@@ -4,7 +4,20 @@ import time
 
 from office import FILE, HOME, SETTINGS, STATE, Office
 
-LOG, NOTE, ROUNDS, KILLS = f"{FILE}-wal", f"{FILE}-pair", 50, 20
+LOG, NOTE, ROUNDS, KILLS, OPENING = f"{FILE}-wal", f"{FILE}-pair", 50, 20, 5
+# a desk that is played, in the place of the program: it listens behind so many seconds
+PLAYED = """#!/usr/bin/python3
+import socket, sys, time
+time.sleep({seconds})
+if not {listens}:
+    sys.exit(1)
+listener = socket.create_server(("127.0.0.1", 8080))
+while True:
+    asks = listener.accept()[0]
+    asks.recv(4096)
+    asks.sendall(b"HTTP/1.1 200 OK\\r\\nContent-Length: 0\\r\\n\\r\\n")
+    asks.close()
+"""
 
 
 class Starting(Office):
@@ -69,7 +82,7 @@ class Starting(Office):
     def try_mistyped_file(self):
         """A typing mistake in acd.env makes no new desk; nor does a folder's name."""
         self.set("ACD_FILE", f"{STATE}/dsek.db")
-        self.fails("a mistyped file", f"{STATE}/dsek.db isn't there", f"acd-ready --make --file {STATE}/dsek.db")
+        self.fails("a mistyped file", f"{STATE}/dsek.db isn't there: is ACD_FILE in {SETTINGS} spelt right?", f"acd-ready --make --file {STATE}/dsek.db")
         self.set("ACD_FILE", STATE)
         self.fails("a folder", f"{STATE} is no file")
         self.set("ACD_FILE", "")
@@ -77,6 +90,58 @@ class Starting(Office):
         self.expect("nothing is made", "dsek.db" in self.names(), False)
         self.set("ACD_FILE", FILE)
         self.restarts("with its own file")
+
+    def try_mistyped_name(self):
+        """Nor does one in a setting's name; one of an earlier version does no harm."""
+        settings = self.inside(SETTINGS)
+        before = settings.read_text()
+        settings.write_text(before.replace("ACD_FILE=", "ACD_FLIE="))
+        self.fails("a mistyped name", "no setting is called ACD_FLIE: ACD_FILE is the nearest", before=(FILE,))
+        settings.write_text(f"{before}ACD_CONNECTIONS=64\n")
+        mark = self.mark()
+        self.done("systemctl", "restart", "acd")
+        self.serves("with a setting of an earlier version")
+        self.expect("which is told", [("ACD_CONNECTIONS" in line, "passed over" in line) for line in self.said_since(mark)], [(True, True)])
+        settings.write_text(before)
+        self.restarts("with the settings as they were")
+
+    def try_homes(self):
+        """No unit sees a home: that is told, once, and nobody is advised to give one away."""
+        self.done("sh", "-c", f"install -d -m 700 /home/joe && ln -s /root/desk.db {STATE}/linked.db")
+        for file in ("/root/desk.db", "/home/joe/desk.db", f"{STATE}/linked.db"):
+            self.set("ACD_FILE", file)
+            mark = self.mark()
+            self.fails(file, f"no unit sees a home: move the file under {STATE}")
+            self.expect("no folder is to be given away", [line for line in self.said_since(mark) if "chown" in line], [])
+        self.done("rm", f"{STATE}/linked.db")
+        self.set("ACD_FILE", FILE)
+        self.restarts("with its own file")
+
+    def try_slow_opening(self):
+        """The start returns when the port answers, however long that takes, and fails where the desk ends before."""
+        self.done("systemctl", "stop", "acd")
+        for listens in (True, False):
+            self.container.put("/usr/local/bin/acd", PLAYED.format(seconds=OPENING, listens=listens), 0o755)
+            began = time.monotonic()
+            status = self.ran("systemctl", "start", "acd", wait=OPENING + 120)[0]
+            found = status, self.curl("http://127.0.0.1:8080/"), time.monotonic() - began > OPENING, self.show("ActiveState") == ["active"]
+            self.expect(f"a desk that {'listens' if listens else 'ends'} behind {OPENING} s", found, (0, 200, True, True) if listens else (1, 0, True, False))
+            self.done("systemctl", "stop", "acd")
+            self.expect("nobody goes on asking", "acd-ready --serve" in self.done("ps", "-eo", "args"), False)
+        self.done("rm", "/usr/local/bin/acd")
+        self.restarts("with the program")
+
+    def try_timer(self):
+        """Within its limits the unit may ask systemd whether the timer of copies is active."""
+        drop, asked = "/etc/systemd/system/acd.service.d/asked.conf", f"{STATE}/asked"
+        self.container.put(drop, f"[Service]\nExecStartPre=-/bin/sh -c 'systemctl is-active acd-copy.timer > {asked} 2>&1'\n")
+        self.done("systemctl", "daemon-reload")
+        for verb, answer in (("stop", "inactive\n"), ("start", "active\n")):
+            self.done("systemctl", verb, "acd-copy.timer")
+            self.restarts(f"with a timer behind {verb}")
+            self.expect(f"systemd's answer behind {verb}", self.inside(asked).read_text(), answer)
+        self.done("rm", drop, asked)
+        self.done("systemctl", "daemon-reload")
 
     def try_disk_that_is_away(self):
         """A desk on a disk of its own, which isn't mounted at a start."""

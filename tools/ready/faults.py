@@ -1,7 +1,7 @@
-"""Faults that are planted in acd-ready and its modules: where, what each is, the text that it changes, and what it changes it to."""
+"""Faults that are planted in acd-ready and its modules, by the part whose cases find them: where, what each is, the text that it changes, and what it changes it to."""
 
-READY, LOG, PAIR = "acd-ready", "acd_log.py", "acd_pair.py"
-FAULTS = [
+READY, LOG, PAIR, PUT, SETTINGS, NOTIFY = "acd-ready", "acd_log.py", "acd_pair.py", "acd_put.py", "acd_settings.py", "acd_notify.py"
+STARTS = [
     (READY, "a lone log isn't seen", "if not is_there(file) and is_there(log):", "if False:"),
     (READY, "a log beside no bytes isn't seen", "if is_there(file) and not os.path.getsize(file) and acd_pair", "if False and acd_pair"),
     (READY, "each log beside no bytes is one", "not os.path.getsize(file) and acd_pair.holds_something(log):", "not os.path.getsize(file) and is_there(log):"),
@@ -16,7 +16,7 @@ FAULTS = [
     (READY, "each port will do", "            if fault.errno == errno.EADDRINUSE:", "            if fault.errno == errno.EADDRINUSE:\n                return\n            if False:"),
     (READY, "a port that was in use lately is taken", "tried.setsockopt(socket.SOL_SOCKET, socket.SO_REUSEADDR, 1)", "pass"),
     (READY, "the port stays bound", "with socket.socket() as tried:", "globals()['held'] = tried = socket.socket()\n    tried.set_inheritable(True)\n    if True:"),
-    (READY, "it is started again and again", "MEND, AGAIN = 64, 1", "MEND, AGAIN = 1, 1"),
+    (READY, "it is started again and again", "MEND, AGAIN, WORDS = 64, 1, 2", "MEND, AGAIN, WORDS = 1, 1, 2"),
     (READY, "two lines", 'print(f"acd-ready: {text}"', 'print(f"acd-ready: {text}\\n"'),
     (READY, "it stays itself", 'os.execvp("acd", ["acd",', 'os.execvp("acd", ["acd-ready",'),
     (READY, "it ends by itself", '"--endless"', '"--connections", "9"'),
@@ -31,14 +31,68 @@ FAULTS = [
     (READY, "it is kept at each start", "kept_before(file, log) or keep(file, log)", "keep(file, log)"),
     (READY, "anybody reads what is kept", "new.mkdir(mode=0o700)", "new.mkdir(mode=0o755)"),
     (READY, "an earlier half copy stays", 'clear_away(file.parent, ".damaged-")', "pass"),
-    (READY, "nothing is noted", "    write_note(file)\n    try:", "    try:"),
+    (READY, "nothing is noted", "    write_note(file)\n    notify", "    notify"),
     (READY, "a desk that is there is made anew", "    if is_there(file):\n        return print", "    if False:\n        return print"),
     (READY, "a desk is made beside a log", "    if is_there(acd_pair.log_of(file)):\n", "    if False:\n"),
     (READY, "anybody reads a new desk", "os.umask(0o077)", "os.umask(0o022)"),
     (READY, "a desk that isn't made is", "if done.returncode:\n            raise Fault(f\"{file} isn't made", "if False:\n            raise Fault(f\"{file} isn't made"),
-    (READY, "a bad word has another status", "sys.exit(2)", "sys.exit(64)"),
+    (READY, "a bad word has another status", "sys.exit(WORDS)", "sys.exit(64)"),
     (READY, "port 0", "1 <= int(text) <= 65535", "int(text) <= 65535"),
     (READY, "port 65536", "1 <= int(text) <= 65535", "1 <= int(text)"),
+    (PAIR, "both have to be the same", '(now["file"] == then["file"]) != (now["log"] == then["log"])', "now != then"),
+    (PAIR, "the file alone is looked at", '(now["file"] == then["file"]) != (now["log"] == then["log"])', 'now["file"] != then["file"]'),
+    (PAIR, "the log alone is looked at", '(now["file"] == then["file"]) != (now["log"] == then["log"])', 'now["log"] != then["log"]'),
+    (PAIR, "a log that holds nothing is another one", "if not holds_something(log_of(file)) or", "if"),
+    (PAIR, "a note without a log names one", "or NONE in (then", "or False and NONE in (then"),
+    (PAIR, "the inode's number is enough", "--format=%i %.9W", "--format=%i"),
+    (PUT, "anybody reads the note", "mode=0o600, owner", "mode=0o644, owner"),
+    (PAIR, "the note has no log", '"log": identity(log_of(file))}', '"log": NONE}'),
+]
+STOPS = [
+    (READY, "a removed log isn't seen", "    if acd_pair.lost(file):", "    if False:"),
+    (READY, "a clean stop leaves the log", "            empty(file, WRITING)\n", "            pass\n"),
+    (READY, "the program is run behind a kill", '== "success"', '!= ""'),
+    (READY, "a damaged log is written into the file", "            look_at_log(file)\n            empty(file, WRITING)", "            empty(file, WRITING)"),
+    (READY, "what can't be kept isn't noted", "        except Fault as fault:\n            report(fault)\n    write_note", "        except Fault as fault:\n            return report(fault)\n    write_note"),
+    (READY, "nothing is noted of a stop", "    write_note(file, is_left=True)\n", ""),
+    (READY, "a start that was refused is noted", "    except Fault:\n        return\n", "    except Fault:\n        pass\n"),
+    (READY, "a log that is gone isn't told", "    if acd_pair.is_gone(file):", "    if False:"),
+    (READY, "it is told at a start alone", "        return\n    look_for_log(file)\n", "        return\n"),
+    (READY, "any copy is a good one", "if re.fullmatch(GOOD, one.name) and", "if"),
+    (READY, "a copy without the file is one", " and (one / file.name).is_file()", ""),
+    (READY, "the oldest copy", "{copies[-1]} (acd-copy", "{copies[0]} (acd-copy"),
+    (READY, "the program may take for ever", "timeout=patience", "timeout=None"),
+    (PAIR, "an emptied log may not go", "log_then > EMPTY and", "log_then and"),
+    (PAIR, "a log that was written into the file may not go", " and file_then == [*left(file)[:2]]", ""),
+    (PAIR, "the size of the file is enough", "file_then == [*left(file)[:2]]", "file_then[0] == left(file)[0]"),
+    (PAIR, "a log that was emptied is there", "    if holds_something(log_of(file)) or not re", "    if log_of(file).exists() or not re"),
+    (PAIR, "what a stop left is passed over", "return LEFT not in then and", "return"),
+    (PAIR, "a start keeps what the last stop left", "    if is_left:\n", "    if is_left or LEFT in read_note(file):\n"),
+]
+NAMES = [
+    (READY, "names aren't looked at", "    look_at_names(os.environ)\n", ""),
+    (READY, "an earlier name isn't told", "    for name in acd_settings.earlier(names):", "    for name in ():"),
+    (SETTINGS, "an earlier name is refused", "name not in (*NAMES, *EARLIER)", "name not in NAMES"),
+    (SETTINGS, "a name isn't known", '"ACD_COPIES", ', ""),
+    (SETTINGS, "any name is the nearest", "difflib.get_close_matches(name, NAMES, 1, 0)[0]", "NAMES[0]"),
+    (READY, "a folder that has something in it is given away", "    if is_empty or OURS", "    if True or OURS"),
+    (READY, "ours isn't given to its user", " or OURS in (folder, *folder.parents):", ":"),
+    (READY, "a home is a folder like others", "    if any(home == folder or home in folder.parents for home in HOMES):", "    if False:"),
+    (READY, "what is above a folder is a fault of the disk", "    except PermissionError:\n", "    except ZeroDivisionError:\n"),
+    (READY, "each copy will do", "not any(copy > last for copy in copies)", "not copies"),
+    (READY, "a new desk has to have one", "float(made or 0) < since and", ""),
+    (READY, "the timer isn't asked for", " and not is_active(timer()):", ":"),
+    (READY, "a second help line has the first one's timer", ".replace('acd', 'acd-copy', 1)", ".replace(str(acd_held.unit(0)), 'acd-copy')"),
+]
+NOTICES = [
+    (READY, "nobody is told", "    notify(options.port)\n", ""),
+    (READY, "it is told at once", "            if answers(port):", "            if True:"),
+    (READY, "it is asked for ever", "        while not ended.poll(PAUSE * 1000):", "        while not ended.poll(PAUSE * 1000) or True:"),
+    (READY, "the desk has a child", "        if os.fork():\n            return\n", ""),
+    (READY, "the desk's descriptor stays", "        return os.close(desk)", "        return os.set_inheritable(desk, True)"),
+    (NOTIFY, "an address without a name isn't known", 'if address.startswith("@")', "if False"),
+]
+LOGS = [
     (LOG, "a frame's checksum isn't looked at", 'return sums if sums == struct.unpack_from(">2I", data, 16) else None', "return struct.unpack_from(\">2I\", data, 16)"),
     (LOG, "each frame's checksum begins anew", "            sums = self.sums_after(sums, data)\n", "            sums = self.sums_after(self.begin, data)\n"),
     (LOG, "the checksum passes over the number and the size", "summed(self.order, summed(self.order, sums, data[:8]), data[FRAME:])", "summed(self.order, sums, data[FRAME:])"),
@@ -60,12 +114,5 @@ FAULTS = [
     (LOG, "a head with nothing behind it is damaged", 'if any(any(part) for part in iter(lambda: file.read(65536), b"")) else Sound()', ""),
     (LOG, "a log that isn't there is a fault", "except FileNotFoundError:", "except ZeroDivisionError:"),
     (LOG, "a short log has frames", "st_size < HEAD + FRAME or", "st_size < HEAD or"),
-    (PAIR, "both have to be the same", '(now["file"] == then["file"]) != (now["log"] == then["log"])', "now != then"),
-    (PAIR, "the file alone is looked at", '(now["file"] == then["file"]) != (now["log"] == then["log"])', 'now["file"] != then["file"]'),
-    (PAIR, "the log alone is looked at", '(now["file"] == then["file"]) != (now["log"] == then["log"])', 'now["log"] != then["log"]'),
-    (PAIR, "a log that holds nothing is another one", "if not holds_something(log_of(file)) or", "if"),
-    (PAIR, "a note without a log names one", "or NONE in (then", "or False and NONE in (then"),
-    (PAIR, "the inode's number is enough", "--format=%i %.9W", "--format=%i"),
-    (PAIR, "anybody reads the note", "os.O_EXCL, 0o600)", "os.O_EXCL, 0o644)"),
-    (PAIR, "the note has no log", '"log": identity(log_of(file))}', '"log": NONE}'),
 ]
+FAULTS = {"starts": STARTS, "stops": STOPS, "settings": NAMES, "notices": NOTICES, "logs": LOGS}

@@ -6,15 +6,12 @@ import resource
 import shutil
 import socket
 import sqlite3
-import sys
 import time
 from pathlib import Path
 
-from ground import Scripts, arrival
+from ground import AGAIN, ELSEWHERE, MEND, WORDS, Ready
 from logs import Log
-from trial import Desk, free_port, ran
-
-MEND, WORDS, ELSEWHERE, AGAIN = 64, 2, 4, 1
+from trial import free_port
 
 
 def seconds_used():
@@ -23,59 +20,7 @@ def seconds_used():
     return used.ru_utime + used.ru_stime
 
 
-class Served(Desk):
-    """A desk that is served by these words, and is killed at the end."""
-
-    def __init__(self, words, port, variables):
-        self.port = port
-        self.start(*words, variables=variables)
-        self.listens = self.process.stdout.readline()
-
-
-class Starts(Scripts):
-    @classmethod
-    def setUpClass(cls):
-        super().setUpClass()
-        cls.bin = cls.folder / "bin"
-        cls.bin.mkdir()
-        (cls.bin / "acd").symlink_to(cls.program)
-        cls.variables = cls.finding(cls.bin)
-
-    @staticmethod
-    def finding(folder):
-        """The variables of a process that finds `acd` in this folder."""
-        return {**os.environ, "PATH": f"{folder}:{os.environ['PATH']}"}
-
-    def words(self, *words):
-        return [sys.executable, self.scripts / "acd-ready", *words]
-
-    def ready(self, *words, variables=None):
-        return ran(*self.words(*words), env=variables or self.variables)
-
-    def executed(self, file):
-        """How many requests an audit finds in the file and its log, or in copies of them."""
-        return int(re.search(r"executed (\d+)", self.acd("audit", "--file", file, "--count").output).group(1))
-
-    def served(self, file, port=None):
-        port = port or free_port()
-        return Served(self.words("--serve", "--file", file, "--port", port), port, self.variables)
-
-    def ask(self, desk, number):
-        """The status of a call's arrival."""
-        return desk.post(arrival(number).partition(" ")[2].strip()).status
-
-    def starts(self, what, file, calls=()):
-        """It is served, and takes calls; what it says."""
-        with self.served(file) as desk:
-            self.expect(f"{what}: it listens", desk.listens, f"listening on 127.0.0.1:{desk.port}\n")
-            self.expect(f"{what}: it answers", [self.ask(desk, number) for number in calls], [200] * len(list(calls)))
-        return desk.said()
-
-    def fails(self, what, said, *words, status=MEND):
-        """One line that has these words, a status, and nothing else."""
-        has, out, line = self.ready("--serve", *words)
-        self.expect(f"{what}: {line!r}", (has, out, line.count("\n"), line.startswith("acd-ready: "), [one for one in said if one not in line]), (status, "", 1, True, []))
-
+class Starts(Ready):
     # what is looked at
 
     def try_words(self):
@@ -89,8 +34,8 @@ class Starts(Scripts):
     def try_file(self):
         file = self.new()
         log, folder, port = file.with_name("desk.db-wal"), file.parent, ["--port", free_port()]
-        self.fails("no folder", [str(folder / "none"), "isn't there"], "--file", folder / "none/desk.db", *port)
-        self.fails("no file", ["other.db isn't there", "acd-copy --restore", f"acd-ready --make --file {folder / 'other.db'}"], "--file", folder / "other.db", *port)
+        self.fails("no folder", [str(folder / "none"), "isn't there", "is ACD_FILE in /etc/acd/acd.env spelt right?"], "--file", folder / "none/desk.db", *port)
+        self.fails("no file", ["other.db isn't there: is ACD_FILE in /etc/acd/acd.env spelt right?", "acd-copy --restore", f"acd-ready --make --file {folder / 'other.db'}"], "--file", folder / "other.db", *port)
         self.fails("a folder in its place", [f"{folder} is no file"], "--file", folder, *port)
         os.mkfifo(folder / "pipe")
         self.fails("a pipe in its place", ["is no file"], "--file", folder / "pipe", *port)
@@ -269,7 +214,7 @@ class Starts(Scripts):
         log, note = file.with_name("desk.db-wal"), file.with_name("desk.db-pair")
         numbers = lambda: re.findall(r"^(file|log) (\d+|none)\b", note.read_text(), re.MULTILINE)  # noqa: E731
         log.unlink()
-        self.starts("first start", file, [1])
+        self.starts("first start", file, [1], result=None)
         self.expect("a note without a log", numbers(), [("file", str(file.stat().st_ino)), ("log", "none")])
         self.expect("is its user's alone", note.stat().st_mode & 0o777, 0o600)
         self.starts("second start", file, [2])

@@ -19,6 +19,8 @@ FAULTS = [
     ("a name of any letters", 're.fullmatch("[A-Za-z]{1,40}", ', "bool("),
     ("what was told ahead keeps back", "if not now - HOUR < self.reported_at.get(text, -HOUR) <= now:", "if not now - HOUR < self.reported_at.get(text, -HOUR):"),
     ("what was moved is looked for once", "if self.looked <= now < self.looked + MINUTE:", "if self.looked > 0:"),
-    ("a desk that hangs isn't told", "            except TimeoutError:\n                self.journal.report(", "            except TimeoutError:\n                str("),
+    ("a desk that hangs isn't told", "return self.look_at_silence()", "return None"),
+    ("it is told at once", "if now - self.silent_since >= MINUTE:", "if True:"),
+    ("it is told of one that answers now and then", "            pass\n        self.silent_since = None", "            pass"),
     ("no limit of all reads together", "signal.setitimer(signal.ITIMER_REAL, self.patience)", "connection.timeout = self.patience"),
 ]

@@ -104,13 +104,13 @@ class Ground(Trial):
             shutil.copy(source, cls.folder / name)
         (cls.folder / "acd_held.py").write_text(HELD)
 
-    def by_its_own_clock(self, desk, hours, clock=CLOCK, begin=BEGIN, moved="", words=(), step=STEP, jumps=()):
+    def by_its_own_clock(self, desk, hours, clock=CLOCK, begin=BEGIN, moved="", words=(), step=STEP, jumps=(), patience=None):
         """What it tells in so many hours, which pass as fast as the desk is asked."""
         moment, held, looks = (self.folder / name for name in ("moment", "held", "looks"))
         moment.write_text(str(begin))
         held.write_text(moved)
         looks.write_text("")
         environment = {**os.environ, "PYTHONPATH": str(Path(__file__).parent / "clock"), "PYTHONDONTWRITEBYTECODE": "1", "ACD_CLOCK": clock, "HELD": str(held), "LOOKS": str(looks),
-                       "MOMENT": str(moment), "LASTS": str(round(hours * HOUR)), "JUMPS": " ".join(f"{at}:{seconds}" for at, seconds in jumps)}
+                       "MOMENT": str(moment), "LASTS": str(round(hours * HOUR)), "JUMPS": " ".join(f"{at}:{seconds}" for at, seconds in jumps), **({"PATIENCE": str(patience)} if patience else {})}
         done = ran(self.ticks, "--port", desk.server_port, "--step", step, *words, env=environment, seconds=3600)
         return done.output + done.faults

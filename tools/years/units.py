@@ -88,7 +88,11 @@ class Desk:
                 os.waitpid(process, os.WNOHANG)
 
     def stop(self):
+        was_there = self.process()
         self.end(signal.SIGTERM, signal.SIGCONT)
+        values = {**environment(self.unit, self.settings), "SERVICE_RESULT": "success"}
+        for line in lines_of(self.unit, "ExecStopPost") if was_there else ():
+            subprocess.run(command(line, self.settings["scripts"], values), stdin=subprocess.DEVNULL, env=values)
 
 
 class Carrying:

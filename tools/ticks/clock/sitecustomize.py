@@ -1,8 +1,9 @@
 """A clock of a trial's own, for a Python process whose PYTHONPATH has this folder: it stands in the file MOMENT, and a sleep moves it on. When it has slept for
 LASTS seconds in all the process ends.
 
-JUMPS has pairs BEGIN:SECONDS: from that time on the clock that is shown is so far ahead of the time that passes."""
+PATIENCE, if it is set, are the seconds that a timer takes at most. JUMPS has pairs BEGIN:SECONDS: from that time on the clock that is shown is so far ahead of the time that passes."""
 import os
+import signal
 import time
 
 if "MOMENT" in os.environ:
@@ -24,4 +25,9 @@ if "MOMENT" in os.environ:
         if slept >= float(os.environ["LASTS"]):
             os._exit(0)
 
+    def limit(which, seconds, timer=signal.setitimer):
+        return timer(which, min(seconds, float(os.environ["PATIENCE"])))
+
     time.time, time.sleep = shown, sleep
+    if "PATIENCE" in os.environ:
+        signal.setitimer = limit
