@@ -1,4 +1,4 @@
-"""Whether tools/package makes the packages on a plain Debian 12, out of a tar file: without network, toolchain and git, by an ordinary user.
+"""Whether tools/package makes the packages on a plain Debian, out of a tar file: without network, toolchain and git, by an ordinary user.
 
 Where something is missing it has to say so in one line, and make nothing. What it makes there has to be what it makes here, but for its moment."""
 import filecmp
@@ -8,7 +8,7 @@ import shutil
 import subprocess
 from pathlib import Path
 
-from base import ALONE, make_base, unpack
+from base import ALONE, SUITES, make_base, unpack
 from trial import TOP, Trial
 
 # base-files is in each Debian: nothing more than the smallest one
@@ -35,7 +35,7 @@ def archive(to):
 
 
 class Plain(Trial):
-    BASES = NOTHING, NEEDED
+    BASES, suite = (NOTHING, NEEDED), SUITES[0]
 
     @classmethod
     def setUpClass(cls):
@@ -51,7 +51,7 @@ class Plain(Trial):
     def debian(self, name, included):
         """A Debian with these packages, and the tar file unpacked by a user of it."""
         root = self.folder / name
-        unpack(make_base(self.options.folder, included), root)
+        unpack(make_base(self.options.folder, included, self.suite), root)
         printed(["chroot", root, "useradd", "--create-home", "ana"])
         self.unpacked(root / PLACE)
         printed(["chroot", root, "chown", "-R", "ana:", f"/{PLACE}"])
