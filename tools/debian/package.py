@@ -8,7 +8,6 @@ one that doesn't know --version by --unchecked-version. The manual page and the 
 The same commit and program make the same bytes on the same Debian: what is packaged has the moment of the commit where this is a clone and git is here, else that of
 the first heading of CHANGELOG.md."""
 import argparse
-import gzip
 import hashlib
 import os
 import re
@@ -17,6 +16,7 @@ import subprocess
 import sys
 import tempfile
 import textwrap
+import zlib
 from email.utils import formatdate
 from pathlib import Path
 
@@ -26,7 +26,8 @@ import notices
 DEBIAN = Path(__file__).resolve().parent
 TOP = DEBIAN.parents[1]
 OPERATING = TOP / "tools/operating"
-MAINTAINER = "Hullapricot maintainers <maintainers@users.noreply.hullapricot.example>"
+# an address that takes no mail: README.Debian says whom to ask
+MAINTAINER = "The maintainers of acd <maintainers@users.noreply.hullapricot.example>"
 UNITS = ("acd.service", "acd-tick.service", "acd-gate.service", "acd-copy.service", "acd-copy.timer", "acd-local.service",
          "acd-node.service", "acd-node-upkeep.service", "acd-node-upkeep.timer", "acd-records.service", "acd-follow.service", "acd-carry.service", "acd-carry.timer",
          "acd-certificate.service", "acd-certificate.timer")
@@ -227,7 +228,8 @@ def library_packages(program, folder):
 
 
 def packed(text):
-    return gzip.compress(text.encode(), 9, mtime=0)
+    """As gzip has it, without a moment; zlib's own head is the same in each version of Python."""
+    return zlib.compress(text.encode(), 9, 31)
 
 
 def putter(root):
@@ -278,8 +280,8 @@ def lay_out(root, options, moment):
         put(f"usr/share/man/man{name[-1]}/{name}.gz", manual_page(OPERATING / name, version, date))
     for name in UNITS:
         put(f"usr/lib/systemd/system/{name}", (OPERATING / name).read_bytes())
-    for name in ("acd.env", "roles"):
-        put(f"etc/acd/{name}", (OPERATING / name).read_bytes())
+    put("usr/share/acd/keep-reads", (DEBIAN / "keep-reads").read_bytes(), 0o755)
+    (root / "etc/acd").mkdir(parents=True)
     # records are written behind each copy, so their unit is wanted by that of the copies
     put("usr/share/lintian/overrides/acd", "acd: systemd-service-file-refers-to-unusual-wantedby-target acd-copy.service *\n")
     put("usr/share/bash-completion/completions/acd", (OPERATING / "acd.bash").read_bytes())
@@ -292,8 +294,12 @@ def lay_out(root, options, moment):
     (root / "usr/sbin/acd-node").symlink_to("../share/acd/node/acd-node")
     for file in sorted((TOP / "node/machine").glob("*.py")):
         put(f"usr/share/acd/node/machine/{file.name}", file.read_bytes())
-    for example in (OPERATING / "nginx.conf", OPERATING / "node.env", OPERATING / "follow.env"):
-        put(f"{doc}examples/{example.name}", example.read_bytes())
+    for example in ("nginx.conf", "node.env", "follow.env"):
+        put(f"{doc}examples/{example}", (OPERATING / example).read_bytes())
+    # no conffiles, about which an upgrade would ask: postinst makes both in /etc/acd, once. It reads nothing of the documents, which a machine may leave out
+    for name in ("acd.env", "roles"):
+        put(f"usr/share/acd/{name}", (OPERATING / name).read_bytes())
+        (root / doc / "examples" / name).symlink_to(f"../../../acd/{name}")
     put(doc + "README.Debian", (DEBIAN / "README.Debian").read_text() + f"  {toolchain}\n  sources {source}\n")
     put(doc + "changelog.gz", packed(debian_changelog(versions, moment)))
     put(doc + "copyright", copyright_text(version, linked_notices(program)))
@@ -302,11 +308,10 @@ def lay_out(root, options, moment):
     with tempfile.TemporaryDirectory() as scratch:
         libraries = library_packages(root / "usr/bin/acd", Path(scratch))
     put("DEBIAN/control", f"Package: acd\nVersion: {version}\nArchitecture: amd64\nMaintainer: {MAINTAINER}\nInstalled-Size: {size}\n"
-                          f"Depends: {', '.join(filter(None, [libraries, 'adduser, python3, python3-bcrypt, python3-passlib']))}\n"
+                          f"Depends: {', '.join(filter(None, [libraries, 'adduser, python3 (>= 3.11), python3-bcrypt, python3-passlib']))}\n"
                           f"Recommends: nftables\nSuggests: nginx, etcd-server, etcd-client\nSection: net\nPriority: optional\n"
                           f"Description: {DESCRIPTION} Built by {toolchain} from the sources of checksum\n {source}.\n")
     put("DEBIAN/md5sums", sums)
-    put("DEBIAN/conffiles", "/etc/acd/acd.env\n/etc/acd/roles\n")
     for script in ("postinst", "prerm", "postrm"):
         put(f"DEBIAN/{script}", (DEBIAN / script).read_bytes(), 0o755)
     return version

@@ -36,6 +36,13 @@ MAY = {
     "acd-edge-limit.service": (OF_ROOT | {"AF_UNIX", "AF_NETLINK", "load a table"}, OF_ROOT | {"AF_UNIX", "AF_NETLINK", "load a table"}),
     "acd-records.service": ({"read the desk's file", "signal the desk"}, {"read the accounts", "see another user's process"}),
 }
+LIMITS = {
+    "acd": {"CPUWeight": "400", "TasksMax": "64", "MemoryMax": "infinity", "OOMScoreAdjust": "-500"},
+    "acd-gate": {"CPUWeight": "200", "TasksMax": "4096", "MemoryMax": str(400 << 20), "OOMScoreAdjust": "0"},
+    "acd-copy": {"CPUWeight": "20", "TasksMax": "64"},
+    "acd-records": {"CPUWeight": "20", "TasksMax": "64"},
+    "acd-tick": {"TasksMax": "64"}, "acd-local": {"TasksMax": "64"}, "acd-follow": {"TasksMax": "64"},
+}
 FOLDER = "/usr/lib/systemd/system"
 # shows a certificate where nginx would
 SHOWS = """import socket, ssl
@@ -63,6 +70,15 @@ class Units(Edges):
 
     def process(self, unit):
         return self.done("systemctl", "show", "--value", "-p", "MainPID", unit).strip()
+
+    def try_limits(self):
+        """The desk comes first where the processor or memory lacks, and no unit that a stranger reaches takes the machine."""
+        for unit, limits in LIMITS.items():
+            said = self.done("systemctl", "show", unit, *(f"--property={name}" for name in limits))
+            self.expect(f"limits of {unit}", dict(line.split("=", 1) for line in said.splitlines()), limits)
+        # on a machine that lets nobody name who is ended last, systemd passes over it
+        lets = self.container.shell("echo -500 >/proc/self/oom_score_adj")[0] == 0
+        self.expect("the kernel ends the desk last", self.done("cat", f"/proc/{self.process('acd')}/oom_score_adj"), "-500\n" if lets else "0\n")
 
     # their work
 

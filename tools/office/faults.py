@@ -29,7 +29,8 @@ class Fault(NamedTuple):
 FAULTS = [
     Fault("the first installation makes no desk", (POSTINST, '[ -n "$2" ] || make_desk', ":"), "starting", ("try_installed",)),
     Fault("each installation makes one", (POSTINST, '[ -n "$2" ] || make_desk', "make_desk"), "starting", ("try_upgrade",)),
-    Fault("an installation doesn't say why the desk isn't served", (POSTINST, "|| true\n    tell_failure\n", "|| true\n"), "starting", ("try_taken_port",)),
+    Fault("an installation doesn't say why the desk isn't served", (POSTINST, "|| true\n    tell_state\n", "|| true\n"), "starting", ("try_taken_port",)),
+    Fault("an installation waits for a start that takes minutes", (POSTINST, "timeout 28 deb-systemd-invoke", "deb-systemd-invoke"), "starting", ("try_long_start",)),
     Fault("what has to be mended first is started again and again", (DESK, "RestartPreventExitStatus=2 64", "RestartPreventExitStatus=2"), "starting", ("try_taken_port",)),
     Fault("a refused command line too", (DESK, "RestartPreventExitStatus=2 64", "RestartPreventExitStatus=64"), "starting", ("try_wrong_port",)),
     Fault("a full disk leaves the desk down", (DESK, "Restart=always", "Restart=no"), "starting", ("plan", "try_full_disk")),

@@ -214,6 +214,18 @@ class Starting(Office):
         self.done("systemctl", "stop", "stranger")
         self.restarts("without the stranger")
 
+    def try_long_start(self):
+        """A desk whose start takes minutes, as an opening of a large file does: an installation goes on within half a minute, and says how to look. The start goes on too."""
+        self.container.put("/etc/systemd/system/acd.service.d/long.conf", "[Service]\nType=notify\nTimeoutStartSec=infinity\nExecStart=\nExecStart=/bin/sleep infinity\n")
+        began = time.monotonic()
+        status, said = self.ran("timeout", "70", "dpkg", "--install", *[f"{HOME}/{path.name}" for path in self.inside(HOME).glob("acd_*.deb")])
+        self.expect(f"an installation goes on ({time.monotonic() - began:.0f} s)", status, 0)
+        self.expect_in("and says it", said, r"(?m)^acd: the desk hasn't started yet. To look at it: systemctl status acd; journalctl -u acd$")
+        self.expect("the start goes on", self.show("ActiveState", "SubState"), ["activating", "start"])
+        self.done("rm", "/etc/systemd/system/acd.service.d/long.conf")
+        self.done("systemctl", "daemon-reload")
+        self.restarts("with its own start")
+
     def try_wrong_port(self):
         for value, status, word in (("80", "64", "port 80 isn't given to the user acd"), ("abc", "2", "the port 'abc' isn't a whole number from 1 to 65535"), ("", "2", "the port '' isn't"), ("99999", "2", "the port '99999' isn't")):
             self.set("ACD_PORT", value)
