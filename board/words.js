@@ -328,7 +328,8 @@ name: Name
 password: Password
 wrong: Name or password is wrong.
 nothing: This name may do nothing here: ask the office.
-wait: Too many wrong passwords: wait a minute.
+again: Many log in now: this page tries again by itself, for two minutes.
+wait: Too many wrong passwords, or too many who log in: wait a minute.
 fault: The server cannot be asked: try again.
 `);
 

@@ -1,138 +1,23 @@
 #!/usr/bin/python3 -B
-"""Tests of the gate, over a stand-in for the desk that keeps the requests it gets.   usage: board/gate/test_gate.py
+"""Tests of the gate: roles, keys, requests, what a lead may, what the gate follows.   usage: board/gate/test_gate.py
 
 Needs htpasswd of apache2-utils, python3-passlib and python3-bcrypt (Debian packages)."""
 import contextlib
-import importlib.machinery
-import importlib.util
 import io
 import json
-import subprocess
-import sys
-import tempfile
 import threading
 import time
-import types
 import unittest
-from base64 import b64encode
-from http.server import BaseHTTPRequestHandler, ThreadingHTTPServer
-from pathlib import Path
 from unittest import mock
 
-sys.path.append(str(Path(__file__).resolve().parents[2] / "tools"))
-from trial import Connection, bytes_back  # noqa: E402
+from standing import FORBIDDEN, PAGE, ROLES, SECRET, USERS, GateTest, gate, lines, roles
 
-loader = importlib.machinery.SourceFileLoader("gate", str(Path(__file__).resolve().parent / "acd-gate"))
-gate = importlib.util.module_from_spec(importlib.util.spec_from_loader(loader.name, loader))
-loader.exec_module(gate)
-import acd_days as days  # noqa: E402
-import acd_following as following  # noqa: E402
-import acd_sessions as sessions  # noqa: E402
+import acd_days as days
+import acd_following as following
 
-ROLES = """# who may what
-pbx exchange
-planner office
-sup supervisor
-ana agent 7   # at any station
-
-ben agent 07
-cleo stations=201,202 agent groups=100,110 agent=7
-ana-b agent agent=8
-lea lead reads=none groups=110,100
-Copy.2 follow
-blind office reads=none
-"""
-# of "secret" by SHA-1, as `htpasswd -s` makes it
-SECRET = "{SHA}5en6G6MezRroT3XKqkdPOmY/BfQ="
-USERS = "".join(f"{login}:{SECRET}\n" for login in ("pbx", "planner", "sup", "ana", "ana-b", "nobody", "Jürgen", "Copy.2"))
 CALL_SERVICES = ["makeCall", "phoneOffHook", "answerCall", "rejectCall", "holdCall", "retrieveCall", "clearConnection", "deflectCall", "singleStepTransfer"]
 PLAN_SERVICES = ["addGroup", "addStation", "addAgent", "setGroupPriority", "changeGroup", "changeAgent"]
 OTHERS = ["arriveCall", "monitorStart", "monitorStop", "tick"]
-FORBIDDEN = (403, b'{"error":{"code":41,"name":"forbidden"}}')
-REPLY = b'{"error":{"code":3,"name":"unknownCall"},  "odd":1}'
-PAGE = b'{"last":0,  "requests":[]}'
-
-
-def lines(content):
-    """A file's lines as the gate reads them, and its lines on standard error."""
-    with tempfile.TemporaryDirectory() as folder, contextlib.redirect_stderr(io.StringIO()) as printed:
-        file = Path(folder) / "file"
-        file.write_bytes(content)
-        said = [gate.Watched(file, read).now() for read in (gate.roles_of, gate.hashes_of)]
-    return said, printed.getvalue().replace(f"{folder}/", "")
-
-
-def roles(content):
-    with contextlib.redirect_stderr(io.StringIO()) as printed:
-        return gate.roles_of("roles", content.split("\n")), printed.getvalue()
-
-
-class StandIn(BaseHTTPRequestHandler):
-    """Agent 7 is logged on at 201, and agent 07 nowhere; a service is answered by odd bytes with status 409."""
-    protocol_version = "HTTP/1.1"
-
-    def log_message(self, *_):
-        pass
-
-    def answer(self, status, body):
-        self.send_response(status)
-        self.send_header("Content-Type", "application/json")
-        self.send_header("Content-Length", str(len(body)))
-        self.send_header("Connection", "close")
-        self.end_headers()
-        self.wfile.write(body)
-
-    def do_GET(self):
-        if self.path.startswith("/requests"):
-            self.server.got.append(self.path)
-            return self.answer(200, PAGE)
-        known = {"/agents/7": {"agent": "7", "device": self.server.station}, "/agents/07": {"agent": "07"}}
-        self.answer(200, json.dumps(known[self.path]).encode())
-
-    def do_POST(self):
-        self.server.got.append((self.path, self.rfile.read(int(self.headers["Content-Length"]))))
-        self.answer(409, REPLY)
-
-
-class GateTest(unittest.TestCase):
-    def setUp(self):
-        folder = Path(self.enterContext(tempfile.TemporaryDirectory()))
-        self.roles, self.users = folder / "roles", folder / "users"
-        self.roles.write_text(ROLES)
-        self.users.write_text(USERS)
-        self.desk = ThreadingHTTPServer(("127.0.0.1", 0), StandIn)
-        self.desk.got, self.desk.station = [], "201"
-        self.gate = gate.Gate(0, self.desk.server_port, self.roles, self.users)
-        for server in (self.desk, self.gate):
-            threading.Thread(target=server.serve_forever, args=(0.02,), daemon=True).start()
-
-    def tearDown(self):
-        for server in (self.gate, self.desk):
-            server.shutdown()
-            server.server_close()
-
-    def exchange(self, method, path, body, fields):
-        with Connection(self.gate.server_port, seconds=5) as connection:
-            return connection.ask(method, path, body, fields.items())
-
-    def begins(self, sent, answer):
-        """What comes back for these bytes begins so."""
-        self.assertRegex(bytes_back(self.gate.server_port, sent, ends=True, seconds=5), answer)
-
-    def ask(self, login, body, method="POST", path="/csta", **fields):
-        named = {"X-Login": login.encode(), "X-Site": "https://desk:8443", **{name.replace("_", "-"): value for name, value in fields.items()}}
-        status, _, answer = self.exchange(method, path, body if isinstance(body, (bytes, type(None))) else json.dumps(body), named)
-        return status, answer
-
-    def passes(self, login, body, **fields):
-        before = len(self.desk.got)
-        answer = self.ask(login, body, **fields)
-        came = len(self.desk.got) - before
-        self.assertIn((answer, came), [((409, REPLY), 1), (FORBIDDEN, 0)])
-        return came == 1
-
-    def allowed(self, login, services, **members):
-        return [service for service in services if self.passes(login, {"requester": login, "invoke": 1, "service": service, **members})]
 
 
 class RoleTest(GateTest):
@@ -196,7 +81,6 @@ class RoleTest(GateTest):
                               ("exchange reads=all", "all"), ("follow", "none")):
             found, printed = roles(f"ana {words}")
             self.assertEqual((found["ana"].reading, printed), (wanted, ""), words)
-        self.assertEqual(gate.READS.reading, "all")
 
     def test_who_reads_requests(self):
         for login in ("planner", "Copy.2"):
@@ -236,8 +120,9 @@ class RoleTest(GateTest):
             self.assertTrue(self.passes("eve", tick))
             self.assertFalse(self.passes("ana", state))
             self.roles.unlink()
-            self.assertFalse(self.passes("eve", tick))
-        self.assertRegex(printed.getvalue(), rf"\Aacd-gate: {self.roles}, line 14: ana .*\nacd-gate: {self.roles} can't be read: No such file or directory\n\Z")
+            self.assertTrue(self.passes("eve", tick))  # by the last content
+            self.assertEqual(self.ask("eve", None, "GET", "/who")[0], 200)
+        self.assertRegex(printed.getvalue(), rf"\Aacd-gate: {self.roles}, line 15: ana .*\nacd-gate: {self.roles} can't be read: No such file or directory\n\Z")
 
 
 class KeyTest(GateTest):
@@ -312,11 +197,13 @@ class RequestTest(GateTest):
             self.assertTrue(self.passes("pbx", body, **fields), fields)
 
     def test_who(self):
-        for login, wanted in (("ana", {"agent": "7", "login": "ana", "reads": "own", "role": "agent"}), ("sup", {"login": "sup", "role": "supervisor"}), ("nobody", {"login": "nobody"}), ("Jürgen", {"login": "Jürgen"}),
+        for login, wanted in (("ana", {"agent": "7", "login": "ana", "reads": "own", "role": "agent"}), ("sup", {"login": "sup", "role": "supervisor"}), ("Jürgen", {"login": "Jürgen", "role": "supervisor"}),
                               ("cleo", {"agent": "7", "groups": ["100", "110"], "login": "cleo", "reads": "own", "role": "agent", "stations": ["201", "202"]}),
                               ("lea", {"groups": ["100", "110"], "login": "lea", "reads": "none", "role": "lead"}), ("Copy.2", {"login": "Copy.2", "reads": "none", "role": "follow"})):
             status, text = self.ask(login, None, "GET", "/who")
             self.assertEqual((status, json.loads(text)), (200, wanted))
+        for login in ("nobody", ""):
+            self.assertEqual(self.ask(login, None, "GET", "/who"), FORBIDDEN)
 
     def test_other_requests(self):
         self.assertEqual(self.ask("pbx", None, "GET", "/csta")[0], 404)
@@ -394,11 +281,38 @@ class LeadTest(unittest.TestCase):
 
     def test_rates(self):
         now = [0.0]
-        rates = gate.Rates(lambda: now[0])
-        self.assertEqual(sum(rates.takes("ana", gate.READS) for _ in range(2 * gate.AT_ONCE)), gate.AT_ONCE)
-        self.assertTrue(rates.takes("ben", gate.READS))
+        rates, role = gate.Rates(lambda: now[0]), gate.Role("supervisor")
+
+        def taken(login, tries, path="/events?after=1"):
+            return sum(rates.takes_request(login, role, path) for _ in range(tries))
+
+        self.assertEqual(taken("ana", 20_000), 10_000)
+        self.assertEqual(taken("ben", 1), 1)
         now[0] += 1
-        self.assertEqual(sum(rates.takes("ana", gate.READS) for _ in range(2 * gate.AT_ONCE)), gate.EACH_SECOND[None])
+        self.assertEqual(taken("ana", 2000), 500)
+        for path in ("/snapshot", "/snapshot?x", "/history?after=1", "/calls/7", "/calls"):
+            now[0] += 1
+            self.assertEqual((path, taken("ana", 100, path), taken("ana", 1)), (path, 25, 0))
+        for path in ("/callsx", "/agents/7", "/events", "/board/snapshot"):
+            now[0] += 1
+            self.assertEqual((path, taken("ana", 600, path)), (path, 500))
+        self.assertEqual(sum(rates.takes_request("pbx", gate.Role("exchange"), "/snapshot") for _ in range(600)), 500)
+        now[0] += 1
+        self.assertEqual(sum(rates.takes_request("pbx", gate.Role("exchange"), "/snapshot") for _ in range(600)), 50)
+
+    def test_rates_of_log_ins(self):
+        now = [0.0]
+        rates = gate.Rates(lambda: now[0])
+        self.assertEqual(sum(rates.takes_log_in("ana", b"192.0.2.1") for _ in range(100)), 20)
+        now[0] += 30
+        self.assertEqual(sum(rates.takes_log_in("ana", b"192.0.2.2") for _ in range(100)), 10)
+        self.assertEqual(sum(rates.takes_log_in(f"a{number}", b"192.0.2.3") for number in range(2000)), 1000)
+        now[0] += 1
+        self.assertEqual(sum(rates.takes_log_in(f"b{number}", b"192.0.2.3") for number in range(2000)), 20)
+        with mock.patch.object(gate, "MOST_RATES", 50):
+            for number in range(200):
+                rates.takes(number, 1, 1)
+            self.assertEqual(len(rates.left), 50)
 
 
 class FollowTest(unittest.TestCase):
@@ -492,259 +406,6 @@ class FollowTest(unittest.TestCase):
         self.assertTrue(asked.is_live())
         asked.heard -= following.AWAY
         self.assertFalse(asked.is_live())
-
-
-class SessionTest(unittest.TestCase):
-    def setUp(self):
-        self.file, self.hashes, self.now = Path(self.enterContext(tempfile.TemporaryDirectory())) / "sessions", {"ana": "hash", "ben": "other"}, 1e9
-        self.sessions = self.opened()
-
-    def opened(self):
-        return sessions.Sessions(self.file, types.SimpleNamespace(now=lambda: self.hashes), lambda: self.now)
-
-    def test_begin_and_end(self):
-        first, second = self.sessions.begin("ana"), self.sessions.begin("ana")
-        self.assertNotEqual(first, second)
-        self.assertEqual(self.sessions.of(first).login, "ana")
-        self.assertEqual([self.opened().of(token).login for token in (first, second)], ["ana", "ana"])
-        self.assertNotIn(first, self.file.read_text())
-        self.sessions.end(first)
-        self.assertEqual([self.opened().of(token) is None for token in (first, second)], [True, False])
-        for odd in (None, "", "x", first, sessions.digest(second)):
-            self.assertIsNone(self.sessions.of(odd), odd)
-
-    def test_times(self):
-        token, hour = self.sessions.begin("ana"), 3600
-        for moved, good in ((12 * hour - 1, True), (1, False)):
-            self.now += moved
-            self.assertEqual(self.sessions.of(token) is not None, good)
-        token = self.sessions.begin("ana")
-        for number in range(23):
-            self.now += hour
-            self.assertIsNotNone(self.sessions.use(token), number)
-        self.now += hour - 1
-        self.assertIsNotNone(self.opened().of(token))
-        self.now += 1
-        self.assertIsNone(self.sessions.use(token))
-
-    def test_another_password(self):
-        token = self.sessions.begin("ana")
-        self.hashes["ana"] = "new"
-        self.assertIsNone(self.sessions.of(token))
-        del self.hashes["ana"]
-        self.assertIsNone(self.sessions.of(token))
-
-    def test_cookies(self):
-        token = "a" * 43
-        for field, wanted in (("", None), ("a=b", None), (f"__Host-acd={token}", token), (f"x=1; __Host-acd={token}; y=2", token), (f"__Host-acd={token};__Host-acd={token}", ""), ("__Host-acd=", ""),
-                              (f"__Host-acd={token}a", ""), (f"__Host-acd ={token}", None), (f'__Host-acd="{token}"', ""), (f"acd={token}", None)):
-            self.assertEqual(sessions.cookie_of(field), wanted, field)
-
-    def test_many_and_no_file(self):
-        with mock.patch.object(sessions, "MOST", 3), mock.patch.object(self.sessions, "keep"):
-            other, tokens = self.sessions.begin("ben"), []
-            for _ in range(5):
-                self.now += 1
-                tokens.append(self.sessions.begin("ana"))
-            self.assertEqual([self.sessions.of(token) is not None for token in (other, *tokens)], [True, False, False, True, True, True])
-        self.file.write_text('no session\n{"digest":"x"}\n[]\n')
-        with contextlib.redirect_stderr(io.StringIO()) as printed:
-            self.assertEqual(self.opened().found, {})
-        self.assertEqual(printed.getvalue().count("has a line that is no session"), 3)
-        self.file = Path("/proc/none/sessions")
-        with contextlib.redirect_stderr(io.StringIO()) as printed:
-            unkept = self.opened()
-            self.assertIsNotNone(unkept.of(unkept.begin("ana")))
-        self.assertIn("can't be written", printed.getvalue())
-
-
-def basic(login, password="secret"):
-    return b"Basic " + b64encode((login if isinstance(login, bytes) else login.encode()) + b":" + (password if isinstance(password, bytes) else password.encode()))
-
-
-class PasswordTest(GateTest):
-    def setUp(self):
-        super().setUp()
-        self.now = 1000.0
-        self.gate.passwords.clock = lambda: self.now
-
-    def auth(self, authorization, address="192.0.2.1", **fields):
-        """Status, login and why."""
-        named = {"X-Address": address, **({} if authorization is None else {"Authorization": authorization}), **fields}
-        status, reply_fields, _ = self.exchange("GET", "/auth", None, named)
-        return status, reply_fields.get("x-login"), reply_fields.get("x-why")
-
-    def looks(self):
-        """Counts the passwords that are looked at."""
-        looked, fits = [], self.gate.passwords.fits
-        self.gate.passwords.fits = lambda hashes, attempt: looked.append(attempt.login) or fits(hashes, attempt)
-        return looked
-
-    RIGHT, WRONG, TOO_MANY = (204, "ana", None), (401, None, None), (401, None, "429")
-
-    def test_right_and_wrong(self):
-        self.assertEqual(self.auth(basic("ana")), self.RIGHT)
-        self.assertEqual(self.auth(b"bAsIc  " + basic("ana")[6:]), self.RIGHT)
-        for login, password in (("ana", "Secret"), ("ana", ""), ("ana", SECRET), ("ben", "secret"), ("", "secret"), ("Ana", "secret"), ("ana ", "secret"), (" ana", "secret")):
-            self.assertEqual(self.auth(basic(login, password)), self.WRONG, (login, password))
-        status, reply_fields, body = self.exchange("GET", "/auth", None, {})
-        self.assertEqual((status, reply_fields["www-authenticate"], body), (401, 'Basic realm="desk", charset="UTF-8"', b'{"error":{"code":42,"name":"unauthorized"}}'))
-
-    def test_odd_fields(self):
-        right = basic("ana")[6:]
-        for odd in (b"", b"Basic", b"Basic ", b"Bearer " + right, b"Basic " + right[:-2], b"Basic =" + right, b"Basic " + right + b"====", b"Basic " + right.replace(b"Y", b"\xff"), b"Basic a b",
-                    b"Basic " + b64encode(b"ana"), b"Basic " + right + b",Basic " + right, b"Digest username=ana", b"Basic\t" + right):
-            for _ in range(12):
-                self.assertEqual(self.auth(odd), self.WRONG, odd)
-        self.assertEqual(self.auth(basic("ana")), self.RIGHT)  # none of these was a wrong password
-
-    def test_odd_names_and_passwords(self):
-        odd = [("ana\0", "secret"), ("ana", "secret\0"), ("ana", "secret:"), ("ana", b"\xff\xfe"), (b"\xff", "secret"), (b"J\xfcrgen", "secret"), ("ana\r\nX-Login: pbx", "secret"), ("a" * 40000, "secret"),
-               ("ana", "s" * 40000)]
-        for login, password in odd:
-            self.assertEqual(self.auth(basic(login, password), address="odd"), self.WRONG, (login[:9], password[:9]))
-        self.assertEqual(self.auth(basic("ana", "s" * 100_000), address="odd")[0], 431)
-        self.assertEqual(self.auth(basic("Jürgen")), (204, "Jürgen".encode().decode("latin-1"), None))
-        self.users.write_text(f"ana:{SECRET}\nJ\ufffdrgen:{SECRET}\n x:{SECRET}\n:{SECRET}\n")
-        with contextlib.redirect_stderr(io.StringIO()):
-            for login in (b"J\xfcrgen", "J\ufffdrgen", " x", "x", ""):
-                self.assertEqual(self.auth(basic(login), address="odd"), self.WRONG)
-
-    def test_ten_wrong_ones(self):
-        looked = self.looks()
-        for number in range(10):
-            self.assertEqual(self.auth(basic("ana", f"guess{number}")), self.WRONG)
-        for password in ("guess", "secret"):  # the right one too
-            self.assertEqual(self.auth(basic("ana", password)), self.TOO_MANY)
-        self.assertEqual(len(looked), 10)
-        self.assertEqual(self.auth(basic("ana"), address="192.0.2.2"), self.RIGHT)
-        self.assertEqual(self.auth(basic("pbx")), (204, "pbx", None))
-        self.now += 59.9
-        self.assertEqual(self.auth(basic("ana")), self.TOO_MANY)
-        self.now += 0.1
-        self.assertEqual(self.auth(basic("ana")), self.RIGHT)
-
-    def test_wrong_ones_beside_a_remembered_one(self):
-        self.assertEqual(self.auth(basic("ana")), self.RIGHT)
-        for _ in range(10):
-            self.assertEqual(self.auth(basic("ana", "guess")), self.WRONG)
-        self.assertEqual(self.auth(basic("ana")), self.TOO_MANY)
-        self.assertEqual(self.auth(basic("ana"), address="192.0.2.2"), self.RIGHT)
-
-    def test_unknown_names_are_counted_too(self):
-        looked = self.looks()
-        for _ in range(10):
-            self.assertEqual(self.auth(basic("eve", "guess")), self.WRONG)
-        self.assertEqual((self.auth(basic("eve", "guess")), len(looked)), (self.TOO_MANY, 10))
-
-    def test_address_and_login_are_distinguished(self):
-        for _ in range(10):
-            self.auth(basic("1ana", "guess"), address="192.0.2.")
-        self.assertEqual(self.auth(basic("ana"), address="192.0.2.1"), self.RIGHT)
-
-    def test_a_hundred_guesses_at_once(self):
-        looked, answers, fits = self.looks(), [], self.gate.passwords.fits
-        self.gate.passwords.fits = lambda hashes, attempt: time.sleep(0.02) or fits(hashes, attempt)
-        guesses = [threading.Thread(target=lambda number=number: answers.append(self.auth(basic("ana", f"guess{number}")))) for number in range(100)]
-        for guess in guesses:
-            guess.start()
-        for guess in guesses:
-            guess.join()
-        self.assertEqual((len(looked), answers.count(self.WRONG), answers.count(self.TOO_MANY)), (10, 10, 90))
-
-    def test_a_right_one_is_remembered_for_a_minute(self):
-        looked = self.looks()
-        for _ in range(20):
-            self.assertEqual(self.auth(basic("ana")), self.RIGHT)
-        self.assertEqual(looked, [b"ana"])
-        self.now += 29
-        self.auth(basic("ana"))
-        self.assertEqual(looked, [b"ana"])
-        self.now += 31
-        self.auth(basic("ana"))
-        self.assertEqual(looked, [b"ana"] * 2)
-        self.assertNotIn("secret", repr(vars(self.gate.passwords)))
-        self.assertNotEqual(*(gate.Passwords(self.gate.users).digest(b"given", b"ana:secret") for _ in range(2)))
-
-    def test_a_changed_password_counts_at_once(self):
-        self.assertEqual(self.auth(basic("ana")), self.RIGHT)
-        subprocess.run(["htpasswd", "-i", "-B", self.users, "ana"], input=b"other", stderr=subprocess.DEVNULL, check=True)
-        self.assertEqual((self.auth(basic("ana")), self.auth(basic("ana", "other"))), (self.WRONG, self.RIGHT))
-        subprocess.run(["htpasswd", "-D", self.users, "ana"], stderr=subprocess.DEVNULL, check=True)
-        self.assertEqual(self.auth(basic("ana", "other")), self.WRONG)
-
-    def test_a_users_file_that_disappears(self):
-        self.assertEqual(self.auth(basic("ana")), self.RIGHT)
-        with contextlib.redirect_stderr(io.StringIO()) as printed:
-            self.users.unlink()
-            self.assertEqual([self.auth(basic("ana")) for _ in range(3)], [self.WRONG] * 3)
-            self.users.write_text(USERS)
-            self.assertEqual(self.auth(basic("ana")), self.RIGHT)
-        self.assertEqual(printed.getvalue(), f"acd-gate: {self.users} can't be read: No such file or directory\n")
-
-    def test_forms(self):
-        for option in ("-B", "-m", "-s", "-2", "-5"):
-            subprocess.run(["htpasswd", "-i", "-c", option, self.users, "ana"], input="sésame öffne dich".encode(), stderr=subprocess.DEVNULL, check=True)
-            self.assertEqual((self.auth(basic("ana", "sésame öffne dich")), self.auth(basic("ana", "sésame öffne"))), (self.RIGHT, self.WRONG), option)
-        # of bcrypt the first 72 bytes count
-        subprocess.run(["htpasswd", "-i", "-c", "-B", self.users, "ana"], input=b"x" * 72, stderr=subprocess.DEVNULL, check=True)
-        self.assertEqual((self.auth(basic("ana", "x" * 71)), self.auth(basic("ana", "x" * 73))), (self.WRONG, self.RIGHT))
-
-    def test_faulty_users(self):
-        for line in ("ana", "ana:", "ana:secret", "ana:{PLAIN}secret", "ana:*", "ana:!", f"an\x01a:{SECRET}", f"a b:{SECRET}", f":{SECRET}", SECRET):
-            with contextlib.redirect_stderr(io.StringIO()) as printed:
-                self.assertEqual(gate.hashes_of("users", [f"ben:{SECRET}", line]), {"ben": SECRET}, line)
-            self.assertRegex(printed.getvalue(), r"\Aacd-gate: users, line 2: .*\n\Z")
-            self.assertNotIn("secret", printed.getvalue())
-        with contextlib.redirect_stderr(io.StringIO()):
-            self.users.write_text("ana:$2y$05$cut off\n")
-            self.assertEqual([self.auth(basic("ana", password)) for password in ("secret", "", "$2y$05$cut off")], [self.WRONG] * 3)
-
-    def test_a_line_that_does_not_parse_reads_neither(self):
-        with contextlib.redirect_stderr(io.StringIO()) as printed:
-            self.roles.write_text(ROLES.replace("ana agent 7 ", "ana agnet 7 "))
-            self.assertEqual((self.auth(basic("ana")), self.auth(basic("ana", "wrong"))), ((403, None, None), self.WRONG))
-            self.assertEqual(self.ask("ana", None, "GET", "/who"), FORBIDDEN)
-            self.assertFalse(self.passes("ana", {"requester": "ana", "service": "setAgentState", "agent": "7"}))
-            self.assertEqual((self.auth(basic("pbx")), self.auth(basic("nobody"))), ((204, "pbx", None), (204, "nobody", None)))
-        self.assertEqual(printed.getvalue().count(f"{self.roles}, line 5: ana gets nothing"), 1)
-
-    def test_forged_fields(self):
-        self.assertEqual(self.auth(basic("ana"), **{"X-Login": "pbx", "X-Why": "429"}), self.RIGHT)
-        self.assertEqual(self.auth(None, **{"X-Login": "pbx"}), self.WRONG)
-
-    def test_an_unknown_name_takes_as_long(self):
-        subprocess.run(["htpasswd", "-i", "-c", "-B", "-C", "8", self.users, "ana"], input=b"secret", stderr=subprocess.DEVNULL, check=True)
-        self.auth(basic("ana", "guess"))
-
-        def seconds(login):
-            start = time.thread_time()
-            self.gate.passwords.fits(self.gate.users.now(), gate.Attempt(login, b"guess", b"", b""))
-            return time.thread_time() - start
-
-        known, unknown = (min(seconds(login) for _ in range(5)) for login in (b"ana", b"eve"))
-        self.assertLess(abs(known - unknown), 0.5 * known)
-
-    def test_what_is_counted_is_bounded(self):
-        before, gate.MOST_PAIRS = gate.MOST_PAIRS, 50
-        self.addCleanup(setattr, gate, "MOST_PAIRS", before)
-        passwords = self.gate.passwords
-        for number in range(200):
-            self.assertEqual(passwords.judge(b"192.0.2.1", b"x%d" % number * 1000, b"guess"), gate.WRONG)
-        self.assertEqual(len(passwords.wrong), 50)
-        self.assertLess(max(map(len, passwords.wrong)), 65)
-        self.now += 61
-        for number in range(40):
-            passwords.judge(b"192.0.2.1", b"y%d" % number, b"guess")
-        self.assertEqual(len(passwords.wrong), 50)  # each new one in place of an old one
-
-    def test_a_connection_stays(self):
-        ports = set()
-        with Connection(self.gate.server_port, seconds=5) as one:
-            for authorization, wanted in ((basic("ana"), 204), (basic("ana", "x"), 401), (b"", 401), (basic("pbx"), 204)):
-                self.assertEqual(one.ask("GET", "/auth", fields=[("Authorization", authorization), ("X-Address", "192.0.2.1")]).status, wanted)
-                ports.add(one.connection.sock.getsockname())
-        self.assertEqual(len(ports), 1)
 
 
 if __name__ == "__main__":

@@ -1,10 +1,10 @@
 // The page of log-in: it leads on to the page that was wanted, at once in a session.
 import {byId, put, set} from '../draw.js';
-import {ask, base} from '../net.js';
+import {ask, base, pause, sleep} from '../net.js';
 import {translate, word} from '../words.js';
 
 /** @type {Record<number, string>} */
-const WORDS = {401: 'wrong', 403: 'nothing', 429: 'wait'}, PATIENCE = 60000;
+const WORDS = {401: 'wrong', 403: 'nothing', 429: 'wait'}, PATIENCE = 60000, GIVES_UP = 120000;
 const query = location.search, wanted = query.startsWith('?next=') ? query.slice('?next='.length) : '/board/', next = (/^\/board\/[^\\]*$/.test(wanted) ? wanted : '/board/') + location.hash;
 
 const show = (key = '') => put('told', key && word(`login.${key}`));
@@ -17,15 +17,26 @@ document.title = word('login.title');
 if (['?wrong', '?wait'].includes(query)) show(query.slice(1));
 else ask('/session').then(({status, text}) => { if (status === 200) goOn(text); }).catch(() => {});
 
+// Where many log in at once the gate has no room for all: the page sends again, later each time, what was in the form when the button was pressed.
+/** @param {URLSearchParams} body */
+async function logInAgain(body) {
+  for (let begun = Date.now(), losses = 0; ; losses++) {
+    const reply = await ask('/login', {method: 'POST', headers: {accept: 'application/json'}, body}, PATIENCE);
+    if (reply.status !== 429 || Date.now() - begun > GIVES_UP) return reply;
+    show('again');
+    await sleep(pause(losses));
+  }
+}
+
 /** @param {any} event */
 async function logIn(event) {
   event.preventDefault();
   set('log-in-button', {disabled: true});
   show();
   try {
-    const {status, text} = await ask('/login', {method: 'POST', headers: {accept: 'application/json'}, body: new URLSearchParams(/** @type {any} */ (new FormData(byId('log-in'))))}, PATIENCE);
+    const {status, text} = await logInAgain(new URLSearchParams(/** @type {any} */ (new FormData(byId('log-in')))));
     if (status === 200) goOn(text); else show(WORDS[status] ?? 'fault');
-  } catch { show('away'); }
+  } catch { show('fault'); }
   set('log-in-button', {disabled: false});
 }
 set('log-in', {onsubmit: logIn});

@@ -115,6 +115,7 @@ export default {
   },
   login: {
     title: 'Anmelden', name: 'Name', password: 'Passwort', wrong: 'Name oder Passwort ist falsch.', nothing: 'Dieser Name darf hier nichts: frag das Büro.',
-    wait: 'Zu viele falsche Passwörter: warte eine Minute.', fault: 'Der Server kann nicht gefragt werden: versuch es noch einmal.',
+    again: 'Viele melden sich gerade an: Die Seite versucht es von selbst wieder, zwei Minuten lang.',
+    wait: 'Zu viele falsche Passwörter oder zu viele Anmeldungen: warte eine Minute.', fault: 'Der Server kann nicht gefragt werden: versuch es noch einmal.',
   },
 };

@@ -1,5 +1,6 @@
 // A desk over a file in a folder, fed by lines and served; with a gate and nginx before it where a browser is to see it.
 import {execFileSync, spawn, spawnSync} from 'node:child_process';
+import {randomBytes} from 'node:crypto';
 import {existsSync} from 'node:fs';
 import {cp, mkdir, readFile, rm, writeFile} from 'node:fs/promises';
 import {join} from 'node:path';
@@ -92,6 +93,7 @@ export class Front {
     await cp(join(TOP, 'board'), join(file, 'share/board'), {recursive: true});
     execFileSync('openssl', ['req', '-x509', '-newkey', 'rsa:2048', '-nodes', '-subj', '/CN=desk', '-days', '2', '-keyout', `${file}/desk.key`, '-out', `${file}/desk.crt`], {stdio: 'ignore'});
     await writeFile(`${file}/roles`, roles.map(([login, ...role]) => `${login} ${role.join(' ')}\n`).join(''));
+    await writeFile(`${file}/nginx-secret.conf`, `map "" $acd_session_secret { default "${randomBytes(32).toString('hex')}"; }\n`);
     await writeFile(`${file}/users`, roles.map(([login]) => `${login}:{SHA}5en6G6MezRroT3XKqkdPOmY/BfQ=\n`).join(''));
     const places = {8080: desk.port, 8081: gate, 8443: `127.0.0.1:${site}`, '/etc/acd': file, '/usr/share/acd': `${file}/share`};
     const conf = (await readFile(join(TOP, 'tools/operating/nginx.conf'), 'utf8')).replace(new RegExp(Object.keys(places).join('|'), 'g'), named => places[named]);
@@ -99,7 +101,7 @@ export class Front {
 http { include /etc/nginx/mime.types; access_log off; ${['client_body', 'proxy', 'fastcgi', 'uwsgi', 'scgi'].map(kind => `${kind}_temp_path ${file};`).join(' ')} ${conf} }\n`);
     const told = [];
     Object.assign(front, {file, gate, address: `https://127.0.0.1:${site}`, children: [
-      spawn('/usr/bin/python3', ['-B', join(TOP, 'board/gate/acd-gate'), '--port', gate, '--desk', desk.port, '--roles', `${file}/roles`, '--users', `${file}/users`].map(String), {stdio: ['ignore', 'ignore', 'inherit']}),
+      spawn('/usr/bin/python3', ['-B', join(TOP, 'board/gate/acd-gate'), '--port', gate, '--desk', desk.port, '--roles', `${file}/roles`, '--users', `${file}/users`, '--secret', `${file}/nginx-secret.conf`].map(String), {stdio: ['ignore', 'ignore', 'inherit']}),
       spawn('nginx', ['-c', `${file}/nginx.conf`], {stdio: ['ignore', 'ignore', 'pipe']}),
     ]});
     front.children[1].stderr.on('data', part => told.push(part));

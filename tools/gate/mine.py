@@ -8,7 +8,7 @@ import urllib.parse
 from place import Place, plan_of
 
 READS = ("/snapshot", "/history?after=0", "/events?after=0", "/agents/7", "/calls/1", "/devices/100", "/devices/201", "/queues/100", "/reports/queues", "/monitors/1/events")
-ALL = {"cleo", "sup", "lea", "planner", "pbx", "nobody"}
+ALL = {"cleo", "sup", "lea", "planner", "pbx"}
 FILES = {"records/2026-11-27.csv": "number,caller,groups\n1,0301,100\n2,0302,110 100\n3,0303,110\n4,\"0304\nx\",\n5,100,1000\n", "groups/2026-11-27.csv": "quarter,group,entered\n08:00,100,3\n08:00,110,1\n",
          "groups/2026-11-26.csv": "\ufeffgroup,entered\n'0100,3\n100,4\n", "agents/2026-11-26.csv": "agent,groups\n7,'0100 100\n8,'0100\n9,'100 110\n",
          "agents/2026-11-27.csv": "day,agent\n2026-11-27,7\n", "records/notes.csv": "x\n"}
@@ -35,9 +35,9 @@ class Reads(Readers):
                 else:
                     self.expect(f"{login} doesn't read {path}", found, (403, b'{"error":{"code":41,"name":"forbidden"}}'))
             own, other = self.ask("GET", "/mine", login=login).status, self.ask("GET", "/mine?agent=8", login=login).status
-            wanted = {"ana": (200, 403), "ben": (200, 200), "cleo": (200, 200), "dora": (403, 403), "none": (403, 403), "odd": (403, 403), "copy": (403, 403)}.get(login, (403, 200))
+            wanted = {"ana": (200, 403), "ben": (200, 200), "cleo": (200, 200), "dora": (403, 403), "none": (403, 403), "odd": (403, 403), "nobody": (403, 403), "copy": (403, 403)}.get(login, (403, 200))
             self.expect(f"{login} at /mine, and that of 8", (own, other), wanted)
-            self.expect(f"{login} is told who it is", self.ask("GET", "/who", login=login).status, 403 if login == "odd" else 200)
+            self.expect(f"{login} is told who it is", self.ask("GET", "/who", login=login).status, 403 if login in ("odd", "nobody") else 200)
             self.expect(f"{login} posts on a read", self.ask("POST", "/snapshot", "", login=login).status in (403, 405), True)
 
     def try_records(self):
@@ -54,6 +54,34 @@ class Reads(Readers):
         self.expect("the days", self.ask("GET", "/records/", login="lea").value, {"agents": ["2026-11-26", "2026-11-27"], "groups": ["2026-11-26", "2026-11-27"], "records": ["2026-11-27"]})
         for name in ("records/2026-11-28.csv", "records/../roles", "../roles", "records/%2e%2e/%2e%2e/roles", "records", "roles/2026-11-27.csv", "records/2026-11-27.csv/", "records/\u0662026-11-27.csv"):
             self.expect(f"no file {name!r}", self.ask("GET", f"/records/{urllib.parse.quote(name, safe='/%.')}", login="planner").status, 404)
+
+    def try_heavy_reads(self):
+        """Four of a login at a time go to the desk, here one that is halted; a fifth is 429 at once. Others, and light reads, wait as ever."""
+        heavy, answers = ("/snapshot", "/history?after=0", "/calls/1"), []
+
+        def ask(login, path):
+            answers.append((login, path, self.ask("GET", path, login=login).status))
+
+        self.desk.process.send_signal(signal.SIGSTOP)
+        try:
+            asked = [threading.Thread(target=ask, args=("sup", heavy[number % 3])) for number in range(4)]
+            for one in asked:
+                one.start()
+            time.sleep(1)
+            for path in heavy:
+                self.expect(f"a fifth, {path}", self.ask("GET", path, login="sup").status, 429)
+            self.expect("four wait", answers, [])
+            asked += [threading.Thread(target=ask, args=each) for each in [("lea", "/snapshot"), ("sup", "/events?after=0"), ("sup", "/queues/100")]]
+            for one in asked[4:]:
+                one.start()
+            time.sleep(1)
+            self.expect("so do others", answers, [])
+        finally:
+            self.desk.process.send_signal(signal.SIGCONT)
+        for one in asked:
+            one.join()
+        self.expect("all of them are answered", sorted(status for _, _, status in answers), [200] * 7)
+        self.expect("the next one too", [self.ask("GET", "/snapshot", login="sup").status for _ in range(3)], [200] * 3)
 
     def try_queries(self):
         for query in ("after=x", "after=-1", "names=x", "hold=x", "hold=-1", "agent=x", "after=" + "1" * 16, "agent=1234567890"):

@@ -1,10 +1,12 @@
 """A desk, a gate and nginx before it, by the configuration of tools/operating, on ports and in a folder of their own."""
+import hashlib
 import json
 import os
 import re
+import secrets
 import subprocess
 import urllib.parse
-from base64 import b64encode
+from base64 import b64encode, urlsafe_b64encode
 
 from trial import ANY, TOP, Connection, Desk, Plan, Requests, Trial, compact, free_ports, lines, running, until
 
@@ -24,7 +26,9 @@ def plan_of(stations=("201", "202", "203", "204"), agents=("7", "8", "9")):
 class Place(Trial):
     """A class says of which plan it is, and the role of each login; all have the same password."""
 
-    PLAN, ROLES, missed = plan_of(), {}, 0
+    PLAN, ROLES, missed, secret = plan_of(), {}, 0, secrets.token_hex(32)
+    # of nginx: its workers, and the kind of its key
+    WORKERS, KEY = 1, ("rsa:2048",)
 
     @classmethod
     def setUpClass(cls):
@@ -34,7 +38,8 @@ class Place(Trial):
         planned = cls.acd("lines", "--file", cls.folder / "desk.db", given=lines(cls.planned())).output
         cls.see("the plan is taken", all(line.startswith("200 ") for line in planned.splitlines()), planned[:300])
         (cls.folder / "roles").write_text("".join(f"{login} {role}\n" for login, role in cls.ROLES.items() if role))
-        (cls.folder / "users").write_text("".join(f"{login}:{SECRET}\n" for login in cls.ROLES))
+        cls.write_users()
+        (cls.folder / "nginx-secret.conf").write_text(f'map "" $acd_session_secret {{ default "{cls.secret}"; }}\n')
         cls.start_desk()
         cls.start_gate()
         cls.start_nginx()
@@ -44,13 +49,17 @@ class Place(Trial):
         return cls.requests.plan(cls.PLAN)
 
     @classmethod
+    def write_users(cls):
+        (cls.folder / "users").write_text("".join(f"{login}:{SECRET}\n" for login in cls.ROLES))
+
+    @classmethod
     def start_desk(cls):
         cls.desk = cls.enterClassContext(Desk(cls.program, cls.folder / "desk.db", port=cls.desk_port))
 
     @classmethod
     def start_gate(cls):
         words = ["/usr/bin/python3", "-B", TOP / "board/gate/acd-gate", "--port", cls.gate_port, "--desk", cls.desk_port, "--roles", cls.folder / "roles",
-                 "--users", cls.folder / "users", "--sessions", cls.folder / "sessions", "--records", cls.folder / "records"]
+                 "--users", cls.folder / "users", "--sessions", cls.folder / "sessions", "--records", cls.folder / "records", "--secret", cls.folder / "nginx-secret.conf"]
         with (cls.folder / "gate-errors").open("a") as errors:
             cls.gate = cls.enterClassContext(running(*words, port=cls.gate_port, stderr=errors))
 
@@ -62,15 +71,15 @@ class Place(Trial):
     @classmethod
     def start_nginx(cls):
         here = cls.folder
-        subprocess.run(["openssl", "req", "-x509", "-newkey", "rsa:2048", "-nodes", "-subj", "/CN=desk", "-addext", "subjectAltName=IP:127.0.0.1", "-days", "2",
+        subprocess.run(["openssl", "req", "-x509", "-newkey", *cls.KEY, "-nodes", "-subj", "/CN=desk", "-addext", "subjectAltName=IP:127.0.0.1", "-days", "2",
                         "-keyout", here / "desk.key", "-out", here / "desk.crt"], stderr=subprocess.DEVNULL, check=True)
         (here / "share").mkdir()
         (here / "share/board").symlink_to(TOP / "board")
         places = {"8080": cls.desk_port, "8081": cls.gate_port, "8443": f"127.0.0.1:{cls.port}", "/etc/acd": here, "/usr/share/acd": here / "share"}
         text = re.sub("|".join(places), lambda named: str(places[named[0]]), (TOP / "tools/operating/nginx.conf").read_text())
         temporary = " ".join(f"{kind}_temp_path {here};" for kind in ("client_body", "proxy", "fastcgi", "uwsgi", "scgi"))
-        (here / "nginx.conf").write_text(f"daemon off; user root; pid {here}/pid; error_log {here}/errors; worker_processes 1; worker_rlimit_nofile 16384;\n"
-                                         f"events {{ worker_connections 8192; }}\nhttp {{ include /etc/nginx/mime.types; access_log off; {temporary} {text} }}\n")
+        (here / "nginx.conf").write_text(f"daemon off; user root; pid {here}/pid; error_log {here}/errors; worker_processes {cls.WORKERS}; worker_rlimit_nofile 32768;\n"
+                                         f"events {{ worker_connections 16384; }}\nhttp {{ include /etc/nginx/mime.types; access_log off; {temporary} {text} }}\n")
         cls.enterClassContext(running("nginx", "-c", here / "nginx.conf", stderr=subprocess.DEVNULL))
         if not until(lambda: cls.ask("GET", "/who").status == 401, 20):
             raise RuntimeError("nginx doesn't answer within 20 s")
@@ -118,6 +127,11 @@ class Place(Trial):
         """By the login's own key, through nginx and the gate: status and what is told."""
         reply = cls.ask("POST", "/csta", json.dumps(cls.requests(service, login, **members)), login)
         return reply.status, reply.value
+
+
+def signed(drawn):
+    """A cookie that bears the gate's signature, which vouches for no session."""
+    return f"{drawn}." + urlsafe_b64encode(hashlib.md5((Place.secret + drawn).encode()).digest()).decode().rstrip("=")
 
 
 def token_of(fields):

@@ -2,8 +2,12 @@
 import hashlib
 import json
 import time
+from base64 import b64encode
 
-from place import CLICK, ELSEWHERE, PAGE, Place, token_of
+from place import CLICK, ELSEWHERE, PAGE, Place, signed, token_of
+from trial import Connection
+
+UNAUTHORIZED = b'{"error":{"code":42,"name":"unauthorized"}}'
 
 
 class Sessions(Place):
@@ -37,7 +41,7 @@ class Sessions(Place):
 
     def try_fixation(self):
         """Nobody's cookie becomes a session by a log-in with it, and a log-in ends the session that came with it."""
-        chosen = "A" * 43
+        chosen = signed("A" * 43)
         first = token_of(self.log_in("ana", cookie=chosen)[1])
         self.see("a chosen cookie isn't taken", first != chosen and self.ask("GET", "/who", cookie=chosen).status == 401)
         second = token_of(self.log_in("sup", cookie=first)[1])
@@ -46,6 +50,36 @@ class Sessions(Place):
             self.expect(f"no session: {odd[:30]}", self.ask("GET", "/who", cookie=odd, login="sup").status, 401)
         for other in (f"acd={second}", f"__host-acd={second}", f"x__Host-acd={second}"):
             self.expect(f"another cookie is nobody: {other[:12]}", self.ask("GET", "/who", cookie=other).status, 401)
+
+    def try_strangers(self):
+        """nginx itself refuses who can't be anybody, as the gate does: also while there is none, which all others notice."""
+        token = token_of(self.log_in("sup")[1])
+        wrong = f"{token[:-1]}{'A' if token[-1] != 'A' else 'Q'}"
+        strangers = [{}, *({"cookie": odd} for odd in ("A" * 43, wrong, token.partition(".")[0], signed("A" * 43).swapcase(), f"{token}x", "__Host-acd=", "__Host-acd", "a=b", f"b=c; __Host-acd={wrong}; d=e")),
+                     *({"Authorization": odd} for odd in ("Basic", "Bearer c3VwOnNlY3JldA==", "x")), {"cookie": wrong, "login": "sup"}]
+        self.stop_gate()
+        for stranger in strangers:
+            told = [self.ask("GET", "/snapshot", **stranger, **how) for how in ({}, PAGE)]
+            self.expect(f"a stranger: {stranger}", [(reply.status, reply.body, reply.fields.get("www-authenticate")) for reply in told],
+                        [(401, UNAUTHORIZED, 'Basic realm="desk", charset="UTF-8"'), (401, UNAUTHORIZED, None)])
+            to_page = self.ask("GET", "/board/?since=0", **stranger, **CLICK)
+            self.expect("a browser's page of one", (to_page.status, to_page.fields["location"].partition("/board/")[2], to_page.fields.get("www-authenticate")), (302, "login/?next=/board/?since=0", None))
+            self.expect("a click elsewhere", self.ask("GET", "/snapshot", **stranger, **CLICK).status, 401)
+            self.see("a screen", self.ask("GET", "/basic?/board/", **stranger, **CLICK).fields.get("www-authenticate", "").startswith("Basic "))
+            gone = self.ask("POST", "/logout", **stranger)
+            self.expect("log-off", (gone.status, gone.fields.get("set-cookie")), (204, "__Host-acd=; Path=/; Max-Age=0; HttpOnly; Secure; SameSite=Strict"))
+        for other in ({"cookie": token}, {"cookie": f"a=b; __Host-acd={token}; c=d"}, {"cookie": signed("A" * 43)}, {"login": "sup"}, {"login": "nobody"}):
+            self.expect(f"the gate judges {other}", self.ask("GET", "/snapshot", **other).status, 502)
+        self.start_gate()
+        self.expect("the gate's own", [self.ask("GET", "/snapshot", **other).status for other in ({"cookie": token}, {"login": "sup"}, {"cookie": signed("A" * 43)}, {"login": "nobody"})], [200, 200, 401, 401])
+        self.expect("a file that everybody may load has no question", self.ask("GET", "/board/login/").fields.get("www-authenticate"), None)
+
+    def try_an_older_nginx(self):
+        """One that checks no signature goes on, and is told in the gate's journal, once."""
+        self.expect("this one isn't told", "X-Signed" in (self.folder / "gate-errors").read_text(), False)
+        with Connection(self.gate_port) as connection:
+            told = [connection.ask("GET", "/auth/any", fields=[("X-Address", "192.0.2.1"), ("Authorization", f"Basic {b64encode(b'sup:secret').decode()}")]).status for _ in range(3)]
+        self.expect("another's question", (told, (self.folder / "gate-errors").read_text().count("X-Signed")), ([204] * 3, 1))
 
     def try_other_sites(self):
         token = token_of(self.log_in("pbx")[1])
@@ -65,7 +99,7 @@ class Sessions(Place):
         bound, hour = hashlib.sha256(f"sup:{line}".encode()).hexdigest(), 3600
         cases = {"fresh": (0, 0, 200), "eleven hours unused": (11 * hour, 11 * hour, 200), "twelve hours unused": (12 * hour + 5, 12 * hour + 5, 401), "23 hours, used": (23 * hour, 60, 200),
                  "24 hours, used": (24 * hour + 5, 0, 401), "begun tomorrow": (-24 * hour, -24 * hour, 401)}
-        tokens = {what: (chr(ord("a") + number) * 43) for number, what in enumerate(cases)}
+        tokens = {what: signed(chr(ord("a") + number) * 43) for number, what in enumerate(cases)}
         for what, (begun, used, _) in cases.items():
             lines.append(json.dumps({"digest": hashlib.sha256(tokens[what].encode()).hexdigest(), "login": "sup", "bound": bound, "begun": now - begun, "used": now - used}))
         file.write_text("\n".join([*lines, "no session", '{"digest":7}', ""]))
@@ -112,7 +146,7 @@ class Sessions(Place):
         for path in ("/mine", "/who", "/session", "/requests", "/events", "/auth/any", "/auth/reads"):
             self.expect(f"nobody at {path}", self.ask("GET", path).status, 404 if path.startswith("/auth") else 401)
         status, fields, _ = self.log_in("sup", next_page="/board/?since=0", **CLICK | {"Sec-Fetch-Site": "same-origin"})
-        self.expect("a form that the browser sends", (status, fields["location"].removeprefix(site), len(token_of(fields))), (303, "/board/?since=0", 43))
+        self.expect("a form that the browser sends", (status, fields["location"].removeprefix(site), len(token_of(fields))), (303, "/board/?since=0", 66))
         for odd in ("//elsewhere.example/", "https://elsewhere.example/board/", "/board\\..", "/logout", "/board/\r\nX: y"):
             self.expect(f"nobody is sent to {odd!r}", self.log_in("sup", next_page=odd, **CLICK)[1]["location"].removeprefix(site), "/board/")
         self.expect("a wrong one", self.log_in("sup", "guess", **CLICK)[1]["location"].removeprefix(site), "/board/login/?wrong")
