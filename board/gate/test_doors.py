@@ -288,7 +288,7 @@ class PasswordTest(GateTest):
             self.assertEqual(self.ask("ana", None, "GET", "/who"), FORBIDDEN)
             self.assertFalse(self.passes("ana", {"requester": "ana", "service": "setAgentState", "agent": "7"}))
             self.assertEqual(self.auth(basic("pbx")), (204, "pbx", None))
-        self.assertEqual(printed.getvalue().count(f"{self.roles}, line 5: ana gets nothing"), 1)
+        self.assertEqual(printed.getvalue().count(f"{self.roles}, line 5: ana is refused"), 1)
 
     def test_a_login_without_a_line_gets_nothing(self):
         with contextlib.redirect_stderr(io.StringIO()) as printed:
@@ -343,9 +343,10 @@ class PasswordTest(GateTest):
 
     def test_room_for_those_who_wait(self):
         """Twenty of an address, 200 in all; then the address with most gives one up, so that the first of another has room."""
+        self.gate.passwords.turns = passwords.Turns(1)
         ends, looked = self.blocked()
-        under_way = [self.meanwhile(f"first{number}", address=f"192.0.2.{100 + number}") for number in range(passwords.AT_ONCE)]
-        self.assertTrue(until(lambda: len(looked) == len(under_way), 10))
+        self.meanwhile("first", address="192.0.2.100")
+        self.assertTrue(until(lambda: looked == [b"first"], 10))
         many = [self.meanwhile(f"x{number}") for number in range(30)]
         self.waits(20)
         self.assertTrue(until(lambda: sum(answers == [self.TOO_MANY] for answers in many) == 10, 10))
@@ -358,7 +359,8 @@ class PasswordTest(GateTest):
         self.assertEqual(right, [])
         ends.release(1000)
         self.assertTrue(until(lambda: right == [self.RIGHT], 10), right)
-        self.assertLess(looked.index(b"ana") - len(under_way), 11)
+        # behind the first of each of the ten addresses
+        self.assertEqual(looked.index(b"ana"), 11)
         self.waits(0)
 
     def test_addresses_take_turns(self):

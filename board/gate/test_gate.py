@@ -76,6 +76,10 @@ class RoleTest(GateTest):
             self.assertEqual(found, {"pbx": gate.Role("exchange"), "ana": gate.NOTHING}, words)
             self.assertRegex(printed, r"\Aacd-gate: roles, line 3: ana .*\n\Z")
 
+    def test_what_a_faulty_line_is_told(self):
+        for words, wanted in (("lead groups=100;110", 'cannot read "groups=100;110" (separate groups by commas)'), ("agent 7 room=1", 'cannot read "room=1"'), ("wizard", "its role is wizard")):
+            self.assertEqual(roles(f"uwe {words}")[1], f"acd-gate: roles, line 1: uwe is refused: {wanted}\n")
+
     def test_what_a_line_reads(self):
         for words, wanted in (("supervisor", "all"), ("office reads=none", "none"), ("agent 7", "own"), ("reads=all agent 7", "all"), ("agent reads=none agent=7", "none"), ("lead groups=1", "all"),
                               ("exchange reads=all", "all"), ("follow", "none")):

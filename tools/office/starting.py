@@ -227,7 +227,7 @@ class Starting(Office):
         self.restarts("with its own start")
 
     def try_wrong_port(self):
-        for value, status, word in (("80", "64", "port 80 isn't given to the user acd"), ("abc", "2", "the port 'abc' isn't a whole number from 1 to 65535"), ("", "2", "the port '' isn't"), ("99999", "2", "the port '99999' isn't")):
+        for value, status, word in (("80", "64", "the user acd may not use port 80"), ("abc", "2", "the port 'abc' isn't a whole number from 1 to 65535"), ("", "2", "the port '' isn't"), ("99999", "2", "the port '99999' isn't")):
             self.set("ACD_PORT", value)
             self.fails(f"port '{value}'", word, status=status)
         self.set("ACD_PORT", "8080")

@@ -371,7 +371,7 @@ class Places(Kills):
                 exchanged, folders = True, {str(file.parent)}
             elif name.startswith("rename") and exchanged:
                 folders.add(str(file.parent))
-            elif name == "write" and " goes on from " in line:
+            elif name == "write" and " continues " in line:
                 self.ground.expect("the names as it is told", (exchanged, folders), (True, set()))
 
 

@@ -197,8 +197,8 @@ class Forgets:
         self.says(office, STATION, "isn't an outside caller's number")
         self.says(office, REQUESTER, "is in a requester of kept")
         self.says(office, NAMED, "is in a name of agents")
-        self.says(office, CALLERS[0], "goes on from", named=office.archives()[1:])
-        self.says(office, CALLERS[0], "goes on from", named=[])
+        self.says(office, CALLERS[0], "continues", named=office.archives()[1:])
+        self.says(office, CALLERS[0], "continues", named=[])
         for words in (("--caller", "05551"), ("--caller", "0305550123456789"), ("--caller", "x"), ("--confirm", "--caller", CALLERS[0]), ()):
             self.ground.expect(f"{words}", self.forget(office, *words)[0], 2)
         status, printed, faults = self.forget(office, "--caller", "99999999")

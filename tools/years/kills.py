@@ -104,7 +104,7 @@ class Kills:
                 # what belongs to no file any more may be lost
                 self.ground.expect("not on the disk as the file gets its name", {path for path in unsynced if not path.endswith(("-wal", "-shm", "-journal"))}, set())
                 named = "named"
-            elif name == "write" and " goes on from " in line:
+            elif name == "write" and " continues " in line:
                 synced = named
         self.ground.expect("the name as it is told", synced, "synced")
 

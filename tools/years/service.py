@@ -339,7 +339,7 @@ class Service:
         time.sleep(0.5)
         self.desk.start()
         self.ground.expect(f"beside others: {results} {self.unit.said}", results in (["done"], ["failed"]))
-        self.ground.expect(f"one at most: {others}", sum(" goes on from " in said for _, said, _ in others) + self.unit.said.count(" goes on from ") <= 1)
+        self.ground.expect(f"one at most: {others}", sum(" continues " in said for _, said, _ in others) + self.unit.said.count(" continues ") <= 1)
         self.answers("beside others", 1)
         self.unit.start()
         self.answers("alone again", 1)
