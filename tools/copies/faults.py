@@ -15,7 +15,7 @@ COPY = [
     ("at last it is as before", "seconds if is_last else None)", "None)", "try_always"),
     ("another's setting", '"ACD_HALT"', '"ACD_HALTS"', "try_limits"),
     ("what is wholly sound goes", "(is_sound(made) or not is_sound(copy))", "True", "try_again"),
-    ("what isn't wholly sound isn't noted", "    if found.verdict == acd_audit.AGAIN:\n        acd_chain.write", "    if False:\n        acd_chain.write", "try_again"),
+    ("what isn't wholly sound isn't noted", "    if found.verdict == acd_audit.AGAIN:\n        acd_put.put", "    if False:\n        acd_put.put", "try_again"),
     ("the first days stay", "sorted(by_day.items())[-days:]", "sorted(by_day.items())[:days]", "try_days"),
     ("the first copy of a day stays", "of_day[-1] for", "of_day[0] for", "try_days"),
     ("today's go", " | set(by_day.get(today(), [])[-MOST:])", "", "try_days"),
