@@ -387,6 +387,9 @@ class Service:
         print(f"{len(answered)} requests under load, the longest wait {longest[0]:.2f} s, {len(archives)} archives, carries ended {ended}", flush=True)
 
     def unit_killed(self):
+        """What the unit runs, or the first that it begins."""
+        while self.unit.begun is None:
+            time.sleep(0.001)
         with contextlib.suppress(ProcessLookupError):
             os.kill(self.unit.begun, signal.SIGKILL)
 

@@ -100,7 +100,7 @@ class Carrying:
 
     def __init__(self, desk):
         self.desk, self.unit = desk, Path(desk.settings["scripts"]) / "acd-carry.service"
-        self.said = ""
+        self.said, self.begun = "", None
 
     def lines(self):
         return [(name, line) for name in LINES for line in lines_of(self.unit, name)]
@@ -123,7 +123,7 @@ class Carrying:
 
     def start(self, wrapped=None, is_cut=False):
         """How it ended: done, passed over or failed. `wrapped` has words before the line of a number; where is_cut is set, that is the last one that is run."""
-        wrapped, self.said, ended = wrapped or {}, "", "done"
+        wrapped, self.said, self.begun, ended = wrapped or {}, "", None, "done"
         passing = {0, *(int(word) for line in lines_of(self.unit, "SuccessExitStatus") for word in line.split())}
         for number, (name, line) in enumerate(self.lines()):
             if name != "ExecStopPost" and ended != "done":
