@@ -193,6 +193,7 @@ class Ground(Programs):
         (folder / "users").write_text(f"pbx:{SECRET}\n")
         ports = {"desk_port": self.desk_port, "gate_port": self.base + 5, "port": self.base + 6}
         gate = type("Gate", (Place,), {"folder": folder, **ports})
+        gate.write_secret()
         gate.start_gate()
         gate.start_nginx()
         self.reached_by = {"EXCHANGE_DESK": f"https://pbx@127.0.0.1:{gate.port}", "EXCHANGE_PASSWORD": "secret", "EXCHANGE_CA": str(folder / "desk.crt")}

@@ -39,7 +39,7 @@ class Place(Trial):
         cls.see("the plan is taken", all(line.startswith("200 ") for line in planned.splitlines()), planned[:300])
         (cls.folder / "roles").write_text("".join(f"{login} {role}\n" for login, role in cls.ROLES.items() if role))
         cls.write_users()
-        (cls.folder / "nginx-secret.conf").write_text(f'map "" $acd_session_secret {{ default "{cls.secret}"; }}\n')
+        cls.write_secret()
         cls.start_desk()
         cls.start_gate()
         cls.start_nginx()
@@ -51,6 +51,11 @@ class Place(Trial):
     @classmethod
     def write_users(cls):
         (cls.folder / "users").write_text("".join(f"{login}:{SECRET}\n" for login in cls.ROLES))
+
+    @classmethod
+    def write_secret(cls):
+        """That of the signature of sessions, which gate and nginx read."""
+        (cls.folder / "nginx-secret.conf").write_text(f'map "" $acd_session_secret {{ default "{cls.secret}"; }}\n')
 
     @classmethod
     def start_desk(cls):
