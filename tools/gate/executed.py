@@ -86,7 +86,7 @@ class Executed(Place):
         print(f"    {told} of {self.options.pages // 2} spellings were /requests")
 
     def try_journal(self):
-        self.see("the gate's journal names the line that can't be read", "odd gets nothing" in (self.folder / "gate-errors").read_text())
+        self.see("the gate's journal names the line that can't be read", "odd is refused" in (self.folder / "gate-errors").read_text())
 
 
 def spelling(chance):
