@@ -33,7 +33,8 @@ MAY = {
     "acd-exchange.service": (NETWORK | {"write the exchange's folder"}, NETWORK | OF_ROOT - {"read the accounts"}),
     "acd-edge.service": (NETWORK | {"read the accounts", "AF_NETLINK"}, NETWORK | OF_ROOT | {"AF_NETLINK"}),
     "acd-certificate.service": (LOOPBACK, LOOPBACK | OF_ROOT),
-    "acd-edge-limit.service": (OF_ROOT | {"AF_UNIX", "AF_NETLINK", "load a table"}, OF_ROOT | {"AF_UNIX", "AF_NETLINK", "load a table"}),
+    # it is root's, who gains nothing by a program of root's
+    "acd-edge-limit.service": (OF_ROOT | {"gain", "AF_UNIX", "AF_NETLINK", "load a table"}, OF_ROOT | {"AF_UNIX", "AF_NETLINK", "load a table"}),
     "acd-records.service": ({"read the desk's file", "signal the desk"}, {"read the accounts", "see another user's process"}),
 }
 LIMITS = {
