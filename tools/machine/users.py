@@ -118,7 +118,7 @@ class Users(Edges):
             for user in ("root", "www-data", "ben"):
                 self.expect(f"it answers {user}", self.curl("http://127.0.0.1:8081/", user=user), 0)
         self.done("systemctl", "start", "acd-gate")
-        self.expect("the gate answers", self.eventually(lambda: self.curl(GATE), 200), 200)
+        self.expect("the gate answers", self.eventually(lambda: self.curl(GATE, "-H", "X-Login: pbx"), 200), 200)
 
     def try_other_tables(self):
         """Loaded again, taken away, and behind nftables' own service: one table is ours, and no other is touched."""
