@@ -339,6 +339,8 @@ def lay_out_exchange(root, version, moment):
         (root / doc / "examples").mkdir(parents=True, exist_ok=True)
         (root / doc / "examples" / name).symlink_to(f"../../../acd-exchange/{name}")
     put("etc/acd/edge/kamailio.cfg", (EXCHANGE / "kamailio.cfg").read_bytes())
+    # the folder in which postinst gives files to the edge is root's: nobody else can put a link there
+    put("usr/share/lintian/overrides/acd-exchange", "acd-exchange: recursive-privilege-change * [postinst:*]\n")
     put(doc + "EXCHANGE.md", (TOP / "docs/EXCHANGE.md").read_bytes())
     put(doc + "changelog.gz", packed(debian_changelog(versions, moment, "acd-exchange")))
     put(doc + "copyright", copyright_text(version))
