@@ -128,6 +128,12 @@ class Starts(Ready):
         self.expect("it is there alone, and its user's", ([one.name for one in folder.iterdir()], file.stat().st_mode & 0o777), (["desk.db"], 0o600))
         self.expect("it is a desk", (self.acd("audit", "--file", file), self.executed(file)), ((0, "sound\n", ""), 0))
         self.starts("it is served", file)
+        # the first start notes no log, since there is none yet
+        self.starts("it is served again", file, result=None)
+        file.unlink()
+        file.with_name("desk.db-wal").unlink()
+        self.expect("another one in its place", self.ready("--make", "--file", file), (0, f"made {file}\n", ""))
+        self.expect("nothing is said of the old one's log", self.starts("another one is served", file), "")
         held = file.read_bytes()
         self.expect("one that is there", self.ready("--make", "--file", file), (0, f"{file} is there already\n", ""))
         self.expect("stays as it is", file.read_bytes(), held)
