@@ -114,14 +114,16 @@ def user_of(process):
 
 
 def users_of(path):
-    """Root, and whose the file at this path is, or would be: anybody else may give a process the name of a desk."""
+    """Root, this user, and whose the file at this path is, or would be: anybody else may give a process the name of a desk. The unit of acd-tick hides the file's
+    folder, which is root's there."""
+    users = {0, os.geteuid()}
     with contextlib.suppress(OSError):
-        return {0, os.lstat(path if os.path.lexists(path) else path.parent).st_uid}
-    return {0}
+        users.add(os.lstat(path if os.path.lexists(path) else path.parent).st_uid)
+    return users
 
 
 def desks(path):
-    """The desks of root and of the file's owner whose command line names the file at this path, whichever they have open."""
+    """The desks of root, of this user and of the file's owner whose command line names the file at this path, whichever they have open."""
     path = place(path)
     users = users_of(path)
     return [process for process in processes() if is_desk(process) and user_of(process) in users and named(process) == path]
