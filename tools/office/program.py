@@ -85,7 +85,9 @@ class Program(Planned):
         self.expect(f"{what}, by a pipe", self.acd(*words)[1], f"{line}\n")
 
     def try_files(self):
-        self.done("systemctl", "stop", "acd")
+        # a clean stop would empty the log
+        self.sent("files", 2)
+        self.kill()
         other, meta, text, sheet = f"{STATE}/other.db", f"{STATE}/meta.db", f"{STATE}/notes.txt", f"{STATE}/plan.csv"
         for path, table in ((other, "t"), (meta, "meta")):
             self.done("runuser", "-u", "acd", "--", "python3", "-c", f"import sqlite3; book = sqlite3.connect('{path}'); book.execute('CREATE TABLE {table} (n)'); book.commit()")
