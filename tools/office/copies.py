@@ -193,16 +193,19 @@ class Copies(Planned):
             self.copied(f"{what}: a copy is good again")
 
     def try_removed_log(self):
-        """The log is removed while the desk is stopped, with answered requests in it: the audit says `sound`; the copy says that there are fewer, each time, until somebody has looked."""
+        """The log is removed behind a kill, with answered requests in it: the audit says `sound`, and no start serves until its line is followed; then the copy
+        says that there are fewer, each time, until somebody has looked."""
         self.sent("gone", 5)
         self.copied("before it")
         before = self.executed(f"{COPIES}/{self.good()[-1]}")
-        self.done("systemctl", "stop", "acd")
+        self.kill()
         self.expect("the last ones are in the log alone", self.inside(LOG).stat().st_size > 1000)
         self.done("rm", LOG)
         self.expect("the audit says", self.ran("acd", "audit", "--file", FILE, user="acd"), (0, "sound\n"))
         now = self.executed(STATE)
-        self.restarts("without its log")
+        self.fails("without its log", f"to start with that, remove {FILE}-pair")
+        self.done("rm", f"{FILE}-pair")
+        self.restarts("without its log, as the line says")
         good = self.good()
         for _ in range(2):
             self.expect("the copy fails", self.ran("systemctl", "start", "acd-copy")[0] != 0)
