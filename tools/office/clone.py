@@ -56,7 +56,7 @@ class Clone(Office):
         self.with_it(*tools)
         status, said = self.ran(f"{CLONE}/tools/package")
         self.expect(f"with them ({said[-300:]})", status, 0)
-        version = (TOP / "CHANGELOG.md").read_text().split()[2]
+        version = re.search(r"^# acd (\S+) ", (TOP / "CHANGELOG.md").read_text(), re.MULTILINE)[1]
         self.expect("what is made", self.names(f"{CLONE}/out"), [f"acd-exchange_{version}_all.deb", f"acd_{version}_amd64.deb"])
         self.expect("it can be installed", self.container.shell(f"dpkg --install {CLONE}/out/acd_*.deb")[0], 0)
         page = self.inside(f"{CLONE}/docs/OPERATING.md").read_text()
