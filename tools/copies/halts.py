@@ -171,13 +171,15 @@ class Halts(Part):
     def try_changed(self):
         """Under a load whose log the desk writes into the file meanwhile, once: the next try is good."""
         office, desk, load = self.loaded()
-        once = self.folder / "once"
+        once, noted = self.folder / "once", self.folder / "noted"
         self.writing(office)
         cp = office.program.with_name("cp")
-        cp.write_text(cp.read_text().replace("was=$(", f"[ -e {once} ] && exit; touch {once}; was=$("))
+        # the first try waits until it is noted what was answered by then
+        cp.write_text(cp.read_text().replace("was=$(", f"[ -e {once} ] && exit; touch {once}; until [ -e {noted} ]; do sleep 0.01; done; was=$("))
         with self.copying(office) as process:
-            time.sleep(0.5)
+            until(once.exists, 20, 0.002)
             answered = list(load.answered)
+            noted.touch()
             status, said, faults, longest = self.ended(process, load)
         self.expect("it was written meanwhile", once.exists())
         self.whole("once", office, load, said, faults, status, answered)
