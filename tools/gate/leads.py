@@ -1,5 +1,4 @@
 """What a lead may ask for, and what not: each case at the desk as it then is."""
-import json
 
 from place import Place, plan_of
 
