@@ -60,6 +60,8 @@ class Flood(Ground):
             flooded = others.during(seconds)
             others.pause()
             sent = self.ended(attackers)
+            for kind in others.kinds:
+                self.see(f"{what}: {kind} is answered meanwhile", any(one == kind for one, _, _ in flooded))
             self.judge(what, quiet, flooded, sent)
             time.sleep(SETTLES)
             self.same_as(before, what)
