@@ -2,7 +2,7 @@
 use Rattle.std.proofs.Common.{◌≡◌, ◌⊎◌, inl, inr, ℕ, Bool, false, List, Option, Result, Ok, Err, IfOk, IfErr, OnOk, OnErr, refl, sym, ap, subst, ◌∙◌}
 use Rattle.std.specs.Io.KnownBytes.{Appends}
 use Rattle.sqlite.specs.Held.{Held}
-use Rattle.sqlite.specs.State.{State}
+use Rattle.sqlite.specs.State.{State, HasCleanDisk}
 use Rattle.sqlite.specs.Files.{file_state}
 use Rattle.sqlite_disk.specs.declared.Disk.{Ghosts}
 use Rattle.sqlite_store.specs.declared.store.FileStore.{FileStore}
@@ -11,6 +11,7 @@ use Rattle.acd_book.specs.Order.{IsOrdered}
 use Rattle.acd_book.specs.State.{BookState}
 use Rattle.acd_book.proofs.BookSteps.{step_so, step_then}
 use Rattle.acd_desk.specs.declared.audit.AuditFault.{AuditFault}
+use Rattle.acd_book.specs.declared.fault.BookFault.{BookFault}
 use Rattle.acd_desk.specs.AuditedWith.{archive_part, desk_part}
 use Rattle.acd_desk.specs.BookReading.{Anything}
 use Rattle.acd_desk.specs.AuditWith.{StandsInTime}
@@ -22,8 +23,8 @@ use Rattle.acd_desk.specs.Carried.{Archive, together}
 use Rattle.acd_desk.specs.WithArchive.{IsSoundWith}
 use Rattle.acd_desk.specs.ReadDone.{ReadDone}
 use Rattle.acd_desk.proofs.NewerRuns.{counted_with}
-use Rattle.acd_lines.specs.Lines.{Streams}
 use Rattle.acd_log.specs.declared.ending.Ending.{Ending}
+use Rattle.acd_sqlbook.specs.Adopting.{IsUntouched}
 use Rattle.acd_sqlbook.specs.declared.cache.Cache.{Cache}
 use Rattle.acd_sqlbook.specs.Caching.{followed}
 use Rattle.acd_sqlbook.specs.State.{book_state}
@@ -31,23 +32,22 @@ use Rattle.acd_program.specs.declared.auditing.Finding.{Finding}
 use Rattle.acd_program.specs.declared.auditing.Finding.TheVariants.{Sound, Counted, Differs}
 use Rattle.acd_program.specs.declared.desk.Done.{Done}
 use Rattle.acd_program.specs.declared.desk.Done.TheVariants as left
-use Rattle.acd_program.specs.WithArchive.{IsFindingWith, IsDeskFindingWith, IsFindingIn, IsFindingInOrder, IsFoundWithArchive, FindsWithArchive, WasRead, WereAsked, AskedWithArchive, BookAskedWithArchive, AuditsWithArchive, AuditedWithArchive}
+use Rattle.acd_program.specs.WithArchive.{IsFindingWith, IsDeskFindingWith, IsFindingIn, IsFindingInOrder, IsFoundWithArchive, FindsWithArchive, WasRead, WereAsked, AskedOver, AskedIn, InArchive, AskedWithArchive, BookAskedWithArchive, AuditsWithArchive, AuditedWithArchive, LeavesBeside}
 use Rattle.acd_program.specs.Found.{HasCount, finding_line}
 use Rattle.acd_io.specs.Sent.{Begins}
-use Rattle.acd_program.specs.Ended.{IsOfDesk, IsOfClosing, IsSomeFault, PrintedOf, IsShut}
-use Rattle.acd_program.specs.Over.{LeavesCanonical, Unserved}
+use Rattle.acd_program.specs.Ended.{IsShut, OnlyAsked}
+use Rattle.acd_program.specs.Over.{LeavesBooks, Unserved, before}
 use Rattle.acd_program.specs.TasksEnded.{AuditCut, AuditWithArchiveEnded}
 use Rattle.acd_program.specs.declared.fault.Fault.{Fault}
-use Rattle.acd_program.proofs.Coming.{printed_late}
-use Rattle.acd_program.specs.InFiles.{IsLaidIn, IsOpenedFrom, InFile}
+use Rattle.acd_program.specs.declared.fault.Fault.TheVariants as ended_by
+use Rattle.acd_program.specs.InFiles.{IsLaidIn, IsOpenedFrom}
+use Rattle.acd_program.specs.declared.status.Status.{Status}
 use Rattle.acd_program.specs.Statuses.{finding_status}
 use Rattle.acd_program.specs.Taking.{IsOf, IsTaken}
-use Rattle.acd_program.specs.Tasks.{AuditedWith, IsReadEnding, TaskDone}
-use Rattle.acd_program.specs.declared.asked.Task.{Task}
-use Rattle.acd_program.specs.declared.asked.Task.TheVariants as task
-use Rattle.acd_program.specs.Work.{IsPrinted, text_left, status_left}
+use Rattle.acd_program.specs.Tasks.{AuditedWith, IsReadEnding}
+use Rattle.acd_program.specs.Work.{IsPrinted, text_left}
 use Rattle.acd_program.proofs.Asking.{asked_by, asked_of, asked_so}
-use Rattle.acd_program.proofs.Called.{called, leaves_canonical, asked_called}
+use Rattle.acd_program.proofs.Called.{called, leaves_books, asked_called}
 use Rattle.acd_program.proofs.InFiles.{over_so}
 use Rattle.acd_program.proofs.Over.{over_connection}
 use Rattle.acd_program.proofs.Tasks.{ok_so}
@@ -82,38 +82,39 @@ pub found_so : {A F G : Type 0} (r : Result A F) (f : Result A G) (P : A → Typ
 found_so {A = A} {G = G} (Ok x) f P Q h both = subst (λ (y : Result A G). IfOk y P) both.0 h
 found_so (Err why) f P Q h both = tt
 
-module _ {D : Type 0} (disk : Ghosts D) (IsFresh : Bool → D → Type 0) where
-  -- the archive was opened, asked and closed
-  pub asked_with_archive : {F : Type 0} (r : Result Finding F) (f : Result Finding AuditFault) (closed : Result (Unit {0}) F) (d e : Standing) (conn last : Held (FileStore D disk)) (mid : BookState) (cache : Cache) (failures : ℕ)
-      → IsOpenedFrom disk IsFresh conn → IsTaken false (file_state conn) mid
-      → IsFoundWithArchive mid (followed cache (book_state (file_state last) failures)) d e f → ReadDone d e (desk_part f) Anything → ReadsIfOpen mid (followed cache (book_state (file_state last) failures)) (archive_part f) Anything
-      → OnOk closed (IsLaidIn last) → IfOk r (λ (x : Finding). (f ≡ Ok x) × (closed ≡ Ok tt)) → IfOk r (AskedWithArchive disk IsFresh d e)
-  asked_with_archive (Err why) f closed d e conn last mid cache failures opened taken finds desk read laid both = tt
-  asked_with_archive {F = F} (Ok x) f closed d e conn last mid cache failures opened taken finds desk read laid both =
-      let new : BookState = followed cache (book_state (file_state last) failures) in
-      let finds : IsFoundWithArchive mid new d e (Ok x) = subst (IsFoundWithArchive mid new d e) both.0 finds in
-      let read : ReadsIfOpen mid new (Ok x) Anything = subst (λ (y : Result Finding AuditFault). ReadsIfOpen mid new (archive_part y) Anything) both.0 read in
-      record {
-        desk = subst (λ (y : Result Finding AuditFault). ReadDone d e (desk_part y) Anything) both.0 desk;
-        archive = record {
-          conn = conn;
-          last = last;
-          opened = opened;
-          done = over_connection (λ (old now : BookState). ReadsIfOpen old now (Ok x) Anything × IsFoundWithArchive old now d e (Ok x)) (λ (old now : BookState). WasRead old now × FindsWithArchive old now d e x) false
-              (file_state conn) (file_state last) mid cache failures (λ old of h. both_of old mid new d e x h.0 h.1 of)
-              (λ old h. (asked_called (LeavesCanonical (file_state last)) new (leaves_canonical (file_state last) cache failures) old (tt {0}) Anything h.0, h.1)) taken (read, finds);
-          closed = subst (λ (y : Result (Unit {0}) F). OnOk y (IsLaidIn last)) both.1 laid;
-        };
-      }
+-- whatever was read of it, a reopening finds nothing new
+pub archive_asked : (mid new : BookState) (r : Result Finding BookFault) → ReadsIfOpen mid new r Anything → OnlyAsked mid new
+archive_asked mid new r read = record { clean = read.step.clean; sound = read.step.sound; stops = λ clean sound. read.unchanged.stops clean sound }
 
-  pub in_file_so : (P Q : BookState → BookState → Type 0) → ((old new : BookState) → P old new → Q old new) → InFile disk IsFresh P false → InFile disk IsFresh Q false
-  in_file_so P Q follows h = record {
-    conn = h.conn;
-    last = h.last;
-    opened = h.opened;
-    done = over_so P Q false (file_state h.conn) (file_state h.last) follows h.done;
-    closed = h.closed;
-  }
+-- nothing of it was changed
+pub unserved_untouched : (s t : State) → (HasCleanDisk t → IsUntouched s t) → Unserved false s t
+unserved_untouched s t same clean db at = before ((same clean).stops db at)
+
+-- over a connection it was asked
+pub asked_over : (found : Finding) (d e : Standing) (s t : State) (mid : BookState) (cache : Cache) (failures : ℕ) → IsTaken false s mid → IsFoundWithArchive mid (followed cache (book_state t failures)) d e (Ok found)
+    → ReadDone d e (Ok found) Anything → ReadsIfOpen mid (followed cache (book_state t failures)) (Ok found) Anything → AskedOver s t d e found
+asked_over found d e s t mid cache failures taken finds desk read =
+    let new : BookState = followed cache (book_state t failures) in
+    record {
+      desk = desk;
+      archive = over_connection (λ (old now : BookState). ReadsIfOpen old now (Ok found) Anything × IsFoundWithArchive old now d e (Ok found)) (λ (old now : BookState). WasRead old now × FindsWithArchive old now d e found) false
+          s t mid cache failures (λ old of h. both_of old mid new d e found h.0 h.1 of)
+          (λ old h. (asked_called (LeavesBooks t) new (leaves_books t cache failures) old (tt {0}) Anything h.0, h.1)) taken (read, finds);
+    }
+
+-- and closed
+pub asked_in : {D F G : Type 0} {g : Ghosts D} (found : Finding) (r : Result Finding F) (closed : Result (Unit {0}) G) (d e : Standing) (conn last : Held (FileStore D g)) → IfOk r (AskedOver (file_state conn) (file_state last) d e)
+    → Unserved false (file_state conn) (file_state last) → OnOk closed (IsLaidIn last) → (r ≡ Ok found) × (closed ≡ Ok tt) → AskedIn conn d e found
+asked_in {F = F} {G = G} found r closed d e conn last asked kept laid both =
+    let over = subst (λ (y : Result Finding F). IfOk y (AskedOver (file_state conn) (file_state last) d e)) both.0 asked in
+    record {
+      desk = over.desk;
+      archive = record { last = last; done = over.archive; closed = subst (λ (y : Result (Unit {0}) G). OnOk y (IsLaidIn last)) both.1 laid; kept = kept };
+    }
+
+module _ {D : Type 0} (disk : Ghosts D) (IsFresh : Bool → D → Type 0) where
+  in_archive_so : (P Q : BookState → BookState → Type 0) → ((old new : BookState) → P old new → Q old new) → InArchive disk IsFresh P → InArchive disk IsFresh Q
+  in_archive_so P Q follows h = (h.0, h.1, record { last = h.2.last; done = over_so P Q false (file_state h.0) (file_state h.2.last) follows h.2.done; closed = h.2.closed; kept = h.2.kept })
 
   -- ---- a desk over a book ----
 
@@ -138,8 +139,8 @@ module _ {D : Type 0} (disk : Ghosts D) (IsFresh : Bool → D → Type 0) where
 
   pub book_asked_with_archive : (old : BookState) (d e : Standing) (found : Finding) → Opened old d → AskedWithArchive disk IsFresh d e found → BookAskedWithArchive disk IsFresh IsFindingInOrder old e.book found
   book_asked_with_archive old d e found o asked =
-      in_file_so (λ (a b : BookState). WasRead a b × FindsWithArchive a b d e found) (λ (a b : BookState). WereAsked IsFindingInOrder a b old e.book found)
-      (λ a b both. asked_both a b old d e found o asked.desk both) asked.archive
+      in_archive_so (λ (a b : BookState). WasRead a b × FindsWithArchive a b d e found) (λ (a b : BookState). WereAsked IsFindingInOrder a b old e.book found)
+      (λ a b both. asked_both a b old d e found o asked.2.desk both) (asked.0, asked.1, asked.2.archive)
 
   -- the book is what closing the desk gave back
   pub audits_with_archive : (counts : Bool) (ending : Ending) (old now : BookState) (d e : Standing) (found : Finding) → Opened old d → HasCount counts found → AskedWithArchive disk IsFresh d e found → e.book ≡ now
@@ -154,7 +155,7 @@ module _ {D : Type 0} (disk : Ghosts D) (IsFresh : Bool → D → Type 0) where
 
   book_asked_since : (old mid new : BookState) (found : Finding) → IsOf old mid → BookAskedWithArchive disk IsFresh IsFindingInOrder mid new found → BookAskedWithArchive disk IsFresh IsFindingIn old new found
   book_asked_since old mid new found of h =
-      in_file_so (λ (a b : BookState). WereAsked IsFindingInOrder a b mid new found) (λ (a b : BookState). WereAsked IsFindingIn a b old new found)
+      in_archive_so (λ (a b : BookState). WereAsked IsFindingInOrder a b mid new found) (λ (a b : BookState). WereAsked IsFindingIn a b old new found)
       (λ a b were. record {
         archive = were.archive;
         current = asked_of old mid new found Anything of were.current;
@@ -165,7 +166,7 @@ module _ {D : Type 0} (disk : Ghosts D) (IsFresh : Bool → D → Type 0) where
 
   book_asked_left : (Canonical : Type 0) (new : BookState) → (new.is_sound → Canonical) → (old : BookState) (found : Finding) → BookAskedWithArchive disk IsFresh IsFindingIn old new found → BookAskedWithArchive disk IsFresh IsFindingIn old (called new Canonical) found
   book_asked_left Canonical new so old found h =
-      in_file_so (λ (a b : BookState). WereAsked IsFindingIn a b old new found) (λ (a b : BookState). WereAsked IsFindingIn a b old (called new Canonical) found)
+      in_archive_so (λ (a b : BookState). WereAsked IsFindingIn a b old new found) (λ (a b : BookState). WereAsked IsFindingIn a b old (called new Canonical) found)
       (λ a b were. record { archive = were.archive; current = asked_called Canonical new so old found Anything were.current; answer = were.answer }) h
 
   audited_over : (counts : Bool) (ending : Ending) (s t : State) (mid : BookState) (cache : Cache) (failures : ℕ) (done : Done) → IsTaken false s mid
@@ -176,7 +177,7 @@ module _ {D : Type 0} (disk : Ghosts D) (IsFresh : Bool → D → Type 0) where
     h.0,
     over_connection (λ (old new : BookState). BookAskedWithArchive disk IsFresh IsFindingInOrder old new found) (λ (old new : BookState). BookAskedWithArchive disk IsFresh IsFindingIn old new found) false
         s t mid cache failures (λ old of asked. book_asked_since old mid (followed cache (book_state t failures)) found of asked)
-        (λ old asked. book_asked_left (LeavesCanonical t) (followed cache (book_state t failures)) (leaves_canonical t cache failures) old found asked) taken h.1,
+        (λ old asked. book_asked_left (LeavesBooks t) (followed cache (book_state t failures)) (leaves_books t cache failures) old found asked) taken h.1,
     h.2,
   )
 
@@ -187,33 +188,24 @@ module _ {D : Type 0} (disk : Ghosts D) (IsFresh : Bool → D → Type 0) where
 
   -- ---- printed ----
 
-  pub audit_printed : {F : Type 0} (r : Result ℕ F) (counts whole : Bool) (ending : Ending) (conn last : Held (FileStore D disk)) (done : Result Done F) (closed : Result (Unit {0}) F) (old_output new_output : Option (List ℕ))
-      → IsOpenedFrom disk IsFresh conn → IsReadEnding whole ending → IfOk done (AuditedWithArchive disk IsFresh counts ending (file_state conn) (file_state last)) → OnOk closed (IsLaidIn last)
-      → IfOk r (λ (status : ℕ). IsPrinted done closed old_output new_output status) → IfOk r (λ (status : ℕ). AuditedWith disk IsFresh counts whole old_output new_output status)
-  audit_printed (Err why) counts whole ending conn last done closed old_output new_output opened is audited laid printed = tt
-  audit_printed {F = F} (Ok status) counts whole ending conn last done closed old_output new_output opened is audited laid p =
-      of_left p.left (subst (λ (x : Result Done F). IfOk x (AuditedWithArchive disk IsFresh counts ending (file_state conn) (file_state last))) p.ended audited) p.printed p.outcome
-    where
-      of_left : (x : Done) → AuditedWithArchive disk IsFresh counts ending (file_state conn) (file_state last) x → Appends old_output new_output (text_left x) → status ≡ status_left x → AuditedWith disk IsFresh counts whole old_output new_output status
-      of_left left.Nothing h text outcome = absurd h
-      of_left (left.Text text) h written outcome = absurd h
-      of_left (left.Audited found end) h text outcome = record {
-        found = found;
-        ending = ending;
-        counted = h.0;
-        read = is;
-        done = record { conn = conn; last = last; opened = opened; done = h.1; closed = subst (λ (x : Result (Unit {0}) F). OnOk x (IsLaidIn last)) p.shut laid };
-        printed = subst (λ (y : Ending). Appends old_output new_output (finding_line y found)) h.2 text;
-        outcome = outcome ∙ ap (λ (y : Ending). finding_status y found) h.2;
-      }
-
-  pub with_archive_task : {F : Type 0} (r : Result ℕ F) (asked : Task) (io : Streams) (old_errors new_errors : Option (List ℕ)) (file archive : _) (counts whole : Bool) → asked ≡ task.AuditWithArchive file archive counts whole
-      → IfOk r (λ (status : ℕ). AuditedWith disk IsFresh counts whole io.old_output io.new_output status) → IfOk r (λ (status : ℕ). TaskDone disk IsFresh asked io old_errors new_errors status)
-  with_archive_task r asked io old_errors new_errors file archive counts whole is = ok_so r _ _ (λ status h. subst (λ (t : Task). TaskDone disk IsFresh t io old_errors new_errors status) (sym is) h)
+  pub audit_printed : {F : Type 0} (status : Status) (counts whole : Bool) (ending : Ending) (conn last : Held (FileStore D disk)) (left : Done) (closed : Result (Unit {0}) F) (old_output new_output : Option (List ℕ))
+      → IsOpenedFrom disk IsFresh conn → IsReadEnding whole ending → AuditedWithArchive disk IsFresh counts ending (file_state conn) (file_state last) left → OnOk closed (IsLaidIn last)
+      → IsPrinted left closed old_output new_output status → AuditedWith disk IsFresh counts whole old_output new_output status
+  audit_printed status counts whole ending conn last left.Nothing closed old_output new_output opened is h laid p = absurd h
+  audit_printed status counts whole ending conn last (left.Text text) closed old_output new_output opened is h laid p = absurd h
+  audit_printed {F = F} status counts whole ending conn last (left.Audited found end) closed old_output new_output opened is h laid p = record {
+    found = found;
+    ending = ending;
+    counted = h.0;
+    read = is;
+    done = record { conn = conn; last = last; opened = opened; done = h.1; closed = subst (λ (x : Result (Unit {0}) F). OnOk x (IsLaidIn last)) p.shut laid };
+    printed = subst (λ (y : Ending). Appends old_output new_output (finding_line y found)) h.2 p.printed;
+    outcome = p.outcome ∙ ap (λ (y : Ending). finding_status y found) h.2;
+  }
 
   -- ---- where a fault ended it ----
 
-  audit_cut : (counts whole : Bool) (ending : Ending) (conn last : Held (FileStore D disk)) (old_output new_output : Option (List ℕ)) (left : Done)
+  pub audit_cut : (counts whole : Bool) (ending : Ending) (conn last : Held (FileStore D disk)) (old_output new_output : Option (List ℕ)) (left : Done)
       → IsReadEnding whole ending → AuditedWithArchive disk IsFresh counts ending (file_state conn) (file_state last) left → Begins old_output new_output (text_left left) → AuditCut disk IsFresh counts whole old_output new_output conn last
   audit_cut counts whole ending conn last old_output new_output left.Nothing is h text = absurd h
   audit_cut counts whole ending conn last old_output new_output (left.Text read) is h text = absurd h
@@ -226,14 +218,9 @@ module _ {D : Type 0} (disk : Ghosts D) (IsFresh : Bool → D → Type 0) where
     printed = subst (λ (y : Ending). Begins old_output new_output (finding_line y found)) h.2 text;
   }
 
-  -- over the connection that was opened
-  pub audit_ended : {A : Type 0} (r : Result A Fault) (counts whole : Bool) (ending : Ending) (conn last : Held (FileStore D disk)) (done : Result Done Fault) (closed : Result (Unit {0}) Fault) (old_output new_output : Option (List ℕ))
-      (Unwritten : Type 0) → IsOpenedFrom disk IsFresh conn → IsReadEnding whole ending → IfOk done (AuditedWithArchive disk IsFresh counts ending (file_state conn) (file_state last))
-      → Unserved false (file_state conn) (file_state last) → IsShut last → OnErr done Unwritten → OnErr r (PrintedOf done old_output new_output)
-      → IfErr r (IsSomeFault done closed) → IfErr closed IsOfClosing → IfErr r (AuditWithArchiveEnded disk IsFresh counts whole old_output new_output Unwritten)
-  audit_ended (Ok x) counts whole ending conn last done closed old_output new_output Unwritten opened is audited kept shut unwritten printed first known = tt
-  audit_ended (Err fault) counts whole ending conn last (Err why) closed old_output new_output Unwritten opened is audited kept shut unwritten printed first known =
-      inr (conn, opened, record { last = last; shut = shut; kept = kept; left = inl unwritten })
-  audit_ended {A = A} (Err fault) counts whole ending conn last (Ok left) closed old_output new_output Unwritten opened is audited kept shut unwritten printed first known =
-      let late : IsOfDesk fault = printed_late {A = A} {B = Done} (Err fault) (Ok left) closed first tt known in
-      inr (conn, opened, record { last = last; shut = shut; kept = kept; left = inr (late, audit_cut counts whole ending conn last old_output new_output left is audited printed) })
+  -- before anything was printed
+  pub audit_stopped : (fault : Fault) (counts whole : Bool) (conn last : Held (FileStore D disk)) (old_output new_output : Option (List ℕ)) (Unwritten : Type 0) → IsOpenedFrom disk IsFresh conn → IsShut last
+      → Unserved false (file_state conn) (file_state last) → Unwritten → LeavesBeside disk IsFresh fault → AuditWithArchiveEnded disk IsFresh counts whole old_output new_output Unwritten fault
+  audit_stopped (ended_by.Opening why) counts whole conn last old_output new_output Unwritten opened shut kept none beside = absurd beside
+  audit_stopped (ended_by.Work why) counts whole conn last old_output new_output Unwritten opened shut kept none beside = (conn, opened, record { last = last; shut = shut; kept = kept }, inl none)
+  audit_stopped (ended_by.Archive why) counts whole conn last old_output new_output Unwritten opened shut kept none beside = (conn, opened, record { last = last; shut = shut; kept = kept }, none, beside)

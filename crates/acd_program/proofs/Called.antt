@@ -1,10 +1,15 @@
 -- A book that is called sound where something else is so.
-use Rattle.std.proofs.Common.{List}
+use Rattle.std.proofs.Common.{List, refl, sym, ap, subst}
+use Rattle.sqlite_trees.specs.Tree.{Trees}
+use Rattle.sqlite.specs.Effect.{Database}
 use Rattle.sqlite.specs.State.{State}
 use Rattle.acd_terms.specs.declared.command.Arrival.{Arrival}
 use Rattle.acd_book.specs.Content.{Content}
 use Rattle.acd_book.specs.State.{BookState, BookStep}
-use Rattle.acd_sql_schema.proofs.Contents.{canonical_in}
+use Rattle.acd_sql_columns.specs.InTables.{content_of}
+use Rattle.acd_sql_columns.specs.Transactions.{IsBook}
+use Rattle.acd_sql_columns.proofs.Decoded.{decoded}
+use Rattle.acd_sql_columns.proofs.Endings.{is_book}
 use Rattle.acd_sqlbook.specs.Caching.{SoundWith}
 use Rattle.acd_sqlbook.specs.State.{book_state}
 use Rattle.acd_sqlbook.specs.declared.cache.Cache.{Cache}
@@ -12,15 +17,22 @@ use Rattle.acd_desk.specs.declared.taken.Taken.{Taken}
 use Rattle.acd_desk.specs.Leads.{Leads}
 use Rattle.acd_desk.specs.Ran.{Holds}
 use Rattle.acd_desk.specs.Session.{Session}
-use Rattle.acd_program.specs.Over.{LeavesCanonical}
+use Rattle.acd_program.specs.Over.{LeavesBooks}
 use Rattle.acd_program.specs.Work.{WasAsked}
 
 abbrev pub called : BookState → Type 0 → BookState
 called b Sound = record b { is_sound = Sound }
 
--- whatever a sound book in a database may leave is canonical
-pub leaves_canonical : (t : State) (cache : Cache) (failures : _) → SoundWith cache (book_state t failures) → LeavesCanonical t
-leaves_canonical t cache failures sound = λ db at. let parts = sound.0.left db at in canonical_in db parts.0 parts.1
+of_content : (db : Trees) (c : Content) → IsBook db c → IsBook db (content_of db)
+of_content db c book = subst (IsBook db) (sym (decoded db c book.encodes)) book
+
+-- a sound book in a database leaves books
+pub leaves_books : (t : State) (cache : Cache) (failures : _) → SoundWith cache (book_state t failures) → LeavesBooks t
+leaves_books t cache failures sound = record {
+  now = λ up. let held = sound.0.stands up in of_content t.now.trees held.0 (is_book t held.0 t.now.trees held.1 (ap (λ (d : Database). d.trees) held.1.idle));
+  committed = λ up. let held = sound.0.stands up in of_content t.committed.trees held.0 (is_book t held.0 t.committed.trees held.1 refl);
+  left = λ db at. let parts = sound.0.left db at in of_content db parts.0 parts.1;
+}
 
 module _ (Sound : Type 0) (b : BookState) where
   pub leads_called : (c : Content) (l : List Arrival) (ts : List Taken) → Leads c l ts b → Leads c l ts (called b Sound)

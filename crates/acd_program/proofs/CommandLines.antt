@@ -1,64 +1,38 @@
 -- The task read from the matches of a command line, and the commands that the builders make.
-use Rattle.std.proofs.Common.{◌≡◌, ◌≢◌, ◌≤◌, ℕ, suc, Bool, true, false, ◌&&◌, ◌||◌, ◌==◌, not, length, List, [], ◌∷◌, ◌++◌, Option, None, Some, Result, Ok, Err, IfOk, IfErr, IsErrAnd, inl, inr, refl, ap, ap₂, sym, subst, ◌∙◌, codes, arith}
-use Rattle.std.specs.Prelude.{find, is_some, option_map, unwrap_or}
+use Rattle.std.proofs.Common.{◌≡◌, ◌≢◌, ◌<◌, ◌^◌, ℕ, Bool, true, false, ◌||◌, List, Option, None, Some, Result, Ok, IfOk, inl, inr, refl, ap, ap₂, sym, subst, ◌∙◌, codes, true≢false}
+use Rattle.std.specs.Prelude.{find, is_some, option_and_then, option_map, unwrap_or}
 use Rattle.std.specs.Option.{option_map_or}
 use Rattle.std.specs.Borrow.{Bor}
 use Rattle.std.specs.Str.{bytes_eq}
 use Rattle.std.specs.Str.Parse.{IsNumeral, ParsesBool, digits_value, true_text, without_leading_plus}
-use Rattle.std.proofs.lemmas.Bool.Decides.{nat_tests}
-use Rattle.std.proofs.lemmas.Result.{err_from_is_err_and}
 use Rattle.std.proofs.lemmas.Slice.Eq.{bytes_eq-Decides}
 use Rattle.clap.specs.Matches.{ReadsOne, first_value, matched_of, one_text}
 use Rattle.clap.specs.Built.{AddsArg, AddsSubcommand}
-use Rattle.clap.specs.Adds.{AddsConflicts, AddsRequiredUnless}
-use Rattle.clap.specs.Walk.{is_free_arg}
-use Rattle.clap.specs.Words.{App, HasMatchesOf, Row, Rule, Text, app_of, first_of, is_simple, new_app, rows_of, rule_of, subcommand_of, subcommand_rows_of, takes, with_rule, with_subcommand, kind_of}
+use Rattle.clap.specs.Walk.{row_text}
+use Rattle.clap.specs.Words.{App, HasMatchesOf, Row, Rule, Text, app_of, first_of, is_simple, new_app, rows_of, rule_of, subcommand_of, subcommand_rows_of, takes, with_rule, with_subcommand}
 use Rattle.clap.specs.declared.builder.Arg.{Arg}
 use Rattle.clap.specs.declared.builder.Command.{Command}
 use Rattle.clap.specs.declared.builder.command.Command.TheOpen.{Command-F}
 use Rattle.clap.specs.declared.builder.Command.TheViews.{out-Command as fields_of}
 use Rattle.clap.specs.Simple.{app_of_fields}
-use Rattle.clap.specs.declared.error.Error.{Error}
 use Rattle.clap.specs.declared.error.kind.ErrorKind.{ErrorKind}
-use Rattle.clap.specs.declared.error.kind.ErrorKind.TheVariants.{OutOfMemory}
+use Rattle.clap.specs.declared.error.kind.ErrorKind.TheVariants.{ArgumentConflict, MissingRequiredArgument, OutOfMemory}
 use Rattle.clap.specs.declared.parser.matches.ArgMatches.{ArgMatches}
 use Rattle.clap.specs.declared.parser.matches.Found.{Found}
 use Rattle.clap.proofs.WalkLemmas.{first_value-rows, one_text-rows, find_row}
 use Rattle.acd_log.specs.declared.ending.Ending.TheVariants.{Plain}
-use Rattle.acd_program.specs.CommandLine.{HasApp, HasNone, HasRule, IsNumber, IsTaskWith, IsText, UntakenIfHelp, acd, has_option, is_given, required}
-use Rattle.acd_program.specs.Statuses.{IsDone, IsHelp}
+use Rattle.acd_program.specs.CommandLine.{HasApp, HasNone, HasRule, IsNumber, IsRefusedBy, IsSpan, IsTaskIn, IsTaskWith, IsText, NamesNoTask, acd, command_of, has_option, is_given, required}
+use Rattle.acd_program.specs.Statuses.{IsHelp}
 use Rattle.acd_program.specs.declared.asked.Task.{Task}
-use Rattle.acd_program.specs.declared.asked.Task.TheVariants.{AuditWhole, Read}
+use Rattle.acd_program.specs.declared.asked.Task.TheVariants.{Lines, Serve, Import, AuditWhole, AuditWithArchive, Read}
+use Rattle.acd_program.specs.declared.desk.Printout.{Printout}
+use Rattle.acd_program.specs.declared.desk.Printout.TheVariants.{Report, Export}
 use Rattle.acd_program.specs.declared.desk.Work.TheVariants as kind
 
 -- ---- commands
 
 pub rule_required : (r : Rule) (a b : Arg) → HasRule r a → b ≡ record a { required = true } → HasRule (required r) b
 rule_required r a b h e = record { rule = ap rule_of e ∙ ap required h.rule; local = ap (λ (x : Arg). x.global) e ∙ h.local }
-
--- the argument has a rule on another
-abbrev bound : Rule → Rule
-bound r = record r { is_free = false }
-
-empty_no : {X : Type 0} (xs : List X) (x : X) → (length (xs ++ x ∷ []) == 0) ≡ false
-empty_no [] x = refl
-empty_no (y ∷ xs) x = more (length (xs ++ x ∷ []))
-  where
-    more : (n : ℕ) → (suc n == 0) ≡ false
-    more n = grind (arith, nat_tests)
-
-and_no : (a b c : Bool) → b ≡ false → (a && (b && c)) ≡ false
-and_no true b c e = ap (λ (x : Bool). x && c) e
-and_no false b c e = refl
-
-pub rule_bound : (r : Rule) (a b c : Arg) (x y : Bor Text) → HasRule r a → AddsRequiredUnless a b (x ∷ []) → AddsConflicts b c (y ∷ []) → HasRule (bound r) c
-rule_bound r a b c x y h unless conflicts =
-    let none : (length c.conflicts.items == 0) ≡ false = ap (λ (l : List (Bor Text)). length l == 0) conflicts.1 ∙ empty_no b.conflicts.items y in
-    let free : is_free_arg c ≡ false = and_no (not c.exclusive) (length c.conflicts.items == 0) _ none in
-    record {
-      rule = ap (λ (z : Bool). record (rule_of c) { is_free = z }) free ∙ ap (λ (z : Arg). bound (rule_of z)) conflicts.0 ∙ ap (λ (z : Arg). bound (rule_of z)) unless.0 ∙ ap bound h.rule;
-      local = ap (λ (z : Arg). z.global) conflicts.0 ∙ ap (λ (z : Arg). z.global) unless.0 ∙ h.local;
-    }
 
 -- texts are set, which no parse reads
 pub app_begun : (name : Text) (new described helped : Command) (a h : Option (Bor Text)) → app_of new ≡ new_app name → (fields_of new).has_globals ≡ false → fields_of described ≡ record (fields_of new) { about = a }
@@ -90,26 +64,17 @@ acd_is_simple = refl
 pub matches_are : (a : App) (words : List Text) (m : ArgMatches) → a ≡ acd → HasMatchesOf a words m → subcommand_rows_of m ≡ subcommand_of acd words
 matches_are a words m is matches = (subst (λ (x : App). HasMatchesOf x words m) is matches acd_is_simple).1
 
--- for accepted words a parse fails for want of memory alone, so neither help nor the version is printed
-memory_is_no_help : (kind : ErrorKind) → kind ≡ OutOfMemory → IsHelp kind → ⊥
-memory_is_no_help kind memory (inl help) = absurd (cc (sym memory ∙ help))
-memory_is_no_help kind memory (inr version) = absurd (cc (sym memory ∙ version))
+-- for accepted words a parse fails for want of memory alone
+pub refused_by : (kind : ErrorKind) (a : App) (words : List Text) → a ≡ acd → (takes a words ≡ true → kind ≡ OutOfMemory) → IsRefusedBy words kind
+refused_by kind a words is passes = by (takes acd words) refl
+  where
+    by : (b : Bool) → takes acd words ≡ b → IsRefusedBy words kind
+    by true taken = inl (passes (subst (λ (x : App). takes x words ≡ true) (sym is) taken))
+    by false untaken = inr (inl (λ taken. true≢false (sym taken ∙ untaken)))
 
-pub never_taken : {A : Type 0} (r : Result A Error) (e : Error) (a : App) (words : List Text) → IsErrAnd r (λ (x : Error). x ≡ e) → (takes a words ≡ true → kind_of e ≡ OutOfMemory) → a ≡ acd
-    → UntakenIfHelp r words
-never_taken {A} r e a words failed passes is =
-    let p = err_from_is_err_and r failed in
-    subst (λ (x : Result A Error). UntakenIfHelp x words) (sym (p.1 ∙ ap Err p.2))
-    (λ help taken. memory_is_no_help (kind_of e) (passes (subst (λ (x : App). takes x words ≡ true) (sym is) taken)) help)
-
--- a status of at most 2 without a fault is 0
-pub done_without_task : (status : ℕ) → status ≤ 2 → IsDone status → status ≡ 0
-done_without_task status known (inl none) = none
-done_without_task status known (inr (inl three)) = absurd (omega (arith, known, three))
-done_without_task status known (inr (inr five)) = absurd (omega (arith, known, five))
-
-pub no_fourth : (status : ℕ) → status ≤ 2 → status ≡ 4 → ⊥
-no_fourth status known four = omega (arith, known, four)
+-- the task of the matches is that of the words, and where they name none, the words don't
+pub none_named : (matches : Option (Text × List Row)) (words : List Text) → matches ≡ subcommand_of acd words → ((task : Task) → ¬ IsTaskIn matches task) → NamesNoTask words
+none_named matches words is none = λ task named. none task (subst (λ (m : Option (Text × List Row)). IsTaskIn m task) (sym is) named)
 
 -- ---- options
 
@@ -138,13 +103,17 @@ flag_read E f id r none reads = by (one_text f id) refl ∙ ap (λ (o : Option T
     by None e = ap (λ (x : Option Bool). unwrap_or x false) (none e) ∙ sym (ap (λ (o : Option Text). option_map_or (λ (text : Text). bytes_eq text true_text) o false) e)
     by (Some t) e = is_true E t r (reads t e) ∙ sym (ap (λ (o : Option Text). option_map_or (λ (text : Text). bytes_eq text true_text) o false) e)
 
-pub number_read : (f : Found) (id : Text) (n : ℕ) → ((one_text f id ≡ None) → Some n ≡ None)
-    → ((t : Text) → one_text f id ≡ Some t → IsNumeral 10 (without_leading_plus t) × (n ≡ digits_value 10 (without_leading_plus t))) → IsNumber id (rows_of f) n
-number_read f id n none reads = by (one_text f id) refl
+pub number_read : (bits : ℕ) (f : Found) (id : Text) (n : ℕ) → ((one_text f id ≡ None) → Some n ≡ None)
+    → ((t : Text) → one_text f id ≡ Some t → (IsNumeral 10 (without_leading_plus t) × (digits_value 10 (without_leading_plus t) < 2 ^ bits)) × (n ≡ digits_value 10 (without_leading_plus t))) → IsNumber bits id (rows_of f) n
+number_read bits f id n none reads = by (one_text f id) refl
   where
-    by : (o : Option Text) → one_text f id ≡ o → IsNumber id (rows_of f) n
+    by : (o : Option Text) → one_text f id ≡ o → IsNumber bits id (rows_of f) n
     by None e = absurd (let no = none e in cc (no))
-    by (Some t) e = let read = reads t e in (t, sym (one_text-rows f id) ∙ e, read.0, sym read.1)
+    by (Some t) e = let read = reads t e in (t, sym (one_text-rows f id) ∙ e, read.0.0, sym read.1, subst (λ (m : ℕ). m < 2 ^ bits) (sym read.1) read.0.1)
+
+-- no number was read
+pub number_unread : (bits : ℕ) (f : Found) (id : Text) → ((t : Text) → one_text f id ≡ Some t → ¬ (IsNumeral 10 (without_leading_plus t) × (digits_value 10 (without_leading_plus t) < 2 ^ bits))) → (n : ℕ) → ¬ IsNumber bits id (rows_of f) n
+number_unread bits f id none n h = none h.0 (one_text-rows f id ∙ h.1) (h.2, subst (λ (m : ℕ). m < 2 ^ bits) (sym h.3) h.4)
 
 same_some : {A B C : Type 0} (g : A → B) (h : A → C) (o : Option A) → is_some (option_map g o) ≡ is_some (option_map h o)
 same_some g h None = refl
@@ -158,3 +127,95 @@ pub audit_read : (options : List Row) (file : Bor Text) (counts whole : Bool) (a
     → IsText (codes "file") options file → HasNone (codes "archive") options → counts ≡ is_given (codes "count") options → whole ≡ is_given (codes "whole") options → IsTaskWith (codes "audit") options asked
 audit_read options file counts true asked whole plain text none counted looked = subst (IsTaskWith (codes "audit") options) (sym (whole refl)) ((refl, text, counted, looked), none)
 audit_read options file counts false asked whole plain text none counted looked = subst (IsTaskWith (codes "audit") options) (sym (plain refl)) (text, (refl, none, counted, looked, refl))
+
+-- no text was read
+pub text_unread : (f : Found) (id : Text) → ◌≡◌ {A = Option Text} None (first_value f id) → (text : Bor Text) → ¬ IsText id (rows_of f) text
+text_unread f id none text h = none_is_some (none ∙ first_value-rows f id ∙ h)
+  where
+    none_is_some : ◌≡◌ {A = Option Text} None (Some text.now) → ⊥
+    none_is_some e = cc
+
+-- ---- no task
+
+-- two words that differ
+apart : (a b : Text) → bytes_eq a b ≡ false → a ≢ b
+apart a b differ same = true≢false (sym ((bytes_eq-Decides a b).1 same) ∙ differ)
+
+module _ (options : List Row) where
+  pub no_service : ((file : Bor Text) (port : ℕ) (connections : Option ℕ) → IsText (codes "file") options file → IsNumber 16 (codes "port") options port → IsSpan options connections → ⊥)
+      → (task : Task) → ¬ IsTaskWith (codes "serve") options task
+  no_service none (Serve file port connections) h = none file port connections h.1 h.2 h.3
+  no_service none (Lines file reads ends) h = apart (codes "serve") (codes "lines") refl h.0
+  no_service none (Import file plan) h = apart (codes "serve") (codes "import") refl h.0
+  no_service none (AuditWhole file counts) h = apart (codes "serve") (codes "audit") refl h.0.0
+  no_service none (AuditWithArchive file archive counts whole) h = apart (codes "serve") (codes "audit") refl h.0.0
+  no_service none (Read file (kind.Print Report)) h = apart (codes "serve") (codes "report") refl h.1
+  no_service none (Read file (kind.Print Export)) h = apart (codes "serve") (codes "export") refl h.1
+  no_service none (Read file (kind.Audit counts ending)) h = apart (codes "serve") (codes "audit") refl h.1.0
+  no_service none (Read file (kind.Import requests)) h = h.1
+
+  pub no_import : ((file plan : Bor Text) → IsText (codes "file") options file → IsText (codes "plan") options plan → ⊥) → (task : Task) → ¬ IsTaskWith (codes "import") options task
+  no_import none (Import file plan) h = none file plan h.1 h.2
+  no_import none (Lines file reads ends) h = apart (codes "import") (codes "lines") refl h.0
+  no_import none (Serve file port connections) h = apart (codes "import") (codes "serve") refl h.0
+  no_import none (AuditWhole file counts) h = apart (codes "import") (codes "audit") refl h.0.0
+  no_import none (AuditWithArchive file archive counts whole) h = apart (codes "import") (codes "audit") refl h.0.0
+  no_import none (Read file (kind.Print Report)) h = apart (codes "import") (codes "report") refl h.1
+  no_import none (Read file (kind.Print Export)) h = apart (codes "import") (codes "export") refl h.1
+  no_import none (Read file (kind.Audit counts ending)) h = apart (codes "import") (codes "audit") refl h.1.0
+  no_import none (Read file (kind.Import requests)) h = h.1
+
+  -- a printout, or an audit, of no file
+  pub no_file : ((file : Bor Text) → ¬ IsText (codes "file") options file) → (command : Text) → bytes_eq command (codes "lines") ≡ false → (task : Task) → ¬ IsTaskWith command options task
+  no_file none command other (Lines file reads ends) h = apart command (codes "lines") other h.0
+  no_file none command other (Serve file port connections) h = none file h.1
+  no_file none command other (Import file plan) h = none file h.1
+  no_file none command other (AuditWhole file counts) h = none file h.0.1
+  no_file none command other (AuditWithArchive file archive counts whole) h = none file h.0.1
+  no_file none command other (Read file work) h = none file h.0
+
+-- a number is that of an option which was given
+number_given : (bits : ℕ) (id : Text) (options : List Row) (n : ℕ) → IsNumber bits id options n → has_option id options ≡ true
+number_given bits id options n h = by (find (λ (r : Row). bytes_eq r.id id) options) refl
+  where
+    by : (o : Option Row) → find (λ (r : Row). bytes_eq r.id id) options ≡ o → has_option id options ≡ true
+    by (Some r) e = ap is_some e
+    by None e = absurd (none_some h.0 (sym (ap (option_and_then row_text) e) ∙ h.1))
+      where
+        none_some : (t : Text) → ◌≡◌ {A = Option Text} None (Some t) → ⊥
+        none_some t e = cc
+
+-- neither of both is asked for, or both are
+pub no_span : (options : List Row) → ((n : ℕ) → IsNumber 32 (codes "connections") options n → is_given (codes "endless") options ≡ false → ⊥)
+    → (has_option (codes "connections") options ≡ false → is_given (codes "endless") options ≡ true → ⊥) → (span : Option ℕ) → ¬ IsSpan options span
+no_span options number endless (Some n) h = number n h.0 h.1
+no_span options number endless None h = endless h.0 h.1
+
+pub unnumbered : (options : List Row) (n : ℕ) → has_option (codes "connections") options ≡ false → ¬ IsNumber 32 (codes "connections") options n
+unnumbered options n none h = true≢false (sym (number_given 32 (codes "connections") options n h) ∙ none)
+
+pub printout_apart : (printout : Printout) → bytes_eq (command_of printout) (codes "lines") ≡ false
+printout_apart Report = refl
+printout_apart Export = refl
+
+-- a command that is none of the six
+pub no_other : (command : Text) (options : List Row) → command ≢ codes "lines" → command ≢ codes "serve" → command ≢ codes "import" → command ≢ codes "report" → command ≢ codes "export" → command ≢ codes "audit"
+    → (task : Task) → ¬ IsTaskWith command options task
+no_other command options a b c d e f (Lines file reads ends) h = a h.0
+no_other command options a b c d e f (Serve file port connections) h = b h.0
+no_other command options a b c d e f (Import file plan) h = c h.0
+no_other command options a b c d e f (AuditWhole file counts) h = f h.0.0
+no_other command options a b c d e f (AuditWithArchive file archive counts whole) h = f h.0.0
+no_other command options a b c d e f (Read file (kind.Print Report)) h = d h.1
+no_other command options a b c d e f (Read file (kind.Print Export)) h = e h.1
+no_other command options a b c d e f (Read file (kind.Audit counts ending)) h = f h.1.0
+no_other command options a b c d e f (Read file (kind.Import requests)) h = h.1
+
+-- a rule between options that is broken is no call for help
+pub conflict_is_no_help : (kind : ErrorKind) → kind ≡ ArgumentConflict → ¬ IsHelp kind
+conflict_is_no_help kind is (inl help) = absurd (cc (sym is ∙ help))
+conflict_is_no_help kind is (inr version) = absurd (cc (sym is ∙ version))
+
+pub missing_is_no_help : (kind : ErrorKind) → kind ≡ MissingRequiredArgument → ¬ IsHelp kind
+missing_is_no_help kind is (inl help) = absurd (cc (sym is ∙ help))
+missing_is_no_help kind is (inr version) = absurd (cc (sym is ∙ version))

@@ -22,26 +22,22 @@ use Rattle.acd_desk.proofs.Sessions.{session_ran}
 use Rattle.acd_io.specs.Sent.{Breaks}
 use Rattle.acd_lines.specs.Lines.{LinesAnswered, FirstRequests, RequestsAnswered, Streams}
 use Rattle.acd_lines.proofs.Weaker.{requests_so}
-use Rattle.acd_program.specs.Ended.{OnlyReads, IsBegunPlan, IsBegun, StoppedOver, WorkStopped, PrintedOf, IsShut, WorkEnded}
+use Rattle.acd_program.specs.Ended.{OnlyReads, IsBegunPlan, IsBegun, StoppedOver, WorkStopped, IsShut, WorkEnded}
 use Rattle.acd_program.specs.Found.{IsFindingOf}
 use Rattle.acd_program.specs.LinesOver.{NoneMade}
-use Rattle.acd_program.specs.Over.{IsSession, LeavesCanonical, OverConnection, Unserved}
+use Rattle.acd_program.specs.Over.{IsSession, LeavesBooks, OverConnection, Unserved}
 use Rattle.acd_program.specs.Sessions.{SessionEnded, DatabaseEnded}
 use Rattle.acd_program.specs.Taking.{IsOf, IsTaken}
 use Rattle.acd_program.specs.Work.{WorkDone}
-use Rattle.acd_program.specs.declared.fault.Fault.{Fault}
+use Rattle.acd_program.specs.declared.fault.WorkFault.{WorkFault}
 use Rattle.acd_program.specs.declared.desk.Work.{Work}
 use Rattle.acd_program.specs.declared.desk.Work.TheVariants.{Import, Print, Audit}
 use Rattle.acd_program.specs.declared.desk.Done.{Done}
 use Rattle.acd_program.proofs.InFiles.{over_makes}
-use Rattle.acd_program.proofs.Called.{called, leaves_canonical, session_called}
+use Rattle.acd_program.proofs.Called.{called, leaves_books, session_called}
 use Rattle.acd_program.proofs.Over.{session_of, over_connection}
 use Rattle.acd_program.proofs.Seen.{seen_made}
 use Rattle.acd_program.proofs.Taking.{unserved_asked, unserved_makes}
-
-pub err_always : {A F : Type 0} (r : Result A F) (P : Type 0) → P → OnErr r P
-err_always (Ok x) P h = tt
-err_always (Err e) P h = h
 
 -- ---- the requests of a plan
 
@@ -68,33 +64,16 @@ begun_left Sound new so (Audit counts ending) old old_output new_output h = h
 -- ---- over a connection
 
 -- the work over the book that was opened in the database
-pub stopped_in : {E : Type 0} (r : Result Done E) (work : Work) (makes : Bool) (s t : State) (mid : BookState) (cache : Cache) (failures : ℕ) (old_output new_output : Option (List ℕ))
+pub stopped_in : (work : Work) (makes : Bool) (s t : State) (mid : BookState) (cache : Cache) (failures : ℕ) (old_output new_output : Option (List ℕ))
     → ((db : Trees) → IsTrue s.is_open → s.may_leave db → db ≡ s.committed.trees) → IsTaken makes s mid
-    → OnErr r (StoppedOver work old_output new_output mid (followed cache (book_state t failures))) → OnErr r (WorkStopped work makes s t old_output new_output)
-stopped_in r work makes s t mid cache failures old_output new_output settles taken h =
+    → StoppedOver work old_output new_output mid (followed cache (book_state t failures)) → WorkStopped work makes s t old_output new_output
+stopped_in work makes s t mid cache failures old_output new_output settles taken (inl none) = inl (unserved_asked makes s t mid cache failures settles taken none.0, none.1)
+stopped_in work makes s t mid cache failures old_output new_output settles taken (inr begun) =
     let new : BookState = followed cache (book_state t failures) in
-    on_err_weaker r (λ stopped. elim stopped [
-      | inl none ↦ inl (unserved_asked makes s t mid cache failures settles taken none.0, none.1)
-      | inr begun ↦ inr (over_connection (IsBegun work old_output new_output) (IsBegun work old_output new_output) makes s t mid cache failures (λ old of is. begun_of work old mid new old_output new_output of is)
-          (λ old is. begun_left (LeavesCanonical t) new (leaves_canonical t cache failures) work old old_output new_output is) taken begun)
-    ]) h
+    inr (over_connection (IsBegun work old_output new_output) (IsBegun work old_output new_output) makes s t mid cache failures (λ old of is. begun_of work old mid new old_output new_output of is)
+    (λ old is. begun_left (LeavesBooks t) new (leaves_books t cache failures) work old old_output new_output is) taken begun)
 
 module _ {D : Type 0} {g : Ghosts D} where
-  -- the connection was shut, and what was left of the work printed
-  pub work_ended : {F : Type 0} (r : Result ℕ F) (work : Work) (makes : Bool) (conn last : Held (FileStore D g)) (done : Result Done F) (old_output between new_output : Option (List ℕ))
-      → IfOk done (λ (left : Done). OverConnection (λ (old new : BookState). WorkDone IsFindingOf work old old_output between left new) makes (file_state conn) (file_state last))
-      → OnErr done (WorkStopped work makes (file_state conn) (file_state last) old_output between)
-      → (OnlyReads work → Unserved makes (file_state conn) (file_state last)) → IsShut last → OnErr r (PrintedOf done between new_output) → OnErr r (WorkEnded makes work conn old_output new_output)
-  work_ended (Ok status) work makes conn last done old_output between new_output d s kept shut p = tt
-  work_ended (Err e) work makes conn last (Err fault) old_output between new_output d s kept shut p = record {
-    last = last;
-    shut = shut;
-    kept = kept;
-    left = inl (subst (λ (x : Option (List ℕ)). WorkStopped work makes (file_state conn) (file_state last) old_output x) (sym p) s);
-  }
-  work_ended (Err e) work makes conn last (Ok left) old_output between new_output d s kept shut p =
-      record { last = last; shut = shut; kept = kept; left = inr (record { left = left; between = between; done = d; printed = p }) }
-
   -- where it was known whether the file was new
   pub work_makes : (is_new makes : Bool) (work : Work) (conn : Held (FileStore D g)) (old_output new_output : Option (List ℕ)) → (is_new ≡ true → makes ≡ true)
       → WorkEnded is_new work conn old_output new_output → WorkEnded makes work conn old_output new_output
@@ -118,7 +97,7 @@ module _ {D : Type 0} {g : Ghosts D} where
 
 -- ---- lines over a database, where it was known whether it was new
 
-module _ {S : Type 0} (store : Stores S) (is_new makes ends : Bool) (io : Streams) (s : State) (r : Result (Unit {0}) Fault) (conn : Held S) (may : is_new ≡ true → makes ≡ true) where
+module _ {S : Type 0} (store : Stores S) (is_new makes ends : Bool) (io : Streams) (s : State) (r : Result (Unit {0}) WorkFault) (conn : Held S) (may : is_new ≡ true → makes ≡ true) where
   none_made : NoneMade store is_new io s r conn → NoneMade store makes io s r conn
   none_made none = record { why = none.why; outcome = none.outcome; unserved = unserved_makes is_new makes s (state store conn) may none.unserved; untouched = none.untouched }
 

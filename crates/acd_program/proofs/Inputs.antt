@@ -1,5 +1,5 @@
 -- The lines of an input were answered, by the answers over a desk in memory or over a file.
-use Rattle.std.proofs.Common.{◌≡◌, inl, inr, ℕ, Bool, true, false, List, Option, Some, None, Result, Ok, Err, IfErr, OnOk, refl, sym, subst, true≢false}
+use Rattle.std.proofs.Common.{◌≡◌, inl, inr, ℕ, Bool, true, false, List, Option, Some, None, Result, Ok, Err, OnOk, refl, sym, ap, subst, true≢false}
 use Rattle.std.specs.Io.KnownBytes.{Appends}
 use Rattle.sqlite_disk.specs.declared.Disk.{Ghosts}
 use Rattle.acd_book.specs.Content.{Content}
@@ -11,23 +11,24 @@ use Rattle.acd_lines.specs.Laws.{RequestsRun}
 use Rattle.acd_lines.specs.Answers.{Answers}
 use Rattle.acd_lines.specs.Input.{line_of}
 use Rattle.acd_io.specs.Sent.{Begins}
-use Rattle.acd_lines.specs.Lines.{LinesAnswered, AllLines, FirstLines, ArrivalsAnswered, RunInTurn, Streams, streams, LinesDone}
+use Rattle.acd_lines.specs.Lines.{LinesAnswered, AllLines, FirstLines, ArrivalsAnswered, RunInTurn, Streams, streams, LinesDone, Untouched}
 use Rattle.acd_lines.specs.Parts.{InTurn}
 use Rattle.acd_lines.specs.declared.fault.LinesFault.{LinesFault}
 use Rattle.acd_lines.proofs.Weaker.{answered_so}
 use Rattle.acd_program.specs.Answered.{in_memory, IsNewDesk, AnsweredFromNothing}
 use Rattle.acd_program.specs.Desks.{OverNewDesk}
 use Rattle.acd_program.specs.LinesOver.{Whole, LinesInMemory, NewAnswered, in_turn}
+use Rattle.acd_program.specs.Faults.{lines_fault}
 use Rattle.acd_program.specs.Seen.{Seen, seen}
-use Rattle.acd_program.specs.Sessions.{LinesAreFromNothing, MemoryEnded}
+use Rattle.acd_program.specs.Sessions.{LinesAreFromNothing, EndsNewLines, MemoryEnded}
 use Rattle.acd_program.specs.Tasks.{MemoryAnswered, FileAnswered, InputAnswered}
+use Rattle.acd_program.specs.TasksEnded.{EndedIn, InputEnded, LinesLeft}
+use Rattle.acd_program.specs.declared.fault.Fault.{Fault}
+use Rattle.acd_program.specs.declared.fault.Fault.TheVariants as ended_by
+use Rattle.acd_program.specs.declared.fault.WorkFault.{WorkFault}
+use Rattle.acd_program.specs.declared.status.Status.TheVariants.{Success}
 use Rattle.acd_program.proofs.Seen.{new_view, new_views, done_seen, whole_seen, seen_new}
 use Rattle.acd_program.proofs.Answering.{in_memory_quiet, lines_from_nothing, answers_none}
-
--- the fault that ended the work, and the one of closing its file
-pub both_so : {F : Type 0} (r done closed : Result (Unit {0}) F) (P Q X : Type 0) → OnOk r ((done ≡ Ok tt) × (closed ≡ Ok tt)) → OnOk done P → OnOk closed Q → (P → Q → X) → OnOk r X
-both_so (Err e) done closed P Q X h p q f = tt
-both_so {F} (Ok u) done closed P Q X h p q f = f (subst (λ (x : Result (Unit {0}) F). OnOk x P) h.0 p) (subst (λ (x : Result (Unit {0}) F). OnOk x Q) h.1 q)
 
 -- ---- in memory
 
@@ -59,25 +60,21 @@ memory_whole T io (Ok u) (inr some) = record {
   did = record { answered = some.did.all (λ asked. absurd (true≢false (sym asked))); well = λ asked. absurd (true≢false (sym asked)) };
 }
 
-pub memory_lines : (reads is_so : Bool) (io : Streams) (r : Result (Unit {0}) LinesFault) → reads ≡ is_so → LinesInMemory (in_turn is_so (standing in_memory)) io r → OnOk r (NewAnswered reads io)
-memory_lines reads is_so io r is h =
-    subst (λ (b : Bool). OnOk r (NewAnswered b io)) (sym is) (memory_whole (in_turn is_so (standing in_memory)) io r h)
-
--- after a fault
-memory_ended_by : {R W : Type 0} (remaining : R → Option (List ℕ)) (contents : W → Option (List ℕ)) → LinesAreFromNothing remaining contents → (reads : Bool) (reader : R × R) (writer : W × W) (r : Result (Unit {0}) LinesFault)
-    → LinesInMemory (in_turn reads (standing in_memory)) (streams remaining contents reader writer) r → IfErr r (MemoryEnded reads (streams remaining contents reader writer))
-memory_ended_by remaining contents law reads reader writer (Ok u) h = tt
-memory_ended_by remaining contents law true reader writer (Err why) (inl none) = inl (same_error none.0, none.1)
-memory_ended_by remaining contents law true reader writer (Err why) (inr some) =
+-- all of them were answered or, after a fault, so
+memory_ends_by : {R W : Type 0} (remaining : R → Option (List ℕ)) (contents : W → Option (List ℕ)) → LinesAreFromNothing remaining contents → (reads : Bool) (reader : R × R) (writer : W × W) (r : Result (Unit {0}) LinesFault)
+    → LinesInMemory (in_turn reads (standing in_memory)) (streams remaining contents reader writer) r → EndsNewLines reads (streams remaining contents reader writer) r
+memory_ends_by remaining contents law reads reader writer (Ok u) h = memory_whole (in_turn reads (standing in_memory)) (streams remaining contents reader writer) (Ok u) h
+memory_ends_by remaining contents law true reader writer (Err why) (inl none) = inl (same_error none.0, none.1)
+memory_ends_by remaining contents law true reader writer (Err why) (inr some) =
     inr (seen_new (λ (d e : Desk Content). LinesDone (standing in_memory) (in_turn true (standing in_memory)) false (streams remaining contents reader writer) d e (Err why))
     (λ (stands : Seen Content → Standing) (d e : Seen Content). LinesDone stands (in_turn true stands) false (streams remaining contents reader writer) d e (Err why))
     (λ d e h. (done_seen (standing in_memory) (seen unfailing) new_view _ new_views d e tt false (streams remaining contents reader writer) (Err why) h).1) some)
-memory_ended_by remaining contents law false reader writer (Err why) h = law reader writer (Err why) h
+memory_ends_by remaining contents law false reader writer (Err why) h = law reader writer (Err why) h
 
-pub memory_ended : {R W : Type 0} (remaining : R → Option (List ℕ)) (contents : W → Option (List ℕ)) → LinesAreFromNothing remaining contents → (reads is_so : Bool) (reader : R × R) (writer : W × W) (r : Result (Unit {0}) LinesFault) → reads ≡ is_so
-    → LinesInMemory (in_turn is_so (standing in_memory)) (streams remaining contents reader writer) r → IfErr r (MemoryEnded reads (streams remaining contents reader writer))
-memory_ended remaining contents law reads is_so reader writer r is h =
-    subst (λ (b : Bool). IfErr r (MemoryEnded b (streams remaining contents reader writer))) (sym is) (memory_ended_by remaining contents law is_so reader writer r h)
+pub memory_ends : {R W : Type 0} (remaining : R → Option (List ℕ)) (contents : W → Option (List ℕ)) → LinesAreFromNothing remaining contents → (reads is_so : Bool) (reader : R × R) (writer : W × W) (r : Result (Unit {0}) LinesFault) → reads ≡ is_so
+    → LinesInMemory (in_turn is_so (standing in_memory)) (streams remaining contents reader writer) r → EndsNewLines reads (streams remaining contents reader writer) r
+memory_ends remaining contents law reads is_so reader writer r is h =
+    subst (λ (b : Bool). EndsNewLines b (streams remaining contents reader writer) r) (sym is) (memory_ends_by remaining contents law is_so reader writer r h)
 
 memory_answered : RequestsRun in_memory → (reads : Bool) (io : Streams) → NewAnswered reads io → MemoryAnswered reads io
 memory_answered runs true io h =
@@ -85,9 +82,16 @@ memory_answered runs true io h =
     (λ d e h. whole_seen (standing in_memory) (seen unfailing) new_view _ new_views d e tt false io h) h
 memory_answered runs false io h = from_nothing runs (AllLines io.old_input) (Appends io.old_output io.new_output) h.first h.final h.opened h.did.answered
 
+-- of an input, by what was named
 module _ {Name D : Type 0} (disk : Ghosts D) (IsFresh : Bool → D → Type 0) (named : Option Name) (reads ends : Bool) (io : Streams) where
-  pub memory_input : RequestsRun in_memory → named ≡ None → NewAnswered reads io → InputAnswered disk IsFresh named reads ends io 0
-  memory_input runs is h = subst (λ (n : Option Name). InputAnswered disk IsFresh n reads ends io 0) (sym is) (memory_answered runs reads io h, refl)
+  pub memory_input : RequestsRun in_memory → named ≡ None → NewAnswered reads io → InputAnswered disk IsFresh named reads ends io Success
+  memory_input runs is h = subst (λ (n : Option Name). InputAnswered disk IsFresh n reads ends io Success) (sym is) (memory_answered runs reads io h, refl)
 
-  pub file_input : (file : Name) → named ≡ Some file → FileAnswered disk IsFresh reads ends io → InputAnswered disk IsFresh named reads ends io 0
-  file_input file is h = subst (λ (n : Option Name). InputAnswered disk IsFresh n reads ends io 0) (sym is) (h, refl)
+  pub memory_fault : (why : LinesFault) (fault : WorkFault) → named ≡ None → fault ≡ lines_fault why → MemoryEnded reads io why → InputEnded disk IsFresh named reads ends io (ended_by.Work fault)
+  memory_fault why fault is same h = subst (λ (n : Option Name). InputEnded disk IsFresh n reads ends io (ended_by.Work fault)) (sym is) (why, ap ended_by.Work same, h)
+
+  pub file_input : (file : Name) → named ≡ Some file → FileAnswered disk IsFresh reads ends io → InputAnswered disk IsFresh named reads ends io Success
+  file_input file is h = subst (λ (n : Option Name). InputAnswered disk IsFresh n reads ends io Success) (sym is) (h, refl)
+
+  pub file_fault : (file : Name) (fault : Fault) → named ≡ Some file → EndedIn disk IsFresh fault (Untouched io) (LinesLeft disk IsFresh reads ends io) → InputEnded disk IsFresh named reads ends io fault
+  file_fault file fault is h = subst (λ (n : Option Name). InputEnded disk IsFresh n reads ends io fault) (sym is) h

@@ -14,7 +14,9 @@ pub mod LinesOver
 pub mod Inputs
 pub mod Plans
 pub mod CommandLines
-pub mod Coming
 pub mod Ended
+pub mod Ends
+pub mod Exits
 pub mod TasksEnded
+pub mod Archives
 pub mod AuditsWithArchive

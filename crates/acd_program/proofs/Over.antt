@@ -88,7 +88,7 @@ pub over_connection : (P Q : BookState → BookState → Type 0) (makes : Bool) 
 over_connection P Q makes s t mid cache failures carries leaves taken h = (
   failures,
   elim taken [
-    | inl found ↦ inl (leaves _ (carries _ found h))
+    | inl found ↦ inl (leaves _ (carries _ found.of_held h))
     | inr made ↦ inr (made.0, made.1, leaves _ (carries _ made.2 h))
   ],
 )

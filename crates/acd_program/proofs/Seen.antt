@@ -36,13 +36,13 @@ use Rattle.acd_io.specs.Sent.{Begins}
 use Rattle.acd_program.specs.Answered.{in_memory}
 use Rattle.acd_program.specs.Desks.{OverDatabase, OverNewDesk, in_database}
 use Rattle.acd_program.specs.Faults.{command_result}
-use Rattle.acd_program.specs.Over.{held, unmade, LeavesCanonical}
+use Rattle.acd_program.specs.Over.{held, unmade, LeavesBooks}
 use Rattle.acd_program.specs.LinesOver.{in_turn, Whole, LinesEnded}
 use Rattle.acd_program.specs.Seen.{Seen, seen, SeenNew, InDatabase, left_of, SeenOver, SeenIn}
 use Rattle.acd_program.specs.Serving.{ServeEnded, ends_failed}
 use Rattle.acd_program.specs.Taking.{IsOf}
-use Rattle.acd_program.specs.declared.fault.Fault.{Fault}
-use Rattle.acd_program.proofs.Called.{called, leaves_canonical, leads_called, holds_called}
+use Rattle.acd_program.specs.declared.fault.WorkFault.{WorkFault}
+use Rattle.acd_program.proofs.Called.{called, leaves_books, leads_called, holds_called}
 
 -- a book that is called sound says this of one that came of it
 abbrev pub SoundBy : Type 0 → BookState → Type 0
@@ -211,7 +211,7 @@ module _ {D T : Type 0} (stands : D → Standing) (stood : T → Standing) (view
     )
     done_seen ends io (Err why) h = (kept_after (FirstLines io.old_input) _ h.begun, record { all = tt; first = tt; begun = lines_seen _ _ h.begun; cause = ended_seen io why h.cause })
 
-    pub lines_ended_seen : (ends : Bool) (io : Streams) (r : Result (Unit {0}) Fault) → LinesEnded stands (in_turn true stands) ends io r d e → Kept e × LinesEnded stood (in_turn true stood) ends io r (view d) (view e)
+    pub lines_ended_seen : (ends : Bool) (io : Streams) (r : Result (Unit {0}) WorkFault) → LinesEnded stands (in_turn true stands) ends io r d e → Kept e × LinesEnded stood (in_turn true stood) ends io r (view d) (view e)
     lines_ended_seen ends io r h =
         let done = done_seen ends io h.ended h.lines in
         (done.0, record { ended = h.ended; lines = done.1; outcome = h.outcome ∙ ap (λ (b : Bool). command_result h.ended (ends && b)) (sym (v.failed e)) })
@@ -273,7 +273,7 @@ module _ {D T : Type 0} (stands : D → Standing) (stood : T → Standing) (view
           ),
         )
 
-    pub serve_seen : (span : Option ℕ) (old_errors new_errors : Option (List ℕ)) (port : ℕ) (old_output new_output : Option (List ℕ)) (r : Result (Unit {0}) Fault) → ServeEnded span old_errors new_errors port old_output new_output stands r d e
+    pub serve_seen : (span : Option ℕ) (old_errors new_errors : Option (List ℕ)) (port : ℕ) (old_output new_output : Option (List ℕ)) (r : Result (Unit {0}) WorkFault) → ServeEnded span old_errors new_errors port old_output new_output stands r d e
         → Kept e × ServeEnded span old_errors new_errors port old_output new_output stood r (view d) (view e)
     serve_seen span old_errors new_errors port old_output new_output r (inl h) =
         (same_kept d e h.0.same k, inl (record { why = h.0.why; ended = h.0.ended; same = ap view h.0.same; quiet = h.0.quiet }, h.1))
@@ -328,14 +328,14 @@ module _ {S : Type 0} (store : Ghosts S) where
           final = view e;
           opened = opened_of old (book_of store taken) (stands_in d) of opened;
           did = done.1;
-          canonical = subst (λ (x : Held S). HasCleanDisk (state store x) → old.is_sound → LeavesCanonical (state store x)) (sym same)
-              (λ clean sound. leaves_canonical (state store e.book.conn) e.book.cache e.book.failures (done.0 clean sound));
+          opens = subst (λ (x : Held S). HasCleanDisk (state store x) → old.is_sound → LeavesBooks (state store x)) (sym same)
+              (λ clean sound. leaves_books (state store e.book.conn) e.book.cache e.book.failures (done.0 clean sound));
           back = same;
         }
 
     pub seen_in : (makes : Bool) (s : State) (conn : Held S) → OverDatabase store makes Did s conn → SeenIn store DidSeen makes s conn
     seen_in makes s conn h = elim h.of_old [
-      | inl found ↦ inl (over_seen (held s) h.taken h.last h.over.first h.over.final conn found h.over.opened h.over.did h.over.back h.back)
+      | inl found ↦ inl (over_seen (held s) h.taken h.last h.over.first h.over.final conn found.of_held h.over.opened h.over.did h.over.back h.back)
       | inr made ↦ inr (made.0, made.1, over_seen (unmade s) h.taken h.last h.over.first h.over.final conn made.2 h.over.opened h.over.did h.over.back h.back)
     ]
 
@@ -346,7 +346,7 @@ module _ {S : Type 0} (store : Ghosts S) where
 
   module _ (Did Done : (Seen (InDatabase S) → Standing) → Seen (InDatabase S) → Seen (InDatabase S) → Type 0) (follows : (stands : Seen (InDatabase S) → Standing) (d e : Seen (InDatabase S)) → Did stands d e → Done stands d e) where
     over_so : (old : BookState) (conn : Held S) → SeenOver store Did old conn → SeenOver store Done old conn
-    over_so old conn h = record { first = h.first; final = h.final; opened = h.opened; did = follows _ h.first h.final h.did; canonical = h.canonical; back = h.back }
+    over_so old conn h = record { first = h.first; final = h.final; opened = h.opened; did = follows _ h.first h.final h.did; opens = h.opens; back = h.back }
 
     -- whatever follows from the work
     pub seen_so : (makes : Bool) (s : State) (conn : Held S) → SeenIn store Did makes s conn → SeenIn store Done makes s conn

@@ -21,7 +21,7 @@ use Rattle.acd_program.specs.Seen.{Seen, seen, InDatabase, left_of, SeenIn}
 use Rattle.acd_program.specs.Taking.{IsTaken}
 use Rattle.acd_program.specs.Statuses.{PrintsConnectionFaults}
 use Rattle.acd_program.specs.Serving.{ServeDone, listening_line, ends_failed, ListenEnded, ServeEnded, ServeOver, ServeIn}
-use Rattle.acd_program.specs.declared.fault.Fault.{Fault}
+use Rattle.acd_program.specs.declared.fault.WorkFault.{WorkFault}
 use Rattle.acd_program.specs.declared.asked.Task.{Task}
 use Rattle.acd_program.specs.declared.asked.Task.TheVariants as task
 use Rattle.acd_program.specs.Tasks.{ServeDoneIn, TaskDone}
@@ -52,7 +52,7 @@ printed_for stands (Some many) d e a b h = (h.outcomes, h.out)
 printed_for stands None d e a b h = (h.1.outcomes, h.1.out)
 
 -- an endless service without a fault is by a desk that hasn't failed
-well_for : (u : Unit {0}) (span : Option ℕ) (failed : Bool) → ◌≡◌ {A = Result (Unit {0}) Fault} (Ok u) (command_result (Ok tt) (ends_failed span failed)) → span ≡ None → failed ≡ false
+well_for : (u : Unit {0}) (span : Option ℕ) (failed : Bool) → ◌≡◌ {A = Result (Unit {0}) WorkFault} (Ok u) (command_result (Ok tt) (ends_failed span failed)) → span ≡ None → failed ≡ false
 well_for u span false outcome is = refl
 well_for u None true outcome is = absurd (ok_err outcome)
 well_for u (Some many) true outcome is = absurd (cc is)
@@ -60,7 +60,7 @@ well_for u (Some many) true outcome is = absurd (cc is)
 module _ (span : Option ℕ) (a b : Option (List ℕ)) (port : ℕ) (old_output new_output : Option (List ℕ)) where
   module _ {D : Type 0} (stands : D → Standing) where
     -- connections are waited for once the whole line is written
-    pub serve_ended : (r : Result (Unit {0}) Fault) (d e : D) → Appends old_output new_output (listening_line port) → ListenEnded span a b stands r d e → ServeEnded span a b port old_output new_output stands r d e
+    pub serve_ended : (r : Result (Unit {0}) WorkFault) (d e : D) → Appends old_output new_output (listening_line port) → ListenEnded span a b stands r d e → ServeEnded span a b port old_output new_output stands r d e
     serve_ended r d e line (inl none) = inl (none, begins_whole old_output new_output (listening_line port) line)
     serve_ended r d e line (inr some) = inr (some, line)
 
@@ -69,7 +69,7 @@ module _ (span : Option ℕ) (a b : Option (List ℕ)) (port : ℕ) (old_output 
     serve_done u d e (inl none) = absurd (ok_err none.0.ended)
     serve_done u d e (inr some) = record { answered = some.0.answered; well = well_for u span (stands e).failed some.0.ended }
 
-  module _ {S : Type 0} (store : Ghosts S) (s : State) (r : Result (Unit {0}) Fault) (conn : Held S) where
+  module _ {S : Type 0} (store : Ghosts S) (s : State) (r : Result (Unit {0}) WorkFault) (conn : Held S) where
     -- over the book that was opened in the database
     pub serve_in : (makes : Bool) (taken last : BookView S) → ((db : Trees) → IsTrue s.is_open → s.may_leave db → db ≡ s.committed.trees) → IsTaken makes s (book_of store taken) → conn ≡ last.conn
         → ServeOver span a b port old_output new_output (in_database store) (book_of store taken) r last → ServeIn span a b port old_output new_output store makes s r conn
@@ -92,7 +92,7 @@ module _ (span : Option ℕ) (a b : Option (List ℕ)) (port : ℕ) (old_output 
     serve_made is_new makes may (inr some) = inr (seen_made store _ is_new makes s conn may some)
 
   -- without a fault the connections were answered as was asked for
-  pub serve_done_in : {S : Type 0} (store : Ghosts S) (s : State) (r : Result (Unit {0}) Fault) (conn : Held S) (makes : Bool) → ServeIn span a b port old_output new_output store makes s r conn
+  pub serve_done_in : {S : Type 0} (store : Ghosts S) (s : State) (r : Result (Unit {0}) WorkFault) (conn : Held S) (makes : Bool) → ServeIn span a b port old_output new_output store makes s r conn
       → OnOk r (SeenIn store (λ (stands : Seen (InDatabase S) → Standing). ServeDone stands span a b) makes s conn)
   serve_done_in store s (Err e) conn makes h = tt
   serve_done_in store s (Ok u) conn makes (inl none) = absurd (ok_err none.ended)
@@ -105,7 +105,3 @@ file_prints IsFresh span a b h = elim h.answered [
   | inl found ↦ printed_for _ span found.first found.final a b found.did.answered
   | inr made ↦ printed_for _ span made.2.first made.2.final a b made.2.did.answered
 ]
-
-pub serve_task : {D : Type 0} (g : disk.Ghosts D) (IsFresh : Bool → D → Type 0) (asked : Task) (io : Streams) (a b : Option (List ℕ)) (file port : _) (connections : Option ℕ) → asked ≡ task.Serve file port connections → ServeDoneIn g IsFresh connections a b
-    → TaskDone g IsFresh asked io a b 0
-serve_task g IsFresh asked io a b file port connections is h = subst (λ (t : Task). TaskDone g IsFresh t io a b 0) (sym is) (h, refl)

@@ -5,13 +5,10 @@ use Rattle.acd_terms.specs.Limits.{greatest_limits}
 use Rattle.acd_book.specs.State.{BookState}
 use Rattle.acd_sql_schema.specs.SettingUp.{MayMake}
 use Rattle.acd_sqlbook.specs.Adopting.{IsAdopted, MayMigrate}
-use Rattle.acd_sql_columns.specs.Content.{Encodes}
 use Rattle.acd_sql_columns.specs.InTables.{content_of}
 use Rattle.sqlite_trees.specs.Tree.{Trees}
-use Rattle.acd_book.specs.Content.{Content}
 use Rattle.acd_book.specs.Order.{IsOrdered}
-use Rattle.acd_sql_columns.proofs.Decoded.{decoded}
-use Rattle.acd_sql_schema.proofs.Contents.{canonical_in}
+use Rattle.acd_sql_columns.specs.Transactions.{IsBook}
 use Rattle.acd_desk.specs.declared.open_fault.OpenFault.{OpenFault}
 use Rattle.acd_desk.specs.Opening.{Refused}
 use Rattle.acd_sql_columns.specs.Schema.{no_schema}
@@ -23,10 +20,10 @@ use Rattle.sqlite.specs.Held.{state}
 use Rattle.sqlite_trees.specs.declared.store.Store.{Ghosts}
 use Rattle.acd_sqlbook.proofs.Followed.{blank_of}
 use Rattle.acd_program.specs.Ended.{OnlyAsked}
-use Rattle.acd_program.specs.Over.{held, unmade, StandsFor, Unserved}
+use Rattle.acd_program.specs.Over.{before, held, made, migrated, same, unmade, Unserved}
 use Rattle.acd_program.specs.Taking.{IsOf, IsTaken}
 use Rattle.acd_program.proofs.Asking.{only_refused}
-use Rattle.acd_program.proofs.Called.{leaves_canonical}
+use Rattle.acd_program.proofs.Called.{leaves_books}
 
 pub of_held : (s t : State) (cache : Cache) (failures : ℕ) → (HasCleanDisk t → IsAdopted s.now (book_state s 0) (book_state t failures)) → IsBlank cache → failures ≡ 0 → (HasCleanDisk t → HasCleanDisk s)
     → IsOf (held s) (followed cache (book_state t failures))
@@ -42,19 +39,19 @@ of_held s t cache failures adopted none counted clean = record {
 
 pub of_unmade : (s t : State) (cache : Cache) (failures : ℕ) → (HasCleanDisk t → IsNewBook (book_state t failures) greatest_limits) → IsBlank cache → failures ≡ 0 → (HasCleanDisk t → HasCleanDisk s)
     → IsOf (unmade s) (followed cache (book_state t failures))
-of_unmade s t cache failures made none counted clean = record {
-  step = record { clean = clean; sound = λ here _. ((made here).sound, λ up. blank_of cache none _); quiet = λ none. counted; counts = omega arith };
-  content = λ here _. (made here).content;
-  stops = λ here _. (made here).only;
-  keeps = λ here _ c is. subst (book_state t failures).stops (sym is) (made here).stop;
+of_unmade s t cache failures is_new none counted clean = record {
+  step = record { clean = clean; sound = λ here _. ((is_new here).sound, λ up. blank_of cache none _); quiet = λ none. counted; counts = omega arith };
+  content = λ here _. (is_new here).content;
+  stops = λ here _. (is_new here).only;
+  keeps = λ here _ c is. subst (book_state t failures).stops (sym is) (is_new here).stop;
   opened = λ here _. tt;
-  live = λ here _. (made here).live;
-  ordered = λ here _. subst IsOrdered (sym (made here).content) (record { kept = tt; events = tt });
+  live = λ here _. (is_new here).live;
+  ordered = λ here _. subst IsOrdered (sym (is_new here).content) (record { kept = tt; events = tt });
 }
 
 pub adopted_taken : {S E : Type 0} (store : Ghosts S) (makes : Bool) (s : State) (r : Result (BookView S) E) → IfOk r (λ (b : BookView S). HasCleanDisk (state store b.conn) → IsAdopted s.now (book_state s 0) (book_state (state store b.conn) b.failures))
     → IfOk r (λ (b : BookView S). IsBlank b.cache) → IfOk r (λ (b : BookView S). b.failures ≡ 0) → IfOk r (λ (b : BookView S). HasCleanDisk (state store b.conn) → HasCleanDisk s) → IfOk r (λ (b : BookView S). IsTaken makes s (book_of store b))
-adopted_taken store makes s (Ok b) adopted none counted clean = inl (of_held s (state store b.conn) b.cache b.failures adopted none counted clean)
+adopted_taken store makes s (Ok b) adopted none counted clean = inl (record { tables = λ here. let book = (adopted here).of_book in (book.0, book.1.schema_is); of_held = of_held s (state store b.conn) b.cache b.failures adopted none counted clean })
 adopted_taken store makes s (Err e) adopted none counted clean = tt
 
 pub made_taken : {A E : Type 0} (r : Result A E) (stand : A → BookState) (makes : Bool) (s : State) → makes ≡ true → s.now.schema ≡ no_schema → IfOk r (λ (b : A). IsOf (unmade s) (stand b))
@@ -64,13 +61,9 @@ made_taken (Err e) stand makes s asked empty h = tt
 
 -- ---- where no desk is made
 
--- the tables of a content represent it
-stands_for : (db : Trees) (c : Content) → Encodes db c → StandsFor db c
-stands_for db c stored = (canonical_in db c stored, decoded db c stored)
-
 -- a database that was not opened may leave this
 pub unserved_held : (makes : Bool) (s t : State) → (HasCleanDisk t → MayMigrate s t) → Unserved makes s t
-unserved_held makes s t may = λ clean canonical db left. elim (may clean db left) [ inl was ↦ inl was | inr second ↦ inr (inl (stands_for db _ (second.content canonical))) ]
+unserved_held makes s t may = λ clean db left. elim (may clean db left) [ inl was ↦ before was | inr second ↦ migrated second.version second.tables ]
 
 pub none_adopted : {A E : Type 0} (r : Result A E) (new : E → State) (makes : Bool) (s : State) → IfErr r (λ (e : E). HasCleanDisk (new e) → MayMigrate s (new e)) → IfErr r (λ (e : E). Unserved makes s (new e))
 none_adopted (Ok b) new makes s h = tt
@@ -78,7 +71,7 @@ none_adopted (Err e) new makes s h = unserved_held makes s (new e) h
 
 -- tables that were not made to their end may leave this
 pub unserved_unmade : (makes : Bool) (s t : State) → makes ≡ true → s.now.schema ≡ no_schema → (HasCleanDisk t → MayMake s t greatest_limits) → Unserved makes s t
-unserved_unmade makes s t asked empty may = λ clean canonical db left. elim (may clean db left) [ inl was ↦ inl was | inr made ↦ inr (inr (asked, empty, stands_for db _ made)) ]
+unserved_unmade makes s t asked empty may = λ clean db left. elim (may clean db left) [ inl was ↦ before was | inr new ↦ made asked empty new ]
 
 pub none_made : {A E : Type 0} (r : Result A E) (new : E → State) (makes : Bool) (s : State) → makes ≡ true → s.now.schema ≡ no_schema → IfErr r (λ (e : E). HasCleanDisk (new e) → MayMake s (new e) greatest_limits)
     → IfErr r (λ (e : E). Unserved makes s (new e))
@@ -87,22 +80,27 @@ none_made (Err e) new makes s asked empty h = unserved_unmade makes s (new e) as
 
 -- a book of which a desk was only asked, or that makes none, may leave this
 pub unserved_asked : (makes : Bool) (s t : State) (mid : BookState) (cache : Cache) (failures : ℕ) → ((db : Trees) → IsTrue s.is_open → s.may_leave db → db ≡ s.committed.trees) → IsTaken makes s mid → OnlyAsked mid (followed cache (book_state t failures)) → Unserved makes s t
-unserved_asked makes s t mid cache failures settles (inl found) asked = λ clean canonical db left.
+unserved_asked makes s t mid cache failures settles (inl found) asked = λ clean db left.
     let here = asked.clean clean in
-    let sound = found.step.sound here canonical in
-    let before = found.stops here canonical (content_of db) (asked.stops clean sound (content_of db) (db, left, refl)) in
-    let same : content_of db ≡ content_of s.committed.trees = before.2 ∙ ap content_of (settles before.0 (found.opened here canonical) before.1) in
-    inr (inl (leaves_canonical t cache failures (asked.sound clean sound) db left, same))
-unserved_asked makes s t mid cache failures settles (inr made) asked = λ clean canonical db left.
+    same (found.tables here) (λ canonical.
+    let of = found.of_held in
+    let sound = of.step.sound here canonical in
+    let was = of.stops here canonical (content_of db) (asked.stops clean sound (content_of db) (db, left, refl)) in
+    subst (IsBook db) (was.2 ∙ ap content_of (settles was.0 (of.opened here canonical) was.1)) ((leaves_books t cache failures (asked.sound clean sound)).left db left))
+unserved_asked makes s t mid cache failures settles (inr new) asked = λ clean db left.
     let here = asked.clean clean in
-    let new = made.2 in
-    let sound = new.step.sound here tt in
-    let same = new.stops here tt (content_of db) (asked.stops clean sound (content_of db) (db, left, refl)) in
-    inr (inr (made.0, made.1, (leaves_canonical t cache failures (asked.sound clean sound) db left, same)))
+    let sound = new.2.step.sound here tt in
+    let empty = new.2.stops here tt (content_of db) (asked.stops clean sound (content_of db) (db, left, refl)) in
+    made new.0 new.1 (subst (IsBook db) empty ((leaves_books t cache failures (asked.sound clean sound)).left db left))
 
 pub unserved_refused : (makes : Bool) (s t : State) (mid : BookState) (cache : Cache) (failures : ℕ) (why : OpenFault) → ((db : Trees) → IsTrue s.is_open → s.may_leave db → db ≡ s.committed.trees) → IsTaken makes s mid → Refused mid why (followed cache (book_state t failures)) → Unserved makes s t
 unserved_refused makes s t mid cache failures why settles of refused = unserved_asked makes s t mid cache failures settles of (only_refused mid (followed cache (book_state t failures)) why refused)
 
 -- where it was known whether a new book may be made
 pub unserved_makes : (is_new makes : Bool) (s t : State) → (is_new ≡ true → makes ≡ true) → Unserved is_new s t → Unserved makes s t
-unserved_makes is_new makes s t may h = λ clean canonical db left. elim (h clean canonical db left) [ inl was ↦ inl was | inr w ↦ elim w [ inl second ↦ inr (inl second) | inr made ↦ inr (inr (may made.0, made.1, made.2)) ] ]
+unserved_makes is_new makes s t may h = λ clean db left. elim (h clean db left) [
+  | before was ↦ before was
+  | migrated old tables ↦ migrated old tables
+  | same tables book ↦ same tables book
+  | made asked empty book ↦ made (may asked) empty book
+]

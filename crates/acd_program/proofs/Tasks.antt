@@ -15,13 +15,15 @@ use Rattle.acd_program.specs.declared.desk.Work.{Work}
 use Rattle.acd_program.specs.declared.desk.Work.TheVariants as book
 use Rattle.acd_program.specs.declared.desk.Done.{Done}
 use Rattle.acd_program.specs.declared.desk.Done.TheVariants.{Nothing, Text, Audited}
+use Rattle.acd_program.specs.declared.status.Status.{Status}
+use Rattle.acd_program.specs.declared.status.Status.TheVariants.{Success}
 use Rattle.acd_program.specs.Found.{IsFindingOf, HasCount, finding_line}
 use Rattle.acd_lines.specs.Lines.{AllRequests, RequestsAnswered, Streams}
 use Rattle.acd_lines.proofs.Weaker.{out_so}
 use Rattle.acd_program.specs.Over.{IsSession, OverConnection}
 use Rattle.acd_program.specs.Work.{WasAsked, IsTextOf, ImportsOver, AuditsOver, WorkDone, IsPrinted, text_left, status_left}
-use Rattle.acd_program.specs.InFiles.{IsLaidIn, WorkedOver, IsOpenedFrom, InFile}
-use Rattle.acd_program.specs.Tasks.{WorkedIn, InputAnswered, AuditedIn, WholeAudit, TaskDone}
+use Rattle.acd_program.specs.InFiles.{IsLaidIn, WorkedOver, InFile}
+use Rattle.acd_program.specs.Tasks.{WorkedIn, AuditedIn, WholeAudit, TaskDone}
 use Rattle.acd_program.specs.declared.asked.Task.{Task}
 use Rattle.acd_program.specs.declared.asked.Task.TheVariants as task
 use Rattle.acd_program.proofs.InFiles.{over_so, over_fact, over_makes, appends_nothing}
@@ -49,9 +51,9 @@ found_left counts ending old_output between makes s t (Audited found end) h =
       over_so P (λ old new. WasAsked old IsFindingOf found new) makes s t (λ old new p. p.0.1) h,
     )
 
-module _ {D : Type 0} (disk : Ghosts D) (IsFresh : Bool → D → Type 0) (old_output new_output : Option (List ℕ)) (status : ℕ) where
+module _ {D : Type 0} (disk : Ghosts D) (IsFresh : Bool → D → Type 0) (old_output new_output : Option (List ℕ)) (status : Status) where
   pub import_done : (makes : Bool) (requests : _) → WorkedIn disk IsFresh makes (book.Import requests) old_output new_output status
-      → InFile disk IsFresh (λ (old new : BookState). ImportsOver requests.now old old_output new_output new) makes × (status ≡ 0)
+      → InFile disk IsFresh (λ (old new : BookState). ImportsOver requests.now old old_output new_output new) makes × (status ≡ Success)
   import_done makes requests h =
       let w = h.2 in
       let s = file_state h.0 in
@@ -70,7 +72,7 @@ module _ {D : Type 0} (disk : Ghosts D) (IsFresh : Bool → D → Type 0) (old_o
       )
 
   pub printout_done : (makes : Bool) (printout : Printout) → WorkedIn disk IsFresh makes (book.Print printout) old_output new_output status
-      → (text : List ℕ) × InFile disk IsFresh (λ (old new : BookState). WasAsked old (IsTextOf printout) text new) makes × Appends old_output new_output text × (status ≡ 0)
+      → (text : List ℕ) × InFile disk IsFresh (λ (old new : BookState). WasAsked old (IsTextOf printout) text new) makes × Appends old_output new_output text × (status ≡ Success)
   printout_done makes printout h =
       let w = h.2 in
       let s = file_state h.0 in
@@ -86,7 +88,7 @@ module _ {D : Type 0} (disk : Ghosts D) (IsFresh : Bool → D → Type 0) (old_o
           closed = w.closed;
         },
         subst (λ (a : Option (List ℕ)). Appends a new_output (text_left w.left)) same w.printed,
-        w.outcome ∙ over_fact P (status_left w.left ≡ 0) makes s t (λ old new p. p.0.status) w.done,
+        w.outcome ∙ over_fact P (status_left w.left ≡ Success) makes s t (λ old new p. p.0.status) w.done,
       )
 
   pub audit_done : (counts : Bool) (ending : Ending) → WorkedIn disk IsFresh false (book.Audit counts ending) old_output new_output status → AuditedIn disk IsFresh counts ending old_output new_output status
@@ -106,7 +108,7 @@ module _ {D : Type 0} (disk : Ghosts D) (IsFresh : Bool → D → Type 0) (old_o
       }
 
 -- where it was known whether the file was new
-pub worked_in : {D : Type 0} {g : Ghosts D} (is_new makes : Bool) (work : Work) (conn : Held (FileStore D g)) (old_output new_output : Option (List ℕ)) (status : ℕ) → (is_new ≡ true → makes ≡ true)
+pub worked_in : {D : Type 0} {g : Ghosts D} (is_new makes : Bool) (work : Work) (conn : Held (FileStore D g)) (old_output new_output : Option (List ℕ)) (status : Status) → (is_new ≡ true → makes ≡ true)
     → WorkedOver is_new work conn old_output new_output status → WorkedOver makes work conn old_output new_output status
 worked_in is_new makes work conn old_output new_output status may w = record {
   last = w.last;
@@ -119,25 +121,18 @@ worked_in is_new makes work conn old_output new_output status may w = record {
 }
 
 -- the work was done, its file closed, and what was left printed
-pub worked_over : {D : Type 0} {g : Ghosts D} {F : Type 0} (r : Result ℕ F) (work : Work) (makes : Bool) (conn last : Held (FileStore D g)) (done : Result Done F) (closed : Result (Unit {0}) F) (old_output between new_output : Option (List ℕ))
-    → IfOk done (λ (l : Done). OverConnection (λ (old new : BookState). WorkDone IsFindingOf work old old_output between l new) makes (file_state conn) (file_state last)) → OnOk closed (IsLaidIn last)
-    → IfOk r (λ (status : ℕ). IsPrinted done closed between new_output status) → IfOk r (λ (status : ℕ). WorkedOver makes work conn old_output new_output status)
-worked_over (Err e) work makes conn last done closed old_output between new_output d k p = tt
-worked_over {F = F} (Ok status) work makes conn last done closed old_output between new_output d k p = record {
+pub worked_over : {D : Type 0} {g : Ghosts D} {F : Type 0} (status : Status) (work : Work) (makes : Bool) (conn last : Held (FileStore D g)) (left : Done) (closed : Result (Unit {0}) F) (old_output between new_output : Option (List ℕ))
+    → OverConnection (λ (old new : BookState). WorkDone IsFindingOf work old old_output between left new) makes (file_state conn) (file_state last) → OnOk closed (IsLaidIn last)
+    → IsPrinted left closed between new_output status → WorkedOver makes work conn old_output new_output status
+worked_over {F = F} status work makes conn last left closed old_output between new_output d k p = record {
   last = last;
-  left = p.left;
+  left = left;
   between = between;
-  done = subst (λ (x : Result Done F). IfOk x (λ (l : Done). OverConnection (λ (old new : BookState). WorkDone IsFindingOf work old old_output between l new) makes (file_state conn) (file_state last))) p.ended d;
+  done = d;
   closed = subst (λ (x : Result (Unit {0}) F). OnOk x (IsLaidIn last)) p.shut k;
   printed = p.printed;
   outcome = p.outcome;
 }
-
--- the work was done over the connection that was opened
-pub worked_from : {D F : Type 0} {g : Ghosts D} (IsFresh : Bool → D → Type 0) (r : Result ℕ F) (is_new makes : Bool) (work : Work) (conn : Held (FileStore D g)) (old_output new_output : Option (List ℕ)) → IsOpenedFrom g IsFresh conn → (is_new ≡ true → makes ≡ true)
-    → IfOk r (λ (status : ℕ). WorkedOver is_new work conn old_output new_output status) → IfOk r (λ (status : ℕ). WorkedIn g IsFresh makes work old_output new_output status)
-worked_from IsFresh (Ok status) is_new makes work conn old_output new_output opened may h = (conn, opened, worked_in is_new makes work conn old_output new_output status may h)
-worked_from IsFresh (Err e) is_new makes work conn old_output new_output opened may h = tt
 
 -- a statement on an error that was handed on
 pub err_from : {A E : Type 0} (r : Result A E) (e : E) (P : E → Type 0) → r ≡ Err e → P e → IfErr r P
@@ -149,21 +144,11 @@ ok_so (Err e) P Q follows h = tt
 
 -- ---- by what the command line asks for
 
-module _ {D F : Type 0} (disk : Ghosts D) (IsFresh : Bool → D → Type 0) (r : Result ℕ F) (asked : Task) (io : Streams) (old_errors new_errors : Option (List ℕ)) where
-  pub lines_task : (file : _) (reads ends : Bool) → asked ≡ task.Lines file reads ends → IfOk r (λ (status : ℕ). InputAnswered disk IsFresh file reads ends io status)
-      → IfOk r (λ (status : ℕ). TaskDone disk IsFresh asked io old_errors new_errors status)
-  lines_task file reads ends is = ok_so r _ _ (λ status h. subst (λ (t : Task). TaskDone disk IsFresh t io old_errors new_errors status) (sym is) h)
-
-  read_done : (file : _) (work : Work) (status : ℕ) → WorkedIn disk IsFresh false work io.old_output io.new_output status → TaskDone disk IsFresh (task.Read file work) io old_errors new_errors status
+module _ {D : Type 0} (disk : Ghosts D) (IsFresh : Bool → D → Type 0) (io : Streams) (old_errors new_errors : Option (List ℕ)) where
+  pub read_done : (file : _) (work : Work) (status : Status) → WorkedIn disk IsFresh false work io.old_output io.new_output status → TaskDone disk IsFresh (task.Read file work) io old_errors new_errors status
   read_done file (book.Import requests) status h = import_done disk IsFresh io.old_output io.new_output status false requests h
   read_done file (book.Print printout) status h = printout_done disk IsFresh io.old_output io.new_output status false printout h
   read_done file (book.Audit counts ending) status h = audit_done disk IsFresh io.old_output io.new_output status counts ending h
 
-  pub read_task : (file : _) (work : Work) → asked ≡ task.Read file work → IfOk r (λ (status : ℕ). WorkedIn disk IsFresh false work io.old_output io.new_output status)
-      → IfOk r (λ (status : ℕ). TaskDone disk IsFresh asked io old_errors new_errors status)
-  read_task file work is = ok_so r _ _ (λ status h. subst (λ (t : Task). TaskDone disk IsFresh t io old_errors new_errors status) (sym is) (read_done file work status h))
-
-  pub whole_task : (file : _) (counts : Bool) → asked ≡ task.AuditWhole file counts → IfOk r (λ (status : ℕ). WholeAudit disk IsFresh counts io.old_output io.new_output status)
-      → IfOk r (λ (status : ℕ). TaskDone disk IsFresh asked io old_errors new_errors status)
-  whole_task file counts is =
-      ok_so r _ _ (λ status h. subst (λ (t : Task). TaskDone disk IsFresh t io old_errors new_errors status) (sym is) (h.0, h.1, audit_done disk IsFresh io.old_output io.new_output status counts h.0 h.2))
+  pub whole_done : (file : _) (counts : Bool) (status : Status) → WholeAudit disk IsFresh counts io.old_output io.new_output status → TaskDone disk IsFresh (task.AuditWhole file counts) io old_errors new_errors status
+  whole_done file counts status h = (h.0, h.1, audit_done disk IsFresh io.old_output io.new_output status counts h.0 h.2)

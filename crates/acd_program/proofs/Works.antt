@@ -29,11 +29,11 @@ use Rattle.acd_program.specs.declared.desk.Done.{Done}
 use Rattle.acd_program.specs.declared.desk.Done.TheVariants as left
 use Rattle.acd_program.specs.Found.{IsFindingOf}
 use Rattle.acd_program.specs.Work.{ImportsOver, IsFindingIfOrdered, IsTextOf, AuditsOver, WorkDone, printout_text}
-use Rattle.acd_program.specs.Over.{IsSession, LeavesCanonical, OverConnection}
+use Rattle.acd_program.specs.Over.{IsSession, LeavesBooks, OverConnection}
 use Rattle.acd_program.specs.Taking.{IsOf, IsTaken}
 use Rattle.acd_program.proofs.Over.{session_of, over_connection}
 use Rattle.acd_program.proofs.Asking.{asked_of, asked_in_order}
-use Rattle.acd_program.proofs.Called.{called, leaves_canonical, session_called, asked_called}
+use Rattle.acd_program.proofs.Called.{called, leaves_books, session_called, asked_called}
 
 pub imports_over : (old : BookState) (d e : Standing) (requests : List Request) (old_output new_output : Option (List ℕ)) → Opened old d
     → LinesAnswered (AllRequests requests) (RequestsAnswered (λ (l : List Arrival) (ts : List Taken). Ran d l ts e)) (Appends old_output new_output) → ImportsOver requests old old_output new_output e.book
@@ -75,11 +75,10 @@ export_text c text h p whole = h (carried_rises p c whole)
 -- ---- over a connection
 
 -- the work over the book that the database held, or over a new one
-pub database_done : {E : Type 0} (r : Result Done E) (work : Work) (makes : Bool) (s t : State) (mid : BookState) (cache : Cache) (failures : ℕ) (old_output new_output : Option (List ℕ)) → IsTaken makes s mid
-    → IfOk r (λ (d : Done). WorkDone IsFindingIfOrdered work mid old_output new_output d (followed cache (book_state t failures)))
-    → IfOk r (λ (d : Done). OverConnection (λ (old new : BookState). WorkDone IsFindingOf work old old_output new_output d new) makes s t)
-database_done (Err e) work makes s t mid cache failures old_output new_output taken h = tt
-database_done (Ok d) work makes s t mid cache failures old_output new_output taken h =
+pub database_done : (work : Work) (makes : Bool) (s t : State) (mid : BookState) (cache : Cache) (failures : ℕ) (old_output new_output : Option (List ℕ)) (d : Done) → IsTaken makes s mid
+    → WorkDone IsFindingIfOrdered work mid old_output new_output d (followed cache (book_state t failures))
+    → OverConnection (λ (old new : BookState). WorkDone IsFindingOf work old old_output new_output d new) makes s t
+database_done work makes s t mid cache failures old_output new_output d taken h =
     over_connection (λ (old new : BookState). WorkDone IsFindingIfOrdered work old old_output new_output d new) (λ (old new : BookState). WorkDone IsFindingOf work old old_output new_output d new) makes s t mid cache failures
     (λ old of done. work_of work old mid (followed cache (book_state t failures)) old_output new_output d of done)
-    (λ old done. work_left (LeavesCanonical t) (followed cache (book_state t failures)) (leaves_canonical t cache failures) work old old_output new_output d done) taken h
+    (λ old done. work_left (LeavesBooks t) (followed cache (book_state t failures)) (leaves_books t cache failures) work old old_output new_output d done) taken h

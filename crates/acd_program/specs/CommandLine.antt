@@ -1,17 +1,18 @@
 -- The commands with their options, and the task that the words of a command line name.
-use Rattle.std.specs.Prelude.{◌≡◌, ◌≢◌, ℕ, ◌∷◌, [], Bool, true, false, List, Option, Some, None, Result, IfOk, IfErr, IfSome, is_some, find, codes, option_map}
+use Rattle.std.specs.Prelude.{◌≡◌, ◌≢◌, ◌⊎◌, ◌<◌, ◌^◌, ℕ, ◌∷◌, [], Bool, true, false, List, Option, Some, None, Result, IfOk, MatchOption, is_some, find, codes, option_map}
 use Rattle.std.specs.Option.{option_map_or}
 use Rattle.std.specs.Str.{bytes_eq}
 use Rattle.std.specs.Str.Parse.{IsNumeral, digits_value, without_leading_plus}
 use Rattle.std.specs.Borrow.{Bor}
 use Rattle.clap.specs.Simple.{new_shape}
-use Rattle.clap.specs.Words.{App, Row, Rule, Shape, Text, app_of, first_of, kind_of, new_rule, one_of, rule_of, subcommand_of, takes, with_subcommand}
+use Rattle.clap.specs.Words.{App, Row, Rule, Shape, Text, app_of, first_of, new_rule, one_of, rule_of, subcommand_of, takes, with_subcommand}
 use Rattle.clap.specs.declared.builder.Arg.{Arg}
 use Rattle.clap.specs.declared.builder.Command.{Command}
 use Rattle.clap.specs.declared.builder.Command.TheViews.{out-Command as fields_of}
 use Rattle.clap.specs.declared.builder.action.ArgAction.TheVariants.{Set, SetTrue}
 use Rattle.clap.specs.declared.builder.value_parser.ValueParser.TheVariants.{Unsigned}
-use Rattle.clap.specs.declared.error.Error.{Error}
+use Rattle.clap.specs.declared.error.kind.ErrorKind.{ErrorKind}
+use Rattle.clap.specs.declared.error.kind.ErrorKind.TheVariants.{OutOfMemory}
 use Rattle.acd_log.specs.declared.ending.Ending.TheVariants.{Plain}
 use Rattle.acd_program.specs.Statuses.{IsHelp}
 use Rattle.acd_program.specs.declared.desk.Work.{Work}
@@ -46,13 +47,9 @@ with_rules name rules = record (new_shape name) { rules = rules }
 abbrev pub lines_shape : Shape
 lines_shape = with_rules (codes "lines") (file_rule ∷ flag_rule (codes "reads") ∷ flag_rule (codes "end-on-store-fault") ∷ [])
 
--- it has a rule on another option: one of both is given
-abbrev pub connections_rule : Rule
-connections_rule = record (number_rule (codes "connections") 1000000) { is_free = false }
-
 abbrev pub serve_shape : Shape
 serve_shape = with_rules (codes "serve")
-    (required file_rule ∷ required (number_rule (codes "port") 65535) ∷ connections_rule ∷ flag_rule (codes "endless") ∷ [])
+    (required file_rule ∷ required (number_rule (codes "port") 65535) ∷ number_rule (codes "connections") 1000000 ∷ flag_rule (codes "endless") ∷ [])
 
 abbrev pub import_shape : Shape
 import_shape = with_rules (codes "import") (required file_rule ∷ required (option_rule (codes "plan")) ∷ [])
@@ -109,14 +106,14 @@ IsFileIfGiven options file = option_map (λ (f : Bor Text). f.now) file ≡ firs
 abbrev pub HasNone : Text → List Row → Type 0
 HasNone name options = first_of name options ≡ None
 
--- the option has a text that is this number
-abbrev pub IsNumber : Text → List Row → ℕ → Type 0
-IsNumber name options n =
-    (text : Text) × (one_of name options ≡ Some text) × IsNumeral 10 (without_leading_plus text) × (digits_value 10 (without_leading_plus text) ≡ n)
+-- the option has a text that is this number, of so many bits at most
+abbrev pub IsNumber : ℕ → Text → List Row → ℕ → Type 0
+IsNumber bits name options n =
+    (text : Text) × (one_of name options ≡ Some text) × IsNumeral 10 (without_leading_plus text) × (digits_value 10 (without_leading_plus text) ≡ n) × (n < 2 ^ bits)
 
 -- so many connections or, where none is named, no end of them: one of both was asked for
 abbrev pub IsSpan : List Row → Option ℕ → Type 0
-IsSpan options (Some n) = IsNumber (codes "connections") options n × (is_given (codes "endless") options ≡ false)
+IsSpan options (Some n) = IsNumber 32 (codes "connections") options n × (is_given (codes "endless") options ≡ false)
 IsSpan options None = (has_option (codes "connections") options ≡ false) × (is_given (codes "endless") options ≡ true)
 
 -- the command that prints it
@@ -140,7 +137,7 @@ abbrev pub IsTaskWith : Text → List Row → Task → Type 0
 IsTaskWith command options (Lines file reads ends) =
     (command ≡ codes "lines") × IsFileIfGiven options file × IsFlag (codes "reads") options reads × IsFlag (codes "end-on-store-fault") options ends
 IsTaskWith command options (Serve file port connections) =
-    (command ≡ codes "serve") × IsText (codes "file") options file × IsNumber (codes "port") options port × IsSpan options connections
+    (command ≡ codes "serve") × IsText (codes "file") options file × IsNumber 16 (codes "port") options port × IsSpan options connections
 IsTaskWith command options (Import file plan) = (command ≡ codes "import") × IsText (codes "file") options file × IsText (codes "plan") options plan
 IsTaskWith command options (AuditWhole file counts) = IsAuditOf command options file counts true × HasNone (codes "archive") options
 IsTaskWith command options (AuditWithArchive file archive counts whole) = IsAuditOf command options file counts whole × IsText (codes "archive") options archive
@@ -158,16 +155,32 @@ IsTaskOf words = IsTaskIn (subcommand_of acd words)
 abbrev pub IsUntaken : List Text → Type 0
 IsUntaken words = takes acd words ≢ true
 
+-- they name no task
+abbrev pub NamesNoTask : List Text → Type 0
+NamesNoTask words = (task : Task) → ¬ IsTaskOf words task
+
+-- they are refused: they aren't a command line of the program, or name no task
+abbrev pub IsRefused : List Text → Type 0
+IsRefused words = IsUntaken words ⊎ NamesNoTask words
+
 -- ---- of a call
 
 -- where a command and one to go below it were made, it is made of both
 abbrev pub AddsCommand : {F : Type 0} → Result Command F → Result Command F → Result Command F → Type 0
 AddsCommand command added result = (above below : App) → IfOk command (HasApp above) → IfOk added (HasApp below) → IfOk result (HasApp (with_subcommand above below.top))
 
--- the task that was found, if one was, is that of the words
-abbrev pub NamesTask : List Text → Option Task → Type 0
-NamesTask words task = IfSome task (IsTaskOf words)
+-- the task of a command with these options was found, or there is none
+abbrev pub FindsTask : Text → List Row → Option Task → Type 0
+FindsTask command options found = MatchOption found ((task : Task) → ¬ IsTaskWith command options task) (IsTaskWith command options)
 
--- help and the version are asked for only by words that aren't a command line
-abbrev pub UntakenIfHelp : {A : Type 0} → Result A Error → List Text → Type 0
-UntakenIfHelp result words = IfErr result (λ (error : Error). IsHelp (kind_of error) → IsUntaken words)
+-- the same of what the words name
+abbrev pub FindsTaskIn : Option (Text × List Row) → Option Task → Type 0
+FindsTaskIn matches found = MatchOption found ((task : Task) → ¬ IsTaskIn matches task) (IsTaskIn matches)
+
+-- and of how many connections are asked for
+abbrev pub FindsSpan : List Row → Option (Option ℕ) → Type 0
+FindsSpan options found = MatchOption found ((span : Option ℕ) → ¬ IsSpan options span) (IsSpan options)
+
+-- there is no task, with an error of this kind: there was no memory; or the words aren't a command line, as where help is asked for; or they name no task
+abbrev pub IsRefusedBy : List Text → ErrorKind → Type 0
+IsRefusedBy words kind = (kind ≡ OutOfMemory) ⊎ (IsUntaken words ⊎ ((¬ IsHelp kind) × NamesNoTask words))

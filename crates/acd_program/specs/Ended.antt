@@ -1,6 +1,6 @@
 -- A fault ended a command, and what is left: a reopening may find (a) what it could find at the start, or (b) that with the first of the requests. `Unserved` says (a) of a connection;
 -- sessions and desks over its book say (b).
-use Rattle.std.specs.Prelude.{◌≡◌, ◌⊎◌, ℕ, Bool, List, Option, Result, Ok, Err, OnErr}
+use Rattle.std.specs.Prelude.{◌≡◌, ◌⊎◌, ℕ, Bool, List, Option, Result, Ok, Err, MatchResult}
 use Rattle.sqlite_disk.specs.declared.Disk.{Ghosts}
 use Rattle.sqlite_store.specs.declared.store.FileStore.{FileStore}
 use Rattle.sqlite.specs.Held.{Held, state}
@@ -14,60 +14,30 @@ use Rattle.acd_io.specs.Sent.{Begins, Breaks}
 use Rattle.acd_lines.specs.Lines.{LinesAnswered, FirstRequests, RequestsAnswered}
 use Rattle.acd_reports.specs.Plan.{plan_requests}
 use Rattle.acd_program.specs.Found.{IsFindingOf}
+use Rattle.acd_program.specs.InFiles.{WorkedOver}
 use Rattle.acd_program.specs.Output.{Output}
-use Rattle.acd_program.specs.Over.{IsSession, Database, OverConnection, Unserved}
-use Rattle.acd_program.specs.Work.{WorkDone, text_left}
-use Rattle.acd_program.specs.declared.fault.Fault.{Fault}
-use Rattle.acd_program.specs.declared.fault.Fault.TheVariants.{CannotOpen, OpenElsewhere, WrongVersion, BadRow, BadRows, NoMemory, Store, Plan, Read, Write, CannotListen}
+use Rattle.acd_program.specs.Over.{IsSession, Database, OverCall, OverConnection, Unserved}
+use Rattle.acd_program.specs.Work.{ImportsOver, IsFindingIfOrdered, WorkDone, text_left}
+use Rattle.acd_program.specs.declared.status.Status.{Status}
+use Rattle.acd_program.specs.declared.fault.WorkFault.{WorkFault}
+use Rattle.acd_program.specs.declared.fault.WorkFault.TheVariants.{NoMemory, Store}
 use Rattle.acd_program.specs.declared.desk.Work.{Work}
 use Rattle.acd_program.specs.declared.desk.Work.TheVariants.{Import, Print, Audit}
 use Rattle.acd_program.specs.declared.desk.Done.{Done}
 
--- ---- faults, by when they come
+-- ---- faults
 
--- before there is a connection
-abbrev pub IsOfOpening : Fault → Type 0
-IsOfOpening (CannotOpen path) = Unit {0}
-IsOfOpening (OpenElsewhere path) = Unit {0}
-IsOfOpening (WrongVersion version) = version ≡ 0
-IsOfOpening (BadRow table) = ⊥
-IsOfOpening (BadRows rule) = ⊥
-IsOfOpening NoMemory = Unit {0}
-IsOfOpening Store = ⊥
-IsOfOpening (Plan why) = Unit {0}
-IsOfOpening Read = ⊥
-IsOfOpening Write = ⊥
-IsOfOpening (CannotListen port) = ⊥
-
--- once there is one
-abbrev pub IsOfDesk : Fault → Type 0
-IsOfDesk (CannotOpen path) = ⊥
-IsOfDesk (OpenElsewhere path) = ⊥
-IsOfDesk (WrongVersion version) = Unit {0}
-IsOfDesk (BadRow table) = Unit {0}
-IsOfDesk (BadRows rule) = Unit {0}
-IsOfDesk NoMemory = Unit {0}
-IsOfDesk Store = Unit {0}
-IsOfDesk (Plan why) = ⊥
-IsOfDesk Read = Unit {0}
-IsOfDesk Write = Unit {0}
-IsOfDesk (CannotListen port) = Unit {0}
-
--- when it is closed
-abbrev pub IsOfClosing : Fault → Type 0
+-- of closing a file
+abbrev pub IsOfClosing : WorkFault → Type 0
 IsOfClosing fault = (fault ≡ NoMemory) ⊎ (fault ≡ Store)
 
 -- the fault of a command: the one that ended its work or, where none did, the one of closing its file
-abbrev pub EndsBy : Result (Unit {0}) Fault → Fault → Type 0
+abbrev pub EndsBy : Result (Unit {0}) WorkFault → WorkFault → Type 0
 EndsBy ended fault = (ended ≡ Err fault) ⊎ ((ended ≡ Ok tt) × IsOfClosing fault)
 
--- by how the work ended and how closing its file did: the fault of the work comes first
-abbrev pub IsFirstFault : Result (Unit {0}) Fault → Result (Unit {0}) Fault → Fault → Type 0
-IsFirstFault done closed fault = (done ≡ Err fault) ⊎ ((done ≡ Ok tt) × (closed ≡ Err fault))
-
--- of the work, of printing what was left of it, or of closing its file
-abbrev pub IsSomeFault : {A : Type 0} → Result A Fault → Result (Unit {0}) Fault → Fault → Type 0
-IsSomeFault done closed fault = (done ≡ Err fault) ⊎ ((fault ≡ Write) ⊎ (closed ≡ Err fault))
+-- the work ended, and then the closing of its file did: both without a fault or, where one came of them, so
+abbrev pub EndsBoth : {F : Type 0} → Result (Unit {0}) WorkFault → Result (Unit {0}) F → Result (Unit {0}) WorkFault → Type 0
+EndsBoth ended closed result = MatchResult result (λ (done : Unit {0}). (ended ≡ Ok tt) × (closed ≡ Ok tt)) (EndsBy ended)
 
 -- ---- over a book
 
@@ -107,13 +77,25 @@ StoppedPlan requests old_output new_output old new = (OnlyAsked old new × (new_
 abbrev pub StoppedOver : Work → Option (List ℕ) → Option (List ℕ) → BookState → BookState → Type 0
 StoppedOver work old_output new_output old new = (OnlyAsked old new × (new_output ≡ old_output)) ⊎ IsBegun work old_output new_output old new
 
--- a fault that ended an import left this, by the book as it was handed in and as it came back
-abbrev pub EndsImport : {B F : Type 0} → book.Ghosts B → B → Result Done F × B → List Request → Output → Type 0
-EndsImport books given result requests out = OnErr result.0 (StoppedPlan requests out.before out.after (books.state given) (books.state result.1))
+-- so the requests of a plan were executed over a book that was handed in, with the one that came back: all of them or, where a fault ended that, so
+abbrev pub TakesAll : {B : Type 0} → book.Ghosts B → B → B → List Request → Output → Type 0
+TakesAll books old new requests out = ImportsOver requests (books.state old) out.before out.after (books.state new)
 
--- so did one that ended any work
+abbrev pub TakesSome : {B : Type 0} → book.Ghosts B → B → B → List Request → Output → Type 0
+TakesSome books old new requests out = StoppedPlan requests out.before out.after (books.state old) (books.state new)
+
+abbrev pub EndsImport : {B F : Type 0} → book.Ghosts B → B → Result Done F × B → List Request → Output → Type 0
+EndsImport books given result requests out = MatchResult result.0 (λ done. TakesAll books given result.1 requests out) (λ fault. TakesSome books given result.1 requests out)
+
+-- so any work was done over it
+abbrev pub WorksBy : {B : Type 0} → book.Ghosts B → B → B → Work → Output → Done → Type 0
+WorksBy books old new work out done = WorkDone IsFindingIfOrdered work (books.state old) out.before out.after done (books.state new)
+
+abbrev pub StopsBy : {B : Type 0} → book.Ghosts B → B → B → Work → Output → Type 0
+StopsBy books old new work out = StoppedOver work out.before out.after (books.state old) (books.state new)
+
 abbrev pub EndsWork : {B F : Type 0} → book.Ghosts B → B → Result Done F × B → Work → Output → Type 0
-EndsWork books given result work out = OnErr result.0 (StoppedOver work out.before out.after (books.state given) (books.state result.1))
+EndsWork books given result work out = MatchResult result.0 (λ done. WorksBy books given result.1 work out done) (λ fault. StopsBy books given result.1 work out)
 
 -- ---- over a connection
 
@@ -121,14 +103,15 @@ EndsWork books given result work out = OnErr result.0 (StoppedOver work out.befo
 abbrev pub WorkStopped : Work → Bool → State → State → Option (List ℕ) → Option (List ℕ) → Type 0
 WorkStopped work makes old new old_output new_output = (Unserved makes old new × (new_output ≡ old_output)) ⊎ OverConnection (IsBegun work old_output new_output) makes old new
 
--- a fault that ended the work left this, by the database as it was handed in and the connection that came back
-abbrev pub EndsInDatabase : {S F : Type 0} → Database S → Result Done F × Held S → Work → Output → Type 0
-EndsInDatabase db result work out = OnErr result.0 (WorkStopped work db.makes (state db.store db.conn) (state db.store result.1) out.before out.after)
+-- so the work was done over a database that was handed in, with the connection that came back; or, where a fault ended it, so
+abbrev pub WorksInDatabase : {S : Type 0} → Database S → Held S → Work → Output → Done → Type 0
+WorksInDatabase db last work out done = OverCall db (λ (old new : BookState). WorkDone IsFindingOf work old out.before out.after done new) last
 
--- where a fault ended the work nothing was printed after it, and else a beginning of what was left
-abbrev pub PrintedOf : {F : Type 0} → Result Done F → Option (List ℕ) → Option (List ℕ) → Type 0
-PrintedOf (Err fault) old_output new_output = new_output ≡ old_output
-PrintedOf (Ok left) old_output new_output = Begins old_output new_output (text_left left)
+abbrev pub StopsInDatabase : {S : Type 0} → Database S → Held S → Work → Output → Type 0
+StopsInDatabase db last work out = WorkStopped work db.makes (state db.store db.conn) (state db.store last) out.before out.after
+
+abbrev pub EndsInDatabase : {S F : Type 0} → Database S → Result Done F × Held S → Work → Output → Type 0
+EndsInDatabase db result work out = MatchResult result.0 (λ done. WorksInDatabase db result.1 work out done) (λ fault. StopsInDatabase db result.1 work out)
 
 module _ {D : Type 0} {g : Ghosts D} where
   -- the connection was closed, or that failed: a crash leaves nothing then that it didn't leave before
@@ -149,6 +132,7 @@ module _ {D : Type 0} {g : Ghosts D} where
     pub kept : OnlyReads work → Unserved makes (file_state conn) (file_state last)
     pub left : WorkStopped work makes (file_state conn) (file_state last) old_output new_output ⊎ WasCut makes work conn last old_output new_output
 
-  -- a fault that ended the work over a connection left this
-  abbrev pub EndsWorkOn : {A F : Type 0} → Held (FileStore D g) → Result A F → Bool → Work → Output → Type 0
-  EndsWorkOn conn result makes work out = OnErr result (WorkEnded makes work conn out.before out.after)
+  -- so the work over a connection was done, with this status; or, where a fault ended it, so
+  abbrev pub EndsWorkOn : {F : Type 0} → Held (FileStore D g) → Result Status F → Bool → Work → Output → Type 0
+  EndsWorkOn conn result makes work out =
+      MatchResult result (λ status. WorkedOver makes work conn out.before out.after status) (λ fault. WorkEnded makes work conn out.before out.after)

@@ -15,11 +15,25 @@ use Rattle.acd_desk.specs.declared.open_fault.OpenFault.{OpenFault}
 use Rattle.acd_desk.specs.declared.open_fault.OpenFault.TheVariants as opening
 use Rattle.acd_lines.specs.declared.fault.LinesFault.{LinesFault}
 use Rattle.acd_lines.specs.declared.fault.LinesFault.TheVariants as lines
+use Rattle.acd_program.specs.declared.fault.PathFault.TheVariants as path
+use Rattle.acd_program.specs.declared.fault.LookFault.{LookFault}
+use Rattle.acd_program.specs.declared.fault.LookFault.TheVariants.{Path}
+use Rattle.acd_program.specs.declared.fault.OpeningFault.TheVariants.{Look}
 use Rattle.acd_program.specs.declared.fault.Fault.{Fault}
-use Rattle.acd_program.specs.declared.fault.Fault.TheVariants.{WrongVersion, BadRow, BadRows, NoMemory, Store, Read, Write}
+use Rattle.acd_program.specs.declared.fault.Fault.TheVariants.{Opening}
+use Rattle.acd_program.specs.declared.fault.WorkFault.{WorkFault}
+use Rattle.acd_program.specs.declared.fault.WorkFault.TheVariants.{WrongVersion, BadRow, BadRows, NoMemory, Store, Read, Write}
+
+-- of a look at a path, for want of memory
+abbrev pub look_without_memory : LookFault
+look_without_memory = Path path.NoMemory
+
+-- of a command, by why no file was opened
+abbrev pub of_look : LookFault → Fault
+of_look why = Opening (Look why)
 
 -- of a book
-abbrev pub book_fault : BookFault → Fault
+abbrev pub book_fault : BookFault → WorkFault
 book_fault book.NoMemory = NoMemory
 book_fault book.Store = Store
 
@@ -29,30 +43,30 @@ unmade_fault book.NoMemory = adopt.NoMemory
 unmade_fault book.Store = adopt.Store
 
 -- of the tables that a database holds
-abbrev pub adopt_fault : AdoptFault → Fault
+abbrev pub adopt_fault : AdoptFault → WorkFault
 adopt_fault (adopt.WrongVersion version) = WrongVersion version
 adopt_fault (adopt.BadRow table) = BadRow table
 adopt_fault adopt.NoMemory = NoMemory
 adopt_fault adopt.Store = Store
 
 -- of a book that makes no desk
-abbrev pub open_fault : OpenFault → Fault
+abbrev pub open_fault : OpenFault → WorkFault
 open_fault (opening.Rows rule) = BadRows rule
 open_fault opening.NoMemory = NoMemory
 open_fault opening.Store = Store
 
 -- of a desk that answers nothing
-abbrev pub desk_fault : DeskFault → Fault
+abbrev pub desk_fault : DeskFault → WorkFault
 desk_fault desk.NoMemory = NoMemory
 desk_fault desk.StoreFault = Store
 
 -- of an audit with an archive
-abbrev pub audit_fault : AuditFault → Fault
+abbrev pub audit_fault : AuditFault → WorkFault
 audit_fault (audit.Desk why) = desk_fault why
 audit_fault (audit.Archive why) = open_fault why
 
 -- of lines
-abbrev pub lines_fault : LinesFault → Fault
+abbrev pub lines_fault : LinesFault → WorkFault
 lines_fault lines.Read = Read
 lines_fault lines.Write = Write
 lines_fault lines.NoMemory = NoMemory
@@ -63,7 +77,7 @@ by_memory (SqliteFailure OutOfMemory) none other = none
 by_memory _ none other = other
 
 -- what a command answers about how its lines ended: that the desk has failed is a fault where that was to end them
-abbrev pub command_result : Result (Unit {0}) LinesFault → Bool → Result (Unit {0}) Fault
+abbrev pub command_result : Result (Unit {0}) LinesFault → Bool → Result (Unit {0}) WorkFault
 command_result (Err why) failed = Err (lines_fault why)
 command_result (Ok done) true = Err Store
 command_result (Ok done) false = Ok done

@@ -1,5 +1,5 @@
 -- Work over a database in files, from the connection on to what is printed.
-use Rattle.std.specs.Prelude.{◌≡◌, ℕ, Bool, true, false, List, Option, Result, IfOk}
+use Rattle.std.specs.Prelude.{◌≡◌, ℕ, Bool, true, false, List, Option}
 use Rattle.std.specs.Io.KnownBytes.{Appends}
 use Rattle.sqlite_disk.specs.declared.Disk.{Ghosts}
 use Rattle.sqlite_disk.specs.declared.Files.{Files}
@@ -11,12 +11,15 @@ use Rattle.sqlite.specs.Files.{file_state, IsClosed}
 use Rattle.sqlite.specs.Closing.{IsCopied}
 use Rattle.acd_book.specs.State.{BookState}
 use Rattle.acd_program.specs.Found.{IsFindingOf}
-use Rattle.acd_program.specs.Files.{IsOpenedIn}
-use Rattle.acd_program.specs.Output.{Output}
+use Rattle.acd_program.specs.Files.{IsOpenedIn, IsUnopened}
 use Rattle.acd_program.specs.Over.{OverConnection}
 use Rattle.acd_program.specs.Work.{WorkDone, text_left, status_left}
 use Rattle.acd_program.specs.declared.desk.Work.{Work}
 use Rattle.acd_program.specs.declared.desk.Done.{Done}
+use Rattle.acd_program.specs.declared.fault.OpeningFault.{OpeningFault}
+use Rattle.acd_program.specs.declared.fault.OpeningFault.TheVariants.{Look}
+use Rattle.acd_program.specs.declared.fault.OpeningFault.TheVariants as opening
+use Rattle.acd_program.specs.declared.status.Status.{Status}
 
 -- a connection to files
 abbrev pub OfFiles : {D : Type 0} → Ghosts D → Type 0
@@ -33,7 +36,7 @@ module _ {D : Type 0} {g : Ghosts D} where
 
   -- The work was done over the book of the database, which was then written into its file. What was left of the work was printed after
   -- that.
-  pub record WorkedOver (makes : Bool) (work : Work) (conn : Held (FileStore D g)) (old_output new_output : Option (List ℕ)) (status : ℕ) : Type 0 where
+  pub record WorkedOver (makes : Bool) (work : Work) (conn : Held (FileStore D g)) (old_output new_output : Option (List ℕ)) (status : Status) : Type 0 where
     pub last : Held (FileStore D g)
     pub left : Done
     pub between : Option (List ℕ)
@@ -42,10 +45,6 @@ module _ {D : Type 0} {g : Ghosts D} where
     pub printed : Appends between new_output (text_left left)
     pub outcome : status ≡ status_left left
 
-  -- where no fault ended it, it was done so, with this status
-  abbrev pub WorksOn : {F : Type 0} → Held (FileStore D g) → Result ℕ F → Bool → Work → Output → Type 0
-  WorksOn conn result makes work out = IfOk result (λ (status : ℕ). WorkedOver makes work conn out.before out.after status)
-
 -- `IsFresh is_log file` says that a file is a log, or a database file, that was just opened
 module _ {D : Type 0} (disk : Ghosts D) (IsFresh : Bool → D → Type 0) where
   -- it was opened over two files that were just opened
@@ -53,6 +52,18 @@ module _ {D : Type 0} (disk : Ghosts D) (IsFresh : Bool → D → Type 0) where
     pub pair : Files D
     pub unused : IsFresh true pair.log × IsFresh false pair.db
     pub opened : IsOpenedIn disk pair conn
+
+  -- two files that were just opened, to which no connection could be made, and what is left of them
+  pub record NotOpened : Type 0 where
+    pub pair : Files D
+    pub unused : IsFresh true pair.log × IsFresh false pair.db
+    pub rest : Files D
+    pub left : IsUnopened disk pair rest
+
+  -- there is no connection: where files were opened, this is left of them
+  abbrev pub LeavesUnopened : OpeningFault → Type 0
+  LeavesUnopened (Look why) = Unit {0}
+  LeavesUnopened (opening.Files why) = NotOpened
 
   -- a database in files was opened, this was done over its book, and it was closed into its file
   pub record InFile (P : BookState → BookState → Type 0) (makes : Bool) : Type 0 where

@@ -10,6 +10,7 @@ pub mod InFiles
 pub mod WithArchive
 pub mod Files
 pub mod Plans
+pub mod Logs
 pub mod Desks
 pub mod Seen
 pub mod Serving

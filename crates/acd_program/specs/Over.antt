@@ -9,10 +9,12 @@ use Rattle.sqlite.specs.State.{State, HasCleanDisk}
 use Rattle.acd_terms.specs.declared.command.Arrival.{Arrival}
 use Rattle.acd_book.specs.Content.{Content}
 use Rattle.acd_book.specs.State.{BookState}
-use Rattle.acd_sql_columns.specs.AnyRows.{IsCanonical, IsCanonicalAs}
-use Rattle.acd_sql_columns.specs.declared.tables.Version.TheVariants as version
+use Rattle.acd_sql_columns.specs.AnyRows.{IsCanonical, schema_of}
+use Rattle.acd_sql_columns.specs.declared.tables.Version.{Version}
 use Rattle.acd_sql_columns.specs.InTables.{content_of}
-use Rattle.acd_sql_columns.specs.Schema.{no_schema}
+use Rattle.acd_sql_columns.specs.Schema.{no_schema, old_schema}
+use Rattle.acd_sql_columns.specs.Transactions.{IsBook}
+use Rattle.acd_sql_schema.specs.Migrating.{IsMigration}
 use Rattle.acd_desk.specs.declared.taken.Taken.{Taken}
 use Rattle.acd_desk.specs.declared.taken.Taken.TheVariants.{StoreFault}
 use Rattle.acd_desk.specs.Ran.{IsFault}
@@ -63,25 +65,34 @@ held s = record {
 abbrev pub unmade : State → BookState
 unmade s = record { content = nothing; stops = λ c. c ≡ nothing; is_sound = ⊤; is_clean = HasCleanDisk s; is_open = ⊤; failures = 0 }
 
--- the rows of version 2's tables are canonical, and represent this
-abbrev pub StandsFor : Trees → Content → Type 0
-StandsFor db c = IsCanonicalAs version.Second db × (content_of db ≡ c)
-
--- whatever a crash may leave is canonical
-abbrev pub LeavesCanonical : State → Type 0
-LeavesCanonical s = (db : Trees) → s.may_leave db → IsCanonicalAs version.Second db
+-- what it sees while it is open, the last commit, and whatever a crash may leave open as books of what their tables represent
+pub record LeavesBooks (s : State) : Type 0 where
+  pub now : IsTrue s.is_open → IsBook s.now.trees (content_of s.now.trees)
+  pub committed : IsTrue s.is_open → IsBook s.committed.trees (content_of s.committed.trees)
+  pub left : (db : Trees) → s.may_leave db → IsBook db (content_of db)
 
 -- a database as the book that a desk left in it, whose store has failed so often
 abbrev pub left : State → ℕ → BookState
-left s failures = record (held s) { is_sound = LeavesCanonical s; failures = failures }
+left s failures = record (held s) { is_sound = LeavesBooks s; failures = failures }
 
--- a database that a crash left before, or version 2 of the content that was held or, where the database had no tables and a book was to be made, a new one with nothing in it
-abbrev pub IsKeptOrNew : Bool → State → Trees → Type 0
-IsKeptOrNew makes old db = old.may_leave db ⊎ StandsFor db (content_of old.committed.trees) ⊎ ((makes ≡ true) × (old.now.schema ≡ no_schema) × StandsFor db nothing)
+-- the tables are those of a book, of either version
+abbrev pub HasTables : State → Type 0
+HasTables s = (v : Version) × (s.now.schema ≡ schema_of v)
 
--- no desk was made: a crash leaves such a one
+-- what a crash may leave of a database in which no desk executed anything
+pub data IsKept (makes : Bool) (old : State) (db : Trees) : Type 0 where
+  -- what it left before
+  before : old.may_leave db → IsKept makes old db
+  -- version 2 of tables of version 1
+  migrated : old.now.schema ≡ old_schema → IsMigration old.now.trees db → IsKept makes old db
+  -- of a book's tables, where their rows were canonical, a book of what they represented
+  same : HasTables old → (IsCanonical old.now → IsBook db (content_of old.committed.trees)) → IsKept makes old db
+  -- where there were no tables and a book was to be made, one with nothing in it
+  made : makes ≡ true → old.now.schema ≡ no_schema → IsBook db nothing → IsKept makes old db
+
+-- no desk executed anything: a crash leaves such a one
 abbrev pub Unserved : Bool → State → State → Type 0
-Unserved makes old new = HasCleanDisk new → IsCanonical old.now → (db : Trees) → new.may_leave db → IsKeptOrNew makes old db
+Unserved makes old new = HasCleanDisk new → (db : Trees) → new.may_leave db → IsKept makes old db
 
 -- this holds of the book in the database or, where it had no tables and one was to be made, of the new one
 abbrev pub OverConnection : (BookState → BookState → Type 0) → Bool → State → State → Type 0

@@ -10,7 +10,7 @@ use Rattle.acd_sql_columns.specs.Schema.{no_schema}
 use Rattle.acd_desk.specs.Opening.{Opened}
 use Rattle.acd_desk.specs.Standing.{Standing}
 use Rattle.acd_program.specs.Answered.{IsNewDesk}
-use Rattle.acd_program.specs.Over.{held, unmade, left, Database, LeavesCanonical}
+use Rattle.acd_program.specs.Over.{held, unmade, left, Database, LeavesBooks}
 
 pub record Seen (B : Type 0) : Type 0 where
   pub book : B
@@ -44,14 +44,14 @@ module _ {S : Type 0} (store : Ghosts S) where
   left_of began b = record (left (state store b.conn) b.failures) { is_sound = began.is_sound }
 
   module _ (Did : (Seen (InDatabase S) → Standing) → Seen (InDatabase S) → Seen (InDatabase S) → Type 0) where
-    -- a desk was opened over the book and did this, and the connection came back; whatever a crash may leave of a sound book is
-    -- canonical
+    -- a desk was opened over the book and did this, and the connection came back; of a sound book whatever a crash may leave opens
+    -- as a book
     pub record SeenOver (old : BookState) (new : Held S) : Type 0 where
       pub first : Seen (InDatabase S)
       pub final : Seen (InDatabase S)
       pub opened : Opened old (seen (left_of old) first)
       pub did : Did (seen (left_of old)) first final
-      pub canonical : HasCleanDisk (state store new) → old.is_sound → LeavesCanonical (state store new)
+      pub opens : HasCleanDisk (state store new) → old.is_sound → LeavesBooks (state store new)
       pub back : new ≡ final.book.conn
 
     -- over the book in the database or, where it had no tables and one was to be made, over the new one

@@ -1,5 +1,5 @@
 -- Answering connections over the book of a database: what it leaves, and how that ended.
-use Rattle.std.specs.Prelude.{◌≡◌, ◌⊎◌, ℕ, Bool, false, List, [], ◌∷◌, ◌++◌, codes, decimal, Option, Some, None, Result, Ok, Err, OnOk}
+use Rattle.std.specs.Prelude.{◌≡◌, ◌⊎◌, ℕ, Bool, false, List, [], ◌∷◌, ◌++◌, codes, decimal, Option, Some, None, Result, Ok, Err}
 use Rattle.std.specs.Io.KnownBytes.{Appends}
 use Rattle.sqlite.specs.State.{State}
 use Rattle.sqlite.specs.Held.{Held, state}
@@ -16,8 +16,8 @@ use Rattle.acd_program.specs.Desks.{OverDesk}
 use Rattle.acd_program.specs.Faults.{open_fault, command_result}
 use Rattle.acd_program.specs.Output.{Output}
 use Rattle.acd_program.specs.Over.{Database, Unserved}
-use Rattle.acd_program.specs.Seen.{Seen, InDatabase, SeenIn, SeenInCall}
-use Rattle.acd_program.specs.declared.fault.Fault.{Fault}
+use Rattle.acd_program.specs.Seen.{Seen, InDatabase, SeenIn}
+use Rattle.acd_program.specs.declared.fault.WorkFault.{WorkFault}
 
 -- connections were answered, one after another, so many or until the desk failed; the lines of their faults were written, or a beginning of them
 pub record ServeDone {D : Type 0} (stands : D → Standing) (span : Option ℕ) (old_output new_output : Option (List ℕ)) (d e : D) : Type 0 where
@@ -38,32 +38,32 @@ ends_failed None failed = failed
 module _ (span : Option ℕ) (old_errors new_errors : Option (List ℕ)) where
   module _ {D : Type 0} (stands : D → Standing) where
     -- nothing was asked of the desk
-    pub record Unasked (result : Result (Unit {0}) Fault) (d e : D) : Type 0 where
-      pub why : Fault
+    pub record Unasked (result : Result (Unit {0}) WorkFault) (d e : D) : Type 0 where
+      pub why : WorkFault
       pub ended : result ≡ Err why
       pub same : e ≡ d
       pub quiet : new_errors ≡ old_errors
 
     -- so many connections were answered, or until the desk failed
-    pub record Answered (result : Result (Unit {0}) Fault) (d e : D) : Type 0 where
+    pub record Answered (result : Result (Unit {0}) WorkFault) (d e : D) : Type 0 where
       pub answered : AnsweredFor stands span d e (Begins old_errors new_errors)
       pub ended : result ≡ command_result (Ok tt) (ends_failed span (stands e).failed)
 
     -- what answering connections left, and the command gets how it ended
-    abbrev pub ListenEnded : Result (Unit {0}) Fault → D → D → Type 0
+    abbrev pub ListenEnded : Result (Unit {0}) WorkFault → D → D → Type 0
     ListenEnded result d e = Unasked result d e ⊎ Answered result d e
 
   -- `old_output` was written on the output before, and `new_output` is written after
   module _ (port : ℕ) (old_output new_output : Option (List ℕ)) where
     -- connections are answered only after the whole line
-    abbrev pub ServeEnded : {D : Type 0} → (D → Standing) → Result (Unit {0}) Fault → D → D → Type 0
+    abbrev pub ServeEnded : {D : Type 0} → (D → Standing) → Result (Unit {0}) WorkFault → D → D → Type 0
     ServeEnded stands result d e =
         (Unasked stands result d e × Begins old_output new_output (listening_line port))
         ⊎ (Answered stands result d e × Appends old_output new_output (listening_line port))
 
     module _ {B : Type 0} (says : Ghosts B) where
       -- the book made no desk, and nothing was written
-      pub record NoDesk (old : BookState) (result : Result (Unit {0}) Fault) (last : B) : Type 0 where
+      pub record NoDesk (old : BookState) (result : Result (Unit {0}) WorkFault) (last : B) : Type 0 where
         pub why : OpenFault
         pub ended : result ≡ Err (open_fault why)
         pub refused : Refused old why (says.state last)
@@ -71,19 +71,19 @@ module _ (span : Option ℕ) (old_errors new_errors : Option (List ℕ)) where
         pub unsaid : new_output ≡ old_output
 
       -- answering connections over the book
-      abbrev pub ServeOver : BookState → Result (Unit {0}) Fault → B → Type 0
+      abbrev pub ServeOver : BookState → Result (Unit {0}) WorkFault → B → Type 0
       ServeOver old result last = NoDesk old result last ⊎ OverDesk says (ServeEnded (standing says) result) old last
 
     -- there was no desk: nothing was written, and a crash leaves what it left before, or a new book
-    pub record NoneMade {S : Type 0} (store : Stores S) (makes : Bool) (old : State) (result : Result (Unit {0}) Fault) (new : Held S) : Type 0 where
-      pub why : Fault
+    pub record NoneMade {S : Type 0} (store : Stores S) (makes : Bool) (old : State) (result : Result (Unit {0}) WorkFault) (new : Held S) : Type 0 where
+      pub why : WorkFault
       pub ended : result ≡ Err why
       pub unserved : Unserved makes old (state store new)
       pub quiet : new_errors ≡ old_errors
       pub unsaid : new_output ≡ old_output
 
     -- answering connections over the book of the database
-    abbrev pub ServeIn : {S : Type 0} → Stores S → Bool → State → Result (Unit {0}) Fault → Held S → Type 0
+    abbrev pub ServeIn : {S : Type 0} → Stores S → Bool → State → Result (Unit {0}) WorkFault → Held S → Type 0
     ServeIn {S} store makes old result new =
         NoneMade store makes old result new ⊎ SeenIn store (λ (stands : Seen (InDatabase S) → Standing). ServeEnded stands result) makes old new
 
@@ -101,25 +101,20 @@ abbrev pub service : Option ℕ → ℕ → Output → Output → Service
 service span port said errors = record { span = span; port = port; said = said; errors = errors }
 
 -- a desk answered connections, from what it was to what it is then
-abbrev pub EndsListening : {B : Type 0} → Ghosts B → Desk B × Desk B → Result (Unit {0}) Fault → Option ℕ → Output → Type 0
+abbrev pub EndsListening : {B : Type 0} → Ghosts B → Desk B × Desk B → Result (Unit {0}) WorkFault → Option ℕ → Output → Type 0
 EndsListening books desks result span errors = ListenEnded span errors.before errors.after (standing books) result desks.0 desks.1
 
 -- it did after the line that says where was written
-abbrev pub EndsService : {B : Type 0} → Ghosts B → Desk B × Desk B → Result (Unit {0}) Fault → Service → Type 0
+abbrev pub EndsService : {B : Type 0} → Ghosts B → Desk B × Desk B → Result (Unit {0}) WorkFault → Service → Type 0
 EndsService books desks result to_do =
     ServeEnded to_do.span to_do.errors.before to_do.errors.after to_do.port to_do.said.before to_do.said.after (standing books) result desks.0 desks.1
 
 -- a desk over a book did, with the book that came back
-abbrev pub EndsServiceOver : {B : Type 0} → Ghosts B → B → Result (Unit {0}) Fault × B → Service → Type 0
+abbrev pub EndsServiceOver : {B : Type 0} → Ghosts B → B → Result (Unit {0}) WorkFault × B → Service → Type 0
 EndsServiceOver books given result to_do =
     ServeOver to_do.span to_do.errors.before to_do.errors.after to_do.port to_do.said.before to_do.said.after books (books.state given) result.0 result.1
 
 -- a desk over a database that was handed in did, with the connection that came back
-abbrev pub EndsServiceIn : {S : Type 0} → Database S → Result (Unit {0}) Fault × Held S → Service → Type 0
+abbrev pub EndsServiceIn : {S : Type 0} → Database S → Result (Unit {0}) WorkFault × Held S → Service → Type 0
 EndsServiceIn db result to_do =
     ServeIn to_do.span to_do.errors.before to_do.errors.after to_do.port to_do.said.before to_do.said.after db.store db.makes (state db.store db.conn) result.0 result.1
-
--- where no fault ended it, it answered connections as was asked for
-abbrev pub DoesServiceIn : {S : Type 0} → Database S → Result (Unit {0}) Fault × Held S → Option ℕ → Output → Type 0
-DoesServiceIn {S} db result span errors =
-    OnOk result.0 (SeenInCall db (λ (stands : Seen (InDatabase S) → Standing). ServeDone stands span errors.before errors.after) result.1)

@@ -9,7 +9,7 @@ use Rattle.acd_book.specs.Order.{IsOrdered}
 use Rattle.acd_book.specs.State.{BookState, BookStep}
 use Rattle.acd_sql_columns.specs.Schema.{no_schema}
 use Rattle.acd_sql_schema.specs.SettingUp.{MayMake}
-use Rattle.acd_program.specs.Over.{held, unmade}
+use Rattle.acd_program.specs.Over.{HasTables, held, unmade}
 
 -- a book that came of another and holds the same
 pub record IsOf (old new : BookState) : Type 0 where
@@ -25,6 +25,11 @@ pub record IsOf (old new : BookState) : Type 0 where
 abbrev pub MayMakeIn : {S : Type 0} → Ghosts S → Held S → Held S → Type 0
 MayMakeIn store old new = HasCleanDisk (state store new) → MayMake (state store old) (state store new) greatest_limits
 
+-- the book in the database, whose tables are a book's
+pub record IsFoundIn (s : State) (new : BookState) : Type 0 where
+  pub tables : new.is_clean → HasTables s
+  pub of_held : IsOf (held s) new
+
 -- the book in the database or, where it had no tables and one was to be made, a new one
 abbrev pub IsTaken : Bool → State → BookState → Type 0
-IsTaken makes s new = IsOf (held s) new ⊎ ((makes ≡ true) × (s.now.schema ≡ no_schema) × IsOf (unmade s) new)
+IsTaken makes s new = IsFoundIn s new ⊎ ((makes ≡ true) × (s.now.schema ≡ no_schema) × IsOf (unmade s) new)

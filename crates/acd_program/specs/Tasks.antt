@@ -23,6 +23,8 @@ use Rattle.acd_program.specs.Serving.{ServeDone}
 use Rattle.acd_program.specs.declared.auditing.Finding.{Finding}
 use Rattle.acd_program.specs.declared.desk.Work.{Work}
 use Rattle.acd_program.specs.declared.desk.Work.TheVariants as kind
+use Rattle.acd_program.specs.declared.status.Status.{Status}
+use Rattle.acd_program.specs.declared.status.Status.TheVariants.{Success}
 use Rattle.acd_program.specs.declared.asked.Task.{Task}
 use Rattle.acd_program.specs.declared.asked.Task.TheVariants.{Lines, Serve, Import, AuditWhole, AuditWithArchive, Read}
 
@@ -44,13 +46,13 @@ IsReadEnding false ending = ending ≡ Plain
 -- `IsFresh is_log file` says that a file is a log, or a database file, that was just opened
 module _ {D : Type 0} (disk : Ghosts D) (IsFresh : Bool → D → Type 0) where
   -- the work was done over a connection to files
-  abbrev pub WorkedIn : Bool → Work → Option (List ℕ) → Option (List ℕ) → ℕ → Type 0
+  abbrev pub WorkedIn : Bool → Work → Option (List ℕ) → Option (List ℕ) → Status → Type 0
   WorkedIn makes work old_output new_output status = (conn : OfFiles disk) × IsOpenedFrom disk IsFresh conn × WorkedOver makes work conn old_output new_output status
 
   -- the requests of a plan were executed, and their answers written
-  abbrev pub ImportedIn : Option (List ℕ) → Option (List ℕ) → ℕ → Type 0
+  abbrev pub ImportedIn : Option (List ℕ) → Option (List ℕ) → Status → Type 0
   ImportedIn old_output new_output status =
-      (bytes : List ℕ) × (requests : List Request) × (plan_requests bytes ≡ Ok requests) × InFile disk IsFresh (λ old new. ImportsOver requests old old_output new_output new) true × (status ≡ 0)
+      (bytes : List ℕ) × (requests : List Request) × (plan_requests bytes ≡ Ok requests) × InFile disk IsFresh (λ old new. ImportsOver requests old old_output new_output new) true × (status ≡ Success)
 
   -- a database in files was opened, a desk of its book answered connections, and it was closed into its file
   pub record ServeDoneIn (span : Option ℕ) (old_output new_output : Option (List ℕ)) : Type 0 where
@@ -69,12 +71,12 @@ module _ {D : Type 0} (disk : Ghosts D) (IsFresh : Bool → D → Type 0) where
     pub closed : IsLaidIn last
 
   -- over a desk in memory or that of the file that was named, there without a storeFault where one was to end the lines
-  abbrev pub InputAnswered : {Name : Type 0} → Option Name → Bool → Bool → Streams → ℕ → Type 0
-  InputAnswered None reads ends io status = MemoryAnswered reads io × (status ≡ 0)
-  InputAnswered (Some file) reads ends io status = FileAnswered reads ends io × (status ≡ 0)
+  abbrev pub InputAnswered : {Name : Type 0} → Option Name → Bool → Bool → Streams → Status → Type 0
+  InputAnswered None reads ends io status = MemoryAnswered reads io × (status ≡ Success)
+  InputAnswered (Some file) reads ends io status = FileAnswered reads ends io × (status ≡ Success)
 
   -- an audit was printed, with how the log of its file ended before
-  pub record AuditedIn (counts : Bool) (ending : Ending) (old_output new_output : Option (List ℕ)) (status : ℕ) : Type 0 where
+  pub record AuditedIn (counts : Bool) (ending : Ending) (old_output new_output : Option (List ℕ)) (status : Status) : Type 0 where
     pub found : Finding
     pub counted : HasCount counts found
     pub done : InFile disk IsFresh (λ old new. WasAsked old IsFindingOf found new) false
@@ -82,11 +84,11 @@ module _ {D : Type 0} (disk : Ghosts D) (IsFresh : Bool → D → Type 0) where
     pub outcome : status ≡ finding_status ending found
 
   -- the work of an audit was done over a connection to files, whose log ended so before
-  abbrev pub WholeAudit : Bool → Option (List ℕ) → Option (List ℕ) → ℕ → Type 0
+  abbrev pub WholeAudit : Bool → Option (List ℕ) → Option (List ℕ) → Status → Type 0
   WholeAudit counts old_output new_output status = (ending : Ending) × IsSomeEnding ending × WorkedIn false (kind.Audit counts ending) old_output new_output status
 
   -- an audit with an archive, which was opened beside the file and closed, was printed
-  pub record AuditedWith (counts whole : Bool) (old_output new_output : Option (List ℕ)) (status : ℕ) : Type 0 where
+  pub record AuditedWith (counts whole : Bool) (old_output new_output : Option (List ℕ)) (status : Status) : Type 0 where
     pub found : Finding
     pub ending : Ending
     pub counted : HasCount counts found
@@ -97,13 +99,13 @@ module _ {D : Type 0} (disk : Ghosts D) (IsFresh : Bool → D → Type 0) where
 
   -- the task was done, from what was read to what was written, to what was printed on the stream of errors, and to the exit
   -- status
-  abbrev pub TaskDone : Task → Streams → Option (List ℕ) → Option (List ℕ) → ℕ → Type 0
+  abbrev pub TaskDone : Task → Streams → Option (List ℕ) → Option (List ℕ) → Status → Type 0
   TaskDone (Lines file reads ends) io old_errors new_errors status = InputAnswered file reads ends io status
-  TaskDone (Serve file port connections) io old_errors new_errors status = ServeDoneIn connections old_errors new_errors × (status ≡ 0)
+  TaskDone (Serve file port connections) io old_errors new_errors status = ServeDoneIn connections old_errors new_errors × (status ≡ Success)
   TaskDone (Import file plan) io old_errors new_errors status = ImportedIn io.old_output io.new_output status
-  TaskDone (Read file (kind.Import requests)) io old_errors new_errors status = InFile disk IsFresh (λ old new. ImportsOver requests.now old io.old_output io.new_output new) false × (status ≡ 0)
+  TaskDone (Read file (kind.Import requests)) io old_errors new_errors status = InFile disk IsFresh (λ old new. ImportsOver requests.now old io.old_output io.new_output new) false × (status ≡ Success)
   TaskDone (Read file (kind.Print printout)) io old_errors new_errors status =
-      (text : List ℕ) × InFile disk IsFresh (λ old new. WasAsked old (IsTextOf printout) text new) false × Appends io.old_output io.new_output text × (status ≡ 0)
+      (text : List ℕ) × InFile disk IsFresh (λ old new. WasAsked old (IsTextOf printout) text new) false × Appends io.old_output io.new_output text × (status ≡ Success)
   TaskDone (Read file (kind.Audit counts ending)) io old_errors new_errors status = AuditedIn counts ending io.old_output io.new_output status
   TaskDone (AuditWithArchive file archive counts whole) io old_errors new_errors status = AuditedWith counts whole io.old_output io.new_output status
   TaskDone (AuditWhole file counts) io old_errors new_errors status = (ending : Ending) × IsSomeEnding ending × AuditedIn counts ending io.old_output io.new_output status

@@ -6,17 +6,20 @@ use Rattle.acd_lines.specs.Lines.{Streams, Untouched}
 use Rattle.acd_lines.specs.declared.fault.LinesFault.{LinesFault}
 use Rattle.acd_log.specs.declared.ending.Ending.{Ending}
 use Rattle.acd_io.specs.Sent.{Begins}
-use Rattle.acd_program.specs.WithArchive.{IsFindingIn, BookAskedWithArchive}
-use Rattle.acd_program.specs.Ended.{IsOfOpening, IsOfDesk, EndsBy, TakesPlan, IsShut, WorkEnded}
+use Rattle.acd_program.specs.WithArchive.{IsFindingIn, BookAskedWithArchive, LeavesArchive}
+use Rattle.acd_program.specs.Ended.{EndsBy, TakesPlan, IsShut, WorkEnded}
 use Rattle.acd_program.specs.Faults.{lines_fault}
 use Rattle.acd_program.specs.Found.{HasCount, finding_line}
-use Rattle.acd_program.specs.InFiles.{OfFiles, IsOpenedFrom}
+use Rattle.acd_program.specs.InFiles.{OfFiles, IsOpenedFrom, LeavesUnopened}
 use Rattle.acd_program.specs.Over.{OverConnection, Unserved}
 use Rattle.acd_program.specs.Serving.{ServeIn}
 use Rattle.acd_program.specs.Sessions.{DatabaseEnded, MemoryEnded}
 use Rattle.acd_program.specs.Tasks.{IsSomeEnding, IsReadEnding}
 use Rattle.acd_program.specs.declared.auditing.Finding.{Finding}
 use Rattle.acd_program.specs.declared.fault.Fault.{Fault}
+use Rattle.acd_program.specs.declared.fault.Fault.TheVariants.{Opening, Archive}
+use Rattle.acd_program.specs.declared.fault.Fault.TheVariants as ended_by
+use Rattle.acd_program.specs.declared.fault.WorkFault.{WorkFault}
 use Rattle.acd_program.specs.declared.desk.Work.{Work}
 use Rattle.acd_program.specs.declared.desk.Work.TheVariants as kind
 use Rattle.acd_program.specs.declared.asked.Task.{Task}
@@ -24,23 +27,26 @@ use Rattle.acd_program.specs.declared.asked.Task.TheVariants.{Lines, Serve, Impo
 
 -- `IsFresh is_log file` says that a file is a log, or a database file, that was just opened
 module _ {D : Type 0} (disk : Ghosts D) (IsFresh : Bool → D → Type 0) where
-  -- A fault ended what was to be done over a file. It came before there was a connection, and nothing was read or written; or there was one to files that were just opened, and over it this was left.
-  abbrev pub EndedIn : Fault → Type 0 → (OfFiles disk → Type 0) → Type 0
-  EndedIn fault Untouched Left = (IsOfOpening fault × Untouched) ⊎ ((conn : OfFiles disk) × IsOpenedFrom disk IsFresh conn × IsOfDesk fault × Left conn)
+  -- A fault ended what was to be done over a file. There was no connection: nothing was read or written, and this is left of files that were opened. Or there was one to files that were just opened,
+  -- and over it this was left.
+  abbrev pub EndedIn : Fault → Type 0 → (WorkFault → OfFiles disk → Type 0) → Type 0
+  EndedIn (Opening why) Untouched Left = Untouched × LeavesUnopened disk IsFresh why
+  EndedIn (ended_by.Work why) Untouched Left = (conn : OfFiles disk) × IsOpenedFrom disk IsFresh conn × Left why conn
+  EndedIn (Archive why) Untouched Left = ⊥
 
   -- the lines ended, or closing their file did, and the connection was shut
-  pub record LinesLeft (reads ends : Bool) (io : Streams) (fault : Fault) (conn : OfFiles disk) : Type 0 where
+  pub record LinesLeft (reads ends : Bool) (io : Streams) (fault : WorkFault) (conn : OfFiles disk) : Type 0 where
     pub last : OfFiles disk
     pub shut : IsShut last
-    pub ended : Result (Unit {0}) Fault
+    pub ended : Result (Unit {0}) WorkFault
     pub lines : DatabaseEnded over_files true reads ends io (file_state conn) ended last
     pub why : EndsBy ended fault
 
   -- the service ended, or closing its file did, and the connection was shut
-  pub record ServiceLeft (span : Option ℕ) (port : ℕ) (old_output new_output old_errors new_errors : Option (List ℕ)) (fault : Fault) (conn : OfFiles disk) : Type 0 where
+  pub record ServiceLeft (span : Option ℕ) (port : ℕ) (old_output new_output old_errors new_errors : Option (List ℕ)) (fault : WorkFault) (conn : OfFiles disk) : Type 0 where
     pub last : OfFiles disk
     pub shut : IsShut last
-    pub ended : Result (Unit {0}) Fault
+    pub ended : Result (Unit {0}) WorkFault
     pub answered : ServeIn span old_errors new_errors port old_output new_output over_files true (file_state conn) ended last
     pub why : EndsBy ended fault
 
@@ -53,40 +59,41 @@ module _ {D : Type 0} (disk : Ghosts D) (IsFresh : Bool → D → Type 0) where
     pub done : OverConnection (λ old new. BookAskedWithArchive disk IsFresh IsFindingIn old new found) false (file_state conn) (file_state last)
     pub printed : Begins old_output new_output (finding_line ending found)
 
-  -- A fault ended one, which may be the archive's, and the connection to the desk's file was shut: a reopening finds there what it could find before.
-  pub record AuditLeft (counts whole : Bool) (old_output new_output : Option (List ℕ)) (Unwritten : Type 0) (fault : Fault) (conn : OfFiles disk) : Type 0 where
+  -- a fault ended one, and the connection to the desk's file was shut: a reopening finds there what it could find before
+  pub record AuditShut (conn : OfFiles disk) : Type 0 where
     pub last : OfFiles disk
     pub shut : IsShut last
     pub kept : Unserved false (file_state conn) (file_state last)
-    pub left : Unwritten ⊎ (IsOfDesk fault × AuditCut counts whole old_output new_output conn last)
 
   -- ---- by what was to be done, where `Unwritten` says that nothing was written
 
   abbrev pub WorkEndedIn : Bool → Work → Option (List ℕ) → Option (List ℕ) → Type 0 → Fault → Type 0
-  WorkEndedIn makes work old_output new_output Unwritten fault = EndedIn fault Unwritten (λ conn. WorkEnded makes work conn old_output new_output)
+  WorkEndedIn makes work old_output new_output Unwritten fault = EndedIn fault Unwritten (λ why conn. WorkEnded makes work conn old_output new_output)
 
   -- the requests of a plan of some bytes were to be executed
   abbrev pub PlanEnded : Option (List ℕ) → Option (List ℕ) → Type 0 → Fault → Type 0
   PlanEnded old_output new_output Unwritten fault =
-      EndedIn fault Unwritten (λ conn. (bytes : List ℕ) × (work : Work) × TakesPlan bytes work × WorkEnded true work conn old_output new_output)
+      EndedIn fault Unwritten (λ why conn. (bytes : List ℕ) × (work : Work) × TakesPlan bytes work × WorkEnded true work conn old_output new_output)
 
   -- files were to be audited whose log ended so before
   abbrev pub AuditEnded : Bool → Option (List ℕ) → Option (List ℕ) → Type 0 → Fault → Type 0
   AuditEnded counts old_output new_output Unwritten fault =
-      EndedIn fault Unwritten (λ conn. (ending : Ending) × IsSomeEnding ending × WorkEnded false (kind.Audit counts ending) conn old_output new_output)
+      EndedIn fault Unwritten (λ why conn. (ending : Ending) × IsSomeEnding ending × WorkEnded false (kind.Audit counts ending) conn old_output new_output)
 
-  -- a file was to be audited with an archive
+  -- A file was to be audited with an archive. No connection to the file was made; or the desk's work ended by a fault, before anything was printed or after; or the archive's did, of which this is left.
   abbrev pub AuditWithArchiveEnded : Bool → Bool → Option (List ℕ) → Option (List ℕ) → Type 0 → Fault → Type 0
-  AuditWithArchiveEnded counts whole old_output new_output Unwritten fault =
-      (IsOfOpening fault × Unwritten) ⊎ ((conn : OfFiles disk) × IsOpenedFrom disk IsFresh conn × AuditLeft counts whole old_output new_output Unwritten fault conn)
+  AuditWithArchiveEnded counts whole old_output new_output Unwritten (Opening why) = Unwritten × LeavesUnopened disk IsFresh why
+  AuditWithArchiveEnded counts whole old_output new_output Unwritten (ended_by.Work why) =
+      (conn : OfFiles disk) × IsOpenedFrom disk IsFresh conn × (left : AuditShut conn) × (Unwritten ⊎ AuditCut counts whole old_output new_output conn left.last)
+  AuditWithArchiveEnded counts whole old_output new_output Unwritten (Archive why) = (conn : OfFiles disk) × IsOpenedFrom disk IsFresh conn × AuditShut conn × Unwritten × LeavesArchive disk IsFresh why
 
   abbrev pub ServiceEnded : Option ℕ → ℕ → Option (List ℕ) → Option (List ℕ) → Option (List ℕ) → Option (List ℕ) → Type 0 → Fault → Type 0
-  ServiceEnded span port old_output new_output old_errors new_errors Unwritten fault = EndedIn fault (Unwritten × (new_errors ≡ old_errors)) (ServiceLeft span port old_output new_output old_errors new_errors fault)
+  ServiceEnded span port old_output new_output old_errors new_errors Unwritten fault = EndedIn fault (Unwritten × (new_errors ≡ old_errors)) (ServiceLeft span port old_output new_output old_errors new_errors)
 
   -- the lines of an input, over a desk in memory or over a file that was named
   abbrev pub InputEnded : {Name : Type 0} → Option Name → Bool → Bool → Streams → Fault → Type 0
-  InputEnded None reads ends io fault = (why : LinesFault) × (fault ≡ lines_fault why) × MemoryEnded reads io why
-  InputEnded (Some file) reads ends io fault = EndedIn fault (Untouched io) (LinesLeft reads ends io fault)
+  InputEnded None reads ends io fault = (why : LinesFault) × (fault ≡ ended_by.Work (lines_fault why)) × MemoryEnded reads io why
+  InputEnded (Some file) reads ends io fault = EndedIn fault (Untouched io) (LinesLeft reads ends io)
 
   -- A fault ended the task, from what was read to what was written, and to what was printed on the stream of errors before the fault itself was. No other task but lines reads, and none but a
   -- service prints anything there.

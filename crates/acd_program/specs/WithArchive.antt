@@ -1,7 +1,10 @@
 -- What an audit of a desk with the archive that it goes on from finds, from the desk on to the database.
 use Rattle.std.specs.Prelude.{◌≡◌, Bool, false, Result, Ok, IfOk}
 use Rattle.sqlite.specs.State.{State}
+use Rattle.sqlite.specs.Held.{Held, state}
+use Rattle.sqlite.specs.Files.{file_state}
 use Rattle.sqlite_disk.specs.declared.Disk.{Ghosts}
+use Rattle.sqlite_store.specs.declared.store.FileStore.{FileStore}
 use Rattle.acd_book.specs.declared.book.Book as book
 use Rattle.acd_book.specs.Content.{Content}
 use Rattle.acd_book.specs.Order.{IsOrdered}
@@ -18,9 +21,14 @@ use Rattle.acd_program.specs.declared.auditing.Finding.{Finding}
 use Rattle.acd_program.specs.declared.auditing.Finding.TheVariants.{Sound, Counted, Differs}
 use Rattle.acd_program.specs.declared.desk.Done.{Done}
 use Rattle.acd_program.specs.declared.desk.Done.TheVariants as left
+use Rattle.acd_program.specs.declared.fault.ArchiveFault.{ArchiveFault}
+use Rattle.acd_program.specs.declared.fault.ArchiveFault.TheVariants as archive
+use Rattle.acd_program.specs.declared.fault.Fault.{Fault}
+use Rattle.acd_program.specs.declared.fault.Fault.TheVariants as fault
 use Rattle.acd_program.specs.Found.{HasCount}
-use Rattle.acd_program.specs.InFiles.{InFile}
-use Rattle.acd_program.specs.Over.{OverConnection}
+use Rattle.acd_program.specs.Ended.{IsShut}
+use Rattle.acd_program.specs.InFiles.{OfFiles, IsLaidIn, IsOpenedFrom, LeavesUnopened}
+use Rattle.acd_program.specs.Over.{Database, OverConnection, Unserved}
 use Rattle.acd_program.specs.Work.{WasAsked}
 
 -- the content continues that of the archive, with so many executed requests in both; or it doesn't, and this is the stamp of a
@@ -69,16 +77,53 @@ pub record WereAsked (IsAnswer : Content → Content → Finding → Type 0) (ol
   pub current : WasAsked old Anything found new
   pub answer : IfHonest old_archive new_archive (IfHonest old new (IsAnswer old_archive.content old.content found))
 
+-- ---- over the archive's connection
+
+-- a desk was asked while the archive was open
+pub record AskedOver (s t : State) (d e : Standing) (found : Finding) : Type 0 where
+  pub desk : ReadDone d e (Ok found) Anything
+  pub archive : OverConnection (λ (old new : BookState). WasRead old new × FindsWithArchive old new d e found) false s t
+
+-- so it was, by the desk as it was and as it is then, with the connection that came back
+abbrev pub AsksOver : {S B F : Type 0} → Database S → book.Ghosts B → Desk B → Desk B → Result Finding F × Held S → Type 0
+AsksOver db books old new result = IfOk result.0 (AskedOver (state db.store db.conn) (state db.store result.1) (standing books old) (standing books new))
+
+module _ {D : Type 0} {g : Ghosts D} where
+  -- this was done over the archive's book, and the connection was closed into its file; a reopening finds there what it could find before
+  pub record OverArchive (P : BookState → BookState → Type 0) (conn : Held (FileStore D g)) : Type 0 where
+    pub last : Held (FileStore D g)
+    pub done : OverConnection P false (file_state conn) (file_state last)
+    pub closed : IsLaidIn last
+    pub kept : Unserved false (file_state conn) (file_state last)
+
+  -- whatever was done over it, the connection was shut, and a reopening finds there what it could find before
+  pub record IsSparedIn (conn : Held (FileStore D g)) : Type 0 where
+    pub last : Held (FileStore D g)
+    pub shut : IsShut last
+    pub kept : Unserved false (file_state conn) (file_state last)
+
+  -- the same, of an archive in files
+  pub record AskedIn (conn : Held (FileStore D g)) (d e : Standing) (found : Finding) : Type 0 where
+    pub desk : ReadDone d e (Ok found) Anything
+    pub archive : OverArchive (λ (old new : BookState). WasRead old new × FindsWithArchive old new d e found) conn
+
+  -- so it was, by the desk as it was and as it is then
+  abbrev pub AsksIn : {B F : Type 0} → Held (FileStore D g) → book.Ghosts B → Desk B → Desk B → Result Finding F → Type 0
+  AsksIn conn books old new result = IfOk result (AskedIn conn (standing books old) (standing books new))
+
 -- `IsFresh is_log file` says that a file is a log, or a database file, that was just opened
 module _ {D : Type 0} (disk : Ghosts D) (IsFresh : Bool → D → Type 0) where
+  -- an archive in files that were just opened, and this was done over its book
+  abbrev pub InArchive : (BookState → BookState → Type 0) → Type 0
+  InArchive P = (conn : OfFiles disk) × IsOpenedFrom disk IsFresh conn × OverArchive P conn
+
   -- a desk was asked while an archive was open in files beside it
-  pub record AskedWithArchive (d e : Standing) (found : Finding) : Type 0 where
-    pub desk : ReadDone d e (Ok found) Anything
-    pub archive : InFile disk IsFresh (λ (old new : BookState). WasRead old new × FindsWithArchive old new d e found) false
+  abbrev pub AskedWithArchive : Standing → Standing → Finding → Type 0
+  AskedWithArchive d e found = (conn : OfFiles disk) × IsOpenedFrom disk IsFresh conn × AskedIn conn d e found
 
   -- a book was
   abbrev pub BookAskedWithArchive : (Content → Content → Finding → Type 0) → BookState → BookState → Finding → Type 0
-  BookAskedWithArchive IsAnswer old new found = InFile disk IsFresh (λ (old_archive new_archive : BookState). WereAsked IsAnswer old_archive new_archive old new found) false
+  BookAskedWithArchive IsAnswer old new found = InArchive (λ (old_archive new_archive : BookState). WereAsked IsAnswer old_archive new_archive old new found)
 
   -- an audit of the book found this, which is left to print with how the log of its file ended before
   abbrev pub AuditsWithArchive : Bool → Ending → BookState → BookState → Done → Type 0
@@ -91,3 +136,16 @@ module _ {D : Type 0} (disk : Ghosts D) (IsFresh : Bool → D → Type 0) where
   AuditedWithArchive counts ending s t left.Nothing = ⊥
   AuditedWithArchive counts ending s t (left.Text text) = ⊥
   AuditedWithArchive counts ending s t (left.Audited found end) = HasCount counts found × OverConnection (λ (old new : BookState). BookAskedWithArchive IsFindingIn old new found) false s t × (end ≡ ending)
+
+  -- ---- where a fault ended the audit once the desk was open
+
+  -- this is left of the archive: what an opening leaves where there was no connection, and else what a reopening could find before
+  abbrev pub LeavesArchive : ArchiveFault → Type 0
+  LeavesArchive (archive.Opening why) = LeavesUnopened disk IsFresh why
+  LeavesArchive (archive.Work why) = (conn : OfFiles disk) × IsOpenedFrom disk IsFresh conn × IsSparedIn conn
+
+  -- the same, where a fault of the desk may be what ended it: then the archive wasn't opened
+  abbrev pub LeavesBeside : Fault → Type 0
+  LeavesBeside (fault.Opening why) = ⊥
+  LeavesBeside (fault.Work why) = Unit {0}
+  LeavesBeside (fault.Archive why) = LeavesArchive why

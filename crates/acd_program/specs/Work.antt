@@ -1,7 +1,6 @@
 -- Work over a book, and what is left to print of it.
-use Rattle.std.specs.Prelude.{◌≡◌, ℕ, Bool, List, [], Option, Some, Result, Ok, IfOk, OnOk, String, string_bytes}
+use Rattle.std.specs.Prelude.{◌≡◌, ℕ, Bool, List, [], Option, Some, Result, Ok, IfOk, MatchResult, String, string_bytes}
 use Rattle.std.specs.Io.KnownBytes.{Appends}
-use Rattle.sqlite.specs.Held.{Held}
 use Rattle.acd_terms.specs.declared.command.Request.{Request}
 use Rattle.acd_book.specs.Content.{Content, Within}
 use Rattle.acd_book.specs.Order.{IsOrdered}
@@ -12,12 +11,12 @@ use Rattle.acd_reports.specs.Export.{events_csv}
 use Rattle.acd_desk.specs.Stands.{IsSound}
 use Rattle.acd_desk.specs.Carried.{Archive, together}
 use Rattle.acd_desk.specs.ReadAnswers.{text_read}
-use Rattle.acd_io.specs.Sent.{Breaks}
+use Rattle.acd_io.specs.Sent.{Begins, Breaks}
 use Rattle.acd_lines.specs.Lines.{LinesAnswered, AllRequests, RequestsAnswered}
 use Rattle.acd_program.specs.Found.{IsFindingOf, HasCount, finding_line}
 use Rattle.acd_program.specs.Statuses.{finding_status}
 use Rattle.acd_program.specs.Output.{Output}
-use Rattle.acd_program.specs.Over.{IsSession, Database, OverCall}
+use Rattle.acd_program.specs.Over.{IsSession}
 use Rattle.acd_log.specs.declared.ending.Ending.{Ending}
 use Rattle.acd_program.specs.declared.auditing.Finding.{Finding}
 use Rattle.acd_program.specs.declared.desk.Printout.{Printout}
@@ -26,6 +25,8 @@ use Rattle.acd_program.specs.declared.desk.Work.{Work}
 use Rattle.acd_program.specs.declared.desk.Work.TheVariants.{Import, Print, Audit}
 use Rattle.acd_program.specs.declared.desk.Done.{Done}
 use Rattle.acd_program.specs.declared.desk.Done.TheVariants.{Nothing, Text, Audited}
+use Rattle.acd_program.specs.declared.status.Status.{Status}
+use Rattle.acd_program.specs.declared.status.Status.TheVariants.{Success}
 
 -- what is printed of a content: the queue report at the moment of the last executed request, or all events
 abbrev pub printout_text : Printout → Content → List ℕ
@@ -40,9 +41,9 @@ text_left (Text text) = string_bytes text
 text_left (Audited found ending) = finding_line ending found
 
 -- and its exit status
-abbrev pub status_left : Done → ℕ
-status_left Nothing = 0
-status_left (Text text) = 0
+abbrev pub status_left : Done → Status
+status_left Nothing = Success
+status_left (Text text) = Success
 status_left (Audited found ending) = finding_status ending found
 
 -- ---- over a book
@@ -71,7 +72,7 @@ IsFindingIfOrdered c found = IsOrdered c → IsFindingOf c found
 -- a text of the book is left to print
 pub record PrintsOver (printout : Printout) (old : BookState) (done : Done) (new : BookState) : Type 0 where
   pub asked : WasAsked old (IsTextOf printout) (text_left done) new
-  pub status : status_left done ≡ 0
+  pub status : status_left done ≡ Success
 
 -- an audit of the book found this, which is left to print with how the log of its file ended before
 abbrev pub AuditsOver : (Content → Finding → Type 0) → Bool → Ending → BookState → Done → BookState → Type 0
@@ -91,32 +92,11 @@ WorkDone IsAnswer (Audit counts ending) old old_output new_output done new = Aud
 
 -- ---- of a call
 
--- without a fault the requests of a plan were executed over the book
-abbrev pub Imports : {B F : Type 0} → Ghosts B → B → Result Done F × B → List Request → Output → Type 0
-Imports books given result requests out = OnOk result.0 (ImportsOver requests (books.state given) out.before out.after (books.state result.1))
-
 -- the book was audited
 abbrev pub AuditsBook : {B F : Type 0} → Ghosts B → B → Result Done F × B → Bool → Ending → Type 0
 AuditsBook books given result counts ending = IfOk result.0 (λ (done : Done). AuditsOver IsFindingIfOrdered counts ending (books.state given) done (books.state result.1))
 
--- the work was done over the book
-abbrev pub WorksOver : {B F : Type 0} → Ghosts B → B → Result Done F × B → Work → Output → Type 0
-WorksOver books given result work out = IfOk result.0 (λ (done : Done). WorkDone IsFindingIfOrdered work (books.state given) out.before out.after done (books.state result.1))
-
--- and over the book of a database
-abbrev pub WorksInDatabase : {S F : Type 0} → Database S → Result Done F × Held S → Work → Output → Type 0
-WorksInDatabase db result work out =
-    IfOk result.0 (λ (done : Done). OverCall db (λ (old new : BookState). WorkDone IsFindingOf work old out.before out.after done new) result.1)
-
 -- ---- printed
-
--- the work ended, so did the closing of its file, and what was left of it is printed
-pub record IsPrinted {F : Type 0} (done : Result Done F) (closed : Result (Unit {0}) F) (old_output new_output : Option (List ℕ)) (status : ℕ) : Type 0 where
-  pub left : Done
-  pub ended : done ≡ Ok left
-  pub shut : closed ≡ Ok tt
-  pub printed : Appends old_output new_output (text_left left)
-  pub outcome : status ≡ status_left left
 
 -- all that was left was printed
 abbrev pub PrintsAll : Done → Output → Type 0
@@ -126,6 +106,13 @@ PrintsAll left out = Appends out.before out.after (text_left left)
 abbrev pub PrintsPart : Done → Output → Type 0
 PrintsPart left out = Breaks out.before out.after (text_left left)
 
--- where no fault came of it, what was left was printed, with this status
-abbrev pub Prints : {F : Type 0} → Result Done F → Result (Unit {0}) F → Output → Result ℕ F → Type 0
-Prints done closed out result = IfOk result (λ (status : ℕ). IsPrinted done closed out.before out.after status)
+-- all of it was, and the closing of the file ended without a fault
+pub record IsPrinted {F : Type 0} (left : Done) (closed : Result (Unit {0}) F) (old_output new_output : Option (List ℕ)) (status : Status) : Type 0 where
+  pub shut : closed ≡ Ok tt
+  pub printed : Appends old_output new_output (text_left left)
+  pub outcome : status ≡ status_left left
+
+-- so it was printed, with this status; or, where a fault ended that, a beginning of it
+abbrev pub EndsPrinting : {F G : Type 0} → Done → Result (Unit {0}) F → Output → Result Status G → Type 0
+EndsPrinting {G = G} left closed out result =
+    MatchResult result (λ (status : Status). IsPrinted left closed out.before out.after status) (λ (fault : G). Begins out.before out.after (text_left left))

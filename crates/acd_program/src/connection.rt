@@ -2,17 +2,19 @@
 
 ghost use Rattle.std.specs.Prelude.{◌≡◌, true, false, IfOk, IfErr};
 ghost use Rattle.sqlite.specs.Held.{state};
+ghost use Rattle.acd_sql_schema.specs.SettingUp.{IfClean};
+ghost use Rattle.acd_sqlbook.specs.Adopting.{IsUntouched};
+ghost use Rattle.acd_sqlbook.specs.Opening.{IfOpened, IfHandedBack};
 ghost use Rattle.acd_sqlbook.specs.View.{book_of};
 ghost use Rattle.acd_lines.specs.Lines.{streams};
 ghost use Rattle.acd_lines.specs.Questions.{TakesTurns};
 ghost use Rattle.acd_program.specs.Faults.{unmade_fault};
-ghost use Rattle.acd_program.specs.Ended.{IsOfDesk};
-ghost use Rattle.acd_program.specs.LinesOver.{AnswersLines, EndsEach};
+ghost use Rattle.acd_program.specs.LinesOver.{EndsEach};
 ghost use Rattle.acd_program.specs.Over.{database, Unserved, unmade};
 ghost use Rattle.acd_program.specs.Sessions.{EndsLines};
 ghost use Rattle.acd_program.specs.Taking.{IsOf, IsTaken, MayMakeIn};
 
-use crate::fault::Fault;
+use crate::fault::WorkFault;
 use crate::laws::lines_are_sessions;
 use crate::session::lines_over_book;
 use acd_book::BookFault;
@@ -71,28 +73,38 @@ pub(crate) fn book_over<S: Alter>(
     SqlBook::adopt(alloc, conn)
 }
 
-/// The book that a database holds, of version 2: tables of version 1 stay what they are.
+// Why a database without the second version's tables is no archive. It is only looked at.
+fn refusal_of<S: Alter>(alloc: Global, conn: &mut Connection<S>) -> AdoptFault
+    requires { conn.old.in_transaction ≡ false }
+    ensures { IfClean S.Store conn.old conn.new IsUntouched }
+{
+    match look_over(alloc, conn) {
+        Ok(Found::Book(_)) => AdoptFault::WrongVersion(1),
+        Ok(Found::Fault(fault)) => fault,
+        Err(error) => fault_of(error),
+    }
+}
+
+/// The book that a database holds, of version 2. Nothing is changed, and tables of version 1 stay what they are.
 pub(crate) fn archive_over<S: Alter>(
     alloc: Global,
     mut conn: Connection<S>,
 ) -> Result<SqlBook<S>, (AdoptFault, Connection<S>)>
     requires { conn.in_transaction ≡ false }
-    ensures { IfOk result (λ b. IsTaken false (state S.Store conn) (book_of S.Store b)) }
+    ensures taken { IfOk result (λ b. IsTaken false (state S.Store conn) (book_of S.Store b)) }
+    ensures untouched { IfOpened S.Store conn result IsUntouched }
+    ensures refused { IfHandedBack S.Store conn result (λ fault. IsUntouched) }
 {
     if conn.schema().table_named(SECOND).is_some() {
-        return book_over(alloc, conn, false);
+        return SqlBook::adopt(alloc, conn);
     }
-    let fault = match look_over(alloc, &mut conn) {
-        Ok(Found::Book(_)) => AdoptFault::WrongVersion(1),
-        Ok(Found::Fault(fault)) => fault,
-        Err(error) => fault_of(error),
-    };
+    let fault = refusal_of(alloc, &mut conn);
     Err((fault, conn))
 }
 
 /// Answers lines over the book that a database holds or, where it has no tables and one is to be made, over a
 /// new one with the greatest limits, and gives the connection back.
-pub fn lines_over_connection<'a, S: Alter, A: Answering<SqlBook<S>>, R: Read, W: Write>(
+pub fn lines_over_connection<S: Alter, A: Answering<SqlBook<S>>, R: Read, W: Write>(
     alloc: Global,
     lines: &mut A,
     conn: Connection<S>,
@@ -100,48 +112,44 @@ pub fn lines_over_connection<'a, S: Alter, A: Answering<SqlBook<S>>, R: Read, W:
     ends: bool,
     reader: &mut R,
     writer: &mut W,
-) -> (Result<(), Fault<'a>>, Connection<S>)
+) -> (Result<(), WorkFault>, Connection<S>)
     requires { conn.in_transaction ≡ false }
     ensures done { EndsEach (database S.Store makes conn) (TakesTurns A.Answering) ends
         (streams R.remaining W.contents (reader.old, reader.new) (writer.old, writer.new)) result }
-    ensures known { IfErr result.0 IsOfDesk }
     ensures idle { result.1.in_transaction ≡ false }
 {
     let book = match book_over(alloc, conn, makes) {
         Ok(book) => book,
-        Err((fault, conn)) => return (Err(Fault::from(fault)), conn),
+        Err((fault, conn)) => return (Err(WorkFault::from(fault)), conn),
     };
     let (done, book) = lines_over_book(alloc, lines, book, ends, reader, writer);
     (done, book.into_connection())
 }
 
 // Answers requests, and reads among them.
-fn with_reads<'a, S: Alter, R: Read, W: Write>(
+fn with_reads<S: Alter, R: Read, W: Write>(
     alloc: Global,
     conn: Connection<S>,
     makes: bool,
     ends: bool,
     reader: &mut R,
     writer: &mut W,
-) -> (Result<(), Fault<'a>>, Connection<S>)
+) -> (Result<(), WorkFault>, Connection<S>)
     requires { conn.in_transaction ≡ false }
-    ensures done { AnswersLines (database S.Store makes conn) true ends
-        (streams R.remaining W.contents (reader.old, reader.new) (writer.old, writer.new)) result }
     ensures ended { EndsLines (database S.Store makes conn) true ends
         (streams R.remaining W.contents (reader.old, reader.new) (writer.old, writer.new)) result }
-    ensures known { IfErr result.0 IsOfDesk }
     ensures idle { result.1.in_transaction ≡ false }
 {
     match RequestsAndReads::new(alloc) {
         Ok(mut lines) => {
             lines_over_connection(alloc, &mut lines, conn, makes, ends, reader, writer)
         }
-        Err(fault) => (Err(Fault::from(fault)), conn),
+        Err(fault) => (Err(WorkFault::from(fault)), conn),
     }
 }
 
 /// Answers lines so: requests alone, or these and reads.
-pub(crate) fn database_lines<'a, S: Alter, R: Read, W: Write>(
+pub(crate) fn database_lines<S: Alter, R: Read, W: Write>(
     alloc: Global,
     conn: Connection<S>,
     makes: bool,
@@ -149,14 +157,10 @@ pub(crate) fn database_lines<'a, S: Alter, R: Read, W: Write>(
     ends: bool,
     reader: &mut R,
     writer: &mut W,
-) -> (Result<(), Fault<'a>>, Connection<S>)
+) -> (Result<(), WorkFault>, Connection<S>)
     requires { conn.in_transaction ≡ false }
-    ensures done { AnswersLines (database S.Store makes conn) reads ends
-        (streams R.remaining W.contents (reader.old, reader.new) (writer.old, writer.new)) result }
-    // whatever ended them
     ensures ended { EndsLines (database S.Store makes conn) reads ends
         (streams R.remaining W.contents (reader.old, reader.new) (writer.old, writer.new)) result }
-    ensures known { IfErr result.0 IsOfDesk }
     ensures idle { result.1.in_transaction ≡ false }
 {
     if reads {

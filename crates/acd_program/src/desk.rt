@@ -1,18 +1,19 @@
 //! Work over a database. Whatever needs a desk is done over any book, so that one function alone names the store.
 
-ghost use Rattle.std.specs.Prelude.{◌≡◌, false, [], IfOk, IfErr, unwrap_or};
+ghost use Rattle.std.specs.Prelude.{◌≡◌, false, [], IfOk, unwrap_or};
 ghost use Rattle.sqlite.specs.Held.{state};
 ghost use Rattle.acd_desk.specs.ReadDone.{DeskRead};
 ghost use Rattle.acd_desk.specs.ReadAnswers.{text_read};
-ghost use Rattle.acd_program.specs.Ended.{IsOfDesk, OnlyAsked, OnlyReads, EndsImport, EndsWork, EndsInDatabase};
+ghost use Rattle.acd_program.specs.Ended.{OnlyAsked, OnlyReads, EndsImport, EndsWork, EndsInDatabase};
 ghost use Rattle.acd_program.specs.Output.{output};
 ghost use Rattle.acd_program.specs.Over.{database, Unserved};
-ghost use Rattle.acd_program.specs.Work.{text_left, status_left, IsPrintoutOf, Imports, PrintsOver, AuditsBook, WorksOver, WorksInDatabase};
+ghost use Rattle.acd_program.specs.Work.{text_left, status_left, IsPrintoutOf, PrintsOver, AuditsBook};
 
 use crate::auditing::{Finding, audited};
 use crate::connection::book_over;
-use crate::fault::Fault;
+use crate::fault::WorkFault;
 use crate::progress::{Progress, Watched};
+use crate::status::Status;
 use acd_book::Book;
 use acd_desk::{Desk, DeskFault};
 use acd_lines::import;
@@ -51,26 +52,23 @@ pub(crate) enum Done {
     Audited(Finding, Ending),
 }
 
-fn imported<'a, B: Book, W: Write>(
+fn imported<B: Book, W: Write>(
     alloc: Global,
     book: B,
     requests: &[Request],
     writer: &mut W,
-) -> (Result<Done, Fault<'a>>, B)
-    ensures over { Imports B.Book book result requests.now
+) -> (Result<Done, WorkFault>, B)
+    ensures result { EndsImport B.Book book result requests.now
         (output W.contents writer.old writer.new) }
     ensures nothing { IfOk result.0 (λ done. done ≡ Done.Nothing) }
-    ensures stopped { EndsImport B.Book book result requests.now
-        (output W.contents writer.old writer.new) }
-    ensures known { IfErr result.0 IsOfDesk }
 {
     let mut desk = match Desk::open(alloc, book) {
         Ok(desk) => desk,
-        Err((fault, book)) => return (Err(Fault::from(fault)), book),
+        Err((fault, book)) => return (Err(WorkFault::from(fault)), book),
     };
     match import(alloc, &mut desk, requests, writer) {
         Ok(()) => (Ok(Done::Nothing), desk.close()),
-        Err(fault) => (Err(Fault::from(fault)), desk.close()),
+        Err(fault) => (Err(WorkFault::from(fault)), desk.close()),
     }
 }
 
@@ -86,7 +84,7 @@ fn text_of<B: Book>(desk: &mut Desk<B>, printout: Printout) -> Result<Option<Str
 
 fn done_by(text: Option<String>) -> Done
     ensures text { text_left result ≡ unwrap_or (text_read text) [] }
-    ensures status { status_left result ≡ 0 }
+    ensures status { status_left result ≡ Status.Success }
 {
     match text {
         Some(text) => Done::Text(text),
@@ -94,23 +92,18 @@ fn done_by(text: Option<String>) -> Done
     }
 }
 
-fn read_text<'a, B: Book>(
-    alloc: Global,
-    book: B,
-    printout: Printout,
-) -> (Result<Done, Fault<'a>>, B)
+fn read_text<B: Book>(alloc: Global, book: B, printout: Printout) -> (Result<Done, WorkFault>, B)
     ensures over { IfOk result.0
         (λ done. PrintsOver printout (B.state book) done (B.state result.1)) }
     ensures kept { OnlyAsked (B.state book) (B.state result.1) }
-    ensures known { IfErr result.0 IsOfDesk }
 {
     let mut desk = match Desk::open(alloc, book) {
         Ok(desk) => desk,
-        Err((fault, book)) => return (Err(Fault::from(fault)), book),
+        Err((fault, book)) => return (Err(WorkFault::from(fault)), book),
     };
     match text_of(&mut desk, printout) {
         Ok(text) => (Ok(done_by(text)), desk.close()),
-        Err(fault) => (Err(Fault::from(fault)), desk.close()),
+        Err(fault) => (Err(WorkFault::from(fault)), desk.close()),
     }
 }
 
@@ -125,44 +118,39 @@ fn book_of<B: Book>(book: Watched<'_, B>, found: Finding) -> B
 }
 
 // The replay is watched.
-fn audit<'a, B: Book>(
+fn audit<B: Book>(
     alloc: Global,
     book: Watched<'_, B>,
     counts: bool,
     ending: Ending,
-) -> (Result<Done, Fault<'a>>, B)
+) -> (Result<Done, WorkFault>, B)
     ensures over { AuditsBook B.Book book.entry.inner result counts ending }
     ensures kept { OnlyAsked (B.state book.entry.inner) (B.state result.1) }
-    ensures known { IfErr result.0 IsOfDesk }
 {
     let mut desk = match Desk::open(alloc, book) {
         Ok(desk) => desk,
-        Err((fault, book)) => return (Err(Fault::from(fault)), book.into_inner()),
+        Err((fault, book)) => return (Err(WorkFault::from(fault)), book.into_inner()),
     };
     match audited(&mut desk, counts) {
         Ok(found) => (
             Ok(Done::Audited(found, ending)),
             book_of(desk.close(), found),
         ),
-        Err(fault) => (Err(Fault::from(fault)), desk.close().into_inner()),
+        Err(fault) => (Err(WorkFault::from(fault)), desk.close().into_inner()),
     }
 }
 
-fn over_book<'a, B: Book, W: Write>(
+fn over_book<B: Book, W: Write>(
     rt: &HostRuntime,
     book: B,
     work: Work<'_>,
     writer: &mut W,
-) -> (Result<Done, Fault<'a>>, B)
-    ensures over { WorksOver B.Book book result work.entry
+) -> (Result<Done, WorkFault>, B)
+    ensures result { EndsWork B.Book book result work.entry
         (output W.contents writer.old writer.new) }
     // work that only reads changes nothing, whatever comes of it, and writes nothing
     ensures kept { OnlyReads work.entry → OnlyAsked (B.state book) (B.state result.1) }
     ensures silent { OnlyReads work.entry → writer.new ≡ writer.old }
-    // where a fault ended it
-    ensures stopped { EndsWork B.Book book result work.entry
-        (output W.contents writer.old writer.new) }
-    ensures known { IfErr result.0 IsOfDesk }
 {
     match work {
         Work::Import(requests) => imported(rt.alloc(), book, requests, writer),
@@ -175,26 +163,23 @@ fn over_book<'a, B: Book, W: Write>(
 }
 
 /// Does it over the database, with a new book where it has no tables and one is to be made.
-pub(crate) fn over_database<'a, S: Alter, W: Write>(
+pub(crate) fn over_database<S: Alter, W: Write>(
     rt: &HostRuntime,
     conn: Connection<S>,
     makes: bool,
     work: Work<'_>,
     writer: &mut W,
-) -> (Result<Done, Fault<'a>>, Connection<S>)
+) -> (Result<Done, WorkFault>, Connection<S>)
     requires { conn.in_transaction ≡ false }
-    ensures over { WorksInDatabase (database S.Store makes conn) result work.entry
+    ensures result { EndsInDatabase (database S.Store makes conn) result work.entry
         (output W.contents writer.old writer.new) }
     ensures kept { OnlyReads work.entry
         → Unserved makes (state S.Store conn) (state S.Store result.1) }
     ensures silent { OnlyReads work.entry → writer.new ≡ writer.old }
-    ensures stopped { EndsInDatabase (database S.Store makes conn) result work.entry
-        (output W.contents writer.old writer.new) }
-    ensures known { IfErr result.0 IsOfDesk }
 {
     let book = match book_over(rt.alloc(), conn, makes) {
         Ok(book) => book,
-        Err((fault, conn)) => return (Err(Fault::from(fault)), conn),
+        Err((fault, conn)) => return (Err(WorkFault::from(fault)), conn),
     };
     let (done, book) = over_book(rt, book, work, writer);
     (done, book.into_connection())

@@ -2,10 +2,9 @@
 
 ghost use Rattle.std.specs.Prelude.{◌≡◌, ◌/◌, ◌≤◌, ◌<◌, IsTrue, IfOk, IfErr};
 ghost use Rattle.sqlite_wal.specs.Reads.{AreClean, OnlyReads};
-ghost use Rattle.acd_program.specs.Ended.{IsOfOpening};
 ghost use Rattle.acd_program.specs.Files.{new_page, page_of, treated, IfClean, IsSmall, IsLoneIn, AreReadOnly, KeepsPages, AreTreated, IsCreated, IsReadAndCreated, IsUnmade, IsUnbegun, IsBegun};
 
-use crate::fault::Fault;
+use crate::fault::PathFault;
 use crate::lone_log::is_lone;
 use sqlite_disk::{Disk, Files};
 use sqlite_pager::{Options, PageSize, Pager};
@@ -27,12 +26,10 @@ const CACHE: usize = 8_192_000;
 const ONE_PAGE: usize = 1;
 
 /// The error that kept a file from being read, as a fault.
-pub(crate) fn disk_fault<'a>(error: io::Error, path: &'a str) -> Fault<'a>
-    ensures known { IsOfOpening result }
-{
+pub(crate) fn disk_fault<'a>(error: io::Error, path: &'a str) -> PathFault<'a> {
     match error.kind() {
-        io::ErrorKind::OutOfMemory => Fault::NoMemory,
-        _ => Fault::CannotOpen(path),
+        io::ErrorKind::OutOfMemory => PathFault::NoMemory,
+        _ => PathFault::CannotOpen(path),
     }
 }
 
@@ -63,42 +60,39 @@ fn created<'a, D: Disk + Drop>(
     files: Files<D>,
     seed: u64,
     path: &'a str,
-) -> Result<Files<D>, (Fault<'a>, Files<D>)>
+) -> Result<Files<D>, (PathFault<'a>, Files<D>)>
     requires log { IsTrue (D.Disk.is_usable files.log) }
     requires db { IsTrue (D.Disk.is_usable files.db) }
     ensures created { IfOk result (λ new. IsCreated D.Disk files new) }
     ensures clean { IfOk result (λ new. IfClean D.Disk new (AreClean D.Disk files.log files.db)) }
     ensures left { IfErr result (λ e. IsUnmade D.Disk files e.1) }
-    ensures known { IfErr result (λ e. IsOfOpening e.0) }
 {
     let Some(size) = PageSize::new(NEW_PAGE) else {
-        return Err((Fault::CannotOpen(path), files));
+        return Err((PathFault::CannotOpen(path), files));
     };
     let pager = match Pager::new(alloc, files, size, one_page(seed)) {
         Ok(pager) => pager,
-        Err(failed) => return Err((Fault::NoMemory, failed.value)),
+        Err(failed) => return Err((PathFault::NoMemory, failed.value)),
     };
     let unopened = match Unopened::new(alloc, pager, &[]) {
         Ok(unopened) => unopened,
-        Err(failed) => return Err((Fault::NoMemory, failed.value.close())),
+        Err(failed) => return Err((PathFault::NoMemory, failed.value.close())),
     };
     match unopened.create() {
         Ok(store) => Ok(store.close()),
         // They hold a database, or something else that it leaves as it is.
         Err((OpenError::Refused, left)) => Ok(left.close()),
-        Err((OpenError::OutOfMemory, left)) => Err((Fault::NoMemory, left.close())),
-        Err((_, left)) => Err((Fault::CannotOpen(path), left.close())),
+        Err((OpenError::OutOfMemory, left)) => Err((PathFault::NoMemory, left.close())),
+        Err((_, left)) => Err((PathFault::CannotOpen(path), left.close())),
     }
 }
 
 /// The error that kept a log from being read, as a fault.
-pub(crate) fn log_fault<'a>(error: Error, path: &'a str) -> Fault<'a>
-    ensures known { IsOfOpening result }
-{
+pub(crate) fn log_fault<'a>(error: Error, path: &'a str) -> PathFault<'a> {
     match error {
-        Error::OutOfMemory => Fault::NoMemory,
+        Error::OutOfMemory => PathFault::NoMemory,
         Error::Io(error) => disk_fault(error, path),
-        _ => Fault::CannotOpen(path),
+        _ => PathFault::CannotOpen(path),
     }
 }
 
@@ -108,18 +102,17 @@ fn created_beside<'a, D: Disk + Drop>(
     mut files: Files<D>,
     seed: u64,
     path: &'a str,
-) -> Result<Files<D>, (Fault<'a>, Files<D>)>
+) -> Result<Files<D>, (PathFault<'a>, Files<D>)>
     requires log { IsTrue (D.Disk.is_usable files.log) }
     requires db { IsTrue (D.Disk.is_usable files.db) }
     ensures created { IfOk result (λ new. IsReadAndCreated D.Disk files new) }
     ensures clean { IfOk result (λ new. IfClean D.Disk new (AreClean D.Disk files.log files.db)) }
     ensures spared { IfOk result (λ new. IfClean D.Disk new (¬ IsLoneIn D.Disk files)) }
     ensures left { IfErr result (λ e. IsUnbegun D.Disk files e.1) }
-    ensures known { IfErr result (λ e. IsOfOpening e.0) }
 {
     match is_lone(alloc, &mut files) {
         Ok(false) => created(alloc, files, seed, path),
-        Ok(true) => Err((Fault::CannotOpen(path), files)),
+        Ok(true) => Err((PathFault::CannotOpen(path), files)),
         Err(error) => Err((log_fault(error, path), files)),
     }
 }
@@ -130,14 +123,13 @@ pub(crate) fn begun<'a, D: Disk + Drop>(
     mut files: Files<D>,
     seed: u64,
     path: &'a str,
-) -> Result<Files<D>, (Fault<'a>, Files<D>)>
+) -> Result<Files<D>, (PathFault<'a>, Files<D>)>
     requires log { IsTrue (D.Disk.is_usable files.log) }
     requires db { IsTrue (D.Disk.is_usable files.db) }
     ensures log { IfOk result (λ files. IsTrue (D.Disk.is_usable files.log)) }
     ensures db { IfOk result (λ files. IsTrue (D.Disk.is_usable files.db)) }
     ensures begun { IfOk result (λ new. IsBegun D.Disk files new) }
     ensures left { IfErr result (λ e. IsUnbegun D.Disk files e.1) }
-    ensures known { IfErr result (λ e. IsOfOpening e.0) }
 {
     match may_be_new(&mut files) {
         Ok(false) => Ok(files),
@@ -146,7 +138,7 @@ pub(crate) fn begun<'a, D: Disk + Drop>(
             if files.may_be_used() {
                 Ok(files)
             } else {
-                Err((Fault::CannotOpen(path), files))
+                Err((PathFault::CannotOpen(path), files))
             }
         }
         Err(error) => Err((disk_fault(error, path), files)),
@@ -187,14 +179,13 @@ pub(crate) fn options<'a, D: Disk>(
     files: &mut Files<D>,
     seed: u64,
     path: &'a str,
-) -> Result<Options, Fault<'a>>
+) -> Result<Options, PathFault<'a>>
     requires log { IsTrue (D.Disk.is_usable files.old.log) }
     requires db { IsTrue (D.Disk.is_usable files.old.db) }
     ensures log { IsTrue (D.Disk.is_usable files.new.log) }
     ensures db { IsTrue (D.Disk.is_usable files.new.db) }
     ensures read { AreReadOnly D.Disk files.old files.new }
     ensures treated { IfOk result (AreTreated D.Disk files.old files.new seed) }
-    ensures known { IfErr result IsOfOpening }
 {
     match cache_pages(files) {
         Ok(cache_pages) => Ok(Options {

@@ -1,10 +1,10 @@
 //! The plan of an import.
 
-ghost use Rattle.std.specs.Prelude.{IfOk, IfErr};
-ghost use Rattle.acd_program.specs.Ended.{IsOfOpening};
+ghost use Rattle.std.specs.Prelude.{IfOk};
 ghost use Rattle.acd_program.specs.Plans.{IsEnough, IsSomePlan, IsPlanFrom};
 
-use crate::fault::Fault;
+use crate::fault::LookFault;
+use crate::paging::disk_fault;
 use acd_reports::plan_requests;
 use acd_terms::Request;
 use std::alloc::Global;
@@ -23,42 +23,30 @@ pub(crate) fn bytes_from<R: Read + Drop>(alloc: Global, reader: R) -> io::Result
     Ok(bytes)
 }
 
-// The error of reading the plan, as a fault.
-fn reading_fault<'a>(error: io::Error, path: &'a str) -> Fault<'a>
-    ensures known { IsOfOpening result }
-{
-    match error.kind() {
-        io::ErrorKind::OutOfMemory => Fault::NoMemory,
-        _ => Fault::CannotOpen(path),
-    }
-}
-
 // The requests of the whole plan that a reader gives.
 fn plan_from<'a, R: Read + Drop>(
     alloc: Global,
     reader: R,
     path: &'a str,
-) -> Result<Vec<Request>, Fault<'a>>
-    ensures plan { IfOk result (λ requests. IsPlanFrom (R.remaining reader) requests.items) }
-    ensures known { IfErr result IsOfOpening }
+) -> Result<Vec<Request>, LookFault<'a>>
+    ensures { IfOk result (λ requests. IsPlanFrom (R.remaining reader) requests.items) }
 {
     let bytes = match bytes_from(alloc, reader) {
         Ok(bytes) => bytes,
-        Err(error) => return Err(reading_fault(error, path)),
+        Err(error) => return Err(LookFault::Path(disk_fault(error, path))),
     };
     match plan_requests(alloc, &bytes) {
         Ok(requests) => Ok(requests),
-        Err(fault) => Err(Fault::from(fault)),
+        Err(fault) => Err(LookFault::Plan(fault)),
     }
 }
 
 /// The requests of the plan at a path.
-pub(crate) fn read_plan<'a>(rt: &HostRuntime, path: &'a str) -> Result<Vec<Request>, Fault<'a>>
-    ensures plan { IfOk result (λ requests. IsSomePlan requests.items) }
-    ensures known { IfErr result IsOfOpening }
+pub(crate) fn read_plan<'a>(rt: &HostRuntime, path: &'a str) -> Result<Vec<Request>, LookFault<'a>>
+    ensures { IfOk result (λ requests. IsSomePlan requests.items) }
 {
     match fs::open(rt, path) {
         Ok(file) => plan_from(rt.alloc(), file, path),
-        Err(error) => Err(reading_fault(error, path)),
+        Err(error) => Err(LookFault::Path(disk_fault(error, path))),
     }
 }

@@ -1,26 +1,20 @@
 //! The printing of what is left of the work.
 
-ghost use Rattle.std.specs.Prelude.{◌≡◌, OnOk, OnErr, IfOk, IfErr};
+ghost use Rattle.std.specs.Prelude.{◌≡◌, OnOk, OnErr, IfOk};
 ghost use Rattle.acd_io.specs.Sent.{Sends};
 ghost use Rattle.acd_program.specs.Found.{sound_line, number_line, counted_line, finding_line};
 ghost use Rattle.acd_program.specs.Output.{output};
-ghost use Rattle.acd_program.specs.Statuses.{IsDone, sound_status, finding_status};
+ghost use Rattle.acd_program.specs.Statuses.{sound_status, finding_status};
 ghost use Rattle.acd_program.specs.Work.{text_left, status_left, PrintsAll, PrintsPart};
 
 use crate::auditing::Finding;
 use crate::desk::Done;
-use crate::fault::Fault;
+use crate::fault::WorkFault;
+use crate::status::Status;
 use acd_io::{Stopped, send};
 use acd_log::Ending;
 use itoa::Buffer;
 use std::io::Write;
-
-// Exit statuses.
-const SUCCESS: u8 = 0;
-
-const DIFFERS: u8 = 3;
-
-const ENDS_EARLY: u8 = 5;
 
 // How often the writer is called at most.
 const CALLS: u64 = u64::MAX;
@@ -84,51 +78,46 @@ fn send_left<W: Write>(left: &Done, writer: &mut W) -> Result<(), Stopped>
 }
 
 // The exit status of a sound desk, of whose file the log ended so.
-fn sound_status(ending: Ending) -> u8
-    ensures known { IsDone result }
-    ensures status { result ≡ sound_status ending }
+fn sound_status(ending: Ending) -> Status
+    ensures { result ≡ sound_status ending }
 {
     match ending {
-        Ending::Plain => SUCCESS,
-        Ending::Early => ENDS_EARLY,
-        Ending::Headless => ENDS_EARLY,
+        Ending::Plain => Status::Success,
+        Ending::Early => Status::EndsEarly,
+        Ending::Headless => Status::EndsEarly,
     }
 }
 
 // The exit status of an audit's finding. A difference is no fault.
-fn status_of(found: Finding, ending: Ending) -> u8
-    ensures known { IsDone result }
-    ensures status { result ≡ finding_status ending found }
+fn status_of(found: Finding, ending: Ending) -> Status
+    ensures { result ≡ finding_status ending found }
 {
     match found {
         Finding::Sound => sound_status(ending),
         Finding::Counted(_) => sound_status(ending),
-        Finding::Differs(_) => DIFFERS,
+        Finding::Differs(_) => Status::Differs,
     }
 }
 
-fn status_left(left: &Done) -> u8
-    ensures known { IsDone result }
-    ensures status { result ≡ status_left left.now }
+fn status_left(left: &Done) -> Status
+    ensures { result ≡ status_left left.now }
 {
     match left {
-        Done::Nothing => SUCCESS,
-        Done::Text(_) => SUCCESS,
+        Done::Nothing => Status::Success,
+        Done::Text(_) => Status::Success,
         Done::Audited(found, ending) => status_of(*found, *ending),
     }
 }
 
 /// Prints what is left of the work, and gives the exit status.
-pub(crate) fn print<'a, W: Write>(left: &Done, writer: &mut W) -> Result<u8, Fault<'a>>
-    ensures known { IfOk result IsDone }
+pub(crate) fn print<W: Write>(left: &Done, writer: &mut W) -> Result<Status, WorkFault>
     ensures status { IfOk result (λ status. status ≡ status_left left.now) }
     ensures ok { OnOk result (PrintsAll left.now (output W.contents writer.old writer.new)) }
     // where the writer failed, a beginning of it and not all
     ensures short { OnErr result (PrintsPart left.now (output W.contents writer.old writer.new)) }
-    ensures fault { IfErr result (λ fault. fault ≡ Fault.Write) }
 {
     match send_left(left, writer) {
         Ok(()) => Ok(status_left(left)),
-        Err(Stopped) => Err(Fault::Write),
+        Err(Stopped) => Err(WorkFault::Write),
     }
 }

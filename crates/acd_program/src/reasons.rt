@@ -2,7 +2,7 @@
 //! fault, by what is at a path by then. Where the program can't find out why, it prints nothing.
 
 use crate::asked::Task;
-use crate::fault::Fault;
+use crate::fault::{ArchiveFault, Fault, LookFault, OpeningFault, PathFault, WorkFault};
 use crate::file::{holds_log, log_path};
 use crate::plan::bytes_from;
 use crate::plan_lines::{first_line, form_of, line_of};
@@ -283,24 +283,56 @@ fn file_of(task: Task<'_>) -> Option<&str> {
     }
 }
 
+// Why what is at a path isn't opened.
+fn of_path(rt: &HostRuntime, task: Task<'_>, path: &str) -> Option<&'static str> {
+    if is_plan(task, path) {
+        return of_reading(rt, path);
+    }
+    if is_archive(task, path) {
+        return of_archive(rt, path);
+    }
+    of_opening(rt, path)
+}
+
+fn explain_path(rt: &HostRuntime, task: Task<'_>, fault: PathFault<'_>) {
+    if let PathFault::CannotOpen(path) = fault {
+        print_reason(rt, of_path(rt, task, path));
+    }
+}
+
+fn explain_look(rt: &HostRuntime, task: Task<'_>, fault: LookFault<'_>) {
+    match (fault, file_of(task)) {
+        (LookFault::Path(fault), _) => explain_path(rt, task, fault),
+        (LookFault::NoBytes, Some(file)) => print_reason(rt, of_no_version(rt, file)),
+        (LookFault::Plan(fault), _) => print_plan_fault(rt, task, fault),
+        _ => {}
+    }
+}
+
+fn explain_opening(rt: &HostRuntime, task: Task<'_>, fault: OpeningFault<'_>) {
+    match fault {
+        OpeningFault::Look(fault) => explain_look(rt, task, fault),
+        OpeningFault::Files(fault) => explain_path(rt, task, fault),
+    }
+}
+
+fn explain_work(rt: &HostRuntime, task: Task<'_>, fault: WorkFault) {
+    match (fault, file_of(task)) {
+        (WorkFault::WrongVersion(0), Some(file)) => print_reason(rt, of_no_version(rt, file)),
+        (WorkFault::Store, Some(file)) => print_reason(rt, of_owner(rt, file)),
+        _ => {}
+    }
+}
+
 /// Prints why, on the process's standard error, where that is a terminal.
 pub(crate) fn explain(rt: &HostRuntime, task: Task<'_>, fault: Fault<'_>) {
     if !rt.stderr().is_terminal() {
         return;
     }
-    match (fault, file_of(task)) {
-        (Fault::CannotOpen(path), _) if is_plan(task, path) => print_reason(
-            rt,
-            of_reading(rt, path),
-        ),
-        (Fault::CannotOpen(path), _) if is_archive(task, path) => print_reason(
-            rt,
-            of_archive(rt, path),
-        ),
-        (Fault::CannotOpen(path), _) => print_reason(rt, of_opening(rt, path)),
-        (Fault::WrongVersion(0), Some(file)) => print_reason(rt, of_no_version(rt, file)),
-        (Fault::Store, Some(file)) => print_reason(rt, of_owner(rt, file)),
-        (Fault::Plan(fault), _) => print_plan_fault(rt, task, fault),
-        _ => {}
+    match fault {
+        Fault::Opening(fault) => explain_opening(rt, task, fault),
+        Fault::Archive(ArchiveFault::Opening(fault)) => explain_opening(rt, task, fault),
+        Fault::Work(fault) => explain_work(rt, task, fault),
+        Fault::Archive(ArchiveFault::Work(_)) => {}
     }
 }

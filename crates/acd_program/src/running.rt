@@ -1,24 +1,23 @@
 //! The program over three streams.
 
-ghost use Rattle.std.specs.Prelude.{◌≡◌, ◌≤◌, ◌⊎◌, false, map, Ok, IfOk, IfErr, OnOk, OnErr};
+ghost use Rattle.std.specs.Prelude.{◌≡◌, ◌≤◌, ◌⊎◌, false, map, IfOk, IfErr};
 ghost use Rattle.sqlite_std_file.specs.File.{IsFresh};
 ghost use Rattle.acd_lines.specs.Lines.{streams};
 ghost use Rattle.clap.specs.Words.{kind_of};
-ghost use Rattle.acd_program.specs.Ended.{IsOfDesk, IsOfOpening, IsFirstFault, IsSomeFault, PrintedOf, EndsWorkOn};
-ghost use Rattle.acd_program.specs.FileTasks.{WorksIn, EndsWorkIn, ImportsIn, EndsImportIn, AuditsWhole, EndsWholeAudit, AuditsBoth, EndsAuditOfBoth, AnswersInput, EndsInput, DoesFileService, EndsFileService, DoesTask, EndsTask, DoneOrHelp, FaultEnded};
-ghost use Rattle.acd_program.specs.InFiles.{WorksOn};
-ghost use Rattle.acd_program.specs.LinesOver.{NewAnswered};
+ghost use Rattle.acd_program.specs.CommandLine.{IsRefused};
+ghost use Rattle.acd_program.specs.Ended.{EndsBoth, EndsWorkOn};
+ghost use Rattle.acd_program.specs.FileTasks.{EndsWorkIn, EndsImportIn, EndsWholeAudit, EndsAudit, EndsFileLines, EndsInput, EndsFileService, EndsTask, ExitsTask, DoneOrHelp, FaultEnded};
 ghost use Rattle.acd_program.specs.Output.{output};
 ghost use Rattle.acd_program.specs.Serving.{service};
-ghost use Rattle.acd_program.specs.Sessions.{MemoryEnded};
-ghost use Rattle.acd_program.specs.Statuses.{IsDone, IsHelp, fault_status, PrintsAtMostFaults, PrintsOnSuccess, UntouchedElsewhere};
-ghost use Rattle.acd_program.specs.Tasks.{FileAnswered, IsReadEnding};
-ghost use Rattle.acd_program.specs.Work.{Prints};
+ghost use Rattle.acd_program.specs.Sessions.{EndsNewLines};
+ghost use Rattle.acd_program.specs.Statuses.{ExitsWithoutTask, IfDone, fault_exit, PrintsAtMostFaults, PrintsOnSuccess, UntouchedElsewhere};
+ghost use Rattle.acd_program.specs.Tasks.{IsReadEnding};
+ghost use Rattle.acd_program.specs.Work.{EndsPrinting};
 
 use crate::asked::Task;
 use crate::connection::database_lines;
 use crate::desk::{Done, Work, over_database};
-use crate::fault::Fault;
+use crate::fault::{Fault, LookFault, WorkFault};
 use crate::file::{close_connection, connect, log_ending};
 use crate::laws::lines_are_from_nothing;
 use crate::memory::lines_over_memory;
@@ -26,9 +25,10 @@ use crate::plan::read_plan;
 use crate::printing::print;
 use crate::reasons::explain;
 use crate::serving::serve;
+use crate::status::{Exit, Status};
 use crate::task::parse;
 use crate::with_archive::over_archive;
-use acd_book::MemoryBook;
+use acd_book::{BookFault, MemoryBook};
 use acd_http::RequestsAndReads;
 use acd_lines::laws::requests_run;
 use acd_lines::{LinesFault, Requests};
@@ -41,46 +41,47 @@ use std::alloc::Global;
 use std::convert::AsStr;
 use std::io::{Read, Write};
 
-// Exit statuses.
-const SUCCESS: u8 = 0;
-
-const FAULT: u8 = 1;
-
-const REFUSED: u8 = 2;
-
-const OPEN_ELSEWHERE: u8 = 4;
-
 // A fault that ended the work comes before one of closing its file.
-fn done_and_closed<'a>(
-    done: Result<(), Fault<'a>>,
-    closed: Result<(), Fault<'a>>,
-) -> Result<(), Fault<'a>>
-    ensures both { OnOk result ((done.entry ≡ Ok tt) × (closed.entry ≡ Ok tt)) }
-    ensures first { IfErr result (IsFirstFault done.entry closed.entry) }
+fn done_and_closed(
+    done: Result<(), WorkFault>,
+    closed: Result<(), BookFault>,
+) -> Result<(), WorkFault>
+    ensures { EndsBoth done closed result }
 {
     done?;
     closed?;
     Ok(())
 }
 
+// A fault of printing comes before one of closing the file.
+fn print_done<W: Write>(
+    left: &Done,
+    closed: Result<(), BookFault>,
+    writer: &mut W,
+) -> Result<Status, WorkFault>
+    ensures { EndsPrinting left.now closed (output W.contents writer.old writer.new) result }
+{
+    let status = print(left, writer)?;
+    closed?;
+    Ok(status)
+}
+
 // Does it over the database, closes it into its file, and prints what is left.
-fn work_over<'a, D: Disk + Drop, W: Write>(
+fn work_over<D: Disk + Drop, W: Write>(
     rt: &HostRuntime,
     conn: Connection<FileStore<D>>,
     makes: bool,
     work: Work<'_>,
     writer: &mut W,
-) -> Result<u8, Fault<'a>>
+) -> Result<Status, WorkFault>
     requires { conn.in_transaction ≡ false }
-    ensures known { IfOk result IsDone }
-    ensures worked { WorksOn conn result makes work.entry
+    ensures { EndsWorkOn conn result makes work.entry
         (output W.contents writer.old writer.new) }
-    ensures ended { EndsWorkOn conn result makes work.entry
-        (output W.contents writer.old writer.new) }
-    ensures late { IfErr result IsOfDesk }
 {
     let (done, conn) = over_database(rt, conn, makes, work, writer);
-    print_done(done, close_connection(conn), writer)
+    let closed = close_connection(conn);
+    let left = done?;
+    print_done(&left, closed, writer)
 }
 
 // Does it over the file.
@@ -91,15 +92,15 @@ fn work_in<'a, S: Start, W: Write>(
     makes: bool,
     work: Work<'_>,
     writer: &mut W,
-) -> Result<u8, Fault<'a>>
-    ensures known { IfOk result IsDone }
-    ensures worked { WorksIn ⟦<FileFrom<S> as Disk>⟧ makes work.entry
-        (output W.contents writer.old writer.new) result }
-    ensures ended { EndsWorkIn ⟦<FileFrom<S> as Disk>⟧ makes work.entry
+) -> Result<Status, Fault<'a>>
+    ensures { EndsWorkIn ⟦<FileFrom<S> as Disk>⟧ makes work.entry
         (output W.contents writer.old writer.new) result }
 {
     let (conn, is_new) = connect(rt, file, makes, start)?;
-    work_over(rt, conn, is_new, work, writer)
+    match work_over(rt, conn, is_new, work, writer) {
+        Ok(status) => Ok(status),
+        Err(fault) => Err(Fault::Work(fault)),
+    }
 }
 
 // Answers the lines of the input over the file.
@@ -112,15 +113,16 @@ fn lines_in<'a, S: Start, R: Read, W: Write>(
     reader: &mut R,
     writer: &mut W,
 ) -> Result<(), Fault<'a>>
-    ensures answered { OnOk result (FileAnswered ⟦<FileFrom<S> as Disk>⟧ IsFresh reads ends
-        (streams R.remaining W.contents (reader.old, reader.new) (writer.old, writer.new))) }
-    ensures ended { IfErr result
-        (EndsInput ⟦<FileFrom<S> as Disk>⟧ (Some file.entry) reads ends
-        (streams R.remaining W.contents (reader.old, reader.new) (writer.old, writer.new))) }
+    ensures { EndsFileLines ⟦<FileFrom<S> as Disk>⟧ reads ends
+        (streams R.remaining W.contents (reader.old, reader.new) (writer.old, writer.new))
+        result }
 {
     let (conn, is_new) = connect(rt, file, true, start)?;
     let (done, conn) = database_lines(rt.alloc(), conn, is_new, reads, ends, reader, writer);
-    done_and_closed(done, close_connection(conn))
+    match done_and_closed(done, close_connection(conn)) {
+        Ok(()) => Ok(()),
+        Err(fault) => Err(Fault::Work(fault)),
+    }
 }
 
 // The same over a desk in memory.
@@ -130,10 +132,9 @@ fn lines_in_memory<R: Read, W: Write>(
     reader: &mut R,
     writer: &mut W,
 ) -> Result<(), LinesFault>
-    ensures answered { OnOk result (NewAnswered reads
-        (streams R.remaining W.contents (reader.old, reader.new) (writer.old, writer.new))) }
-    ensures ended { IfErr result (MemoryEnded reads
-        (streams R.remaining W.contents (reader.old, reader.new) (writer.old, writer.new))) }
+    ensures { EndsNewLines reads
+        (streams R.remaining W.contents (reader.old, reader.new) (writer.old, writer.new))
+        result }
 {
     lines_are_from_nothing::<R, W>();
     if reads {
@@ -152,25 +153,23 @@ fn answer_lines<'a, S: Start, R: Read, W: Write>(
     ends: bool,
     reader: &mut R,
     writer: &mut W,
-) -> Result<u8, Fault<'a>>
-    ensures known { IfOk result IsDone }
-    ensures done { IfOk result
-        (AnswersInput ⟦<FileFrom<S> as Disk>⟧ file.entry reads ends
-        (streams R.remaining W.contents (reader.old, reader.new) (writer.old, writer.new))) }
-    ensures ended { IfErr result
-        (EndsInput ⟦<FileFrom<S> as Disk>⟧ file.entry reads ends
-        (streams R.remaining W.contents (reader.old, reader.new) (writer.old, writer.new))) }
+) -> Result<Status, Fault<'a>>
+    ensures { EndsInput ⟦<FileFrom<S> as Disk>⟧ (file.entry, reads, ends)
+        (streams R.remaining W.contents (reader.old, reader.new) (writer.old, writer.new))
+        result }
 {
     match file {
         None => {
             requests_run::<MemoryBook>();
-            lines_in_memory(rt.alloc(), reads, reader, writer)?;
-            Ok(SUCCESS)
+            match lines_in_memory(rt.alloc(), reads, reader, writer) {
+                Ok(()) => Ok(Status::Success),
+                Err(fault) => Err(Fault::Work(WorkFault::from(fault))),
+            }
         }
-        Some(file) => {
-            lines_in(rt, start, file, reads, ends, reader, writer)?;
-            Ok(SUCCESS)
-        }
+        Some(file) => match lines_in(rt, start, file, reads, ends, reader, writer) {
+            Ok(()) => Ok(Status::Success),
+            Err(fault) => Err(fault),
+        },
     }
 }
 
@@ -180,10 +179,8 @@ fn import_plan<'a, S: Start, W: Write>(
     file: &'a str,
     plan: &'a str,
     writer: &mut W,
-) -> Result<u8, Fault<'a>>
-    ensures known { IfOk result IsDone }
-    ensures imported { ImportsIn ⟦<FileFrom<S> as Disk>⟧ W.contents writer.old writer.new result }
-    ensures ended { EndsImportIn ⟦<FileFrom<S> as Disk>⟧ W.contents writer.old writer.new result }
+) -> Result<Status, Fault<'a>>
+    ensures { EndsImportIn ⟦<FileFrom<S> as Disk>⟧ W.contents writer.old writer.new result }
 {
     let requests = read_plan(rt, plan)?;
     work_in(rt, start, file, true, Work::Import(&requests), writer)
@@ -196,11 +193,8 @@ fn audit_whole<'a, S: Start, W: Write>(
     file: &'a str,
     counts: bool,
     writer: &mut W,
-) -> Result<u8, Fault<'a>>
-    ensures known { IfOk result IsDone }
-    ensures audited { AuditsWhole ⟦<FileFrom<S> as Disk>⟧ counts
-        (output W.contents writer.old writer.new) result }
-    ensures ended { EndsWholeAudit ⟦<FileFrom<S> as Disk>⟧ counts
+) -> Result<Status, Fault<'a>>
+    ensures { EndsWholeAudit ⟦<FileFrom<S> as Disk>⟧ counts
         (output W.contents writer.old writer.new) result }
 {
     let ending = log_ending(rt, file)?;
@@ -215,9 +209,8 @@ fn audit_whole<'a, S: Start, W: Write>(
 }
 
 // How the log of a file ends, where it is to be looked at.
-fn read_ending<'a>(rt: &HostRuntime, file: &'a str, whole: bool) -> Result<Ending, Fault<'a>>
-    ensures ending { IfOk result (IsReadEnding whole) }
-    ensures known { IfErr result IsOfOpening }
+fn read_ending<'a>(rt: &HostRuntime, file: &'a str, whole: bool) -> Result<Ending, LookFault<'a>>
+    ensures { IfOk result (IsReadEnding whole) }
 {
     if whole {
         return log_ending(rt, file);
@@ -235,17 +228,19 @@ fn audit_with_archive<'a, S: Start, W: Write>(
     counts: bool,
     whole: bool,
     writer: &mut W,
-) -> Result<u8, Fault<'a>>
-    ensures known { IfOk result IsDone }
-    ensures audited { AuditsBoth ⟦<FileFrom<S> as Disk>⟧ counts whole
-        (output W.contents writer.old writer.new) result }
-    ensures ended { EndsAuditOfBoth ⟦<FileFrom<S> as Disk>⟧ counts whole
+) -> Result<Status, Fault<'a>>
+    ensures { EndsAudit ⟦<FileFrom<S> as Disk>⟧ counts whole
         (output W.contents writer.old writer.new) result }
 {
     let ending = read_ending(rt, file, whole)?;
     let (conn, _) = connect(rt, file, false, start)?;
     let (done, conn) = over_archive(rt, conn, beside, archive, counts, ending);
-    print_done(done, close_connection(conn), writer)
+    let closed = close_connection(conn);
+    let left = done?;
+    match print_done(&left, closed, writer) {
+        Ok(status) => Ok(status),
+        Err(fault) => Err(Fault::Work(fault)),
+    }
 }
 
 fn serve_file<'a, S: Start, W: Write, E: Write>(
@@ -257,38 +252,19 @@ fn serve_file<'a, S: Start, W: Write, E: Write>(
     writer: &mut W,
     errors: &mut E,
 ) -> Result<(), Fault<'a>>
-    ensures answered { DoesFileService ⟦<FileFrom<S> as Disk>⟧ connections
-        (output E.contents errors.old errors.new) result }
-    ensures ended { EndsFileService ⟦<FileFrom<S> as Disk>⟧
+    ensures { EndsFileService ⟦<FileFrom<S> as Disk>⟧
         (service connections port (output W.contents writer.old writer.new)
         (output E.contents errors.old errors.new)) result }
 {
     let (conn, is_new) = connect(rt, file, true, start)?;
     let (done, conn) = serve(rt, conn, is_new, port, connections, writer, errors);
-    done_and_closed(done, close_connection(conn))
+    match done_and_closed(done, close_connection(conn)) {
+        Ok(()) => Ok(()),
+        Err(fault) => Err(Fault::Work(fault)),
+    }
 }
 
-// A fault that ended the work comes before one of printing, and that before one of closing the file.
-fn print_done<'a, W: Write>(
-    done: Result<Done, Fault<'a>>,
-    closed: Result<(), Fault<'a>>,
-    writer: &mut W,
-) -> Result<u8, Fault<'a>>
-    ensures known { IfOk result IsDone }
-    ensures printed { Prints done.entry closed.entry
-        (output W.contents writer.old writer.new) result }
-    ensures cut { OnErr result
-        (PrintedOf done.entry (W.contents writer.old) (W.contents writer.new)) }
-    ensures spared { OnErr done.entry (writer.new ≡ writer.old) }
-    ensures first { IfErr result (IsSomeFault done.entry closed.entry) }
-{
-    let left = done?;
-    let status = print(&left, writer)?;
-    closed?;
-    Ok(status)
-}
-
-// Does it, and gives the exit status where no fault ended it. A second file may be opened beside the desk's.
+// Does it, and says how it ended where no fault ended it. A second file may be opened beside the desk's.
 fn execute<'a, S: Start, R: Read, W: Write, E: Write>(
     rt: &HostRuntime,
     start: S,
@@ -297,17 +273,11 @@ fn execute<'a, S: Start, R: Read, W: Write, E: Write>(
     reader: &mut R,
     writer: &mut W,
     errors: &mut E,
-) -> Result<u8, Fault<'a>>
-    ensures known { IfOk result IsDone }
-    // the task of the words was done
-    ensures done { DoesTask ⟦<FileFrom<S> as Disk>⟧ task.entry
+) -> Result<Status, Fault<'a>>
+    ensures result { EndsTask ⟦<FileFrom<S> as Disk>⟧ task.entry
         (streams R.remaining W.contents (reader.old, reader.new) (writer.old, writer.new))
         (output E.contents errors.old errors.new) result }
     ensures printed { IfOk result (PrintsOnSuccess (output E.contents errors.old errors.new)) }
-    // where a fault ended it
-    ensures ended { EndsTask ⟦<FileFrom<S> as Disk>⟧ task.entry
-        (streams R.remaining W.contents (reader.old, reader.new) (writer.old, writer.new))
-        (output E.contents errors.old errors.new) result }
     // before anything is read or written the program finds that another one has the file
     ensures elsewhere { IfErr result
         (UntouchedElsewhere reader.old reader.new writer.old writer.new) }
@@ -320,10 +290,10 @@ fn execute<'a, S: Start, R: Read, W: Write, E: Write>(
             file,
             port,
             connections,
-        } => {
-            serve_file(rt, start, file, port, connections, writer, errors)?;
-            Ok(SUCCESS)
-        }
+        } => match serve_file(rt, start, file, port, connections, writer, errors) {
+            Ok(()) => Ok(Status::Success),
+            Err(fault) => Err(fault),
+        },
         Task::Import { file, plan } => import_plan(rt, start, file, plan, writer),
         Task::AuditWhole { file, counts } => audit_whole(rt, start, file, counts, writer),
         Task::AuditWithArchive {
@@ -336,15 +306,38 @@ fn execute<'a, S: Start, R: Read, W: Write, E: Write>(
     }
 }
 
-// A fault is one line. A separate status says that another program has the file.
-fn fail<E: Write>(fault: Fault<'_>, errors: &mut E) -> u8
-    ensures known { (result ≡ 1) ⊎ (result ≡ 4) }
-    ensures status { result ≡ fault_status fault.entry }
+// A fault is one line.
+fn fail<E: Write>(fault: Fault<'_>, errors: &mut E) -> Exit
+    ensures { result ≡ fault_exit fault.entry }
 {
     let _ = writeln!(errors, "acd: {fault}");
-    match fault {
-        Fault::OpenElsewhere(_) => OPEN_ELSEWHERE,
-        _ => FAULT,
+    fault.exit()
+}
+
+// Does the task, says why where a fault ended it, and how the command ends.
+fn run<S: Start, R: Read, W: Write, E: Write>(
+    rt: &HostRuntime,
+    start: S,
+    beside: S,
+    task: Task<'_>,
+    reader: &mut R,
+    writer: &mut W,
+    errors: &mut E,
+) -> Exit
+    ensures exits { ExitsTask ⟦<FileFrom<S> as Disk>⟧ task.entry
+        (streams R.remaining W.contents (reader.old, reader.new) (writer.old, writer.new))
+        (output E.contents errors.old errors.new) result }
+    ensures printed { IfDone result (PrintsOnSuccess (output E.contents errors.old errors.new)) }
+    ensures elsewhere { result ≡ Exit.OpenElsewhere
+        → (reader.new ≡ reader.old) × (writer.new ≡ writer.old) }
+{
+    match execute(rt, start, beside, task, reader, writer, errors) {
+        Ok(status) => Exit::Done(status),
+        Err(fault) => {
+            let exit = fail(fault, errors);
+            explain(rt, task, fault);
+            exit
+        }
     }
 }
 
@@ -354,26 +347,23 @@ fn print_error<W: Write, E: Write>(
     error: &Error,
     writer: &mut W,
     errors: &mut E,
-) -> u8
-    ensures success { result ≡ 0 → errors.new ≡ errors.old }
-    ensures help { result ≡ 0 → IsHelp (kind_of error.now) }
-    ensures refused { result ≡ 2 → writer.new ≡ writer.old }
-    ensures mute { result ≡ 1 → (writer.new ≡ writer.old) ⊎ IsHelp (kind_of error.now) }
-    ensures known { result ≤ 2 }
+) -> Exit
+    ensures { ExitsWithoutTask (kind_of error.now) (output W.contents writer.old writer.new)
+        (output E.contents errors.old errors.new) result }
 {
     if error.kind() == ErrorKind::OutOfMemory {
-        return fail(Fault::NoMemory, errors);
+        return fail(Fault::Work(WorkFault::NoMemory), errors);
     }
     let Ok(text) = error.to_string(alloc) else {
-        return fail(Fault::NoMemory, errors);
+        return fail(Fault::Work(WorkFault::NoMemory), errors);
     };
     if error.use_stderr() {
         let _ = errors.write_all(text.as_bytes());
-        return REFUSED;
+        return Exit::Refused;
     }
     match writer.write_all(text.as_bytes()) {
-        Ok(()) => SUCCESS,
-        Err(_) => fail(Fault::Write, errors),
+        Ok(()) => Exit::Done(Status::Success),
+        Err(_) => fail(Fault::Work(WorkFault::Write), errors),
     }
 }
 
@@ -396,6 +386,8 @@ pub fn program<S: AsStr, R: Read, W: Write, E: Write>(
     ensures early { result ≡ 5 → errors.new ≡ errors.old }
     // for a command line that is refused nothing is read, and nothing is written but why
     ensures refused { result ≡ 2 → (reader.new ≡ reader.old) × (writer.new ≡ writer.old) }
+    // and it is one that the library of command lines doesn't take, or that names no task
+    ensures untaken { result ≡ 2 → IsRefused (map S.text words.now) }
     ensures known { result ≤ 5 }
     // such a status is that of the task which the words name, done so, or help was asked for, and nothing was read
     ensures done { DoneOrHelp ⟦<File as Disk>⟧ (map S.text words.now)
@@ -409,16 +401,8 @@ pub fn program<S: AsStr, R: Read, W: Write, E: Write>(
     ensures elsewhere { result ≡ 4
         → (reader.new ≡ reader.old) × (writer.new ≡ writer.old) }
 {
-    let task = match parse(rt.alloc(), words) {
-        Ok(task) => task,
-        Err(error) => return print_error(rt.alloc(), &error, writer, errors),
-    };
-    match execute(rt, Unknown, Unknown, task, reader, writer, errors) {
-        Ok(status) => status,
-        Err(fault) => {
-            let status = fail(fault, errors);
-            explain(rt, task, fault);
-            status
-        }
+    match parse(rt.alloc(), words) {
+        Ok(task) => run(rt, Unknown, Unknown, task, reader, writer, errors).number(),
+        Err(error) => print_error(rt.alloc(), &error, writer, errors).number(),
     }
 }

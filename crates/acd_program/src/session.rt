@@ -7,7 +7,7 @@ ghost use Rattle.acd_lines.specs.Questions.{by_questions};
 ghost use Rattle.acd_program.specs.Faults.{command_result};
 ghost use Rattle.acd_program.specs.LinesOver.{EndsOnDesk, EndsOnBook};
 
-use crate::fault::Fault;
+use crate::fault::WorkFault;
 use acd_book::Book;
 use acd_desk::Desk;
 use acd_lines::{Answering, answer_lines};
@@ -15,18 +15,18 @@ use std::alloc::Global;
 use std::io::{Read, Write};
 
 /// A failure of the store is a fault of the command.
-pub(crate) fn unless_failed<'a, B: Book>(desk: &Desk<B>) -> Result<(), Fault<'a>>
+pub(crate) fn unless_failed<B: Book>(desk: &Desk<B>) -> Result<(), WorkFault>
     ensures ended { result ≡ command_result (Ok tt) (standing B.Book desk.now).failed }
     ensures well { OnOk result ((standing B.Book desk.now).failed ≡ false) }
 {
     if desk.has_failed() {
-        return Err(Fault::Store);
+        return Err(WorkFault::Store);
     }
     Ok(())
 }
 
 // It is where that was to end the lines.
-fn ended<'a, B: Book>(desk: &Desk<B>, ends: bool) -> Result<(), Fault<'a>>
+fn ended<B: Book>(desk: &Desk<B>, ends: bool) -> Result<(), WorkFault>
     ensures { result ≡ command_result (Ok tt) (ends && (standing B.Book desk.now).failed) }
 {
     if ends {
@@ -36,14 +36,14 @@ fn ended<'a, B: Book>(desk: &Desk<B>, ends: bool) -> Result<(), Fault<'a>>
 }
 
 // Answers each line until the input ends or, where that is asked for, the desk fails.
-fn answer<'a, B: Book, A: Answering<B>, R: Read, W: Write>(
+fn answer<B: Book, A: Answering<B>, R: Read, W: Write>(
     alloc: Global,
     lines: &mut A,
     desk: &mut Desk<B>,
     ends: bool,
     reader: &mut R,
     writer: &mut W,
-) -> Result<(), Fault<'a>>
+) -> Result<(), WorkFault>
     ensures { EndsOnDesk (by_questions A.Answering B.Book ends)
         (streams R.remaining W.contents (reader.old, reader.new) (writer.old, writer.new))
         desk.old desk.new result }
@@ -54,20 +54,20 @@ fn answer<'a, B: Book, A: Answering<B>, R: Read, W: Write>(
 
 /// Opens a desk over the book, answers each line, and gives the book back. A storeFault is an answer like
 /// any other, unless it is asked for that it ends the lines: those of its read are then the last.
-pub fn lines_over_book<'a, B: Book, A: Answering<B>, R: Read, W: Write>(
+pub fn lines_over_book<B: Book, A: Answering<B>, R: Read, W: Write>(
     alloc: Global,
     lines: &mut A,
     book: B,
     ends: bool,
     reader: &mut R,
     writer: &mut W,
-) -> (Result<(), Fault<'a>>, B)
+) -> (Result<(), WorkFault>, B)
     ensures { EndsOnBook B.Book book (by_questions A.Answering B.Book ends)
         (streams R.remaining W.contents (reader.old, reader.new) (writer.old, writer.new)) result }
 {
     let mut desk = match Desk::open(alloc, book) {
         Ok(desk) => desk,
-        Err((fault, book)) => return (Err(Fault::from(fault)), book),
+        Err((fault, book)) => return (Err(WorkFault::from(fault)), book),
     };
     let done = answer(alloc, lines, &mut desk, ends, reader, writer);
     (done, desk.close())

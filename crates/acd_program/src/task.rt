@@ -1,8 +1,9 @@
 //! How a command line is read.
 
-ghost use Rattle.std.specs.Prelude.{◌≡◌, [], false, codes, map, IsTrue, IfOk, IfSome};
-ghost use Rattle.clap.specs.Words.{app_of, found_of, rows_of, subcommand_rows_of};
-ghost use Rattle.acd_program.specs.CommandLine.{HasApp, HasRule, IsTaskWith, IsTaskIn, IsSpan, IsTaskOf, AddsCommand, NamesTask, UntakenIfHelp, acd, connections_rule, command_of, export_shape, file_rule, flag_rule, import_shape, is_given, lines_shape, number_rule, option_rule, report_shape, audit_shape, serve_shape};
+ghost use Rattle.std.specs.Prelude.{◌≡◌, [], false, codes, map, IsTrue, IfOk, IfErr};
+ghost use Rattle.clap.specs.Words.{app_of, found_of, kind_of, rows_of, subcommand_rows_of};
+ghost use Rattle.acd_program.specs.CommandLine.{HasApp, HasRule, IsTaskWith, FindsTask, FindsTaskIn, FindsSpan, IsTaskOf, IsRefusedBy, AddsCommand, acd, command_of, export_shape, file_rule, flag_rule, import_shape, is_given, lines_shape, number_rule, option_rule, report_shape, audit_shape, serve_shape};
+ghost use Rattle.acd_program.specs.Statuses.{IsHelp};
 
 use crate::asked::Task;
 use crate::desk::{Printout, Work};
@@ -37,6 +38,11 @@ const WHOLE: &str = "whole";
 const ARCHIVE: &str = "archive";
 
 const GREATEST_PORT: u64 = 65_535;
+
+// Why a service is refused, as the library of command lines says it.
+const NEITHER: &str = "the following required arguments were not provided:\n  --connections <N>";
+
+const BOTH: &str = "the argument '--connections <N>' cannot be used with '--endless'";
 
 /// How many connections are answered at most.
 const MOST_CONNECTIONS: u64 = 1_000_000;
@@ -98,21 +104,6 @@ fn number_option<'a>(
         .action(ArgAction::Set)
 }
 
-// One of it and --endless is given.
-fn connections_option<'a>(alloc: Global) -> Result<Arg<'a>, AllocError>
-    ensures { IfOk result (HasRule connections_rule) }
-{
-    number_option(
-        alloc,
-        CONNECTIONS,
-        "N",
-        "How many connections to serve, from 1 to 1000000",
-        MOST_CONNECTIONS,
-    )
-    .required_unless_present(ENDLESS)?
-    .conflicts_with(ENDLESS)
-}
-
 fn lines_command<'a>(alloc: Global) -> Result<Command<'a>, AllocError>
     ensures { IfOk result (HasApp (record { top = lines_shape; subs = [] })) }
 {
@@ -144,6 +135,13 @@ fn serve_command<'a>(alloc: Global) -> Result<Command<'a>, AllocError>
         "The port to listen on, from 1 to 65535",
         GREATEST_PORT,
     );
+    let connections = number_option(
+        alloc,
+        CONNECTIONS,
+        "N",
+        "How many connections to serve, from 1 to 1000000",
+        MOST_CONNECTIONS,
+    );
     Command::new(alloc, "serve")
         .about("Answer requests over HTTP on 127.0.0.1")
         .after_help(
@@ -152,7 +150,7 @@ fn serve_command<'a>(alloc: Global) -> Result<Command<'a>, AllocError>
         .override_usage("acd serve --file <F> --port <P> <--connections <N>|--endless>")
         .arg(file_option(alloc).required(true))?
         .arg(port.required(true))?
-        .arg(connections_option(alloc)?)?
+        .arg(connections)?
         .arg(flag(
             alloc,
             ENDLESS,
@@ -256,7 +254,7 @@ fn lines_of<'a>(options: &ArgMatches<'a>) -> Task<'a>
 
 // How many connections, or no end of them: one of both is asked for.
 fn span_of(options: &ArgMatches<'_>) -> Option<Option<u32>>
-    ensures { IfSome result (IsSpan (rows_of (found_of options.now))) }
+    ensures { FindsSpan (rows_of (found_of options.now)) result }
 {
     let endless = is_given(options, ENDLESS);
     if !options.contains_id(CONNECTIONS) {
@@ -269,7 +267,7 @@ fn span_of(options: &ArgMatches<'_>) -> Option<Option<u32>>
 }
 
 fn serve_of<'a>(options: &ArgMatches<'a>) -> Option<Task<'a>>
-    ensures { IfSome result (IsTaskWith (codes "serve") (rows_of (found_of options.now))) }
+    ensures { FindsTask (codes "serve") (rows_of (found_of options.now)) result }
 {
     Some(Task::Serve {
         file: options.get_str(FILE)?,
@@ -279,7 +277,7 @@ fn serve_of<'a>(options: &ArgMatches<'a>) -> Option<Task<'a>>
 }
 
 fn import_of<'a>(options: &ArgMatches<'a>) -> Option<Task<'a>>
-    ensures { IfSome result (IsTaskWith (codes "import") (rows_of (found_of options.now))) }
+    ensures { FindsTask (codes "import") (rows_of (found_of options.now)) result }
 {
     Some(Task::Import {
         file: options.get_str(FILE)?,
@@ -307,7 +305,7 @@ fn audit_alone<'a>(file: &'a str, counts: bool, whole: bool) -> Task<'a>
 
 // The audit of the desk in a file.
 fn audit_of<'a>(options: &ArgMatches<'a>) -> Option<Task<'a>>
-    ensures { IfSome result (IsTaskWith (codes "audit") (rows_of (found_of options.now))) }
+    ensures { FindsTask (codes "audit") (rows_of (found_of options.now)) result }
 {
     let file = options.get_str(FILE)?;
     let counts = is_given(options, COUNT);
@@ -325,7 +323,7 @@ fn audit_of<'a>(options: &ArgMatches<'a>) -> Option<Task<'a>>
 
 // A text of the desk in a file.
 fn printout_of<'a>(options: &ArgMatches<'a>, printout: Printout) -> Option<Task<'a>>
-    ensures { IfSome result (IsTaskWith (command_of printout) (rows_of (found_of options.now))) }
+    ensures { FindsTask (command_of printout) (rows_of (found_of options.now)) result }
 {
     Some(Task::Read {
         file: options.get_str(FILE)?,
@@ -335,7 +333,7 @@ fn printout_of<'a>(options: &ArgMatches<'a>, printout: Printout) -> Option<Task<
 
 // The task of a command with these options.
 fn named<'a>(command: &str, options: &ArgMatches<'a>) -> Option<Task<'a>>
-    ensures { IfSome result (IsTaskWith command.now (rows_of (found_of options.now))) }
+    ensures { FindsTask command.now (rows_of (found_of options.now)) result }
 {
     match command {
         "lines" => Some(lines_of(options)),
@@ -349,36 +347,57 @@ fn named<'a>(command: &str, options: &ArgMatches<'a>) -> Option<Task<'a>>
 }
 
 fn task_in<'a>(matches: &ArgMatches<'a>) -> Option<Task<'a>>
-    ensures { IfSome result (IsTaskIn (subcommand_rows_of matches.now)) }
+    ensures { FindsTaskIn (subcommand_rows_of matches.now) result }
 {
     let (command, options) = matches.subcommand()?;
     named(command, options)
 }
 
-// The task of the words, or None where they name no command.
+// Whether a service is asked for that has no end.
+fn is_endless(matches: &ArgMatches<'_>) -> bool {
+    match matches.subcommand() {
+        Some((_, options)) => is_given(options, ENDLESS),
+        None => false,
+    }
+}
+
+// How a service is refused that has neither a number of connections nor no end of them, or both.
+fn refused_span(alloc: Global, matches: &ArgMatches<'_>) -> Result<Error, AllocError>
+    ensures { IfOk result (λ error. ¬ IsHelp (kind_of error)) }
+{
+    let mut serve = serve_command(alloc)?;
+    if is_endless(matches) {
+        return serve.error(ErrorKind::ArgumentConflict, BOTH);
+    }
+    serve.error(ErrorKind::MissingRequiredArgument, NEITHER)
+}
+
+// The task of the words.
 fn chosen<'a, S: AsStr>(
+    alloc: Global,
     commands: &mut Command<'a>,
     words: &'a [S],
-) -> Result<Option<Task<'a>>, Error>
+) -> Result<Task<'a>, Error>
     ensures task { app_of commands.old ≡ acd
-        → IfOk result (NamesTask (map S.text words.entry.now)) }
-    ensures untaken { app_of commands.old ≡ acd
-        → UntakenIfHelp result (map S.text words.entry.now) }
+        → IfOk result (IsTaskOf (map S.text words.entry.now)) }
+    ensures refused { app_of commands.old ≡ acd
+        → IfErr result (λ error. IsRefusedBy (map S.text words.entry.now) (kind_of error)) }
 {
     let matches = commands.try_get_matches_from_mut(words)?;
-    Ok(task_in(&matches))
+    match task_in(&matches) {
+        Some(task) => Ok(task),
+        None => Err(refused_span(alloc, &matches)?),
+    }
 }
 
 /// The task of the words; the first is the program's name. The other outcome is a text to print, which may be the help
 /// that was asked for.
 pub(crate) fn parse<'a, S: AsStr>(alloc: Global, words: &'a [S]) -> Result<Task<'a>, Error>
     ensures task { IfOk result (IsTaskOf (map S.text words.entry.now)) }
-    // help and the version are printed only for words that ask for no task
-    ensures untaken { UntakenIfHelp result (map S.text words.entry.now) }
+    // help and the version are printed only for words that ask for no task, and only those are refused
+    ensures refused { IfErr result
+        (λ error. IsRefusedBy (map S.text words.entry.now) (kind_of error)) }
 {
     let mut commands = all_commands(alloc)?;
-    match chosen(&mut commands, words)? {
-        Some(task) => Ok(task),
-        None => Err(commands.error(ErrorKind::MissingSubcommand, "no command")?),
-    }
+    chosen(alloc, &mut commands, words)
 }

@@ -1,35 +1,79 @@
 //! The audit of a desk with the archive that its file goes on from.
 
-ghost use Rattle.std.specs.Prelude.{◌≡◌, false, Ok, IfOk};
+ghost use Rattle.std.specs.Prelude.{◌≡◌, false, Ok, IfOk, IfErr};
 ghost use Rattle.sqlite.specs.Held.{state};
+ghost use Rattle.sqlite_std_file.specs.File.{IsFresh};
 ghost use Rattle.acd_desk.specs.Standing.{standing};
 ghost use Rattle.acd_program.specs.FileTasks.{AsksWithArchive, AuditsWith, AuditsDatabase};
+ghost use Rattle.acd_program.specs.WithArchive.{AsksIn, AsksOver, IsSparedIn, LeavesArchive, LeavesBeside};
 ghost use Rattle.acd_program.specs.Ended.{OnlyAsked};
 ghost use Rattle.acd_program.specs.Found.{HasCount};
-ghost use Rattle.acd_program.specs.Over.{Unserved};
+ghost use Rattle.acd_program.specs.Over.{database, Unserved};
 
 use crate::auditing::{Finding, audited_with_archive};
 use crate::connection::{archive_over, book_over};
 use crate::desk::Done;
-use crate::fault::Fault;
+use crate::fault::{ArchiveFault, Fault, WorkFault};
 use crate::file::{close_connection, connect_archive};
 use crate::progress::{Progress, Watched};
-use acd_book::Book;
-use acd_desk::{AuditFault, Desk};
+use acd_book::{Book, BookFault};
+use acd_desk::Desk;
 use acd_log::Ending;
-use sqlite::{Alter, Connection, FileFrom};
+use sqlite::{Alter, Connection, FileFrom, FileStore};
 use sqlite_disk::{Disk, Start};
+use std::alloc::Global;
+
+// Asks the desk with the archive that a database holds.
+fn asked_over<S: Alter, B: Book>(
+    alloc: Global,
+    desk: &mut Desk<B>,
+    conn: Connection<S>,
+    counts: bool,
+) -> (Result<Finding, WorkFault>, Connection<S>)
+    requires { conn.in_transaction ≡ false }
+    ensures counted { IfOk result.0 (HasCount counts) }
+    ensures asked { AsksOver (database S.Store false conn) B.Book desk.old desk.new result }
+    // whatever comes of it, a reopening finds in the archive what it could find before
+    ensures spared { Unserved false (state S.Store conn) (state S.Store result.1) }
+    ensures kept { OnlyAsked (standing B.Book desk.old).book (standing B.Book desk.new).book }
+{
+    let mut book = match archive_over(alloc, conn) {
+        Ok(book) => book,
+        Err((fault, conn)) => return (Err(WorkFault::from(fault)), conn),
+    };
+    match audited_with_archive(desk, &mut book, counts) {
+        Ok(found) => (Ok(found), book.into_connection()),
+        Err(fault) => (Err(WorkFault::from(fault)), book.into_connection()),
+    }
+}
 
 // A fault that ended the audit comes before one of closing its archive.
-fn found_and_closed<'a>(
-    found: Result<Finding, AuditFault>,
-    closed: Result<(), Fault<'a>>,
-) -> Result<Finding, Fault<'a>>
-    ensures { IfOk result (λ x. (found ≡ Ok x) × (closed.entry ≡ Ok tt)) }
+fn found_and_closed(
+    found: Result<Finding, WorkFault>,
+    closed: Result<(), BookFault>,
+) -> Result<Finding, WorkFault>
+    ensures { IfOk result (λ x. (found ≡ Ok x) × (closed ≡ Ok tt)) }
 {
     let found = found?;
     closed?;
     Ok(found)
+}
+
+// Asks the desk with the archive in files that were opened, and closes them.
+fn found_in<D: Disk + Drop, B: Book>(
+    alloc: Global,
+    desk: &mut Desk<B>,
+    conn: Connection<FileStore<D>>,
+    counts: bool,
+) -> Result<Finding, WorkFault>
+    requires { conn.in_transaction ≡ false }
+    ensures counted { IfOk result (HasCount counts) }
+    ensures asked { AsksIn conn B.Book desk.old desk.new result }
+    ensures spared { IsSparedIn conn }
+    ensures kept { OnlyAsked (standing B.Book desk.old).book (standing B.Book desk.new).book }
+{
+    let (found, conn) = asked_over(alloc, desk, conn, counts);
+    found_and_closed(found, close_connection(conn))
 }
 
 // Opens the archive, asks the desk, and closes the archive.
@@ -39,21 +83,17 @@ fn found_with_archive<'a, S: Start, B: Book>(
     start: S,
     archive: &'a str,
     counts: bool,
-) -> Result<Finding, Fault<'a>>
+) -> Result<Finding, ArchiveFault<'a>>
     ensures counted { IfOk result (HasCount counts) }
     ensures asked { AsksWithArchive ⟦<FileFrom<S> as Disk>⟧ B.Book desk.old desk.new result }
+    ensures left { IfErr result (LeavesArchive ⟦<FileFrom<S> as Disk>⟧ IsFresh) }
     ensures kept { OnlyAsked (standing B.Book desk.old).book (standing B.Book desk.new).book }
 {
     let conn = connect_archive(rt, archive, start)?;
-    let mut book = match archive_over(rt.alloc(), conn) {
-        Ok(book) => book,
-        Err((fault, conn)) => {
-            let _ = close_connection(conn);
-            return Err(Fault::from(fault));
-        }
-    };
-    let found = audited_with_archive(desk, &mut book, counts);
-    found_and_closed(found, close_connection(book.into_connection()))
+    match found_in(rt.alloc(), desk, conn, counts) {
+        Ok(found) => Ok(found),
+        Err(fault) => Err(ArchiveFault::Work(fault)),
+    }
 }
 
 // Over a book whose replay is watched.
@@ -67,15 +107,16 @@ fn audit_with_archive<'a, S: Start, B: Book>(
 ) -> (Result<Done, Fault<'a>>, B)
     ensures over { AuditsWith ⟦<FileFrom<S> as Disk>⟧ (counts, ending) B.Book book.entry.inner
         result }
+    ensures left { IfErr result.0 (LeavesBeside ⟦<FileFrom<S> as Disk>⟧ IsFresh) }
     ensures kept { OnlyAsked (B.state book.entry.inner) (B.state result.1) }
 {
     let mut desk = match Desk::open(rt.alloc(), book) {
         Ok(desk) => desk,
-        Err((fault, book)) => return (Err(Fault::from(fault)), book.into_inner()),
+        Err((fault, book)) => return (Err(Fault::Work(WorkFault::from(fault))), book.into_inner()),
     };
     match found_with_archive(rt, &mut desk, start, archive, counts) {
         Ok(found) => (Ok(Done::Audited(found, ending)), desk.close().into_inner()),
-        Err(fault) => (Err(fault), desk.close().into_inner()),
+        Err(fault) => (Err(Fault::Archive(fault)), desk.close().into_inner()),
     }
 }
 
@@ -89,6 +130,7 @@ fn audit_watched<'a, S: Start, B: Book>(
     ending: Ending,
 ) -> (Result<Done, Fault<'a>>, B)
     ensures over { AuditsWith ⟦<FileFrom<S> as Disk>⟧ (counts, ending) B.Book book result }
+    ensures left { IfErr result.0 (LeavesBeside ⟦<FileFrom<S> as Disk>⟧ IsFresh) }
     ensures kept { OnlyAsked (B.state book) (B.state result.1) }
 {
     let book = Watched::new(book, Progress::new(rt));
@@ -106,12 +148,14 @@ pub(crate) fn over_archive<'a, C: Alter, S: Start>(
 ) -> (Result<Done, Fault<'a>>, Connection<C>)
     requires { conn.in_transaction ≡ false }
     ensures over { AuditsDatabase ⟦<FileFrom<S> as Disk>⟧ (counts, ending) C.Store conn result }
+    // where a fault ended it, so the archive is left
+    ensures left { IfErr result.0 (LeavesBeside ⟦<FileFrom<S> as Disk>⟧ IsFresh) }
     // whatever comes of it, a reopening finds in the desk's database what it could find before
     ensures kept { Unserved false (state C.Store conn) (state C.Store result.1) }
 {
     let book = match book_over(rt.alloc(), conn, false) {
         Ok(book) => book,
-        Err((fault, conn)) => return (Err(Fault::from(fault)), conn),
+        Err((fault, conn)) => return (Err(Fault::Work(WorkFault::from(fault))), conn),
     };
     let (done, book) = audit_watched(rt, book, start, archive, counts, ending);
     (done, book.into_connection())

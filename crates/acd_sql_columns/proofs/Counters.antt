@@ -123,7 +123,7 @@ sets_second_version old new count has ran =
     let made = updated book_schema UPDATE_VERSION.now version_set [] old new count has ran in
     let edit = updating_edit old.now.trees schema.meta made.rows in
     let put = replaces book_schema old new edit (edited old.now.trees edit) made.changed refl in
-    record { inside = put.mode; schema_is = put.schema_is; others = put.others; version_is = λ m is. put.rows_are ∙ one_version_set m old.now.trees made.rows is made.found }
+    record { inside = put.mode; schema_is = put.schema_is; sound = put.sound; others = put.others; version_is = λ m is. put.rows_are ∙ one_version_set m old.now.trees made.rows is made.found }
 
 pub second_version_set : (old new : State) (r : Result (Unit {0}) Error) → OnOk r (RanStatement UPDATE_VERSION.now [] old new) → OnOk r (old.now.schema ≡ book_schema → SetsSecondVersion old new)
 second_version_set old new (Err e) ran = tt
@@ -136,7 +136,7 @@ unfolding meta_put meta_text
 starts_meta m old new count b ran =
     let none : AreRows (λ (m : Meta). 1) meta_row (old.now.trees schema.meta.tree) [] = record { rows_are = b.rows_are.0; ascending = tt } in
     let made = (inserted_row book_schema INSERT_META.now (λ (m : Meta). 1) meta_row meta_values meta_put m [] old new count b.schema_is none ran).replaces in
-    record { inside = made.mode ∙ b.inside; schema = made.schema_is; tables = only_meta m old.now.trees new.now.trees b.rows_are made.rows_are made.others }
+    record { inside = made.mode ∙ b.inside; schema = made.schema_is; sound = made.sound; tables = only_meta m old.now.trees new.now.trees b.rows_are made.rows_are made.others }
 
 pub starts : (m : Meta) (old new : State) (r : Result (Unit {0}) Error) → OnOk r (RanStatement INSERT_META.now (meta_values m) old new) → OnOk r (Builds old book_schema (no_rows 11) → HoldsUncommitted new (with_part table.Meta m (relations_of (empty_content m.limits))))
 starts m old new (Err e) ran = tt

@@ -174,6 +174,7 @@ module _ {R : Type 0} (d : Description R) (f : Described d) where
   holds_replaced rs rows old new c are read made uncommitted = record {
     inside = made.mode ∙ uncommitted.inside;
     schema = made.schema_is;
+    sound = made.sound;
     tables = f.framed rs rows old.now.trees new.now.trees c are read made.rows_are made.others uncommitted.tables;
   }
 

@@ -2,14 +2,16 @@
 use Rattle.std.proofs.Common.{◌≡◌, [], inl, inr, true, false, Result, Ok, Err, IsTrue, IfErr, OnOk, OnErr, arith, sym, ap, subst, ◌∙◌}
 use Rattle.sqlite_trees.specs.Tree.{Trees}
 use Rattle.sqlite.specs.declared.error.Error.{Error}
+use Rattle.sqlite_catalog.specs.Listing.{IsSound}
 use Rattle.sqlite.specs.Effect.{Database}
 use Rattle.sqlite.specs.State.{State, HasCleanDisk, KeepsCommit, KeepsCounts, IsRolledBack, Shows, Survives}
 use Rattle.sqlite.specs.Steps.{FailsToCommit}
 use Rattle.acd_book.specs.Content.{Content}
 use Rattle.acd_sql_columns.specs.Relations.{relations_of}
+use Rattle.acd_sql_columns.specs.Schema.{book_schema}
 use Rattle.acd_sql_columns.specs.Content.{Encodes}
 use Rattle.sqlite.proofs.StateLemmas.{survives_then}
-use Rattle.acd_sql_columns.specs.Transactions.{HoldsUncommitted, HoldsContent, Works, AddsStop}
+use Rattle.acd_sql_columns.specs.Transactions.{HoldsUncommitted, HoldsContent, IsBook, Works, AddsStop}
 
 -- a database that is as it was still has its content
 pub holds_still : (old new : State) (c : Content) → HoldsContent old c → IsTrue new.is_open → new.now ≡ old.committed → new.committed ≡ old.committed → HoldsContent new c
@@ -17,8 +19,13 @@ holds_still old new c h up now committed = record {
   is_open = up;
   idle = now ∙ sym committed;
   schema = ap (λ (d : Database). d.schema) committed ∙ h.schema;
+  sound = subst (λ (d : Database). IsSound book_schema d.trees) (sym committed) h.sound;
   encodes = subst (λ (d : Database). Encodes d.trees c) (sym committed) h.encodes;
 }
+
+-- and whatever has the same trees opens as a book of it
+pub is_book : (s : State) (c : Content) (db : Trees) → HoldsContent s c → db ≡ s.committed.trees → IsBook db c
+is_book s c db h is = subst (λ t. IsBook t c) (sym is) (record { sound = h.sound; encodes = h.encodes })
 
 pub rolled_back : (old mid new : State) (c : Content) → HoldsContent old c → KeepsCommit old mid → IsRolledBack mid new → IsTrue new.is_open → HoldsContent new c
 rolled_back old mid new c h kept back up =
@@ -36,7 +43,12 @@ not_committed old mid new (Err e) kept inside fails = λ (c : Content) (h : Hold
 pub begins : (old begun : State) (c : Content) → begun.in_transaction ≡ true → begun.now ≡ old.now → HoldsContent old c → HoldsUncommitted begun (relations_of c)
 begins old begun c inside same h =
     let now = same ∙ h.idle in
-    record { inside = inside; schema = ap (λ (d : Database). d.schema) now ∙ h.schema; tables = subst (λ (d : Database). Encodes d.trees c) (sym now) h.encodes }
+    record {
+      inside = inside;
+      schema = ap (λ (d : Database). d.schema) now ∙ h.schema;
+      sound = subst (λ (d : Database). IsSound book_schema d.trees) (sym now) h.sound;
+      tables = subst (λ (d : Database). Encodes d.trees c) (sym now) h.encodes;
+    }
 
 pub works_on : (a b c : State) → Works a b → Works b c → Works a c
 works_on a b c p q = record {
@@ -53,6 +65,7 @@ holds_committed mid new c d s = record {
   is_open = s.is_open;
   idle = s.now_is ∙ sym s.committed_is;
   schema = ap (λ (d : Database). d.schema) s.committed_is ∙ d.schema;
+  sound = subst (λ (d : Database). IsSound book_schema d.trees) (sym s.committed_is) d.sound;
   encodes = subst (λ (d : Database). Encodes d.trees c) (sym s.committed_is) d.tables;
 }
 
@@ -67,5 +80,5 @@ pub adds_stop : (old begun mid new : State) (change : Content → Content) → (
     → ((c : Content) → HoldsContent old c → HoldsUncommitted mid (relations_of (change c))) → HasCleanDisk mid → HasCleanDisk new → AddsStop old new change
 adds_stop old begun mid new change back first second put middle late db left = elim (second.crash late db left) [
   | inl was ↦ elim (first.crash middle db was) [ inl older ↦ inl (back db older) | inr none ↦ absurd none ]
-  | inr made ↦ inr (λ c h. subst (λ d. Encodes d (change c)) (sym made) (put c h).tables)
+  | inr made ↦ inr (λ c h. let p = put c h in subst (λ d. IsBook d (change c)) (sym made) (record { sound = p.sound; encodes = p.tables }))
 ]

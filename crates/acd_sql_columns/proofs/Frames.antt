@@ -103,6 +103,7 @@ pub holds_replaced : (t : Table) (x : TableContent t) (rows : List Row) (old new
 holds_replaced t x rows old new r stores made d = record {
   inside = made.mode ∙ d.inside;
   schema = made.schema_is;
+  sound = made.sound;
   tables = framed t x rows old.now.trees new.now.trees r stores made.rows_are made.others d.tables;
 }
 

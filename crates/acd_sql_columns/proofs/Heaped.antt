@@ -210,6 +210,7 @@ module _ {R : Type 0} (h : Heap R) (f : Heaped h) where
   holds_replaced rs rows old new c are made uncommitted = record {
     inside = made.mode ∙ uncommitted.inside;
     schema = made.schema_is;
+    sound = made.sound;
     tables = f.framed rs rows old.now.trees new.now.trees c are made.rows_are made.others uncommitted.tables;
   }
 

@@ -20,7 +20,8 @@ use Rattle.sqlite_rules.specs.Edit.{Edit, edit_of, edited, taken_by, Applies}
 use Rattle.sqlite_rules.specs.Action as action
 use Rattle.sqlite.specs.Does.{Tally, Does, AtPlace, OnRows}
 use Rattle.sqlite.specs.Rows.{Part, Written, Inserts}
-use Rattle.sqlite.specs.Effect.{Database, value_rows}
+use Rattle.sqlite_catalog.specs.Listing.{IsSound}
+use Rattle.sqlite.specs.Effect.{Database, IsDatabase, value_rows}
 use Rattle.sqlite.specs.Listing.{understood}
 use Rattle.sqlite.specs.State.{State, mode_of, Shows, Executes, ExecutesInside, HasCleanDisk, KeepsCommit, Survives}
 use Rattle.sqlite.specs.declared.error.Error.{Error}
@@ -54,11 +55,15 @@ pub record Insertion (schema : Schema) (text : List ℕ) : Type 0 where
 abbrev pub insertion_edit : {schema : Schema} {text : List ℕ} → Insertion schema text → Row → Trees → Edit
 insertion_edit it params db = edit_of db (table_of it.layout) [] Chosen 0 (value_rows params it.width (length it.terms / it.width) it.terms)
 
+pub obeyed : (schema : Schema) (s : State) → s.now.schema ≡ schema → IsDatabase s.now → IsSound schema s.now.trees
+obeyed schema s is obeys = subst (λ (it : Schema). IsSound it s.now.trees) is obeys
+
 -- the change of one statement inside a transaction or outside
 pub record Changed (schema : Schema) (old new : State) (edit : Edit) : Type 0 where
   pub shown : Shows old new new.now (if old.in_transaction then old.committed else new.now) old.in_transaction
   pub marks : new.marks ≡ old.marks
   pub schema_is : new.now.schema ≡ schema
+  pub sound : IsSound schema new.now.trees
   pub applies : Applies schema Enforced old.now.trees edit new.now.trees
 
 inserts_rows : (schema : Schema) (layout : Layout) (limit : Option ℕ) (params : Row) (terms : List Term) (width : ℕ) (db : Trees) (w : Written)
@@ -87,6 +92,7 @@ inserted schema text it params old new count has h =
       shown = w.shown;
       marks = w.marks;
       schema_is = ap (λ (d : Database). d.schema) now;
+      sound = obeyed schema new (ap (λ (d : Database). d.schema) now) w.sound;
       applies = subst (Applies schema Enforced db (insertion_edit it params db)) (sym (ap (λ (d : Database). d.trees) now)) (one_step schema Enforced db done.0.trees (insertion_edit it params db) (it.inert (taken_by db (insertion_edit it params db)) (insertion_edit it params db).news) writes);
     }
 
@@ -94,11 +100,12 @@ inserted schema text it params old new count has h =
 pub record Replaces (schema : Schema) (tree : ℕ) (rows : List Row) (old new : State) : Type 0 where
   pub mode : new.in_transaction ≡ old.in_transaction
   pub schema_is : new.now.schema ≡ schema
+  pub sound : IsSound schema new.now.trees
   pub rows_are : new.now.trees tree ≡ rows
   pub others : AllByRecursion (λ t. t.tree ≢ tree → new.now.trees t.tree ≡ old.now.trees t.tree) schema.tables
 
 pub replaces : (schema : Schema) (old new : State) (edit : Edit) (rows : List Row) → Changed schema old new edit → edited old.now.trees edit ≡ rows → Replaces schema edit.table.tree rows old new
-replaces schema old new edit rows made is = record { mode = made.shown.mode; schema_is = made.schema_is; rows_are = made.applies.rows ∙ is; others = made.applies.tables }
+replaces schema old new edit rows made is = record { mode = made.shown.mode; schema_is = made.schema_is; sound = made.sound; rows_are = made.applies.rows ∙ is; others = made.applies.tables }
 
 -- ---- no foreign key of the schema acts
 
@@ -203,6 +210,7 @@ deleted schema text it params old new count has h =
         shown = w.shown;
         marks = w.marks;
         schema_is = ap (λ (d : Database). d.schema) now;
+        sound = obeyed schema new (ap (λ (d : Database). d.schema) now) w.sound;
         applies = subst (Applies schema Enforced db edit) (sym (ap (λ (d : Database). d.trees) now ∙ trees)) (one_step schema Enforced db next.0 edit (it.inert (taken_by db edit) edit.news) next.1);
       };
     }

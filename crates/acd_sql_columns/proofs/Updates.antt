@@ -22,7 +22,7 @@ use Rattle.sqlite.specs.State.{State, mode_of, Executes}
 use Rattle.sqlite.proofs.Callers.{IsPlain, command_of, statement_of, runs_as, one_step}
 use Rattle.acd_sql_columns.specs.Schema.{Layout, table_of}
 use Rattle.acd_sql_columns.proofs.Scans.{scan, scanned, showing, passing}
-use Rattle.acd_sql_columns.proofs.Statements.{went, same_value, at_place, Changed}
+use Rattle.acd_sql_columns.proofs.Statements.{went, same_value, at_place, obeyed, Changed}
 
 -- the table of an UPDATE, its tests, and what a row that passes shows: its number, and the row that it becomes
 pub record Updating (schema : Schema) (text : List ℕ) : Type 0 where
@@ -73,6 +73,7 @@ updated schema text it params old new count has h =
         shown = w.shown;
         marks = w.marks;
         schema_is = ap (λ (d : Database). d.schema) now;
+        sound = obeyed schema new (ap (λ (d : Database). d.schema) now) w.sound;
         applies = subst (Applies schema Enforced db edit) (sym (ap (λ (d : Database). d.trees) now ∙ trees)) (one_step schema Enforced db next.0 edit (it.inert (taken_by db edit) edit.news) next.1);
       };
     }

@@ -3,6 +3,7 @@ use Rattle.std.specs.Prelude.{◌≡◌, ◌≢◌, ℕ, zero, suc, true, false,
 use Rattle.std.specs.List.{AllByRecursion}
 use Rattle.sqlite_value.specs.Order.{Row}
 use Rattle.sqlite_trees.specs.Tree.{Trees}
+use Rattle.sqlite_catalog.specs.Listing.{IsSound}
 use Rattle.sqlite_schema.specs.declared.schema.Table.{Table}
 use Rattle.sqlite_schema.specs.declared.schema.Schema.{Schema}
 use Rattle.sqlite_schema.specs.declared.command.Command.{Command}
@@ -52,10 +53,11 @@ pub record Builds (s : State) (schema : Schema) (rows : List (List Row)) : Type 
   pub schema_is : s.now.schema ≡ schema
   pub rows_are : HasRows s.now.trees schema.tables rows
 
--- the version becomes 2, and nothing else is changed
+-- the version becomes 2 in a database that obeys the book's schema, and nothing else is changed
 pub record SetsSecondVersion (old new : State) : Type 0 where
   pub inside : new.in_transaction ≡ old.in_transaction
   pub schema_is : new.now.schema ≡ book_schema
+  pub sound : IsSound book_schema new.now.trees
   pub others : AllByRecursion (λ u. u.tree ≢ meta.tree → new.now.trees u.tree ≡ old.now.trees u.tree) book_schema.tables
   pub version_is : (m : Meta) → old.now.trees meta.tree ≡ meta_row_as 1 m ∷ [] → new.now.trees meta.tree ≡ meta_row m ∷ []
 

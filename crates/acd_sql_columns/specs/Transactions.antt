@@ -2,6 +2,7 @@
 use Rattle.std.specs.Prelude.{◌≡◌, ◌⊎◌, ◌<◌, ◌^◌, ℕ, List, Ok, true, IsTrue}
 use Rattle.sqlite_value.specs.Order.{Row}
 use Rattle.sqlite_trees.specs.Tree.{Trees}
+use Rattle.sqlite_catalog.specs.Listing.{IsSound}
 use Rattle.sqlite.specs.State.{State, HasCleanDisk, KeepsCommit, Survives, Executes}
 use Rattle.acd_terms.specs.declared.record.Figures.{Figures}
 use Rattle.acd_terms.specs.declared.rows.Limits.{Limits}
@@ -11,10 +12,16 @@ use Rattle.acd_sql_columns.specs.Schema.{book_schema}
 use Rattle.acd_sql_columns.specs.Relations.{Relations}
 use Rattle.acd_sql_columns.specs.Content.{AreTables, Encodes}
 
--- the transaction sees these relations
+-- a database that opens as a book of this content: its catalog lists the book's schema, its rows and indexes obey that, and its tables are those of the content
+pub record IsBook (db : Trees) (c : Content) : Type 0 where
+  pub sound : IsSound book_schema db
+  pub encodes : Encodes db c
+
+-- the transaction sees these relations, in a database that obeys the book's schema
 pub record HoldsUncommitted (s : State) (r : Relations) : Type 0 where
   pub inside : s.in_transaction ≡ true
   pub schema : s.now.schema ≡ book_schema
+  pub sound : IsSound book_schema s.now.trees
   pub tables : AreTables s.now.trees r
 
 -- nothing is committed, and a crash leaves what it left before
@@ -26,16 +33,17 @@ pub record Works (old new : State) : Type 0 where
 abbrev pub RanStatement : List ℕ → Row → State → State → Type 0
 RanStatement sql params old new = (count : ℕ) × Executes sql params old new (Ok count)
 
--- between transactions: the connection is open, and the last commit has this content
+-- between transactions: the connection is open, and the last commit obeys the book's schema and has this content
 pub record HoldsContent (s : State) (c : Content) : Type 0 where
   pub is_open : IsTrue s.is_open
   pub idle : s.now ≡ s.committed
   pub schema : s.committed.schema ≡ book_schema
+  pub sound : IsSound book_schema s.committed.trees
   pub encodes : Encodes s.committed.trees c
 
--- a crash leaves what it left before, or this
+-- a crash leaves what it left before, or a book of this
 abbrev pub AddsStop : State → State → (Content → Content) → Type 0
-AddsStop old new change = (db : Trees) → new.may_leave db → old.may_leave db ⊎ ((c : Content) → HoldsContent old c → Encodes db (change c))
+AddsStop old new change = (db : Trees) → new.may_leave db → old.may_leave db ⊎ ((c : Content) → HoldsContent old c → IsBook db (change c))
 
 -- nothing is changed, but that a failure may shut it
 pub record Quiet (old new : State) : Type 0 where
@@ -46,9 +54,9 @@ pub record Quiet (old new : State) : Type 0 where
 abbrev pub NoStop : State → State → Type 0
 NoStop old new = (db : Trees) → new.may_leave db → old.may_leave db
 
--- a crash leaves what it left before or, where it was open, this
+-- a crash leaves what it left before or, where it was open, a book of this
 abbrev pub MayAdd : State → State → (Content → Content) → Type 0
-MayAdd old new change = (db : Trees) → new.may_leave db → old.may_leave db ⊎ (IsTrue old.is_open × ((c : Content) → HoldsContent old c → Encodes db (change c)))
+MayAdd old new change = (db : Trees) → new.may_leave db → old.may_leave db ⊎ (IsTrue old.is_open × ((c : Content) → HoldsContent old c → IsBook db (change c)))
 
 -- ---- numbers that an INTEGER column can hold
 

@@ -51,6 +51,7 @@ module _ (old mid new : State) (b : Builds mid book_schema ((rows_of old.now.tre
     inside = t.inside ∙ b.inside;
     schema_is = t.schema_is;
     tables = record {
+      sound = t.sound;
       version_is = λ m is. t.version_is m (b.rows_are.0 ∙ is);
       kept = kept_as;
       further = t.others.1.1.1.1.1.1.1.1.1.0 (λ e. cc e) ∙ b.rows_are.1.1.1.1.1.1.1.1.1.0;

@@ -2,6 +2,7 @@
 use Rattle.std.specs.Prelude.{◌≡◌, ◌≢◌, ◌⊎◌, ℕ, true, [], ◌∷◌, Option, Result, IsTrue, OnErr}
 use Rattle.sqlite_trees.specs.Tree.{Trees}
 use Rattle.sqlite_trees.specs.declared.store.Store.{Ghosts}
+use Rattle.sqlite_catalog.specs.Listing.{IsSound}
 use Rattle.sqlite.specs.Effect.{Database}
 use Rattle.sqlite.specs.Held.{Held, state}
 use Rattle.sqlite.specs.State.{State, HasCleanDisk}
@@ -16,8 +17,9 @@ use Rattle.acd_sql_columns.specs.Rows.{meta_row, meta_row_as}
 use Rattle.acd_sql_columns.specs.Schema.{old_schema, book_schema}
 use Rattle.acd_sql_statements.specs.Failing.{IsMemory, StoreHasFailed, Refuses}
 
--- the nine tables as they were but for the version, and two empty ones
+-- a database that obeys the schema of version 2, with the nine tables as they were but for the version, and two empty ones
 pub record IsMigration (old new : Trees) : Type 0 where
+  pub sound : IsSound book_schema new
   pub version_is : (m : Meta) → old (tree_of table.Meta) ≡ meta_row_as 1 m ∷ [] → new (tree_of table.Meta) ≡ meta_row m ∷ []
   pub kept : (t : Table) → IsIn version.First t → tree_of t ≢ tree_of table.Meta → new (tree_of t) ≡ old (tree_of t)
   pub further : new (tree_of table.AgentGroups) ≡ []

@@ -16,8 +16,7 @@ use Rattle.acd_sql_columns.specs.declared.tables.Version.{Version}
 use Rattle.acd_sql_columns.specs.declared.tables.Version.TheVariants as version
 use Rattle.acd_sql_columns.specs.declared.texts.TheConstants.{INSERT_META}
 use Rattle.acd_sql_columns.specs.AnyRows.{schema_of}
-use Rattle.acd_sql_columns.specs.Content.{Encodes}
-use Rattle.acd_sql_columns.specs.Transactions.{HoldsContent, Works}
+use Rattle.acd_sql_columns.specs.Transactions.{HoldsContent, IsBook, Works}
 use Rattle.acd_sql_columns.specs.Making.{Builds, HasRows, no_rows, plan_schema, state_schema}
 use Rattle.acd_sql_columns.specs.Rows.{meta_values}
 use Rattle.acd_sql_columns.specs.Schema.{book_schema, no_schema, old_schema}
@@ -48,7 +47,7 @@ HasNewBook limits old new = HoldsContent new (empty_content limits)
 
 -- a crash leaves what it left before, or a book with the limits and nothing else
 abbrev pub MayMake : State → State → Limits → Type 0
-MayMake old new limits = (db : Trees) → new.may_leave db → old.may_leave db ⊎ Encodes db (empty_content limits)
+MayMake old new limits = (db : Trees) → new.may_leave db → old.may_leave db ⊎ IsBook db (empty_content limits)
 
 -- ---- failures
 

@@ -92,6 +92,7 @@ still_uncommitted d f text u x r old mid none uncommitted ran missed =
     subst (HoldsUncommitted mid) (f.unchanged r) (record {
       inside = still.mode ∙ uncommitted.inside;
       schema = still.schema_is;
+      sound = still.sound;
       tables = f.framed (d.records r) (old.now.trees d.layout.tree) old.now.trees mid.now.trees r held.0 held.1 still.rows_are still.others uncommitted.tables;
     })
 

@@ -4,6 +4,7 @@ use Rattle.sqlite_trees.specs.Tree.{Trees}
 use Rattle.sqlite_schema.specs.declared.schema.Schema.{Schema}
 use Rattle.sqlite_trees.specs.Objects.{catalog_tree, IsListed}
 use Rattle.sqlite_trees.specs.View.{View, IsOrdered}
+use Rattle.sqlite_catalog.specs.Listing.{IsSound}
 use Rattle.sqlite.specs.Effect.{Database, IsDatabase}
 use Rattle.sqlite.specs.declared.error.Error.{Error}
 use Rattle.sqlite.specs.State.{State, HasCleanDisk}
@@ -30,18 +31,20 @@ use Rattle.acd_sql_columns.specs.Rows.{further_row}
 use Rattle.acd_sql_columns.specs.Schema.{old_schema, book_schema}
 use Rattle.acd_sql_columns.specs.InTables.{content_of}
 use Rattle.acd_sql_columns.specs.Seeing.{HasDatabase, HasLooked}
+use Rattle.acd_sql_columns.specs.Transactions.{HoldsContent}
 use Rattle.acd_sqlbook.specs.State.{IsSoundState, book_state}
 use Rattle.acd_book.specs.State.{BookState}
 use Rattle.acd_sqlbook.proofs.BookStates.{Settles, Stays}
 use Rattle.acd_sqlbook.proofs.Caused.{never_limited}
 use Rattle.acd_sql_columns.proofs.Decoded.{decoded, decoded_as}
+use Rattle.acd_sql_columns.proofs.Endings.{holds_still, is_book}
 use Rattle.acd_sql_columns.proofs.Frames.{none_heaped}
 use Rattle.acd_sql_schema.proofs.Contents.{content_in, canonical_in, canonical_by_store}
 use Rattle.acd_sqlbook.proofs.Rising.{stored_ordered}
 
 -- ---- what a migration leaves of a content
 
-apart_schemas : book_schema ≡ old_schema → ⊥
+pub apart_schemas : book_schema ≡ old_schema → ⊥
 apart_schemas e = let many : ◌≡◌ {A = ℕ} 11 9 = ap (λ (s : Schema). length s.tables) e in cc many
 
 pub migrated_encodes : (old new : Trees) (c : Content) → EncodesAs version.First old c → IsMigration old new → Encodes new c
@@ -60,7 +63,7 @@ migrated_encodes old new c is m table.GroupPriority = subst (Stores table.GroupP
 second_encodes : (db : Trees) (c : Content) → EncodesAs version.Second db c → Encodes db c
 second_encodes db c is = λ t. is.tables t tt
 
-second_canonical : (d : Database) (c : Content) → d.schema ≡ book_schema → Encodes d.trees c → IsCanonical d
+pub second_canonical : (d : Database) (c : Content) → d.schema ≡ book_schema → Encodes d.trees c → IsCanonical d
 second_canonical d c is stored version.First e = absurd (apart_schemas (sym is ∙ e))
 second_canonical d c is stored version.Second e = canonical_in d.trees c stored
 
@@ -97,7 +100,7 @@ module _ (old mid : State) (settles : Settles old) (k : HasCleanDisk mid) where
         let held = sound.stands was in
         let database = h.seen.same k (old_database r h was) up in
         let same = same_commit r h was up in
-        (held.0, record { is_open = up; idle = database.now ∙ sym database.committed; schema = ap (λ (d : Database). d.schema) same ∙ held.1.schema; encodes = subst (λ (d : Database). Encodes d.trees held.0) (sym same) held.1.encodes });
+        (held.0, holds_still old mid held.0 held.1 up (database.now ∙ h.settled was) same);
     left = λ db left. sound.left db (h.stops k db left);
   }
 
@@ -149,10 +152,17 @@ module _ (old mid : State) (settles : Settles old) (k : HasCleanDisk mid) where
         stops = λ canonical c stop. (stop.0, h.stops k stop.0 stop.1, stop.2);
         keeps = λ canonical c stop. (mid.committed.trees, stays up, stop.2 ∙ ap content_of (settles stop.0 same.0 stop.1) ∙ sym same.1);
         canonical = λ sound. let held = sound.stands same.0 in second_canonical old.now held.0 (ap (λ (d : Database). d.schema) held.1.idle ∙ held.1.schema) (subst (λ (d : Database). Encodes d.trees held.0) (sym held.1.idle) held.1.encodes);
-        sound = λ canonical. let c = made canonical in record {
-          stands = λ up. (c.0, record { is_open = up; idle = after.now ∙ sym after.committed; schema = ap (λ (d : Database). d.schema) after.committed ∙ found.schema_is; encodes = subst (λ (d : Database). Encodes d.trees c.0) (sym after.committed) c.1 });
-          left = λ db left. (c.0, subst (λ t. Encodes t c.0) (sym (settled_after db up left ∙ ap (λ (d : Database). d.trees) after.committed)) c.1);
-        };
+        sound = λ canonical.
+            let c = made canonical in
+            let whole : IsSound book_schema old.now.trees = subst (λ (s : Schema). IsSound s old.now.trees) found.schema_is (h.obeys same.0) in
+            let held : HoldsContent mid c.0 = record {
+              is_open = up;
+              idle = after.now ∙ sym after.committed;
+              schema = ap (λ (d : Database). d.schema) after.committed ∙ found.schema_is;
+              sound = subst (λ (d : Database). IsSound book_schema d.trees) (sym after.committed) whole;
+              encodes = subst (λ (d : Database). Encodes d.trees c.0) (sym after.committed) c.1;
+            } in
+            record { stands = λ up. (c.0, held); left = λ db left. (c.0, is_book mid c.0 db held (settled_after db up left)) };
         in_range = λ canonical. let c = made canonical in subst IsInRange (held c) c.2;
         ordered = λ canonical. let c = made canonical in subst IsInOrder (held c) (stored_ordered old.now.trees c.0 c.1 c.2);
       }
@@ -227,10 +237,10 @@ module _ (old mid new : State) (settles : Settles old) (stays : Stays old) (k : 
         content = λ canonical. same_there new.committed.trees moved canonical;
         stops = within may;
         keeps = λ canonical c stop. (new.committed.trees, stays_after m.is_open, stop.2 ∙ ap content_of (settles stop.0 was stop.1) ∙ sym (same_there new.committed.trees moved canonical));
-        sound = λ canonical. let c = made canonical in record {
-          stands = λ up. (c.0, record { is_open = up; idle = m.idle; schema = m.schema_is; encodes = whole c });
-          left = λ db left. (c.0, subst (λ t. Encodes t c.0) (sym (settled_after db m.is_open left)) (whole c));
-        };
+        sound = λ canonical.
+            let c = made canonical in
+            let held : HoldsContent new c.0 = record { is_open = m.is_open; idle = m.idle; schema = m.schema_is; sound = moved.sound; encodes = whole c } in
+            record { stands = λ up. (c.0, held); left = λ db left. (c.0, is_book new c.0 db held (settled_after db m.is_open left)) };
         in_range = λ canonical. let c = made canonical in subst IsInRange (held c) c.2;
         ordered = λ canonical. let c = made canonical in subst IsInOrder (held c) (stored_ordered new.committed.trees c.0 (whole c) c.2);
       }
@@ -288,7 +298,7 @@ without_limit s = record s { step_limit = None }
 module _ (s : State) where
   sound_before : IsSoundState s → IsSoundState (without_limit s)
   sound_before sound = record {
-    stands = λ up. let held = sound.stands up in (held.0, record { is_open = held.1.is_open; idle = held.1.idle; schema = held.1.schema; encodes = held.1.encodes });
+    stands = λ up. let held = sound.stands up in (held.0, record { is_open = held.1.is_open; idle = held.1.idle; schema = held.1.schema; sound = held.1.sound; encodes = held.1.encodes });
     left = sound.left;
   }
 

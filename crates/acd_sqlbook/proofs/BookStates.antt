@@ -16,15 +16,15 @@ use Rattle.acd_book.specs.declared.fault.BookFault.{BookFault}
 use Rattle.acd_book.specs.declared.fault.BookFault.TheVariants.{NoMemory, Store}
 use Rattle.acd_sqlbook.specs.Commit.{written_by}
 use Rattle.acd_sql_columns.specs.Relations.{meta_of}
-use Rattle.acd_sql_columns.specs.Content.{Encodes}
 use Rattle.acd_sql_columns.specs.InTables.{content_of}
 use Rattle.acd_sqlbook.specs.Calls.{HasRead, HasCommitted, HasReplaced}
 use Rattle.acd_sqlbook.specs.Counters.{AreCounters}
 use Rattle.acd_sql_columns.specs.declared.meta.Meta.{Meta}
-use Rattle.acd_sql_columns.specs.Transactions.{HoldsContent}
+use Rattle.acd_sql_columns.specs.Transactions.{HoldsContent, IsBook}
 use Rattle.acd_sqlbook.specs.State.{IsSoundState, IsNewBook, book_state, answered, failures_after}
 use Rattle.acd_sqlbook.proofs.Committing.{commit_is}
 use Rattle.acd_sql_columns.proofs.Decoded.{decoded}
+use Rattle.acd_sql_columns.proofs.Endings.{is_book}
 
 -- ---- the laws of a store, of its state
 
@@ -111,7 +111,7 @@ module _ (old new : State) (failures : ℕ) (r : Result (Unit {0}) Error) (writt
   content_after (Ok a) c held up made undone = (written c, made c held)
   content_after (Err e) c held up made undone = (c, undone c held up)
 
-  added : HasCommitted old new r written → HasCleanDisk new → IsSoundState old → (db : Trees) → new.may_leave db → old.may_leave db ⊎ (IsTrue old.is_open × ((c : Content) → HoldsContent old c → Encodes db (written c)))
+  added : HasCommitted old new r written → HasCleanDisk new → IsSoundState old → (db : Trees) → new.may_leave db → old.may_leave db ⊎ (IsTrue old.is_open × ((c : Content) → HoldsContent old c → IsBook db (written c)))
   added h k sound = h.stops k sound.stands
 
   sound_after : HasCommitted old new r written → HasCleanDisk new → IsSoundState old → IsSoundState new
@@ -146,7 +146,7 @@ module _ (old new : State) (failures : ℕ) (r : Result (Unit {0}) Error) (writt
     stops = λ k sound c stop.
         elim (added h k sound stop.0 stop.1) [
           | inl was ↦ inl (stop.0, was, stop.2)
-          | inr new ↦ let held = sound.stands new.0 in inr (new.0, λ follows. stop.2 ∙ decoded stop.0 (written held.0) (new.1 held.0 held.1) ∙ followed k held.0 held.1 follows)
+          | inr new ↦ let held = sound.stands new.0 in inr (new.0, λ follows. stop.2 ∙ decoded stop.0 (written held.0) (new.1 held.0 held.1).encodes ∙ followed k held.0 held.1 follows)
         ];
     cause = risen (answered r) failures;
   }
@@ -189,7 +189,7 @@ new_book s failures limits settles stays held =
     record {
       sound = record {
         stands = λ up. (empty_content limits, held);
-        left = λ db left. (empty_content limits, subst (λ d. Encodes d (empty_content limits)) (sym (settles db held.is_open left)) held.encodes);
+        left = λ db left. (empty_content limits, is_book s (empty_content limits) db held (settles db held.is_open left));
       };
       live = held.is_open;
       content = known;

@@ -10,9 +10,8 @@ use Rattle.sqlite.specs.declared.error.Error.{Error}
 use Rattle.sqlite.specs.State.{State, HasCleanDisk}
 use Rattle.acd_model.specs.declared.moves.Change.{Change}
 use Rattle.acd_book.specs.declared.kept.Kept.{Kept}
-use Rattle.acd_sql_columns.specs.Transactions.{HoldsContent}
+use Rattle.acd_sql_columns.specs.Transactions.{HoldsContent, IsBook}
 use Rattle.acd_sql_columns.specs.InTables.{content_of}
-use Rattle.acd_sql_columns.specs.Content.{Encodes}
 use Rattle.acd_sql_columns.specs.declared.meta.Meta.{Meta}
 use Rattle.acd_sqlbook.specs.Calls.{HasCommitted, HasReplaced}
 use Rattle.acd_sqlbook.specs.Counters.{AreCounters}
@@ -124,7 +123,7 @@ module _ (old new : State) (P : Content → Type 0) (after : Content → Content
     was_open = h.commits.was_open;
     made = λ k. made_so r h k (h.commits.made k);
     undone = h.commits.undone;
-    stops = λ k shows db left. elim (h.commits.stops k shows db left) [ inl was ↦ inl was | inr is ↦ inr (is.0, λ c held. subst (Encodes db) (h.same k c held (held_so c held)) (is.1 c held)) ];
+    stops = λ k shows db left. elim (h.commits.stops k shows db left) [ inl was ↦ inl was | inr is ↦ inr (is.0, λ c held. subst (IsBook db) (h.same k c held (held_so c held)) (is.1 c held)) ];
   }
 
 -- the index after a commit of changes is of the events that it leaves

@@ -6,6 +6,7 @@ mod Replacing
 mod BookStates
 mod Rising
 mod Adopted
+pub mod Reopened
 mod Stopped
 mod Counting
 mod Caused

@@ -9,10 +9,9 @@ use Rattle.acd_book.specs.declared.kept.Kept.{Kept}
 use Rattle.acd_sql_columns.specs.declared.meta.Meta.{Meta}
 use Rattle.acd_sqlbook.specs.Commit.{counted, counters_of, made_by, written_by}
 use Rattle.acd_sql_columns.specs.Relations.{meta_of}
-use Rattle.acd_sql_columns.specs.Content.{Encodes}
 use Rattle.acd_sqlbook.specs.Calls.{HasRead, HasCommitted, HasReplaced}
 use Rattle.acd_sqlbook.specs.Counters.{AreCounters}
-use Rattle.acd_sql_columns.specs.Transactions.{HoldsContent, Quiet, NoStop, AddsStop}
+use Rattle.acd_sql_columns.specs.Transactions.{HoldsContent, IsBook, Quiet, NoStop, AddsStop}
 use Rattle.acd_sql_columns.specs.Finding.{Finds}
 use Rattle.acd_sql_statements.proofs.Chained.{quiet_on, quiet_still}
 
@@ -127,7 +126,7 @@ module _ (old mid new : State) (r : Result (Unit {0}) Error) (made after : Conte
         let live = read.up m in
         elim (stops k db left) [
           | inl was ↦ inl (read.stops m stands db was)
-          | inr new ↦ inr (read.quiet.was_open m live, λ c held. subst (Encodes db) (same c (read.value m c held)) (new c (read.quiet.same m c held live)))
+          | inr new ↦ inr (read.quiet.was_open m live, λ c held. subst (IsBook db) (same c (read.value m c held)) (new c (read.quiet.same m c held live)))
         ];
   }
 

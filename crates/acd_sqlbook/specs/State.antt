@@ -10,14 +10,14 @@ use Rattle.acd_book.specs.Content.{Content, empty_content}
 use Rattle.acd_book.specs.State.{BookState}
 use Rattle.acd_book.specs.declared.fault.BookFault.{BookFault}
 use Rattle.acd_book.specs.declared.fault.BookFault.TheVariants.{NoMemory, Store}
-use Rattle.acd_sql_columns.specs.Content.{Encodes}
+use Rattle.acd_sql_columns.specs.Transactions.{IsBook}
 use Rattle.acd_sql_columns.specs.InTables.{content_of}
 use Rattle.acd_sqlbook.specs.Calls.{ShowsContent}
 
--- whatever a crash may leave is the tables of a content, and so is what the connection sees while it is open
+-- whatever a crash may leave opens as a book of a content, and so does what the connection sees while it is open
 pub record IsSoundState (s : State) : Type 0 where
   pub stands : ShowsContent s
-  pub left : (db : Trees) → s.may_leave db → (c : Content) × Encodes db c
+  pub left : (db : Trees) → s.may_leave db → (c : Content) × IsBook db c
 
 abbrev pub book_state : State → ℕ → BookState
 book_state s failures = record {

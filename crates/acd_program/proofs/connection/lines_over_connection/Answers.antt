@@ -6,7 +6,6 @@ use Rattle.acd_lines.specs.Parts.{InTurn}
 use Rattle.acd_program.proofs.LinesOver.{lines_in}
 use Rattle.acd_sqlbook.specs.View.{book_of}
 use Rattle.acd_program.specs.Desks.{in_database}
-use Rattle.acd_program.proofs.Coming.{late_as, adopt_late, lines_known}
 use Rattle.acd_program.proofs.connection.lines_over_connection.Goals as goal
 
 pub returns-in-Err-clause-done : goal.returns-in-Err-clause-done
@@ -15,15 +14,6 @@ returns-in-Err-clause-done g c = inl (record { why = c.from.result; outcome = re
 pub returns-clause-done : goal.returns-clause-done
 returns-clause-done g c =
     lines_in g.S.Store (InTurn (asked g.A.Answering.unmarked g.A.Answering.long g.A.Answering.read) g.A.Answering.answers) c.args.makes c.args.ends
-    (streams g.R.Read.remaining g.W.Write.contents (c.args.reader.now, c.lines_over_book-book.new.reader) (c.args.writer.now, c.lines_over_book-book.new.writer))
-    (state g.S.Store c.args.conn) c.in-Ok.book c.lines_over_book-book.result.1 c.lines_over_book-book.result.0 c.into_connection.result
-    (g.met.S.Store.settled c.args.conn.store) c.in-Ok.ensures.taken c.into_connection.ensures.same c.lines_over_book-book.ensures
-
-pub returns-in-Err-clause-known : goal.returns-in-Err-clause-known
-returns-in-Err-clause-known g c = late_as _ _ c.from.ensures (adopt_late c.in-Err.fault)
-
-pub returns-clause-known : goal.returns-clause-known
-returns-clause-known g c =
-    lines_known (in_database g.S.Store) (InTurn (asked g.A.Answering.unmarked g.A.Answering.long g.A.Answering.read) g.A.Answering.answers) c.args.ends
-    (streams g.R.Read.remaining g.W.Write.contents (c.args.reader.now, c.lines_over_book-book.new.reader) (c.args.writer.now, c.lines_over_book-book.new.writer))
-    (book_of g.S.Store c.in-Ok.book) c.lines_over_book-book.result.0 c.lines_over_book-book.result.1 c.lines_over_book-book.ensures
+    (streams g.R.Read.remaining g.W.Write.contents (c.args.reader.now, c.lines_over_book-done.new.reader) (c.args.writer.now, c.lines_over_book-done.new.writer))
+    (state g.S.Store c.args.conn) c.in-Ok.book c.lines_over_book-done.result.1 c.lines_over_book-done.result.0 c.into_connection.result
+    (g.met.S.Store.settled c.args.conn.store) c.in-Ok.ensures.taken c.into_connection.ensures.same c.lines_over_book-done.ensures

@@ -1,8 +1,8 @@
 use Rattle.std.proofs.Common.{inl, refl}
 use Rattle.sqlite.specs.Held.{state}
 use Rattle.acd_lines.specs.Lines.{streams}
-use Rattle.acd_program.proofs.LinesOver.{seen_lines, whole_in}
-use Rattle.acd_program.proofs.Coming.{late_as}
+use Rattle.acd_program.specs.Over.{before}
+use Rattle.acd_program.proofs.LinesOver.{seen_lines}
 use Rattle.acd_program.proofs.connection.with_reads.Goals as goal
 
 pub returns-in-Ok-clause-ended : goal.returns-in-Ok-clause-ended
@@ -10,13 +10,5 @@ returns-in-Ok-clause-ended g c =
     seen_lines g.S.Store c.args.makes c.args.ends (streams g.R.Read.remaining g.W.Write.contents (c.args.reader.now, c.lines_over_connection.new.reader) (c.args.writer.now, c.lines_over_connection.new.writer))
     (state g.S.Store c.args.conn) c.lines_over_connection.result.0 c.lines_over_connection.result.1 c.lines_over_connection.ensures.done
 
-pub returns-in-Ok-clause-done : goal.returns-in-Ok-clause-done
-returns-in-Ok-clause-done g c =
-    whole_in g.S.Store c.args.makes c.args.ends (streams g.R.Read.remaining g.W.Write.contents (c.args.reader.now, c.lines_over_connection.new.reader) (c.args.writer.now, c.lines_over_connection.new.writer))
-    (state g.S.Store c.args.conn) c.lines_over_connection.result.0 c.lines_over_connection.result.1 (returns-in-Ok-clause-ended g c)
-
 pub returns-in-Err-clause-ended : goal.returns-in-Err-clause-ended
-returns-in-Err-clause-ended g c = inl (record { why = c.from.result; outcome = refl; unserved = λ clean canonical db left. inl left; untouched = (refl, refl) })
-
-pub returns-in-Err-clause-known : goal.returns-in-Err-clause-known
-returns-in-Err-clause-known g c = late_as _ _ c.from.ensures tt
+returns-in-Err-clause-ended g c = inl (record { why = c.from.result; outcome = refl; unserved = λ clean db left. before left; untouched = (refl, refl) })

@@ -3,7 +3,6 @@ use Rattle.acd_program.specs.Work.{WasAsked, IsFindingIfOrdered}
 use Rattle.acd_program.proofs.Asking.{audited_by}
 use Rattle.acd_program.specs.Ended.{OnlyAsked}
 use Rattle.acd_program.proofs.Asking.{only_refused, only_read}
-use Rattle.acd_program.proofs.Coming.{late_as, open_late, desk_late}
 use Rattle.acd_program.proofs.desk.audit.Goals as goal
 
 pub returns-in-Ok-audited-clause-over : goal.returns-in-Ok-audited-clause-over
@@ -27,9 +26,3 @@ pub returns-in-Err-audited-clause-kept : goal.returns-in-Err-audited-clause-kept
 returns-in-Err-audited-clause-kept g c =
     subst (λ (b : _). OnlyAsked (g.B.Book.state c.args.book.inner) (g.B.Book.state b)) (sym (c.into_inner-in-Err-audited.ensures ∙ ap (λ (w : _). w.inner) c.close-in-Err-audited.ensures))
     (only_read (g.B.Book.state c.args.book.inner) _ _ _ _ c.in-Ok.ensures c.in-Err-audited.ensures.read)
-
-pub returns-in-Err-clause-known : goal.returns-in-Err-clause-known
-returns-in-Err-clause-known g c = late_as _ _ c.from.ensures (open_late c.in-Err.fault)
-
-pub returns-in-Err-audited-clause-known : goal.returns-in-Err-audited-clause-known
-returns-in-Err-audited-clause-known g c = late_as _ _ c.from-in-Err-audited.ensures (desk_late c.in-Err-audited.fault)

@@ -1,7 +1,6 @@
 use Rattle.std.proofs.Common.{sym, subst}
 use Rattle.acd_program.specs.Ended.{OnlyAsked}
 use Rattle.acd_program.proofs.Asking.{only_refused, only_read}
-use Rattle.acd_program.proofs.Coming.{late_as, open_late, desk_late}
 use Rattle.acd_program.proofs.desk.read_text.Goals as goal
 
 pub returns-in-Err-clause-kept : goal.returns-in-Err-clause-kept
@@ -14,9 +13,3 @@ returns-in-Ok-text_of-clause-kept g c =
 pub returns-in-Err-text_of-clause-kept : goal.returns-in-Err-text_of-clause-kept
 returns-in-Err-text_of-clause-kept g c =
     subst (λ (b : _). OnlyAsked (g.B.Book.state c.args.book) (g.B.Book.state b)) (sym c.close-in-Err-text_of.ensures) (only_read (g.B.Book.state c.args.book) _ _ _ _ c.in-Ok.ensures c.in-Err-text_of.ensures)
-
-pub returns-in-Err-clause-known : goal.returns-in-Err-clause-known
-returns-in-Err-clause-known g c = late_as _ _ c.from.ensures (open_late c.in-Err.fault)
-
-pub returns-in-Err-text_of-clause-known : goal.returns-in-Err-text_of-clause-known
-returns-in-Err-text_of-clause-known g c = late_as _ _ c.from-in-Err-text_of.ensures (desk_late c.in-Err-text_of.fault)

@@ -1,24 +1,33 @@
-use Rattle.std.proofs.Common.{rules, inl, refl}
+use Rattle.std.proofs.Common.{rules, inr, refl, subst}
 use Rattle.sqlite_std_file.specs.File.{IsFresh}
-use Rattle.acd_program.proofs.AuditsWithArchive.{audit_printed, audit_ended}
-use Rattle.acd_program.proofs.Tasks.{err_from}
+use Rattle.acd_program.proofs.AuditsWithArchive.{audit_cut, audit_printed, audit_stopped}
+use Rattle.acd_program.proofs.Ends.{if_is_err, if_is_ok, match_err, match_from}
 use Rattle.acd_program.proofs.running.audit_with_archive.Goals as goal
 
-pub returns-clause-audited : goal.returns-clause-audited
-returns-clause-audited g c =
-    audit_printed _ IsFresh c.print_done.result c.args.counts c.args.whole c.in_ok-ending.ending c.in_ok-conn.conn c.over_archive-done.result.1 c.over_archive-done.result.0 c.close_connection.result
-    (g.W.Write.contents c.args.writer.now) (g.W.Write.contents c.print_done.new.writer)
-    c.in_ok-conn.ensures.opened c.in_ok-ending.ensures.ending c.over_archive-done.ensures.over c.close_connection.ensures.laid c.print_done.ensures.printed
+pub returns-in_err-ending : goal.returns-in_err-ending
+returns-in_err-ending g c = match_from c.from_residual.result _ _ _ c.from_residual.ensures.1 (refl, tt)
 
-pub returns-in_err-ending-clause-ended : goal.returns-in_err-ending-clause-ended
-returns-in_err-ending-clause-ended g c = err_from c.from_residual.result c.in_err-ending.field-0.0 _ (search rules) (inl (c.in_err-ending.ensures.known, refl))
+pub returns-in_err-conn : goal.returns-in_err-conn
+returns-in_err-conn g c = match_from c.from_residual-in_err-conn.result _ _ _ c.from_residual-in_err-conn.ensures.1 (refl, c.in_err-conn.ensures.left)
 
-pub returns-in_err-conn-clause-ended : goal.returns-in_err-conn-clause-ended
-returns-in_err-conn-clause-ended g c = err_from c.from_residual-in_err-conn.result c.in_err-conn.field-0.0 _ (search rules) (inl (c.in_err-conn.ensures.known, refl))
+pub returns-in_err-left : goal.returns-in_err-left
+returns-in_err-left g c =
+    match_err c.from_residual-in_err-left.result c.in_err-left.field-0.0 _ _ (search rules)
+    (audit_stopped _ IsFresh c.in_err-left.field-0.0 c.args.counts c.args.whole c.in_ok-conn.conn c.over_archive-done.result.1 _ _ _ c.in_ok-conn.ensures.opened c.close_connection-closed.ensures.shut
+    c.over_archive-done.ensures.kept refl (if_is_err c.over_archive-done.result.0 c.in_err-left.field-0.0 _ c.in_err-left.was c.over_archive-done.ensures.left))
 
-pub returns-clause-ended : goal.returns-clause-ended
-returns-clause-ended g c =
-    audit_ended _ IsFresh c.print_done.result c.args.counts c.args.whole c.in_ok-ending.ending c.in_ok-conn.conn c.over_archive-done.result.1 c.over_archive-done.result.0 c.close_connection.result
-    (g.W.Write.contents c.args.writer.now) (g.W.Write.contents c.print_done.new.writer) _
-    c.in_ok-conn.ensures.opened c.in_ok-ending.ensures.ending c.over_archive-done.ensures.over c.over_archive-done.ensures.kept c.close_connection.ensures.shut c.print_done.ensures.spared
-    c.print_done.ensures.cut c.print_done.ensures.first c.close_connection.ensures.known
+pub returns-in-Ok : goal.returns-in-Ok
+returns-in-Ok g c =
+    let audited = if_is_ok c.over_archive-done.result.0 c.in_ok-left.left _ c.in_ok-left.was c.over_archive-done.ensures.over in
+    audit_printed _ IsFresh c.in-Ok.status c.args.counts c.args.whole c.in_ok-ending.ending c.in_ok-conn.conn c.over_archive-done.result.1 c.in_ok-left.left c.close_connection-closed.result
+    (g.W.Write.contents c.args.writer.now) (g.W.Write.contents c.print_done.new.writer) c.in_ok-conn.ensures.opened c.in_ok-ending.ensures audited c.close_connection-closed.ensures.laid c.in-Ok.ensures
+
+pub returns : goal.returns
+returns g c =
+    let audited = if_is_ok c.over_archive-done.result.0 c.in_ok-left.left _ c.in_ok-left.was c.over_archive-done.ensures.over in (
+      c.in_ok-conn.conn,
+      c.in_ok-conn.ensures.opened,
+      record { last = c.over_archive-done.result.1; shut = c.close_connection-closed.ensures.shut; kept = c.over_archive-done.ensures.kept },
+      inr (audit_cut _ IsFresh c.args.counts c.args.whole c.in_ok-ending.ending c.in_ok-conn.conn c.over_archive-done.result.1 (g.W.Write.contents c.args.writer.now) (g.W.Write.contents c.print_done.new.writer) c.in_ok-left.left
+          c.in_ok-ending.ensures audited c.in-Err.ensures),
+    )

@@ -1,38 +1,45 @@
-use Rattle.std.proofs.Common.{rules, true, inl, refl}
-use Rattle.sqlite_std_file.specs.File.{IsFresh}
+use Rattle.std.proofs.Common.{true, refl, subst}
 use Rattle.sqlite.specs.Files.{over_files, file_state}
-use Rattle.acd_program.specs.TasksEnded.{ServiceLeft}
-use Rattle.acd_program.proofs.Inputs.{both_so}
+use Rattle.sqlite_std_file.specs.File.{IsFresh}
+use Rattle.acd_program.specs.InFiles.{IsLaidIn}
+use Rattle.acd_program.proofs.Ends.{match_from, on_ok}
 use Rattle.acd_program.proofs.Seen.{seen_made}
-use Rattle.acd_program.proofs.ServeDone.{serve_made}
-use Rattle.acd_program.proofs.TasksEnded.{ends_by, ended_over, service_left, ends_late}
-use Rattle.acd_program.proofs.Tasks.{err_from}
+use Rattle.acd_program.proofs.ServeDone.{serve_done_in, serve_made}
 use Rattle.acd_program.proofs.running.serve_file.Goals as goal
 
-pub returns-clause-answered : goal.returns-clause-answered
-returns-clause-answered g c =
-    both_so c.done_and_closed.result c.serve-conn.result.0 c.close_connection.result _ _ _ c.done_and_closed.ensures.both c.serve-conn.ensures.answered c.close_connection.ensures.laid
-    (λ answered closed. record {
+pub returns-in_err-conn : goal.returns-in_err-conn
+returns-in_err-conn g c = match_from c.from_residual.result _ _ _ c.from_residual.ensures.1 ((refl, refl), c.in_err-conn.ensures.left)
+
+pub returns-in-Ok : goal.returns-in-Ok
+returns-in-Ok g c =
+    let a : _ = g.E.Write.contents c.args.errors.now in
+    let b : _ = g.E.Write.contents c.serve-done.new.errors in
+    let s : _ = file_state c.in_ok-conn.conn in
+    let last : _ = c.serve-done.result.1 in
+    record {
       conn = c.in_ok-conn.conn;
-      last = c.serve-conn.result.1;
+      last = last;
       opened = c.in_ok-conn.ensures.opened;
-      answered = seen_made over_files _ c.in_ok-conn.is_new true (file_state c.in_ok-conn.conn) c.serve-conn.result.1 c.in_ok-conn.ensures.makes answered;
-      closed = closed;
-    })
+      answered = seen_made over_files _ c.in_ok-conn.is_new true s last c.in_ok-conn.ensures.makes
+          (on_ok c.serve-done.result.0 tt _ c.in-Ok.ensures.0
+          (serve_done_in c.args.connections a b c.args.port (g.W.Write.contents c.args.writer.now) (g.W.Write.contents c.serve-done.new.writer) over_files s c.serve-done.result.0 last c.in_ok-conn.is_new c.serve-done.ensures.ended));
+      closed = on_ok c.close_connection.result tt (IsLaidIn last) c.in-Ok.ensures.1 c.close_connection.ensures.laid;
+    }
 
-pub returns-in_err-conn-clause-ended : goal.returns-in_err-conn-clause-ended
-returns-in_err-conn-clause-ended g c = err_from c.from_residual.result c.in_err-conn.field-0.0 _ (search rules) (inl (c.in_err-conn.ensures.known, (refl, refl)))
-
-pub returns-clause-ended : goal.returns-clause-ended
-returns-clause-ended g c =
-    let old_output : _ = g.W.Write.contents c.args.writer.now in
-    let new_output : _ = g.W.Write.contents c.serve-conn.new.writer in
-    let old_errors : _ = g.E.Write.contents c.args.errors.now in
-    let new_errors : _ = g.E.Write.contents c.serve-conn.new.errors in
-    let ended : _ = c.serve-conn.result.0 in
-    let last : _ = c.serve-conn.result.1 in
-    let why = ends_by c.done_and_closed.result ended c.close_connection.result c.done_and_closed.ensures.first c.close_connection.ensures.known in
-    ended_over _ IsFresh c.done_and_closed.result c.in_ok-conn.conn _ (ServiceLeft _ IsFresh c.args.connections c.args.port old_output new_output old_errors new_errors) c.in_ok-conn.ensures.opened
-    (ends_late c.done_and_closed.result ended c.serve-conn.ensures.known why)
-    (service_left _ IsFresh c.done_and_closed.result c.args.connections c.args.port old_output new_output old_errors new_errors c.in_ok-conn.conn last ended c.close_connection.ensures.shut
-    (serve_made c.args.connections old_errors new_errors c.args.port old_output new_output over_files (file_state c.in_ok-conn.conn) ended last c.in_ok-conn.is_new true c.in_ok-conn.ensures.makes c.serve-conn.ensures.ended) why)
+pub returns-in-Err : goal.returns-in-Err
+returns-in-Err g c =
+    let a : _ = g.E.Write.contents c.args.errors.now in
+    let b : _ = g.E.Write.contents c.serve-done.new.errors in
+    let s : _ = file_state c.in_ok-conn.conn in
+    let last : _ = c.serve-done.result.1 in (
+      c.in_ok-conn.conn,
+      c.in_ok-conn.ensures.opened,
+      record {
+        last = last;
+        shut = c.close_connection.ensures.shut;
+        ended = c.serve-done.result.0;
+        answered = serve_made c.args.connections a b c.args.port (g.W.Write.contents c.args.writer.now) (g.W.Write.contents c.serve-done.new.writer) over_files s c.serve-done.result.0 last c.in_ok-conn.is_new true
+            c.in_ok-conn.ensures.makes c.serve-done.ensures.ended;
+        why = c.in-Err.ensures;
+      },
+    )

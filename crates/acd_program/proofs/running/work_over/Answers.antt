@@ -1,23 +1,25 @@
+use Rattle.std.proofs.Common.{rules, inl, inr}
+use Rattle.acd_program.proofs.Ends.{match_err, match_is_err, match_is_ok, match_so}
 use Rattle.acd_program.proofs.Tasks.{worked_over}
-use Rattle.acd_program.proofs.Ended.{work_ended}
-use Rattle.acd_program.proofs.Coming.{printed_late}
 use Rattle.acd_program.proofs.running.work_over.Goals as goal
 
-pub returns-clause-worked : goal.returns-clause-worked
-returns-clause-worked g c =
-    let old_output : _ = g.W.Write.contents c.args.writer.now in
-    let between : _ = g.W.Write.contents c.over_database-done.new.writer in
-    let new_output : _ = g.W.Write.contents c.print_done.new.writer in
-    worked_over c.print_done.result c.args.work c.args.makes c.args.conn c.over_database-done.result.1 c.over_database-done.result.0 c.close_connection.result old_output between new_output
-    c.over_database-done.ensures.over c.close_connection.ensures.laid c.print_done.ensures.printed
+pub returns-in_err-left : goal.returns-in_err-left
+returns-in_err-left g c =
+    match_err c.from_residual.result c.in_err-left.field-0.0 _ _ (search rules) (record {
+      last = c.over_database-done.result.1;
+      shut = c.close_connection-closed.ensures.shut;
+      kept = c.over_database-done.ensures.kept;
+      left = inl (match_is_err c.over_database-done.result.0 c.in_err-left.field-0.0 _ _ c.in_err-left.was c.over_database-done.ensures.result);
+    })
 
-pub returns-clause-ended : goal.returns-clause-ended
-returns-clause-ended g c =
-    let old_output : _ = g.W.Write.contents c.args.writer.now in
+pub returns : goal.returns
+returns g c =
+    let a : _ = g.W.Write.contents c.args.writer.now in
     let between : _ = g.W.Write.contents c.over_database-done.new.writer in
-    let new_output : _ = g.W.Write.contents c.print_done.new.writer in
-    work_ended c.print_done.result c.args.work c.args.makes c.args.conn c.over_database-done.result.1 c.over_database-done.result.0 old_output between new_output
-    c.over_database-done.ensures.over c.over_database-done.ensures.stopped c.over_database-done.ensures.kept c.close_connection.ensures.shut c.print_done.ensures.cut
-
-pub returns-clause-late : goal.returns-clause-late
-returns-clause-late g c = printed_late c.print_done.result c.over_database-done.result.0 c.close_connection.result c.print_done.ensures.first c.over_database-done.ensures.known c.close_connection.ensures.known
+    let b : _ = g.W.Write.contents c.print_done.new.writer in
+    let last : _ = c.over_database-done.result.1 in
+    let done = match_is_ok c.over_database-done.result.0 c.in_ok-left.left _ _ c.in_ok-left.was c.over_database-done.ensures.result in
+    match_so c.print_done.result _ _ _ _
+    (λ status printed. worked_over status c.args.work c.args.makes c.args.conn last c.in_ok-left.left c.close_connection-closed.result a between b done c.close_connection-closed.ensures.laid printed)
+    (λ fault begins. record { last = last; shut = c.close_connection-closed.ensures.shut; kept = c.over_database-done.ensures.kept; left = inr (record { left = c.in_ok-left.left; between = between; done = done; printed = begins }) })
+    c.print_done.ensures

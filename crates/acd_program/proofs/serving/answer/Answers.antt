@@ -3,11 +3,11 @@ use Rattle.acd_desk.specs.Standing.{standing}
 use Rattle.acd_program.specs.Serving.{ListenEnded}
 use Rattle.acd_program.proofs.serving.answer.Goals as goal
 
-pub returns-in-Some-clause-ended : goal.returns-in-Some-clause-ended
-returns-in-Some-clause-ended g c =
-    subst (λ (x : Option ℕ). ListenEnded x (g.E.Write.contents c.args.errors.now) (g.E.Write.contents c.answer_some.new.errors) (standing g.B.Book) c.answer_some.result c.args.desk.now c.answer_some.new.desk) (sym c.in-Some.is) c.answer_some.ensures.ended
+pub returns-in-Some : goal.returns-in-Some
+returns-in-Some g c =
+    subst (λ (x : Option ℕ). ListenEnded x (g.E.Write.contents c.args.errors.now) (g.E.Write.contents c.answer_some.new.errors) (standing g.B.Book) c.answer_some.result c.args.desk.now c.answer_some.new.desk) (sym c.in-Some.is) c.answer_some.ensures
 
-pub returns-in-None-clause-ended : goal.returns-in-None-clause-ended
-returns-in-None-clause-ended g c =
+pub returns-in-None : goal.returns-in-None
+returns-in-None g c =
     subst (λ (x : Option ℕ). ListenEnded x (g.E.Write.contents c.args.errors.now) (g.E.Write.contents c.answer_until_failed.new.errors) (standing g.B.Book) c.answer_until_failed.result c.args.desk.now c.answer_until_failed.new.desk)
-    (sym c.in-None.is) c.answer_until_failed.ensures.ended
+    (sym c.in-None.is) c.answer_until_failed.ensures

@@ -6,8 +6,8 @@ use Rattle.acd_http.specs.declared.listening.ServeFault.TheVariants.{NoMemory}
 use Rattle.acd_program.proofs.ServeDone.{begins_all}
 use Rattle.acd_program.proofs.serving.answer_some.Goals as goal
 
-pub returns-in-Ok-clause-ended : goal.returns-in-Ok-clause-ended
-returns-in-Ok-clause-ended g c =
+pub returns-in-Ok : goal.returns-in-Ok
+returns-in-Ok g c =
     let a : _ = g.E.Write.contents c.args.errors.now in
     let b : _ = g.E.Write.contents c.serve_on.new.errors in
     let some : c.serve_on.result ≢ Err NoMemory = λ e. cc (sym c.in-Ok.is ∙ e) in
@@ -17,8 +17,8 @@ returns-in-Ok-clause-ended g c =
       ended = refl;
     })
 
-pub returns-in-Err-Write-clause-ended : goal.returns-in-Err-Write-clause-ended
-returns-in-Err-Write-clause-ended g c =
+pub returns-in-Err-Write : goal.returns-in-Err-Write
+returns-in-Err-Write g c =
     let a : _ = g.E.Write.contents c.args.errors.now in
     let b : _ = g.E.Write.contents c.serve_on.new.errors in
     let some : c.serve_on.result ≢ Err NoMemory = λ e. cc (sym (c.in-Err-Write.is ∙ ap Err c.in-Err-Write.field-0-is) ∙ e) in
@@ -28,7 +28,7 @@ returns-in-Err-Write-clause-ended g c =
       ended = refl;
     })
 
-pub returns-in-Err-NoMemory-clause-ended : goal.returns-in-Err-NoMemory-clause-ended
-returns-in-Err-NoMemory-clause-ended g c =
+pub returns-in-Err-NoMemory : goal.returns-in-Err-NoMemory
+returns-in-Err-NoMemory g c =
     let none = c.serve_on.ensures.memory (c.in-Err-NoMemory.is ∙ ap Err c.in-Err-NoMemory.field-0-is) in
     inl (record { why = _; ended = refl; same = none.0; quiet = ap g.E.Write.contents none.1 })

@@ -1,7 +1,6 @@
 use Rattle.std.proofs.Common.{inl, refl}
 use Rattle.sqlite.specs.Held.{state}
-use Rattle.acd_program.proofs.ServeDone.{serve_in, serve_done_in}
-use Rattle.acd_program.proofs.Coming.{late_as, adopt_late}
+use Rattle.acd_program.proofs.ServeDone.{serve_in}
 use Rattle.acd_program.proofs.serving.serve.Goals as goal
 
 pub returns-in-Err-clause-ended : goal.returns-in-Err-clause-ended
@@ -9,14 +8,6 @@ returns-in-Err-clause-ended g c = inl (record { why = c.from.result; ended = ref
 
 pub returns-clause-ended : goal.returns-clause-ended
 returns-clause-ended g c =
-    serve_in c.args.connections (g.E.Write.contents c.args.errors.now) (g.E.Write.contents c.serve_book-book.new.errors) c.args.port (g.W.Write.contents c.args.writer.now) (g.W.Write.contents c.serve_book-book.new.writer)
-    g.S.Store (state g.S.Store c.args.conn) c.serve_book-book.result.0 c.into_connection.result c.args.makes c.in-Ok.book c.serve_book-book.result.1
-    (g.met.S.Store.settled c.args.conn.store) c.in-Ok.ensures.taken c.into_connection.ensures.same c.serve_book-book.ensures.ended
-
-pub returns-clause-answered : goal.returns-clause-answered
-returns-clause-answered g c =
-    serve_done_in c.args.connections (g.E.Write.contents c.args.errors.now) (g.E.Write.contents c.serve_book-book.new.errors) c.args.port (g.W.Write.contents c.args.writer.now) (g.W.Write.contents c.serve_book-book.new.writer)
-    g.S.Store (state g.S.Store c.args.conn) c.serve_book-book.result.0 c.into_connection.result c.args.makes (returns-clause-ended g c)
-
-pub returns-in-Err-clause-known : goal.returns-in-Err-clause-known
-returns-in-Err-clause-known g c = late_as _ _ c.from.ensures (adopt_late c.in-Err.fault)
+    serve_in c.args.connections (g.E.Write.contents c.args.errors.now) (g.E.Write.contents c.serve_book-done.new.errors) c.args.port (g.W.Write.contents c.args.writer.now) (g.W.Write.contents c.serve_book-done.new.writer)
+    g.S.Store (state g.S.Store c.args.conn) c.serve_book-done.result.0 c.into_connection.result c.args.makes c.in-Ok.book c.serve_book-done.result.1
+    (g.met.S.Store.settled c.args.conn.store) c.in-Ok.ensures.taken c.into_connection.ensures.same c.serve_book-done.ensures

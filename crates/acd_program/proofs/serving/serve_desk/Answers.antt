@@ -5,19 +5,19 @@ use Rattle.acd_program.specs.Serving.{listening_line}
 use Rattle.acd_program.proofs.ServeDone.{begins_none, serve_ended}
 use Rattle.acd_program.proofs.serving.serve_desk.Goals as goal
 
-pub returns-in_err-listener-clause-ended : goal.returns-in_err-listener-clause-ended
-returns-in_err-listener-clause-ended g c = inl (
+pub returns-in_err-listener : goal.returns-in_err-listener
+returns-in_err-listener g c = inl (
   record { why = c.in_err-listener.field-0.0; ended = search rules; same = refl; quiet = refl },
   begins_none (g.W.Write.contents c.args.writer.now) (listening_line c.args.port),
 )
 
-pub returns-in_err-say-clause-ended : goal.returns-in_err-say-clause-ended
-returns-in_err-say-clause-ended g c = inl (
+pub returns-in_err-say : goal.returns-in_err-say
+returns-in_err-say g c = inl (
   record { why = c.in_err-say.field-0.0; ended = search rules; same = refl; quiet = refl },
-  begins_so (g.W.Write.contents c.args.writer.now) (g.W.Write.contents c.say.new.writer) (listening_line c.args.port) c.in_err-say.ensures.said,
+  begins_so (g.W.Write.contents c.args.writer.now) (g.W.Write.contents c.say.new.writer) (listening_line c.args.port) c.in_err-say.ensures,
 )
 
-pub returns-clause-ended : goal.returns-clause-ended
-returns-clause-ended g c =
+pub returns : goal.returns
+returns g c =
     serve_ended c.args.connections (g.E.Write.contents c.args.errors.now) (g.E.Write.contents c.answer.new.errors) c.args.port (g.W.Write.contents c.args.writer.now) (g.W.Write.contents c.say.new.writer)
-    (standing g.B.Book) c.answer.result c.args.desk.now c.answer.new.desk c.in_ok-say.ensures.said c.answer.ensures.ended
+    (standing g.B.Book) c.answer.result c.args.desk.now c.answer.new.desk c.in_ok-say.ensures c.answer.ensures

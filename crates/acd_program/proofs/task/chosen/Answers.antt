@@ -1,13 +1,23 @@
-use Rattle.std.proofs.Common.{subst, map}
-use Rattle.std.specs.Prelude.{IfSome}
+use Rattle.std.proofs.Common.{subst, map, inl, inr}
+use Rattle.clap.specs.Words.{kind_of, subcommand_rows_of}
 use Rattle.acd_program.specs.CommandLine.{IsTaskIn}
-use Rattle.acd_program.proofs.CommandLines.{matches_are, never_taken}
+use Rattle.acd_program.proofs.CommandLines.{matches_are, none_named, refused_by}
+use Rattle.acd_program.proofs.Ends.{err_follows, err_made}
 use Rattle.acd_program.proofs.task.chosen.Goals as goal
 
-pub returns-clause-task : goal.returns-clause-task
-returns-clause-task g c is =
-    subst (λ o. IfSome c.task_in.result (IsTaskIn o)) (matches_are _ (map g.S.AsStr.text c.args.words.now) c.in_ok-matches.matches is c.in_ok-matches.ensures.ok.2) c.task_in.ensures
+pub returns-in-Some-clause-task : goal.returns-in-Some-clause-task
+returns-in-Some-clause-task g c is =
+    subst (λ o. IsTaskIn o c.in-Some.task) (matches_are _ (map g.S.AsStr.text c.args.words.now) c.in_ok-matches.matches is c.in_ok-matches.ensures.ok.2) c.in-Some.ensures
 
-pub returns-in_err-matches-clause-untaken : goal.returns-in_err-matches-clause-untaken
-returns-in_err-matches-clause-untaken g c is =
-    never_taken c.from_residual.result c.in_err-matches.field-0.0 _ (map g.S.AsStr.text c.args.words.now) c.from_residual.ensures.1 c.in_err-matches.ensures.passes is
+pub returns-clause-refused : goal.returns-clause-refused
+returns-clause-refused g c is =
+    inr (inr (
+      c.in_ok-refused_span-in-None.ensures,
+      none_named (subcommand_rows_of c.in_ok-matches.matches) (map g.S.AsStr.text c.args.words.now)
+          (matches_are _ (map g.S.AsStr.text c.args.words.now) c.in_ok-matches.matches is c.in_ok-matches.ensures.ok.2) c.in-None.ensures,
+    ))
+
+pub returns-in_err-matches-clause-refused : goal.returns-in_err-matches-clause-refused
+returns-in_err-matches-clause-refused g c is =
+    err_made c.from_residual.result c.in_err-matches.field-0.0 _ c.from_residual.ensures.1
+    (refused_by (kind_of c.in_err-matches.field-0.0) _ (map g.S.AsStr.text c.args.words.now) is c.in_err-matches.ensures.passes)

@@ -14,5 +14,5 @@ returns c =
     let port = rule_required (number_rule (codes "port") 65535) c.number_option-port.result c.required-2.result c.number_option-port.ensures c.required-2.ensures in
     let one = app_more _ _ c.override_usage.result c.in_ok-arg.field-0 c.required.result used file c.in_ok-arg.ensures in
     let two = app_more _ _ c.in_ok-arg.field-0 c.in_ok-arg-2.field-0 c.required-2.result one port c.in_ok-arg-2.ensures in
-    let three = app_more _ _ c.in_ok-arg-2.field-0 c.in_ok-arg-3.field-0 c.in_ok-connections_option.field-0 two c.in_ok-connections_option.ensures c.in_ok-arg-3.ensures in
+    let three = app_more _ _ c.in_ok-arg-2.field-0 c.in_ok-arg-3.field-0 c.number_option-connections.result two c.number_option-connections.ensures c.in_ok-arg-3.ensures in
     IfOk-weaker c.arg-4.result _ _ (λ new adds. app_more _ _ c.in_ok-arg-3.field-0 new c.flag.result three c.flag.ensures adds) c.arg-4.ensures
