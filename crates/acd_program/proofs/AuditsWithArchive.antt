@@ -48,7 +48,7 @@ use Rattle.acd_program.specs.Tasks.{AuditedWith, IsReadEnding}
 use Rattle.acd_program.specs.Work.{IsPrinted, text_left}
 use Rattle.acd_program.proofs.Asking.{asked_by, asked_of, asked_so}
 use Rattle.acd_program.proofs.Called.{called, leaves_books, asked_called}
-use Rattle.acd_program.proofs.InFiles.{over_so}
+use Rattle.acd_program.proofs.InFiles.{over_fact, over_so}
 use Rattle.acd_program.proofs.Over.{over_connection}
 use Rattle.acd_program.proofs.Tasks.{ok_so}
 use Rattle.acd_terms.proofs.Results.{ok_err}
@@ -99,7 +99,7 @@ asked_over found d e s t mid cache failures taken finds desk read =
       desk = desk;
       archive = over_connection (λ (old now : BookState). ReadsIfOpen old now (Ok found) Anything × IsFoundWithArchive old now d e (Ok found)) (λ (old now : BookState). WasRead old now × FindsWithArchive old now d e found) false
           s t mid cache failures (λ old of h. both_of old mid new d e found h.0 h.1 of)
-          (λ old h. (asked_called (LeavesBooks t) new (leaves_books t cache failures) old (tt {0}) Anything h.0, h.1)) taken (read, finds);
+          (λ old h. (asked_called (LeavesBooks t) new (leaves_books t cache failures) old (tt {0}) Anything h.0, h.1)) (λ h. h.0.step.clean) taken (read, finds);
     }
 
 -- and closed
@@ -169,6 +169,10 @@ module _ {D : Type 0} (disk : Ghosts D) (IsFresh : Bool → D → Type 0) where
       in_archive_so (λ (a b : BookState). WereAsked IsFindingIn a b old new found) (λ (a b : BookState). WereAsked IsFindingIn a b old (called new Canonical) found)
       (λ a b were. record { archive = were.archive; current = asked_called Canonical new so old found Anything were.current; answer = were.answer }) h
 
+  -- a disk that is clean then was so before
+  asked_clean : (old new : BookState) (found : Finding) → BookAskedWithArchive disk IsFresh IsFindingInOrder old new found → new.is_clean → old.is_clean
+  asked_clean old new found h = over_fact (λ (a b : BookState). WereAsked IsFindingInOrder a b old new found) (new.is_clean → old.is_clean) false (file_state h.0) (file_state h.2.last) (λ a b were. were.current.step.clean) h.2.done
+
   audited_over : (counts : Bool) (ending : Ending) (s t : State) (mid : BookState) (cache : Cache) (failures : ℕ) (done : Done) → IsTaken false s mid
       → AuditsWithArchive disk IsFresh counts ending mid (followed cache (book_state t failures)) done → AuditedWithArchive disk IsFresh counts ending s t done
   audited_over counts ending s t mid cache failures left.Nothing taken h = h
@@ -177,7 +181,7 @@ module _ {D : Type 0} (disk : Ghosts D) (IsFresh : Bool → D → Type 0) where
     h.0,
     over_connection (λ (old new : BookState). BookAskedWithArchive disk IsFresh IsFindingInOrder old new found) (λ (old new : BookState). BookAskedWithArchive disk IsFresh IsFindingIn old new found) false
         s t mid cache failures (λ old of asked. book_asked_since old mid (followed cache (book_state t failures)) found of asked)
-        (λ old asked. book_asked_left (LeavesBooks t) (followed cache (book_state t failures)) (leaves_books t cache failures) old found asked) taken h.1,
+        (λ old asked. book_asked_left (LeavesBooks t) (followed cache (book_state t failures)) (leaves_books t cache failures) old found asked) (asked_clean mid (followed cache (book_state t failures)) found) taken h.1,
     h.2,
   )
 

@@ -61,6 +61,12 @@ begun_left Sound new so (Import requests) old old_output new_output h =
 begun_left Sound new so (Print printout) old old_output new_output h = h
 begun_left Sound new so (Audit counts ending) old old_output new_output h = h
 
+-- a disk that is clean then was so before
+begun_clean : (work : Work) (old new : BookState) (old_output new_output : Option (List ℕ)) → IsBegun work old_output new_output old new → new.is_clean → old.is_clean
+begun_clean (Import requests) old new old_output new_output h = h.answered.2.step.clean
+begun_clean (Print printout) old new old_output new_output h = absurd h
+begun_clean (Audit counts ending) old new old_output new_output h = absurd h
+
 -- ---- over a connection
 
 -- the work over the book that was opened in the database
@@ -71,7 +77,8 @@ stopped_in work makes s t mid cache failures old_output new_output settles taken
 stopped_in work makes s t mid cache failures old_output new_output settles taken (inr begun) =
     let new : BookState = followed cache (book_state t failures) in
     inr (over_connection (IsBegun work old_output new_output) (IsBegun work old_output new_output) makes s t mid cache failures (λ old of is. begun_of work old mid new old_output new_output of is)
-    (λ old is. begun_left (LeavesBooks t) new (leaves_books t cache failures) work old old_output new_output is) taken begun)
+    (λ old is. begun_left (LeavesBooks t) new (leaves_books t cache failures) work old old_output new_output is)
+    (begun_clean work mid new old_output new_output) taken begun)
 
 module _ {D : Type 0} {g : Ghosts D} where
   -- where it was known whether the file was new

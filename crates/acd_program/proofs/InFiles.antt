@@ -11,14 +11,14 @@ pub over_so : (P Q : BookState → BookState → Type 0) (makes : Bool) (s t : S
 over_so P Q makes s t follows h = (
   h.0,
   elim h.1 [
-    | inl found ↦ inl (follows _ _ found)
+    | inl found ↦ inl (found.0, follows _ _ found.1)
     | inr made ↦ inr (made.0, made.1, follows _ _ made.2)
   ],
 )
 
 -- a statement that holds whatever the book is
 pub over_fact : (P : BookState → BookState → Type 0) (F : Type 0) (makes : Bool) (s t : State) → ((old new : BookState) → P old new → F) → OverConnection P makes s t → F
-over_fact P F makes s t follows h = elim h.1 [ inl found ↦ follows _ _ found | inr made ↦ follows _ _ made.2 ]
+over_fact P F makes s t follows h = elim h.1 [ inl found ↦ follows _ _ found.1 | inr made ↦ follows _ _ made.2 ]
 
 -- a new book is made only where one may be
 pub over_makes : (P : BookState → BookState → Type 0) (is_new makes : Bool) (s t : State) → (is_new ≡ true → makes ≡ true) → OverConnection P is_new s t → OverConnection P makes s t

@@ -78,7 +78,7 @@ module _ {S : Type 0} (store : Ghosts S) where
   seen_lines makes ends io s r conn (inl none) = inl none
   seen_lines makes ends io s r conn (inr some) =
       inr (seen_in store (LinesEnded (standing (in_database store)) (in_turn true (standing (in_database store))) ends io r) (λ (stands : Seen (InDatabase S) → Standing). LinesEnded stands (in_turn true stands) ends io r)
-      (λ began d e k h. lines_ended_seen (standing (in_database store)) (seen (left_of store began)) (view store) (IsKept store began) (views store began) d e k ends io r h) makes s conn some)
+      (λ Clean began d e k h. lines_ended_seen (standing (in_database store)) (seen (left_of store began)) (view store) (IsKept store Clean began) (views store Clean began) d e k ends io r h) makes s conn some)
 
   -- without a fault the whole input was answered
   pub whole_in : (makes ends : Bool) (io : Streams) (s : State) (r : Result (Unit {0}) WorkFault) (conn : Held S) → DatabaseEnded store makes true ends io s r conn → OnOk r (DatabaseAnswered store makes true ends io s conn)
@@ -110,6 +110,12 @@ ended_left Sound new so ends io (Err fault) old (inr h) = inr (record {
   asked = h.asked;
   session = arrivals_so (FirstLines io.old_input) (IsFailedSession old new) (IsFailedSession old (called new Sound)) (Appends io.old_output io.new_output) (λ l ts s. (session_called Sound new so IsFault old l ts s.0, s.1)) h.session;
 })
+
+-- a disk that is clean then was so before
+ended_clean : (ends : Bool) (io : Streams) (r : Result (Unit {0}) WorkFault) (old new : BookState) → SessionEnded ends io r old new → new.is_clean → old.is_clean
+ended_clean ends io (Ok u) old new h = h.answered.2.0.step.clean
+ended_clean ends io (Err fault) old new (inl h) = h.session.answered.2.step.clean
+ended_clean ends io (Err fault) old new (inr h) = h.session.answered.2.0.step.clean
 
 both_asked : (a b : Bool) → (a && b) ≡ true → (a ≡ true) × (b ≡ true)
 both_asked true true h = (refl, refl)
@@ -156,7 +162,7 @@ lines_are_sessions {S} store remaining contents runs makes ends reader writer r 
     let new : BookState = book_of store h.last in
     subst (λ (x : Held S). OverConnection (SessionEnded ends io r) makes s (state store x)) (sym h.back)
     (over_connection (SessionEnded ends io r) (SessionEnded ends io r) makes s (state store h.last.conn) (book_of store h.taken) h.last.cache h.last.failures (λ old of ended. ended_since ends io r old (book_of store h.taken) new of ended)
-    (λ old ended. ended_left (LeavesBooks (state store h.last.conn)) new (leaves_books (state store h.last.conn) h.last.cache h.last.failures) ends io r old ended) h.of_old
+    (λ old ended. ended_left (LeavesBooks (state store h.last.conn)) new (leaves_books (state store h.last.conn) h.last.cache h.last.failures) ends io r old ended) (ended_clean ends io r (book_of store h.taken) new) h.of_old
     (session_of_desk (in_database store) runs ends io r (book_of store h.taken) h.last h.over))
 
 -- whole, or its beginning

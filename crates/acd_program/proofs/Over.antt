@@ -84,11 +84,11 @@ failed_lines_since P W old mid new of h = arrivals_so P (IsFailedSession mid new
 -- whatever carries over to what a book came of is said of the database
 pub over_connection : (P Q : BookState → BookState → Type 0) (makes : Bool) (s t : State) (mid : BookState) (cache : Cache) (failures : ℕ)
     → ((old : BookState) → IsOf old mid → P mid (followed cache (book_state t failures)) → Q old (followed cache (book_state t failures)))
-    → ((old : BookState) → Q old (followed cache (book_state t failures)) → Q old (left t failures)) → IsTaken makes s mid → P mid (followed cache (book_state t failures)) → OverConnection Q makes s t
-over_connection P Q makes s t mid cache failures carries leaves taken h = (
+    → ((old : BookState) → Q old (followed cache (book_state t failures)) → Q old (left t failures)) → (P mid (followed cache (book_state t failures)) → (followed cache (book_state t failures)).is_clean → mid.is_clean) → IsTaken makes s mid → P mid (followed cache (book_state t failures)) → OverConnection Q makes s t
+over_connection P Q makes s t mid cache failures carries leaves clean taken h = (
   failures,
   elim taken [
-    | inl found ↦ inl (leaves _ (carries _ found.of_held h))
+    | inl found ↦ inl ((λ here. found.tables (clean h here)), leaves _ (carries _ found.of_held h))
     | inr made ↦ inr (made.0, made.1, leaves _ (carries _ made.2 h))
   ],
 )

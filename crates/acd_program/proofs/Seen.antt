@@ -58,6 +58,10 @@ module _ (Sound : Type 0) where
   pub still_sound : {F : Type 0} (a b : BookState) → SoundBy Sound a → BookStep F a b → SoundBy Sound b
   still_sound a b k s = λ clean sound. s.sound clean (k (s.clean clean) sound)
 
+  -- and one that is clean came of one that was
+  pub still_clean : {F : Type 0} (Clean : Type 0) (a b : BookState) → SoundBy Sound a × (a.is_clean → Clean) → BookStep F a b → SoundBy Sound b × (b.is_clean → Clean)
+  still_clean Clean a b k s = (still_sound a b k.0 s, λ clean. k.1 (s.clean clean))
+
   ends_up : (s : Standing) (ts : List Taken) → EndsUp (recast s) ts → EndsUp s ts
   ends_up s [] h = h
   ends_up s (t ∷ []) h = h
@@ -304,39 +308,40 @@ module _ {S : Type 0} (store : Ghosts S) where
   abbrev pub view : OfBook → Seen (InDatabase S)
   view d = record { book = record { conn = d.book.conn; failures = d.book.failures }; switch = switch_of d.working; failed = is_failed d.working }
 
-  abbrev pub IsKept : BookState → OfBook → Type 0
-  IsKept began d = SoundBy began.is_sound (stands_in d).book
+  abbrev pub IsKept : Type 0 → BookState → OfBook → Type 0
+  IsKept Clean began d = SoundBy began.is_sound (stands_in d).book × ((stands_in d).book.is_clean → Clean)
 
-  pub views : (began : BookState) → Views stands_in (seen (left_of store began)) view (IsKept began)
-  views began = record {
+  pub views : (Clean : Type 0) (began : BookState) → Views stands_in (seen (left_of store began)) view (IsKept Clean began)
+  views Clean began = record {
     failed = λ d. refl;
-    took = λ d e a x k h. (still_sound began.is_sound (stands_in d).book (stands_in e).book k h.step, took_called began.is_sound (stands_in d) (stands_in e) k a x h);
-    read = λ d e r P k h. (still_sound began.is_sound (stands_in d).book (stands_in e).book k h.step, read_called began.is_sound (stands_in d) (stands_in e) k r P h);
-    ran = λ d e l ts k h. ran_called began.is_sound (stands_in d) (stands_in e) k l ts h;
+    took = λ d e a x k h. (still_clean began.is_sound Clean (stands_in d).book (stands_in e).book k h.step, took_called began.is_sound (stands_in d) (stands_in e) k.0 a x h);
+    read = λ d e r P k h. (still_clean began.is_sound Clean (stands_in d).book (stands_in e).book k h.step, read_called began.is_sound (stands_in d) (stands_in e) k.0 r P h);
+    ran = λ d e l ts k h. ran_called began.is_sound (stands_in d) (stands_in e) k.0 l ts h;
   }
 
   module _ (Did : OfBook → OfBook → Type 0) (DidSeen : (Seen (InDatabase S) → Standing) → Seen (InDatabase S) → Seen (InDatabase S) → Type 0)
-      (see : (began : BookState) (d e : OfBook) → IsKept began d → Did d e → IsKept began e × DidSeen (seen (left_of store began)) (view d) (view e)) where
+      (see : (Clean : Type 0) (began : BookState) (d e : OfBook) → IsKept Clean began d → Did d e → IsKept Clean began e × DidSeen (seen (left_of store began)) (view d) (view e)) where
     over_seen : (old : BookState) (taken last : BookView S) (d e : OfBook) (conn : Held S) → IsOf old (book_of store taken) → Opened (book_of store taken) (stands_in d) → Did d e → last ≡ e.book → conn ≡ last.conn
-        → SeenOver store DidSeen old conn
+        → (HasCleanDisk (state store conn) → (book_of store taken).is_clean) × SeenOver store DidSeen old conn
     over_seen old taken last d e conn of opened did final back =
-        let k : IsKept old d = λ clean sound. opened.step.sound clean (of.step.sound (opened.step.clean clean) sound) in
-        let done = see old d e k did in
+        let Clean : Type 0 = (book_of store taken).is_clean in
+        let k : IsKept Clean old d = ((λ clean sound. opened.step.sound clean (of.step.sound (opened.step.clean clean) sound)), λ clean. opened.step.clean clean) in
+        let done = see Clean old d e k did in
         let same : conn ≡ e.book.conn = back ∙ ap (λ (b : BookView S). b.conn) final in
-        record {
+        (subst (λ (x : Held S). HasCleanDisk (state store x) → Clean) (sym same) done.0.1, record {
           first = view d;
           final = view e;
           opened = opened_of old (book_of store taken) (stands_in d) of opened;
           did = done.1;
           opens = subst (λ (x : Held S). HasCleanDisk (state store x) → old.is_sound → LeavesBooks (state store x)) (sym same)
-              (λ clean sound. leaves_books (state store e.book.conn) e.book.cache e.book.failures (done.0 clean sound));
+              (λ clean sound. leaves_books (state store e.book.conn) e.book.cache e.book.failures (done.0.0 clean sound));
           back = same;
-        }
+        })
 
     pub seen_in : (makes : Bool) (s : State) (conn : Held S) → OverDatabase store makes Did s conn → SeenIn store DidSeen makes s conn
     seen_in makes s conn h = elim h.of_old [
-      | inl found ↦ inl (over_seen (held s) h.taken h.last h.over.first h.over.final conn found.of_held h.over.opened h.over.did h.over.back h.back)
-      | inr made ↦ inr (made.0, made.1, over_seen (unmade s) h.taken h.last h.over.first h.over.final conn made.2 h.over.opened h.over.did h.over.back h.back)
+      | inl found ↦ let seen = over_seen (held s) h.taken h.last h.over.first h.over.final conn found.of_held h.over.opened h.over.did h.over.back h.back in inl ((λ clean. found.tables (seen.0 clean)), seen.1)
+      | inr made ↦ inr (made.0, made.1, (over_seen (unmade s) h.taken h.last h.over.first h.over.final conn made.2 h.over.opened h.over.did h.over.back h.back).1)
     ]
 
   -- it was known that a new one may be made
@@ -350,4 +355,4 @@ module _ {S : Type 0} (store : Ghosts S) where
 
     -- whatever follows from the work
     pub seen_so : (makes : Bool) (s : State) (conn : Held S) → SeenIn store Did makes s conn → SeenIn store Done makes s conn
-    seen_so makes s conn h = elim h [ inl found ↦ inl (over_so (held s) conn found) | inr made ↦ inr (made.0, made.1, over_so (unmade s) conn made.2) ]
+    seen_so makes s conn h = elim h [ inl found ↦ inl (found.0, over_so (held s) conn found.1) | inr made ↦ inr (made.0, made.1, over_so (unmade s) conn made.2) ]

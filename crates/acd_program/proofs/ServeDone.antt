@@ -83,7 +83,7 @@ module _ (span : Option ℕ) (a b : Option (List ℕ)) (port : ℕ) (old_output 
     })
     serve_in makes taken last settles of back (inr some) =
         inr (seen_in store (ServeEnded span a b port old_output new_output (standing (in_database store)) r) (λ (stands : Seen (InDatabase S) → Standing). ServeEnded span a b port old_output new_output stands r)
-        (λ began d e k h. serve_seen (standing (in_database store)) (seen (left_of store began)) (view store) (IsKept store began) (views store began) d e k span a b port old_output new_output r h) makes s conn (record { taken = taken; last = last; of_old = of; over = some; back = back }))
+        (λ Clean began d e k h. serve_seen (standing (in_database store)) (seen (left_of store began)) (view store) (IsKept store Clean began) (views store Clean began) d e k span a b port old_output new_output r h) makes s conn (record { taken = taken; last = last; of_old = of; over = some; back = back }))
 
     -- where it was known whether a new book may be made
     pub serve_made : (is_new makes : Bool) → (is_new ≡ true → makes ≡ true) → ServeIn span a b port old_output new_output store is_new s r conn → ServeIn span a b port old_output new_output store makes s r conn

@@ -66,6 +66,14 @@ work_left Sound new so (Audit counts ending) old old_output new_output left.Noth
 work_left Sound new so (Audit counts ending) old old_output new_output (left.Text text) h = h
 work_left Sound new so (Audit counts ending) old old_output new_output (left.Audited found end) h = ((h.0.0, asked_called Sound new so old found IsFindingOf h.0.1, h.0.2), h.1)
 
+-- a disk that is clean then was so before
+done_clean : (work : Work) (old new : BookState) (old_output new_output : Option (List ℕ)) (done : Done) → WorkDone IsFindingIfOrdered work old old_output new_output done new → new.is_clean → old.is_clean
+done_clean (Import requests) old new old_output new_output done h = h.0.answered.2.step.clean
+done_clean (Print printout) old new old_output new_output done h = h.0.asked.step.clean
+done_clean (Audit counts ending) old new old_output new_output left.Nothing h = absurd h.0
+done_clean (Audit counts ending) old new old_output new_output (left.Text text) h = absurd h.0
+done_clean (Audit counts ending) old new old_output new_output (left.Audited found end) h = h.0.1.step.clean
+
 -- ---- over a book
 
 -- and all events, which are in order
@@ -81,4 +89,4 @@ pub database_done : (work : Work) (makes : Bool) (s t : State) (mid : BookState)
 database_done work makes s t mid cache failures old_output new_output d taken h =
     over_connection (λ (old new : BookState). WorkDone IsFindingIfOrdered work old old_output new_output d new) (λ (old new : BookState). WorkDone IsFindingOf work old old_output new_output d new) makes s t mid cache failures
     (λ old of done. work_of work old mid (followed cache (book_state t failures)) old_output new_output d of done)
-    (λ old done. work_left (LeavesBooks t) (followed cache (book_state t failures)) (leaves_books t cache failures) work old old_output new_output d done) taken h
+    (λ old done. work_left (LeavesBooks t) (followed cache (book_state t failures)) (leaves_books t cache failures) work old old_output new_output d done) (done_clean work mid (followed cache (book_state t failures)) old_output new_output d) taken h

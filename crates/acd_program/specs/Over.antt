@@ -94,9 +94,13 @@ pub data IsKept (makes : Bool) (old : State) (db : Trees) : Type 0 where
 abbrev pub Unserved : Bool → State → State → Type 0
 Unserved makes old new = HasCleanDisk new → (db : Trees) → new.may_leave db → IsKept makes old db
 
--- this holds of the book in the database or, where it had no tables and one was to be made, of the new one
+-- the tables were a book's; only a disk that returned other than was written may have shown them so
+abbrev pub HadTables : State → State → Type 0
+HadTables old new = HasCleanDisk new → HasTables old
+
+-- this holds of the book in the database, which is no other program's, or, where it had no tables and one was to be made, of the new one
 abbrev pub OverConnection : (BookState → BookState → Type 0) → Bool → State → State → Type 0
-OverConnection P makes old new = (failures : ℕ) × (P (held old) (left new failures) ⊎ ((makes ≡ true) × (old.now.schema ≡ no_schema) × P (unmade old) (left new failures)))
+OverConnection P makes old new = (failures : ℕ) × ((HadTables old new × P (held old) (left new failures)) ⊎ ((makes ≡ true) × (old.now.schema ≡ no_schema) × P (unmade old) (left new failures)))
 
 -- this holds of the book of a database that was handed in, as this connection leaves it
 abbrev pub OverCall : {S : Type 0} → Database S → (BookState → BookState → Type 0) → Held S → Type 0

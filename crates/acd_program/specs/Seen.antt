@@ -10,7 +10,7 @@ use Rattle.acd_sql_columns.specs.Schema.{no_schema}
 use Rattle.acd_desk.specs.Opening.{Opened}
 use Rattle.acd_desk.specs.Standing.{Standing}
 use Rattle.acd_program.specs.Answered.{IsNewDesk}
-use Rattle.acd_program.specs.Over.{held, unmade, left, Database, LeavesBooks}
+use Rattle.acd_program.specs.Over.{held, unmade, left, Database, HadTables, LeavesBooks}
 
 pub record Seen (B : Type 0) : Type 0 where
   pub book : B
@@ -54,9 +54,9 @@ module _ {S : Type 0} (store : Ghosts S) where
       pub opens : HasCleanDisk (state store new) → old.is_sound → LeavesBooks (state store new)
       pub back : new ≡ final.book.conn
 
-    -- over the book in the database or, where it had no tables and one was to be made, over the new one
+    -- over the book in the database, which is no other program's, or, where it had no tables and one was to be made, over the new one
     abbrev pub SeenIn : Bool → State → Held S → Type 0
-    SeenIn makes old new = SeenOver (held old) new ⊎ ((makes ≡ true) × (old.now.schema ≡ no_schema) × SeenOver (unmade old) new)
+    SeenIn makes old new = (HadTables old (state store new) × SeenOver (held old) new) ⊎ ((makes ≡ true) × (old.now.schema ≡ no_schema) × SeenOver (unmade old) new)
 
 -- so it was over the book of a database that was handed in, as this connection leaves it
 abbrev pub SeenInCall : {S : Type 0} → Database S → ((Seen (InDatabase S) → Standing) → Seen (InDatabase S) → Seen (InDatabase S) → Type 0) → Held S → Type 0

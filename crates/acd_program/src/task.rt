@@ -15,7 +15,7 @@ use std::alloc::{AllocError, Global};
 use std::convert::AsStr;
 
 /// The text that `acd --version` prints after the program's name: the version, and the toolchain that proved it.
-const VERSION: &str = "1.14 (rattle-kit-13f)";
+const VERSION: &str = "1.15 (rattle-kit-13b)";
 
 const FILE: &str = "file";
 
