@@ -20,3 +20,4 @@ pub mod Exits
 pub mod TasksEnded
 pub mod Archives
 pub mod AuditsWithArchive
+mod Reopening

@@ -22,3 +22,4 @@ pub mod CommandLine
 pub mod Ended
 pub mod TasksEnded
 pub mod FileTasks
+pub mod Reopening
