@@ -21,3 +21,5 @@ pub mod TasksEnded
 pub mod Archives
 pub mod AuditsWithArchive
 mod Reopening
+pub mod LineOf
+pub mod Occurs

@@ -1,5 +1,5 @@
 -- Files that hold a book open as that book, and so does whatever a crash leaves behind a connection that leaves books.
-use Rattle.std.proofs.Common.{◌≡◌, ◌⊎◌, ℕ, ◌+◌, ◌<◌, pos, Bool, true, false, List, [], ◌∷◌, ◌++◌, length, take, inl, inr, Some, Result, Ok, Err, IsTrue, refl, sym, ap, ap₂, subst, subst₂, ◌∙◌, if◌then◌else◌, arith}
+use Rattle.std.proofs.Common.{◌≡◌, ◌⊎◌, ℕ, ◌+◌, ◌<◌, pos, Bool, true, false, List, [], ◌∷◌, ◌++◌, length, take, inl, inr, Some, Ok, Err, refl, sym, ap, ap₂, subst, subst₂, ◌∙◌, if◌then◌else◌, arith}
 use Rattle.std.proofs.lemmas.Bool.{and_from}
 use Rattle.std.proofs.lemmas.List.{take_all}
 use Rattle.std.proofs.Math.Logic.{∥∥₁_map, ∥∥₁_elim}
@@ -14,7 +14,7 @@ use Rattle.sqlite_disk.specs.Modelled.{start_of}
 use Rattle.sqlite_std_file.specs.declared.host.Host.{Host}
 use Rattle.sqlite_std_file.specs.File.{IsFresh}
 use Rattle.sqlite_wal.specs.Recovery.{Image}
-use Rattle.sqlite_wal.specs.Reads.{AreClean, IsClean}
+use Rattle.sqlite_wal.specs.Reads.{AreClean}
 use Rattle.sqlite_wal.specs.Files.{outcomes}
 use Rattle.sqlite_wal.proofs.CleanLemmas.{halves}
 use Rattle.sqlite_trees.specs.Tree.{Trees}
@@ -63,8 +63,6 @@ use Rattle.sqlite.specs.Opening.{HoldsIn}
 use Rattle.acd_book.specs.Content.{Content}
 use Rattle.acd_desk.specs.Carried.{Archive, together}
 use Rattle.acd_desk.specs.Stands.{IsSound}
-use Rattle.acd_desk.specs.declared.desk.Desk.{Desk}
-use Rattle.acd_desk.specs.declared.open_fault.OpenFault.{OpenFault}
 use Rattle.acd_desk.specs.Opening.{Opens}
 use Rattle.acd_sql_columns.specs.AnyRows.{has_meta}
 use Rattle.acd_sql_columns.specs.Schema.{book_schema, no_schema}
@@ -72,7 +70,7 @@ use Rattle.acd_sql_columns.specs.InTables.{content_of}
 use Rattle.acd_sql_columns.specs.Transactions.{IsBook}
 use Rattle.acd_sql_statements.specs.InRange.{IsInRange}
 use Rattle.acd_sqlbook.specs.Caching.{IsBlank}
-use Rattle.acd_sqlbook.specs.StoreLaws.{Adopts, IsAdoptAnswer, IsOverBook}
+use Rattle.acd_sqlbook.specs.StoreLaws.{IsAdoptAnswer, IsOverBook}
 use Rattle.acd_sqlbook.specs.View.{BookView, book_of}
 use Rattle.acd_sqlbook.proofs.Followed.{blank_of}
 use Rattle.acd_sqlbook.proofs.Reopened.{over_book, books_are_adopted}
@@ -80,7 +78,7 @@ use Rattle.acd_program.specs.Desks.{in_database}
 use Rattle.acd_program.specs.Files.{new_page, AreReadOnly, IsMadeIn, IsRefusedIn, IsReadAndCreated, IsOpenedIn}
 use Rattle.acd_program.specs.Over.{held, LeavesBooks}
 use Rattle.acd_program.proofs.Begun.{store_clean, unopened_clean}
-use Rattle.acd_program.specs.Reopening.{DeskResult, IsDeskOf, IsAskedFor, Reopened, FailsByDisk, IsOpenedOver, IsTakenFrom, FilesReopen, IsNumbered, AreSynced, SyncedReopen, ReopensClosed}
+use Rattle.acd_program.specs.Reopening.{DeskResult, IsDeskOf, Reopened, FailsByDisk, IsOpenedOver, IsTakenFrom, FilesReopen, IsNumbered, AreSynced, SyncedReopen, ReopensClosed}
 
 -- ---- a desk over a book
 

@@ -327,16 +327,18 @@ module _ {S : Type 0} (store : Ghosts S) where
         let Clean : Type 0 = (book_of store taken).is_clean in
         let k : IsKept Clean old d = ((λ clean sound. opened.step.sound clean (of.step.sound (opened.step.clean clean) sound)), λ clean. opened.step.clean clean) in
         let done = see Clean old d e k did in
-        let same : conn ≡ e.book.conn = back ∙ ap (λ (b : BookView S). b.conn) final in
-        (subst (λ (x : Held S). HasCleanDisk (state store x) → Clean) (sym same) done.0.1, record {
-          first = view d;
-          final = view e;
-          opened = opened_of old (book_of store taken) (stands_in d) of opened;
-          did = done.1;
-          opens = subst (λ (x : Held S). HasCleanDisk (state store x) → old.is_sound → LeavesBooks (state store x)) (sym same)
-              (λ clean sound. leaves_books (state store e.book.conn) e.book.cache e.book.failures (done.0.0 clean sound));
-          back = same;
-        })
+        let same : conn ≡ e.book.conn = back ∙ ap (λ (b : BookView S). b.conn) final in (
+          subst (λ (x : Held S). HasCleanDisk (state store x) → Clean) (sym same) done.0.1,
+          record {
+            first = view d;
+            final = view e;
+            opened = opened_of old (book_of store taken) (stands_in d) of opened;
+            did = done.1;
+            opens = subst (λ (x : Held S). HasCleanDisk (state store x) → old.is_sound → LeavesBooks (state store x)) (sym same)
+                (λ clean sound. leaves_books (state store e.book.conn) e.book.cache e.book.failures (done.0.0 clean sound));
+            back = same;
+          },
+        )
 
     pub seen_in : (makes : Bool) (s : State) (conn : Held S) → OverDatabase store makes Did s conn → SeenIn store DidSeen makes s conn
     seen_in makes s conn h = elim h.of_old [

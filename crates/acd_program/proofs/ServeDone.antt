@@ -102,6 +102,6 @@ module _ (span : Option ℕ) (a b : Option (List ℕ)) (port : ℕ) (old_output 
 
 pub file_prints : {D : Type 0} {g : disk.Ghosts D} (IsFresh : Bool → D → Type 0) (span : Option ℕ) (a b : Option (List ℕ)) → ServeDoneIn g IsFresh span a b → PrintsConnectionFaults a b
 file_prints IsFresh span a b h = elim h.answered [
-  | inl found ↦ printed_for _ span found.first found.final a b found.did.answered
+  | inl found ↦ printed_for _ span found.1.first found.1.final a b found.1.did.answered
   | inr made ↦ printed_for _ span made.2.first made.2.final a b made.2.did.answered
 ]

@@ -1,8 +1,14 @@
 -- Why a command did not do what it was asked, by why its parts didn't.
-use Rattle.std.specs.Prelude.{Bool, true, false, Result, Ok, Err}
+use Rattle.std.specs.Prelude.{ℕ, List, Bool, true, false, Result, Ok, Err}
+use Rattle.std.specs.Borrow.{Bor}
+use Rattle.std.specs.IoError.{error_kind}
+use Rattle.std.specs.declared.io.ErrorKind.{ErrorKind}
+use Rattle.std.specs.declared.io.ErrorKind.TheVariants as kind
 use Rattle.sqlite.specs.declared.error.Error.{Error}
 use Rattle.sqlite.specs.declared.error.Error.TheVariants.{SqliteFailure}
 use Rattle.sqlite.specs.declared.error.ErrorCode.TheVariants.{OutOfMemory}
+use Rattle.sqlite_wal.specs.declared.error.Error.{Error as LogError}
+use Rattle.sqlite_wal.specs.declared.error.Error.TheVariants as log
 use Rattle.acd_book.specs.declared.fault.BookFault.{BookFault}
 use Rattle.acd_book.specs.declared.fault.BookFault.TheVariants as book
 use Rattle.acd_sql_schema.specs.declared.fault.AdoptFault.{AdoptFault}
@@ -15,6 +21,7 @@ use Rattle.acd_desk.specs.declared.open_fault.OpenFault.{OpenFault}
 use Rattle.acd_desk.specs.declared.open_fault.OpenFault.TheVariants as opening
 use Rattle.acd_lines.specs.declared.fault.LinesFault.{LinesFault}
 use Rattle.acd_lines.specs.declared.fault.LinesFault.TheVariants as lines
+use Rattle.acd_program.specs.declared.fault.PathFault.{PathFault}
 use Rattle.acd_program.specs.declared.fault.PathFault.TheVariants as path
 use Rattle.acd_program.specs.declared.fault.LookFault.{LookFault}
 use Rattle.acd_program.specs.declared.fault.LookFault.TheVariants.{Path}
@@ -81,3 +88,14 @@ abbrev pub command_result : Result (Unit {0}) LinesFault → Bool → Result (Un
 command_result (Err why) failed = Err (lines_fault why)
 command_result (Ok done) true = Err Store
 command_result (Ok done) false = Ok done
+
+-- of what is at a path, by the error of a call for it
+abbrev pub disk_fault : ErrorKind → Bor (List ℕ) → PathFault
+disk_fault kind.OutOfMemory place = path.NoMemory
+disk_fault _ place = path.CannotOpen place
+
+-- of a file whose log can't be read
+abbrev pub log_fault : LogError → Bor (List ℕ) → PathFault
+log_fault log.OutOfMemory place = path.NoMemory
+log_fault (log.Io error) place = disk_fault (error_kind error) place
+log_fault _ place = path.CannotOpen place

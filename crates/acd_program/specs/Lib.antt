@@ -23,3 +23,6 @@ pub mod Ended
 pub mod TasksEnded
 pub mod FileTasks
 pub mod Reopening
+pub mod PlanLines
+pub mod Reasons
+pub mod Rights

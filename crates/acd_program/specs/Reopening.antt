@@ -1,10 +1,10 @@
 -- What a command leaves opens again: the files, the book in them, and a desk over that.
-use Rattle.std.specs.Prelude.{◌≡◌, ◌⊎◌, ◌<◌, ⊤, Bool, true, false, length, Some, Result, Ok, MatchResult, IsTrue, []}
+use Rattle.std.specs.Prelude.{◌≡◌, ◌⊎◌, ◌<◌, ℕ, ⊤, Bool, true, false, length, Some, Result, Ok, MatchResult, IsTrue, []}
 use Rattle.sqlite_disk.specs.declared.Disk as disk
 use Rattle.sqlite_disk.specs.declared.Files.{Files}
 use Rattle.sqlite_disk.specs.declared.start.Start as start
 use Rattle.sqlite_disk.specs.Disk.{Only}
-use Rattle.sqlite_wal.specs.Reads.{tally_of_files, AreClean}
+use Rattle.sqlite_wal.specs.Reads.{tally_of_files}
 use Rattle.sqlite_wal.specs.Recovery.{Image}
 use Rattle.sqlite_wal.specs.Files.{image_at, outcomes}
 use Rattle.sqlite_trees.specs.declared.store.Store.{Ghosts}
@@ -106,18 +106,36 @@ FreshAreSynced {D} g IsFresh found = (files : Files D) → IsFresh true files.lo
 abbrev pub IsNumbered : {D : Type 0} {g : disk.Ghosts D} → Held (FileStore D g) → Type 0
 IsNumbered conn = IsTrue (store.view conn.store).is_numbered
 
--- Whatever a crash may leave of the two files of a connection that leaves books opens, in a later run, as a book of one of the contents that it may leave: of
--- any length, where its pages are as long as those of a new file.
+-- Files whose bytes are these open as a book of one of these contents: of any length, where their pages are as long as those of a new file.
+abbrev pub ReopensAsOneOf : {E : Type 0} → disk.Ghosts E → ℕ → (Content → Type 0) → Image → Type 0
+ReopensAsOneOf h page_size stops image = ∥ ((c : Content) × stops c × FilesReopen h image c × (page_size ≡ new_page → SyncedReopen h image c)) ∥₁
+
+-- a crash may leave these bytes of the files of a connection
+abbrev pub MayLeave : {D : Type 0} {g : disk.Ghosts D} → Held (FileStore D g) → Image → Type 0
+MayLeave conn image = (store.state conn.store).may_leave image
+
+-- with these bytes its files open as a book of one of the contents that it may leave
+abbrev pub OpensLeft : {D E : Type 0} {g : disk.Ghosts D} → disk.Ghosts E → Held (FileStore D g) → Image → Type 0
+OpensLeft h conn image = ReopensAsOneOf h (store.state conn.store).page_size (held (file_state conn)).stops image
+
+-- Whatever a crash may leave of the two files of a connection that leaves books opens, in a later run, as such a book.
 abbrev pub LeftOpens : {D E : Type 0} → disk.Ghosts D → disk.Ghosts E → Type 0
-LeftOpens {D} g h = (old : Held (FileStore D g)) (image : Image) → LeavesBooks (file_state old) → IsNumbered old → (store.state old.store).may_leave image
-    → ∥ ((c : Content) × (held (file_state old)).stops c × FilesReopen h image c × ((store.state old.store).page_size ≡ new_page → SyncedReopen h image c)) ∥₁
+LeftOpens {D} g h = (old : Held (FileStore D g)) (image : Image) → LeavesBooks (file_state old) → IsNumbered old → MayLeave old image → OpensLeft h old image
 
 -- After a closing they open as a book of the last commit, with the log or without it.
 pub record ReopensClosed {E : Type 0} (h : disk.Ghosts E) (image : Image) (c : Content) : Type 0 where
   pub both : ∥ FilesReopen h image c ∥₁
   pub alone : ∥ FilesReopen h (record image { log = [] }) c ∥₁
 
+-- of a connection's last commit
+abbrev pub OpensClosed : {D E : Type 0} {g : disk.Ghosts D} → disk.Ghosts E → Held (FileStore D g) → Image → Type 0
+OpensClosed h conn image = ReopensClosed h image (content_of (file_state conn).committed.trees)
+
+-- a crash may leave these bytes of two files
+abbrev pub MayBeLeft : {D : Type 0} → disk.Ghosts D → Files D → Image → Type 0
+MayBeLeft g files image = outcomes g files.log files.db image
+
 -- So it is of whatever a crash may leave of files into which a connection that leaves books was closed.
 abbrev pub ClosedOpens : {D E : Type 0} → disk.Ghosts D → disk.Ghosts E → Type 0
-ClosedOpens {D} g h = (old : Held (FileStore D g)) (files : Files D) (image : Image) → LeavesBooks (file_state old) → IsCopied old files → outcomes g files.log files.db image
-    → ReopensClosed h image (content_of (file_state old).committed.trees)
+ClosedOpens {D} g h = (old : Held (FileStore D g)) (files : Files D) (image : Image) → LeavesBooks (file_state old) → IsCopied old files
+    → MayBeLeft g files image → OpensClosed h old image

@@ -12,6 +12,7 @@ ghost use Rattle.acd_program.specs.InFiles.{IsLaidIn, IsOpenedFrom, LeavesUnopen
 use crate::fault::{LookFault, OpeningFault, PathFault};
 use crate::logs::{all_bytes, ending_from, would_change};
 use crate::lone_log::hold_commit;
+use crate::looking::{Looks, ReadOnly};
 use crate::paging::{begun, disk_fault, log_fault, options};
 use crate::progress::{announce, warn};
 use crate::unconnected::Unconnected;
@@ -22,8 +23,8 @@ use sqlite_disk::{Disk, Files, Start};
 use sqlite_std_file::{FileFrom, OpenError};
 use std::alloc::Global;
 use std::hash::{BuildHasher, RandomState};
+use std::io;
 use std::io::IsTerminal;
-use std::{fs, io};
 
 /// The store of a file that held what `S` says.
 pub(crate) type StoreFrom<S> = FileStore<FileFrom<S>>;
@@ -37,8 +38,8 @@ enum Found {
 }
 
 // The kind of thing at the path, before the store looks at it.
-fn look<'a>(rt: &HostRuntime, path: &'a str) -> Result<Found, LookFault<'a>> {
-    match fs::metadata(rt, path) {
+fn look<'a>(looks: Looks<'_>, path: &'a str) -> Result<Found, LookFault<'a>> {
+    match looks.metadata(path) {
         Ok(found) if !found.is_file() => Err(LookFault::Path(PathFault::CannotOpen(path))),
         Ok(found) if found.len() == 0 => Ok(Found::NoBytes),
         Ok(found) => Ok(Found::Bytes(found.len())),
@@ -48,20 +49,20 @@ fn look<'a>(rt: &HostRuntime, path: &'a str) -> Result<Found, LookFault<'a>> {
 }
 
 /// The path of the log: a link's log is beside the file that it leads to.
-pub(crate) fn log_path<'a>(rt: &HostRuntime, path: &'a str) -> Result<String, LookFault<'a>> {
-    match fs::canonicalize(rt, path) {
-        Ok(real) => Ok(format!(in rt.alloc(); "{}-wal", real.as_str())?),
+pub(crate) fn log_path<'a>(looks: Looks<'_>, path: &'a str) -> Result<String, LookFault<'a>> {
+    match looks.real_path(path) {
+        Ok(real) => Ok(format!(in looks.alloc(); "{}-wal", real.as_str())?),
         Err(error) if error.kind() == io::ErrorKind::NotFound => {
-            Ok(format!(in rt.alloc(); "{path}-wal")?)
+            Ok(format!(in looks.alloc(); "{path}-wal")?)
         }
         Err(error) => Err(LookFault::Path(disk_fault(error, path))),
     }
 }
 
 // The log at a path, opened to be read, where it is there.
-fn log_at<'a>(rt: &HostRuntime, path: &'a str) -> Result<Option<fs::File>, LookFault<'a>> {
-    let log = log_path(rt, path)?;
-    match fs::symlink_metadata(rt, log.as_str()) {
+fn log_at<'a>(looks: Looks<'_>, path: &'a str) -> Result<Option<ReadOnly>, LookFault<'a>> {
+    let log = log_path(looks, path)?;
+    match looks.symlink_metadata(log.as_str()) {
         Ok(found) if !found.is_file() => {
             return Err(LookFault::Path(PathFault::CannotOpen(path)));
         }
@@ -69,39 +70,39 @@ fn log_at<'a>(rt: &HostRuntime, path: &'a str) -> Result<Option<fs::File>, LookF
         Err(error) if error.kind() == io::ErrorKind::NotFound => return Ok(None),
         Err(error) => return Err(LookFault::Path(disk_fault(error, path))),
     }
-    match fs::open(rt, log.as_str()) {
+    match looks.open(log.as_str()) {
         Ok(file) => Ok(Some(file)),
         Err(error) => Err(LookFault::Path(disk_fault(error, path))),
     }
 }
 
 // The bytes of the log at a path, or none where it isn't there.
-fn log_bytes<'a>(rt: &HostRuntime, path: &'a str) -> Result<Vec<u8>, LookFault<'a>> {
-    let Some(file) = log_at(rt, path)? else {
-        return Ok(Vec::new(rt.alloc()));
+fn log_bytes<'a>(looks: Looks<'_>, path: &'a str) -> Result<Vec<u8>, LookFault<'a>> {
+    let Some(file) = log_at(looks, path)? else {
+        return Ok(Vec::new(looks.alloc()));
     };
-    match all_bytes(rt.alloc(), file) {
+    match all_bytes(looks.alloc(), file) {
         Ok(bytes) => Ok(bytes),
         Err(error) => Err(LookFault::Path(disk_fault(error, path))),
     }
 }
 
 /// Whether the log at a path holds a commit: it is left alone, where its file is missing or has no bytes.
-pub(crate) fn holds_log<'a>(rt: &HostRuntime, path: &'a str) -> Result<bool, LookFault<'a>> {
-    match hold_commit(rt.alloc(), &log_bytes(rt, path)?) {
+pub(crate) fn holds_log<'a>(looks: Looks<'_>, path: &'a str) -> Result<bool, LookFault<'a>> {
+    match hold_commit(looks.alloc(), &log_bytes(looks, path)?) {
         Ok(holds) => Ok(holds),
         Err(error) => Err(LookFault::Path(log_fault(error, path))),
     }
 }
 
 /// How the log at a path ends, before anything is opened.
-pub(crate) fn log_ending<'a>(rt: &HostRuntime, path: &'a str) -> Result<Ending, LookFault<'a>>
+pub(crate) fn log_ending<'a>(looks: Looks<'_>, path: &'a str) -> Result<Ending, LookFault<'a>>
     ensures { IfOk result IsSomeEnding }
 {
-    let Some(file) = log_at(rt, path)? else {
+    let Some(file) = log_at(looks, path)? else {
         return Ok(ending_of(&[]));
     };
-    match ending_from(rt.alloc(), file) {
+    match ending_from(looks.alloc(), file) {
         Ok(ending) => Ok(ending),
         Err(error) => Err(LookFault::Path(disk_fault(error, path))),
     }
@@ -112,7 +113,7 @@ fn warn_of_log(rt: &HostRuntime, path: &str) {
     if !rt.stderr().is_terminal() {
         return;
     }
-    if let Ok(ending) = log_ending(rt, path) {
+    if let Ok(ending) = log_ending(Looks::new(rt), path) {
         warn(rt, path, ending);
     }
 }
@@ -237,11 +238,12 @@ pub(crate) fn connect<'a, S: Start>(
     // where files were opened, and no connection was made, this is left of them
     ensures left { IfErr result (LeavesUnopened ⟦<FileFrom<S> as Disk>⟧ IsFresh) }
 {
-    let found = look(rt, path)?;
+    let looks = Looks::new(rt);
+    let found = look(looks, path)?;
     if let Found::Bytes(len) = found {
         announce(rt, path, len);
         warn_of_log(rt, path);
-    } else if holds_log(rt, path)? {
+    } else if holds_log(looks, path)? {
         return Err(OpeningFault::Look(LookFault::Path(PathFault::CannotOpen(path))));
     }
     let is_new = is_new(found, makes, path)?;
@@ -250,8 +252,8 @@ pub(crate) fn connect<'a, S: Start>(
 }
 
 // Whether an opening would change a byte of the file at a path, which has so many.
-fn is_unfinished<'a>(rt: &HostRuntime, path: &'a str, len: u64) -> Result<bool, LookFault<'a>> {
-    match would_change(rt.alloc(), len, &log_bytes(rt, path)?) {
+fn is_unfinished<'a>(looks: Looks<'_>, path: &'a str, len: u64) -> Result<bool, LookFault<'a>> {
+    match would_change(looks.alloc(), len, &log_bytes(looks, path)?) {
         Ok(changes) => Ok(changes),
         Err(error) => Err(LookFault::Path(log_fault(error, path))),
     }
@@ -267,10 +269,11 @@ pub(crate) fn connect_archive<'a, S: Start>(
     ensures opened { IfOk result (λ conn. IsOpenedFrom ⟦<FileFrom<S> as Disk>⟧ IsFresh conn) }
     ensures left { IfErr result (LeavesUnopened ⟦<FileFrom<S> as Disk>⟧ IsFresh) }
 {
-    let found = look(rt, path)?;
+    let looks = Looks::new(rt);
+    let found = look(looks, path)?;
     let _ = is_new(found, false, path)?;
     if let Found::Bytes(len) = found {
-        if is_unfinished(rt, path, len)? {
+        if is_unfinished(looks, path, len)? {
             return Err(OpeningFault::Look(LookFault::Path(PathFault::CannotOpen(path))));
         }
         announce(rt, path, len);

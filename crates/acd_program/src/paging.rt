@@ -1,7 +1,9 @@
 //! The pages of a file: how long they are in a new one, and how many of them the store keeps in memory.
 
 ghost use Rattle.std.specs.Prelude.{◌≡◌, ◌/◌, ◌≤◌, ◌<◌, IsTrue, IfOk, IfErr};
+ghost use Rattle.std.specs.IoError.{error_kind};
 ghost use Rattle.sqlite_wal.specs.Reads.{AreClean, OnlyReads};
+ghost use Rattle.acd_program.specs.Faults.{disk_fault, log_fault};
 ghost use Rattle.acd_program.specs.Files.{new_page, page_of, treated, IfClean, IsSmall, IsLoneIn, AreReadOnly, KeepsPages, AreTreated, IsCreated, IsReadAndCreated, IsUnmade, IsUnbegun, IsBegun};
 
 use crate::fault::PathFault;
@@ -26,7 +28,9 @@ const CACHE: usize = 8_192_000;
 const ONE_PAGE: usize = 1;
 
 /// The error that kept a file from being read, as a fault.
-pub(crate) fn disk_fault<'a>(error: io::Error, path: &'a str) -> PathFault<'a> {
+pub(crate) fn disk_fault<'a>(error: io::Error, path: &'a str) -> PathFault<'a>
+    ensures { result ≡ disk_fault (error_kind error) path.entry }
+{
     match error.kind() {
         io::ErrorKind::OutOfMemory => PathFault::NoMemory,
         _ => PathFault::CannotOpen(path),
@@ -88,7 +92,9 @@ fn created<'a, D: Disk + Drop>(
 }
 
 /// The error that kept a log from being read, as a fault.
-pub(crate) fn log_fault<'a>(error: Error, path: &'a str) -> PathFault<'a> {
+pub(crate) fn log_fault<'a>(error: Error, path: &'a str) -> PathFault<'a>
+    ensures { result ≡ log_fault error path.entry }
+{
     match error {
         Error::OutOfMemory => PathFault::NoMemory,
         Error::Io(error) => disk_fault(error, path),

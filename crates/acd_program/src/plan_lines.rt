@@ -1,5 +1,8 @@
 //! The lines of a plan as whoever wrote it sees them.
 
+ghost use Rattle.std.specs.Prelude.{◌≡◌};
+ghost use Rattle.acd_program.specs.PlanLines.{place_after, begun_at, is_printable, shown_width, form_text, line_of};
+
 use acd_reports::PlanMember;
 use std::alloc::{AllocError, Global};
 
@@ -20,7 +23,9 @@ struct Place {
 
 // The place after this byte. A record begins with its first byte, and ends where its line does, outside of quotes; an
 // empty line is none. CR and LF together end one line.
-fn after(place: Place, byte: u8) -> Place {
+fn after(place: Place, byte: u8) -> Place
+    ensures { result ≡ place_after place byte }
+{
     let last = place.last;
     let place = Place {
         last: byte,
@@ -41,7 +46,9 @@ fn after(place: Place, byte: u8) -> Place {
     }
 }
 
-fn begun(place: Place) -> Place {
+fn begun(place: Place) -> Place
+    ensures { result ≡ begun_at place }
+{
     if place.is_begun {
         return place;
     }
@@ -53,7 +60,10 @@ fn begun(place: Place) -> Place {
 }
 
 /// The line in which this record begins, both counted from 1. The header is the first record.
-pub(crate) fn line_of(plan: &[u8], record: u64) -> Option<u64> {
+#[tactic(auto, using(crate::proofs::LineOf::line_none))]
+pub(crate) fn line_of(plan: &[u8], wanted: u64) -> Option<u64>
+    ensures { result ≡ line_of plan.now wanted }
+{
     let mut place = Place {
         line: 1,
         records: 0,
@@ -64,19 +74,23 @@ pub(crate) fn line_of(plan: &[u8], record: u64) -> Option<u64> {
     for byte in plan {
         let line = place.line;
         place = after(place, *byte);
-        if place.records == record {
+        if place.records == wanted {
             return Some(line);
         }
     }
     None
 }
 
-fn is_plain(byte: u8) -> bool {
+fn is_plain(byte: u8) -> bool
+    ensures { result ≡ is_printable byte }
+{
     byte.is_ascii_graphic() || byte == b' '
 }
 
 // How many characters show a byte.
-fn width(byte: u8) -> usize {
+fn width(byte: u8) -> usize
+    ensures { result ≡ shown_width byte }
+{
     if is_plain(byte) { 1 } else { 4 }
 }
 
@@ -104,7 +118,9 @@ pub(crate) fn first_line(alloc: Global, plan: &[u8]) -> Result<String, AllocErro
 }
 
 /// The required form of this member of a row.
-pub(crate) fn form_of(member: PlanMember) -> &'static str {
+pub(crate) fn form_of(member: PlanMember) -> &'static str
+    ensures { result.now ≡ form_text member }
+{
     match member {
         PlanMember::Fields => "a row has five fields, parted by commas, in UTF-8",
         PlanMember::Kind => "a kind is group, station or agent",

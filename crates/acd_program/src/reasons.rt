@@ -1,14 +1,21 @@
 //! Why a command could not do what it was asked, for whoever sits at a terminal: it is printed after the line of the
-//! fault, by what is at a path by then. Where the program can't find out why, it prints nothing.
+//! fault, by what is at a path by then. Where the program can't find out why, it prints nothing. What finds the reason
+//! has no runtime, and so changes nothing: it looks, and reads.
+
+ghost use Rattle.std.specs.Prelude.{◌≡◌};
+ghost use Rattle.acd_program.specs.Reasons.{kind_reason, owner_reason, version_reason, plan_of, archive_of, file_of, database_reason, writes_wide, list_owner, occurs};
 
 use crate::asked::Task;
 use crate::fault::{ArchiveFault, Fault, LookFault, OpeningFault, PathFault, WorkFault};
 use crate::file::{holds_log, log_path};
+use crate::looking::Looks;
 use crate::plan::bytes_from;
 use crate::plan_lines::{first_line, form_of, line_of};
+use crate::reason::Reason;
+use crate::rights::{is_forbidden, is_read_only};
 use acd_reports::PlanFault;
 use std::alloc::Global;
-use std::fs::{self, Metadata, OpenOptions};
+use std::fs::Metadata;
 use std::io::{self, ErrorKind, IsTerminal, Read};
 use std::os::unix::fs::MetadataExt;
 
@@ -29,8 +36,6 @@ const LISTED: u64 = 65_536;
 // The byte of a database that says how its texts are written: 2 and 3 are UTF-16, which a desk's never are.
 const ENCODING: usize = 59;
 
-const ANOTHER: &str = "it is another program's database";
-
 // Whose tables a database lists.
 #[derive(Clone, Copy)]
 enum Owner {
@@ -38,36 +43,63 @@ enum Owner {
     Another,
 }
 
+// What is told: a reason; that a plan's header isn't as it has to be, with the one that there is; or the form that a row
+// of a plan has to have, with the row's line.
+#[derive(Drop)]
+enum Told {
+    Why(Reason),
+    Header(Option<String>),
+    Row(Option<u64>, &'static str),
+}
+
 // The error that kept a call for a path from it.
-fn of_kind(kind: ErrorKind) -> Option<&'static str> {
+fn of_kind(kind: ErrorKind) -> Option<Reason>
+    ensures { result ≡ kind_reason kind }
+{
     match kind {
-        ErrorKind::NotFound => Some("it isn't there"),
-        ErrorKind::PermissionDenied => Some("this user has no permission for it"),
-        ErrorKind::ReadOnlyFilesystem => Some("its disk is read-only"),
-        ErrorKind::NotADirectory => Some("its path goes through what is no folder"),
+        ErrorKind::NotFound => Some(Reason::Absent),
+        ErrorKind::PermissionDenied => Some(Reason::NoPermission),
+        ErrorKind::NotADirectory => Some(Reason::BelowNoFolder),
         _ => None,
     }
 }
 
 // Whether its log holds a commit.
-fn is_lone(rt: &HostRuntime, path: &str) -> bool {
-    matches!(holds_log(rt, path), Ok(true))
+fn is_lone(looks: Looks<'_>, path: &str) -> bool {
+    matches!(holds_log(looks, path), Ok(true))
 }
 
-fn has(bytes: &[u8], text: &[u8]) -> bool {
-    !text.is_empty() && bytes.windows(text.len()).any(|part| part == text)
+#[tactic(auto, using(crate::proofs::Occurs::none_at))]
+fn has(bytes: &[u8], text: &[u8]) -> bool
+    ensures { result ≡ occurs text.now bytes.now }
+{
+    for start in 0..bytes.len() {
+        let rest = &bytes[start..];
+        if rest.starts_with(text) {
+            return true;
+        }
+    }
+    false
+}
+
+// Whether a database's texts are UTF-16.
+fn is_wide(bytes: &[u8]) -> bool
+    ensures { result ≡ writes_wide bytes.now }
+{
+    match bytes.get(ENCODING) {
+        Some(byte) => *byte == 2 || *byte == 3,
+        None => false,
+    }
 }
 
 // Whose tables these first bytes of a database list, where they show that.
-fn owner_in(bytes: &[u8]) -> Option<Owner> {
+fn owner_in(bytes: &[u8]) -> Option<Owner>
+    ensures { result ≡ list_owner bytes.now }
+{
     if has(bytes, DESK_TABLE) {
         return Some(Owner::Desk);
     }
-    let is_wide = match bytes.get(ENCODING) {
-        Some(byte) => *byte == 2 || *byte == 3,
-        None => false,
-    };
-    if is_wide || has(bytes, ANY_TABLE) {
+    if is_wide(bytes) || has(bytes, ANY_TABLE) {
         return Some(Owner::Another);
     }
     None
@@ -79,108 +111,128 @@ fn first_bytes<R: Read + Drop>(alloc: Global, reader: R) -> io::Result<Vec<u8>> 
     Ok(bytes)
 }
 
+// The first bytes of the file at a path.
+fn first_bytes_at(looks: Looks<'_>, path: &str) -> io::Result<Vec<u8>> {
+    first_bytes(looks.alloc(), looks.open(path)?)
+}
+
 // Whose tables the database at a path lists. While its log holds a commit, only the log may show that.
-fn owner_at(rt: &HostRuntime, path: &str) -> Option<Owner> {
-    match holds_log(rt, path) {
+fn owner_at(looks: Looks<'_>, path: &str) -> Option<Owner> {
+    match holds_log(looks, path) {
         Ok(false) => {}
         _ => return None,
     }
-    let Ok(file) = fs::open(rt, path) else {
-        return None;
-    };
-    match first_bytes(rt.alloc(), file) {
+    match first_bytes_at(looks, path) {
         Ok(bytes) => owner_in(&bytes),
         Err(_) => None,
     }
 }
 
-// Why a database is no desk, where it is another program's.
-fn of_owner(rt: &HostRuntime, path: &str) -> Option<&'static str> {
-    match owner_at(rt, path) {
-        Some(Owner::Another) => Some(ANOTHER),
+// Why a database is no desk, by whose tables it lists.
+fn of_owner(owner: Option<Owner>) -> Option<Reason>
+    ensures { result ≡ owner_reason owner }
+{
+    match owner {
+        Some(Owner::Another) => Some(Reason::AnotherProgram),
         _ => None,
     }
 }
 
-// The log beside a database that this user may write.
-fn of_log(rt: &HostRuntime, path: &str) -> Option<&'static str> {
-    let Ok(log) = log_path(rt, path) else {
-        return None;
-    };
-    match fs::symlink_metadata(rt, log.as_str()) {
-        Ok(found) if !found.is_file() => return Some("its log is no file"),
-        Ok(_) => {}
-        Err(_) => return None,
+// Why the log that is at a path isn't opened, as far as that shows.
+fn of_log_found(looks: Looks<'_>, log: &str, found: &Metadata) -> Option<Reason> {
+    if !found.is_file() {
+        return Some(Reason::LogIsNoFile);
     }
-    match OpenOptions::new()
-        .read(true)
-        .write(true)
-        .open(rt, log.as_str())
-    {
+    if is_forbidden(looks, found) {
+        return Some(Reason::NoPermissionForLog);
+    }
+    match looks.open(log) {
         Err(error) if error.kind() == ErrorKind::PermissionDenied => {
-            Some("this user has no permission for its log")
+            Some(Reason::NoPermissionForLog)
         }
         _ => None,
     }
 }
 
-// The kind of a file that this user may write.
-fn of_bytes<R: Read>(reader: &mut R) -> Option<&'static str> {
-    let mut head = [0; 16];
-    match reader.read_exact(&mut head) {
-        Ok(()) if head == *DATABASE => None,
-        Ok(()) => Some("it is no database"),
-        Err(error) if error.kind() == ErrorKind::UnexpectedEof => Some("it is no database"),
+// The log beside a database that this user may write.
+fn of_log(looks: Looks<'_>, path: &str) -> Option<Reason> {
+    let Ok(log) = log_path(looks, path) else {
+        return None;
+    };
+    match looks.symlink_metadata(log.as_str()) {
+        Ok(found) => of_log_found(looks, log.as_str(), &found),
         Err(_) => None,
     }
 }
 
-fn of_found(rt: &HostRuntime, path: &str, found: &Metadata) -> Option<&'static str> {
+// Why a file that begins with these bytes is no desk's.
+fn of_bytes(bytes: &[u8]) -> Option<Reason>
+    ensures { result ≡ database_reason bytes.now }
+{
+    if bytes.starts_with(DATABASE) {
+        return None;
+    }
+    Some(Reason::NoDatabase)
+}
+
+// The same of a file that may be read.
+fn of_file(looks: Looks<'_>, path: &str, found: &Metadata) -> Option<Reason> {
+    let bytes = match first_bytes_at(looks, path) {
+        Ok(bytes) => bytes,
+        Err(error) => return of_kind(error.kind()),
+    };
+    if is_forbidden(looks, found) {
+        return Some(Reason::NoPermission);
+    }
+    if is_read_only(looks, path) {
+        return Some(Reason::ReadOnlyDisk);
+    }
+    of_bytes(&bytes)
+        .or(of_owner(owner_at(looks, path)))
+        .or(of_log(looks, path))
+}
+
+fn of_found(looks: Looks<'_>, path: &str, found: &Metadata) -> Option<Reason> {
     if found.is_dir() {
-        return Some("it is a folder");
+        return Some(Reason::Folder);
     }
     if !found.is_file() {
-        return Some("it is no file");
+        return Some(Reason::NoFile);
     }
-    if found.len() == 0 && is_lone(rt, path) {
-        return Some("it has no bytes, and its log holds what was answered: put the file back");
+    if found.len() == 0 && is_lone(looks, path) {
+        return Some(Reason::NoBytesBesideLog);
     }
     if found.nlink() > 1 {
-        return Some("it has a second name (a hard link)");
+        return Some(Reason::SecondName);
     }
-    match OpenOptions::new().read(true).write(true).open(rt, path) {
-        Ok(mut file) => of_bytes(&mut file)
-            .or(of_owner(rt, path))
-            .or(of_log(rt, path)),
-        Err(error) => of_kind(error.kind()),
-    }
+    of_file(looks, path, found)
 }
 
 // Why the file of a desk isn't opened.
-fn of_opening(rt: &HostRuntime, path: &str) -> Option<&'static str> {
-    match fs::metadata(rt, path) {
-        Ok(found) => of_found(rt, path, &found),
-        Err(error) if error.kind() == ErrorKind::NotFound && is_lone(rt, path) => {
-            Some("it isn't there, and its log holds what was answered: put the file back")
+fn of_opening(looks: Looks<'_>, path: &str) -> Option<Reason> {
+    match looks.metadata(path) {
+        Ok(found) => of_found(looks, path, &found),
+        Err(error) if error.kind() == ErrorKind::NotFound && is_lone(looks, path) => {
+            Some(Reason::AbsentBesideLog)
         }
         Err(error) => of_kind(error.kind()),
     }
 }
 
 // Why an archive isn't opened, which is to stay as it is.
-fn of_archive(rt: &HostRuntime, path: &str) -> Option<&'static str> {
-    let reason = of_opening(rt, path);
-    if reason.is_none() && is_lone(rt, path) {
-        return Some("its log holds requests: acd report lays them in");
+fn of_archive(looks: Looks<'_>, path: &str) -> Option<Reason> {
+    let reason = of_opening(looks, path);
+    if reason.is_none() && is_lone(looks, path) {
+        return Some(Reason::LogHoldsRequests);
     }
     reason
 }
 
 // Why a plan isn't read.
-fn of_reading(rt: &HostRuntime, path: &str) -> Option<&'static str> {
-    match fs::metadata(rt, path) {
-        Ok(found) if found.is_dir() => Some("it is a folder"),
-        Ok(_) => match fs::open(rt, path) {
+fn of_reading(looks: Looks<'_>, path: &str) -> Option<Reason> {
+    match looks.metadata(path) {
+        Ok(found) if found.is_dir() => Some(Reason::Folder),
+        Ok(_) => match looks.open(path) {
             Ok(_) => None,
             Err(error) => of_kind(error.kind()),
         },
@@ -188,90 +240,88 @@ fn of_reading(rt: &HostRuntime, path: &str) -> Option<&'static str> {
     }
 }
 
-// Why a file of some bytes has no version.
-fn of_tables(owner: Option<Owner>, len: u64) -> &'static str {
+// Why a file of so many bytes has no version, by whose tables it lists.
+fn of_tables(owner: Option<Owner>, len: u64) -> Reason
+    ensures { result ≡ version_reason owner len }
+{
     match owner {
-        Some(Owner::Desk) => "it has a desk's tables, but no version: put the last copy back",
-        Some(Owner::Another) => ANOTHER,
-        None if len > FIRST_PAGE => ANOTHER,
-        None => "it has no desk in it: its first start was stopped",
+        Some(Owner::Desk) => Reason::NoVersion,
+        Some(Owner::Another) => Reason::AnotherProgram,
+        None if len > FIRST_PAGE => Reason::AnotherProgram,
+        None => Reason::NoDesk,
     }
 }
 
 // Why a file has no version.
-fn of_no_version(rt: &HostRuntime, path: &str) -> Option<&'static str> {
-    match fs::metadata(rt, path) {
-        Ok(found) if found.len() == 0 => Some("it has no bytes"),
-        Ok(found) => Some(of_tables(owner_at(rt, path), found.len())),
+fn of_no_version(looks: Looks<'_>, path: &str) -> Option<Reason> {
+    match looks.metadata(path) {
+        Ok(found) if found.len() == 0 => Some(Reason::NoBytes),
+        Ok(found) => Some(of_tables(owner_at(looks, path), found.len())),
         Err(_) => None,
     }
 }
 
 // The bytes of a plan that can be read again.
-fn plan_again(rt: &HostRuntime, path: &str) -> Option<Vec<u8>> {
-    match fs::metadata(rt, path) {
+fn plan_again(looks: Looks<'_>, path: &str) -> Option<Vec<u8>> {
+    match looks.metadata(path) {
         Ok(found) if found.is_file() => {}
         _ => return None,
     }
-    match fs::open(rt, path) {
-        Ok(file) => bytes_from(rt.alloc(), file).ok(),
+    match looks.open(path) {
+        Ok(file) => bytes_from(looks.alloc(), file).ok(),
         Err(_) => None,
     }
 }
 
-// Prints of a plan's header what was wanted, and what there is.
-fn print_header(rt: &HostRuntime, path: &str) {
-    let _ = eprint!(rt; "acd: its first line has to be kind,number,name,ring,wrap");
-    if let Some(plan) = plan_again(rt, path) {
-        if let Ok(line) = first_line(rt.alloc(), &plan) {
-            let _ = eprint!(rt; ", and is {}", line.as_str());
-        }
-    }
-    let _ = eprintln!(rt;);
+// The first line of the plan at a path.
+fn header_of(looks: Looks<'_>, path: &str) -> Option<String> {
+    let plan = plan_again(looks, path)?;
+    first_line(looks.alloc(), &plan).ok()
 }
 
-// Prints of a plan's row which line it is, and what was wanted. The header is the first record.
-fn print_row(rt: &HostRuntime, path: &str, row: u64, form: &str) {
-    let line = match plan_again(rt, path) {
-        Some(plan) => line_of(&plan, row.saturating_add(1)),
-        None => None,
-    };
-    let _ = match line {
-        Some(line) => eprintln!(rt; "acd: in line {line}: {form}"),
-        None => eprintln!(rt; "acd: {form}"),
-    };
+// The line of a plan's row. The header is the first record.
+fn line_of_row(looks: Looks<'_>, path: &str, row: u64) -> Option<u64> {
+    let plan = plan_again(looks, path)?;
+    line_of(&plan, row.saturating_add(1))
 }
 
-fn print_plan_fault(rt: &HostRuntime, task: Task<'_>, fault: PlanFault) {
-    let Task::Import { plan, .. } = task else {
-        return;
-    };
+// What is wrong with the plan at a path.
+fn of_plan(looks: Looks<'_>, path: &str, fault: PlanFault) -> Option<Told> {
     match fault {
-        PlanFault::Header => print_header(rt, plan),
-        PlanFault::Row { row, member } => print_row(rt, plan, row, form_of(member)),
-        PlanFault::TooLong => print_reason(rt, Some("a plan has 1,048,576 bytes at most")),
-        PlanFault::NoMemory => {}
+        PlanFault::Header => Some(Told::Header(header_of(looks, path))),
+        PlanFault::Row { row, member } => Some(Told::Row(
+            line_of_row(looks, path, row),
+            form_of(member),
+        )),
+        PlanFault::TooLong => Some(Told::Why(Reason::PlanTooLong)),
+        PlanFault::NoMemory => None,
     }
 }
 
-fn print_reason(rt: &HostRuntime, reason: Option<&str>) {
-    if let Some(reason) = reason {
-        let _ = eprintln!(rt; "acd: {reason}");
+// The plan that the task names.
+fn plan_of(task: Task<'_>) -> Option<&str>
+    ensures { result ≡ plan_of task.entry }
+{
+    match task {
+        Task::Import { plan, .. } => Some(plan),
+        _ => None,
     }
 }
 
-// Whether a path is that of the plan.
-fn is_plan(task: Task<'_>, path: &str) -> bool {
-    matches!(task, Task::Import { plan, .. } if plan == path)
-}
-
-// Whether a path is that of an archive.
-fn is_archive(task: Task<'_>, path: &str) -> bool {
-    matches!(task, Task::AuditWithArchive { archive, .. } if archive == path)
+// The archive that the task names.
+fn archive_of(task: Task<'_>) -> Option<&str>
+    ensures { result ≡ archive_of task.entry }
+{
+    match task {
+        Task::AuditWithArchive { archive, .. } => Some(archive),
+        _ => None,
+    }
 }
 
 // The file of a desk that the task names.
-fn file_of(task: Task<'_>) -> Option<&str> {
+fn file_of(task: Task<'_>) -> Option<&str>
+    ensures { result ≡ file_of task.entry }
+{
     match task {
         Task::Lines { file, .. } => file,
         Task::Serve { file, .. } => Some(file),
@@ -284,43 +334,67 @@ fn file_of(task: Task<'_>) -> Option<&str> {
 }
 
 // Why what is at a path isn't opened.
-fn of_path(rt: &HostRuntime, task: Task<'_>, path: &str) -> Option<&'static str> {
-    if is_plan(task, path) {
-        return of_reading(rt, path);
+fn of_path(looks: Looks<'_>, task: Task<'_>, fault: PathFault<'_>) -> Option<Reason> {
+    let PathFault::CannotOpen(path) = fault else {
+        return None;
+    };
+    if plan_of(task) == Some(path) {
+        return of_reading(looks, path);
     }
-    if is_archive(task, path) {
-        return of_archive(rt, path);
+    if archive_of(task) == Some(path) {
+        return of_archive(looks, path);
     }
-    of_opening(rt, path)
+    of_opening(looks, path)
 }
 
-fn explain_path(rt: &HostRuntime, task: Task<'_>, fault: PathFault<'_>) {
-    if let PathFault::CannotOpen(path) = fault {
-        print_reason(rt, of_path(rt, task, path));
-    }
-}
-
-fn explain_look(rt: &HostRuntime, task: Task<'_>, fault: LookFault<'_>) {
-    match (fault, file_of(task)) {
-        (LookFault::Path(fault), _) => explain_path(rt, task, fault),
-        (LookFault::NoBytes, Some(file)) => print_reason(rt, of_no_version(rt, file)),
-        (LookFault::Plan(fault), _) => print_plan_fault(rt, task, fault),
-        _ => {}
-    }
-}
-
-fn explain_opening(rt: &HostRuntime, task: Task<'_>, fault: OpeningFault<'_>) {
+fn of_look(looks: Looks<'_>, task: Task<'_>, fault: LookFault<'_>) -> Option<Told> {
     match fault {
-        OpeningFault::Look(fault) => explain_look(rt, task, fault),
-        OpeningFault::Files(fault) => explain_path(rt, task, fault),
+        LookFault::Path(fault) => of_path(looks, task, fault).map(Told::Why),
+        LookFault::NoBytes => of_no_version(looks, file_of(task)?).map(Told::Why),
+        LookFault::Plan(fault) => of_plan(looks, plan_of(task)?, fault),
+        LookFault::OpenElsewhere(_) => None,
     }
 }
 
-fn explain_work(rt: &HostRuntime, task: Task<'_>, fault: WorkFault) {
-    match (fault, file_of(task)) {
-        (WorkFault::WrongVersion(0), Some(file)) => print_reason(rt, of_no_version(rt, file)),
-        (WorkFault::Store, Some(file)) => print_reason(rt, of_owner(rt, file)),
-        _ => {}
+fn of_no_opening(looks: Looks<'_>, task: Task<'_>, fault: OpeningFault<'_>) -> Option<Told> {
+    match fault {
+        OpeningFault::Look(fault) => of_look(looks, task, fault),
+        OpeningFault::Files(fault) => of_path(looks, task, fault).map(Told::Why),
+    }
+}
+
+fn of_work(looks: Looks<'_>, task: Task<'_>, fault: WorkFault) -> Option<Reason> {
+    match fault {
+        WorkFault::WrongVersion(0) => of_no_version(looks, file_of(task)?),
+        WorkFault::Store => of_owner(owner_at(looks, file_of(task)?)),
+        _ => None,
+    }
+}
+
+// Why a fault ended the task.
+fn of_fault(looks: Looks<'_>, task: Task<'_>, fault: Fault<'_>) -> Option<Told> {
+    match fault {
+        Fault::Opening(fault) => of_no_opening(looks, task, fault),
+        Fault::Archive(ArchiveFault::Opening(fault)) => of_no_opening(looks, task, fault),
+        Fault::Work(fault) => of_work(looks, task, fault).map(Told::Why),
+        Fault::Archive(ArchiveFault::Work(_)) => None,
+    }
+}
+
+fn print_header(rt: &HostRuntime, header: Option<String>) -> io::Result<()> {
+    eprint!(rt; "acd: its first line has to be kind,number,name,ring,wrap")?;
+    if let Some(line) = header {
+        eprint!(rt; ", and is {}", line.as_str())?;
+    }
+    eprintln!(rt;)
+}
+
+fn print(rt: &HostRuntime, told: Told) -> io::Result<()> {
+    match told {
+        Told::Why(reason) => eprintln!(rt; "acd: {reason}"),
+        Told::Header(header) => print_header(rt, header),
+        Told::Row(Some(line), form) => eprintln!(rt; "acd: in line {line}: {form}"),
+        Told::Row(None, form) => eprintln!(rt; "acd: {form}"),
     }
 }
 
@@ -329,10 +403,7 @@ pub(crate) fn explain(rt: &HostRuntime, task: Task<'_>, fault: Fault<'_>) {
     if !rt.stderr().is_terminal() {
         return;
     }
-    match fault {
-        Fault::Opening(fault) => explain_opening(rt, task, fault),
-        Fault::Archive(ArchiveFault::Opening(fault)) => explain_opening(rt, task, fault),
-        Fault::Work(fault) => explain_work(rt, task, fault),
-        Fault::Archive(ArchiveFault::Work(_)) => {}
+    if let Some(told) = of_fault(Looks::new(rt), task, fault) {
+        let _ = print(rt, told);
     }
 }

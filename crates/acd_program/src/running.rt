@@ -20,6 +20,7 @@ use crate::desk::{Done, Work, over_database};
 use crate::fault::{Fault, LookFault, WorkFault};
 use crate::file::{close_connection, connect, log_ending};
 use crate::laws::lines_are_from_nothing;
+use crate::looking::Looks;
 use crate::memory::lines_over_memory;
 use crate::plan::read_plan;
 use crate::printing::print;
@@ -197,7 +198,7 @@ fn audit_whole<'a, S: Start, W: Write>(
     ensures { EndsWholeAudit ⟦<FileFrom<S> as Disk>⟧ counts
         (output W.contents writer.old writer.new) result }
 {
-    let ending = log_ending(rt, file)?;
+    let ending = log_ending(Looks::new(rt), file)?;
     work_in(
         rt,
         start,
@@ -213,7 +214,7 @@ fn read_ending<'a>(rt: &HostRuntime, file: &'a str, whole: bool) -> Result<Endin
     ensures { IfOk result (IsReadEnding whole) }
 {
     if whole {
-        return log_ending(rt, file);
+        return log_ending(Looks::new(rt), file);
     }
     Ok(Ending::Plain)
 }

@@ -20,7 +20,9 @@ impl<'a, D: Disk + Drop> Unconnected<'a, D> {
     }
 
     /// Shuts them, and says why.
-    pub(crate) fn into_fault(self) -> PathFault<'a> {
+    pub(crate) fn into_fault(self) -> PathFault<'a>
+        ensures { result ≡ self.entry.fault }
+    {
         self.fault
     }
 }
