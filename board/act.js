@@ -1,4 +1,4 @@
-// A lead's requests for the lead's groups, each after a question; gate and desk judge them.
+// A lead's requests for its groups, each after a question; gate and desk judge them.
 import {byId, make, put, withNumber} from './draw.js';
 import {post, requesterOf, sleep} from './net.js';
 import {named, refusal, word} from './words.js';

@@ -1,4 +1,4 @@
-// The figures of a day, by quarters of an hour, and of each agent, counted from events. No document, no network.
+// The figures of a day, by quarters of an hour, and of each agent, out of events. No document, no network.
 import {kept} from './state.js';
 
 export const STEP = 900;

@@ -12,7 +12,7 @@ const GIVEN = Symbol('given'), SAYS = Symbol('says');
 /** @param {any} place @returns {any} */
 export const byId = place => typeof place === 'string' ? document.getElementById(place) : place;
 
-// An element as it should be: tag and class, attributes, if any, and parts. It is known by its `data-key`.
+// An element: tag and class, attributes, if any, and parts. It is known by its `data-key`.
 /** @param {Attributes|Part} [one] @param {Part[]} more @returns {Made} */
 export function make(kind = '', one, ...more) {
   const first = /** @type {any} */ (one), given = typeof first === 'object' && !first.tag, attributes = given ? first : {}, parts = given ? more : [first, ...more], dot = kind.indexOf('.');
@@ -59,7 +59,7 @@ export const put = (place, ...parts) => {
 const texts = (text = '', within) => !text.includes(OPENS) || within.localName === 'option' ? text || [] :
   text.split(ISOLATED).filter(Boolean).map(part => part.startsWith(OPENS) ? make('bdi', plain(part)) : part);
 
-// The state's age: `known` is its millisecond. A text that changes each second is outside the role that a screen reader reads.
+// The state's age: `known` is its millisecond. What changes each second is outside what a screen reader reads.
 export function drawStatus(kind = '', known = 0, why = '', moment = 0, reading = '') {
   const age = Date.now() - known, isLive = kind === 'live', means = isLive ? 'calm' : kind === 'lost' ? 'bad' : 'long', text = kind === 'lost' ? word(known ? 'status.old' : 'status.none', {why}) : word(`status.${isLive && reading ? 'counting' : kind}`);
   const more = known && ['late', 'lost'].includes(kind) ? word('status.age', {clock: clock(age / 1000)}) : isLive && reading;

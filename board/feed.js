@@ -1,4 +1,4 @@
-// Follows a desk: a snapshot, then each second the events after it; continues after a loss, and begins anew over another file.
+// Follows a desk: a snapshot, then each second the events after it; goes on after a loss, begins anew over another file.
 import {pause} from './net.js';
 import {ask} from './session.js';
 

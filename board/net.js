@@ -1,4 +1,4 @@
-// Requests that are given up where no answer comes. No document, so that a worker asks by it too.
+// Requests that are given up without an answer. No document: a worker asks by it too.
 
 const PATIENCE = 10000, LONGEST = 5000;
 // relative to an address with a password in it a question is refused
@@ -23,7 +23,7 @@ export async function ask(path = '', how, patience = PATIENCE, giving = new Abor
   } catch { throw new Error(giving.signal.aborted ? 'silent' : 'server'); } finally { clearTimeout(timer); }
 }
 
-// The desk's reply; nothing where that says as little: the proxy's, or that memory or the store failed.
+// The desk's reply; nothing of the proxy's, or where memory or the store failed.
 export async function post(body = '') {
   const reply = await ask('/csta', {method: 'POST', body, headers: {'content-type': 'application/json'}}).catch(() => null);
   return reply && [429, 500, 502, 503, 504].includes(reply.status) ? null : reply;

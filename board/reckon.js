@@ -76,7 +76,7 @@ export function callLines({state}) {
   return found.filter(line => !settings.groups || chosen(line.group ?? '')).sort((one, other) => one.rank - other.rank || one.since - other.since || one.number - other.number);
 }
 
-// The line whose number is looked for, the first of its texts, or else all that have it in their texts.
+// The line whose number is looked for, or else all that have it in their texts.
 /** @type {Search} */
 export const search = (lines, find, texts) => {
   const text = find.trim().toLowerCase(), exact = text ? lines.filter(line => texts(line)[0] === text) : lines;

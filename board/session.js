@@ -23,7 +23,7 @@ export async function logOut() {
   } catch { ends = false; }
 }
 
-// What the gate says of the login; nothing without a gate. Clicks and keys use a session; a button ends it.
+// What the gate says of the login; nothing without a gate. Clicks use a session; a button ends it.
 /** @type {OpenSession} */
 export const openSession = async (leave, late) => {
   let who, used = 0;

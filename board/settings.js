@@ -1,4 +1,4 @@
-// A board's settings are in its address, so that it is a bookmark; others are as the office says, or as here.
+// A board's settings are in its address, as a bookmark; others are as the office says, or as here.
 import {office} from './words.js';
 
 export const USUAL = {
@@ -65,7 +65,7 @@ export function chosenOf(groups = settings.groups) {
 // Swedes write a moment as 2026-11-28 16:05:30.
 const clock = new Intl.DateTimeFormat('sv', {timeZone: office.zone, dateStyle: 'short', timeStyle: 'medium'});
 
-// What the office's clock shows, or else the browser's, as seconds since 1970 there.
+// What the office's clock shows, or else the browser's, as seconds since 1970.
 export const shown = (moment = 0) => Date.parse(`${clock.format(moment * 1000).replace(' ', 'T')}Z`) / 1000;
 
 // When the day begins, so many days before: as late as the setting says; or a moment since 1970.

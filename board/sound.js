@@ -4,7 +4,7 @@
 const TONES = [[0, 660], [0.3, 880]], LASTS = 0.22, LOUD = 0.3;
 /** @type {AudioContext|undefined} */ let audio;
 
-// A browser lets no page sound before somebody clicked there or pressed a key.
+// No page sounds before somebody clicked there or pressed a key.
 export function soundWhere(isWanted = () => true) {
   const wake = () => {
     if (isWanted()) audio ??= new AudioContext();

@@ -1,4 +1,4 @@
-// The state of the desk's switch: from a snapshot, or empty, kept up to date by events. No document, no network: node runs it too.
+// The state of the desk's switch: from a snapshot, or empty, kept up to date by events. No document, no network.
 
 // a snapshot ranks by stamps, of at most 1000000000: less this they come before events' numbers, which rank what follows
 const EARLIER = 2000000000;
@@ -39,7 +39,7 @@ export class State {
   /** @type {Map<string, Agent>} */ agents = new Map();
   /** @type {Map<number, Call>} */ calls = new Map();
   /** @type {Map<string, Station>} */ stations = new Map();
-  // agents whose several groups no event has; those who leave a call that is being cleared, with the rank that they get
+  // agents whose several groups no event has; those who leave a call that is being cleared, with their rank then
   /** @type {Set<string>} */ unknown = new Set();
   /** @type {Map<string, number>} */ leaving = new Map();
 

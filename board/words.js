@@ -1,6 +1,6 @@
-// What is said in words, in English. Other languages have an object of the same areas and keys in words/, de.js say; what that lacks is in English.
+// What is said in words, in English. Other languages have the same keys in words/, de.js say; what they lack is in English.
 //   word('alarms.rest', {n: 3})   "and 3 more alarms": of a word with forms `n` chooses one. {n} is a value: Intl writes a number
-//   <b data-word="view.wall"></b> translate() writes it; data-label is for an aria-label
+//   <b data-word="view.wall"></b> translate() writes it; data-label an aria-label
 import {ask} from './net.js';
 
 const ENGLISH = keyed(`
@@ -346,7 +346,7 @@ function keyed(text = '') {
 /** @returns {string[][]} */
 const flat = (said = {}, area = '') => Object.entries(said).flatMap(([name, one]) => typeof one === 'string' ? [[area + name, one]] : flat(one, `${area}${name}.`));
 
-// The office's settings of its pages: /etc/acd/board.json. Others, and those that can't be used, are as desk and address say; `fault` names the file or a member that can't.
+// The office's settings of its pages, of /etc/acd/board.json; `fault` names the file or a member that can't be used.
 const PATIENCE = 3000, LONGEST = 80;
 
 /** @returns {Record<string, string>} */
@@ -388,7 +388,7 @@ export function word(key = '', values = {}) {
 export const isWord = (key = '') => saidIn(ENGLISH, key) !== undefined;
 
 export const [OPENS, CLOSES] = ['\u2068', '\u2069'];
-// A name between Unicode's isolates: one from right to left moves nothing beside it. put() makes it <bdi>.
+// A name between Unicode's isolates, so that it moves nothing beside it; put() makes it <bdi>.
 export const named = (text = '') => OPENS + text.replace(/[\u202a-\u202e\u2066-\u2069]/g, '') + CLOSES;
 export const plain = (text = '') => text.replace(/[\u2068\u2069]/g, '');
 

@@ -18,7 +18,7 @@ let id = query.get('agent') ?? '', acts = false, leaves = false, begun = false, 
 /** @type {Places} */ let places;
 /** @type {Requests} */ let requests;
 /** @type {Who} */ let who = {};
-// milliseconds: the server's clock less this one's, when the desk was last known, when something was clicked
+// milliseconds: the server's clock less this one's; when the desk was last known, and a click
 let ahead = 0, known = 0, clicked = 0, fades = 0;
 
 const age = () => Date.now() - known;

@@ -1,4 +1,4 @@
-// The calls at the agent's station: who calls, the services now, and the signs of an offer.
+// The calls at the agent's station: who calls, the services, and the signs of an offer.
 import {byId, make, put} from '../draw.js';
 import {isHeard, notify, tone} from '../sound.js';
 import {clock, CONNECTION, word} from '../words.js';

@@ -1,7 +1,7 @@
 // Asks the gate for an agent's news. A worker, since a browser slows down the clock of a hidden page.
 import {ahead, ask, pause, sleep} from '../net.js';
 
-// seconds: for which the gate holds a question, so that a loss is seen soon; without an answer; between two beats, unless the machine slept
+// seconds for which the gate holds a question; without an answer; between two beats, unless the machine slept
 const HOLD = 4, PATIENCE = 9, SLEPT = 5;
 let after = 0, names = 0, losses = 0, beaten = Date.now(), giving = new AbortController();
 

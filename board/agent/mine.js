@@ -1,4 +1,4 @@
-// An agent's services, and the places for calls. No document, no network.
+// An agent's services, and the places for calls. No document.
 import {doingAt, GRACE} from '../state.js';
 
 const MOST = 8;
@@ -38,7 +38,7 @@ export const {sideOf, sides, isFree, states, services, doing, ringLeft, wrapLeft
     return ring && state === 'alerting' ? since + ring - now : null;
   },
 
-  // The same of after-call work; of several groups the least one counts: it comes first.
+  // The same of after-call work; of several groups the least counts: it comes first.
   wrapLeft({agent: {state, since = 0}, groups}, now) {
     const wrap = state === 'workingAfterCall' && groups[0]?.wrap;
     return wrap ? since + wrap - now : null;
@@ -54,7 +54,7 @@ export const {sideOf, sides, isFree, states, services, doing, ringLeft, wrapLeft
     };
   },
 
-  // The places of a typed text: a number, a name, or all with it in their names. Null for somebody who isn't logged on.
+  // The places of a typed text: a number, a name, or all with it in their names; null for whoever isn't logged on.
   meant(typed, {places, away}, station) {
     const text = plain(typed), has = (name = '') => plain(name).includes(text), found = places.filter(({to, name}) => name && to !== station && has(name));
     if (!text) return [];

@@ -1,5 +1,4 @@
-// Sends requests one after the other. One without an answer is kept in the browser and sent again, the same bytes, so that it acts once: for a minute, in the same log-on;
-// after that the page asks about it.
+// Sends requests in turn. One without an answer is kept in the browser and sent again as it is, for a minute of the same log-on; then the page asks.
 import {pause, post, requesterOf, sleep} from '../net.js';
 import {refusal, word} from '../words.js';
 

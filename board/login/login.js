@@ -1,4 +1,4 @@
-// The page of log-in: it leads on to the page that was wanted, at once in a session.
+// Log-in: leads on to the page that was wanted, at once in a session.
 import {byId, put, set} from '../draw.js';
 import {ask, base, pause, sleep} from '../net.js';
 import {translate, word} from '../words.js';
@@ -17,7 +17,7 @@ document.title = word('login.title');
 if (['?wrong', '?wait'].includes(query)) show(query.slice(1));
 else ask('/session').then(({status, text}) => { if (status === 200) goOn(text); }).catch(() => {});
 
-// Where many log in at once the gate has no room for all: the page sends again, later each time, what was in the form when the button was pressed.
+// Where the gate has no room for all who log in, the page sends the form again, later each time.
 /** @param {URLSearchParams} body */
 async function logInAgain(body) {
   for (let begun = Date.now(), losses = 0; ; losses++) {
