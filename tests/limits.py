@@ -17,7 +17,7 @@ import sys
 from collections import Counter, defaultdict
 from pathlib import Path
 
-sys.path.append(str(Path(__file__).resolve().parents[1] / "tools"))
+sys.path.append(str(Path(__file__).resolve().parent / "trials"))
 import tables  # noqa: E402
 import trial  # noqa: E402
 from switch import Desk, Switch, compact, error  # noqa: E402

@@ -1,0 +1,227 @@
+// What tests/trials/try-board does, in its order.
+import {execFileSync, spawnSync} from 'node:child_process';
+import {readdirSync, statSync} from 'node:fs';
+import {cp, mkdir, mkdtemp, rm, writeFile} from 'node:fs/promises';
+import {existsSync} from 'node:fs';
+import {createServer} from 'node:net';
+import {join, resolve} from 'node:path';
+import {pathToFileURL} from 'node:url';
+import {Browser, sleep} from './browser.mjs';
+import {aDay, Desk, Front, missing, run, TOP} from './desk.mjs';
+import {buttons} from './buttons.mjs';
+import {full} from './full.mjs';
+import {inLoad, record, replay, unseenFaults} from './model.mjs';
+import {alarms, nothing, troubles} from './alarms.mjs';
+import {days, overMidnight, zones} from './days.mjs';
+import {lead, office, session} from './lead.mjs';
+import {alarm, clockAhead, looks, losses, numbers, ownEvents, people, settings, still, ways} from './page.mjs';
+import {shape} from './shape.mjs';
+import {callers, sheets} from './sheets.mjs';
+import {words} from './words.mjs';
+import {agentsPage} from './agent.mjs';
+import {PLAN} from './shift.mjs';
+
+const NEEDED = {chromedriver: 'chromium-driver', chromium: 'chromium', nginx: 'nginx-light', tsc: 'node-typescript', openssl: 'openssl', curl: 'curl', python3: 'python3'};
+const PARTS = ['files', 'gate', 'show', 'state', 'load', 'buttons', 'board', 'alarms', 'words', 'shape', 'days', 'lead', 'agent', 'full'], MOST_BYTES = 150000, MOST_CALLS = 2000, ROUNDS = 50;
+const ROLES = [['pbx', 'exchange'], ['planner', 'office'], ['sup', 'supervisor'], ['ana', 'agent', '7'], ['lea', 'lead', 'groups=101,102']];
+
+class Trial {
+  constructor(program, folder, pictures) { Object.assign(this, {program, folder, pictures, tried: 0, wrong: 0, missed: 0, ends: []}); }
+
+  see = (what, good, told = '') => {
+    this.tried++;
+    if (good) return;
+    this.wrong++;
+    console.log(`WRONG ${what}: ${told}`);
+  };
+
+  /** A figure that depends on the machine: told with the load at that time, and counted apart. */
+  figure = (what, value, good, wanted, load) => {
+    if (!good) this.missed++;
+    console.log(`    ${what}: ${value} (${wanted}${good ? '' : ': MISSED'}; load ${load})`);
+  };
+
+  /** Something that has to end with the part that began it. */
+  keep(thing, end) { this.ends.unshift(() => end(thing)); return thing; }
+
+  async part(name) {
+    const begin = Date.now();
+    try { await this[name](); } catch (error) { this.see(`the part ${name}`, false, error.stack); }
+    for (const end of this.ends.splice(0)) await end();
+    console.log(`${name}: ${((Date.now() - begin) / 1000).toFixed(0)} s, so far ${this.tried} tried, ${this.wrong} wrong`);
+  }
+
+  async desk(name, lines) {
+    const desk = await Desk.make(this.program, join(this.folder, name)), answers = (await desk.feed(lines)).trim().split('\n');
+    this.see(`each request of ${name} is granted`, answers.every(line => line.startsWith('200 ')), answers.find(line => !line.startsWith('200 ')));
+    await desk.serve();
+    return this.keep(desk, () => desk.stop());
+  }
+
+  async front(desk) { return this.keep(await Front.start(this.folder, desk, ROLES), front => front.stop()); }
+  async browser() { return this.keep(await Browser.start(1920, 1080), browser => browser.end()); }
+
+  /** The types, and how much a browser loads at most. */
+  async files() {
+    const files = readdirSync(join(TOP, 'board'), {recursive: true}).map(String).filter(name => /\.(js|css|html)$/.test(name)), bytes = files.filter(name => !/^words\/(?!en)/.test(name)).reduce((sum, name) => sum + statSync(join(TOP, 'board', name)).size, 0);
+    this.see(`board/ has less than ${MOST_BYTES} bytes`, bytes < MOST_BYTES, bytes);
+    const said = await run('tsc', ['-p', join(TOP, 'board/jsconfig.json')]);
+    this.see('tsc, as jsconfig.json says', said === '', said.slice(0, 400));
+  }
+
+  async gate() {
+    for (const test of ['tests/unit/gate/test_gate.py', 'tests/unit/gate/test_doors.py', 'tests/trials/board/login_again.mjs']) {
+      const program = test.endsWith('.mjs') ? process.execPath : '/usr/bin/python3';
+      try { execFileSync(program, [join(TOP, test)], {stdio: 'pipe'}); } catch (error) { this.see(test, false, String(error.stderr).slice(-600)); }
+    }
+    this.tried++;
+  }
+
+  /** What is told of a port that is taken: before anything is made, and in nginx's own words where it was taken since. */
+  async show() {
+    const other = this.keep(createServer(), server => server.close()), port = await new Promise(done => other.listen(0, '127.0.0.1', () => done(other.address().port)));
+    const asked = words => spawnSync(join(TOP, 'tests/trials/show-board'), [this.program, ...words], {encoding: 'utf8', timeout: 10000});
+    const taken = asked(['--port', port]), named = asked(['--port', 'x']);
+    this.see('show-board looks at its port first', taken.status === 1 && taken.stdout === '' && taken.stderr === `tests/trials/show-board: port ${port} is taken: take another one by --port P\n`, JSON.stringify(taken));
+    this.see('and at its words', named.status === 1 && named.stderr === 'tests/trials/show-board: usage: tests/trials/show-board [PROGRAM] [--port P]\n', JSON.stringify(named));
+    const begin = Date.now(), said = await Front.start(this.folder, await this.desk('show.db', PLAN), ROLES, port).then(() => 'it starts', error => error.message);
+    this.see("nginx's own line", said.startsWith("the gate or nginx doesn't start: nginx: [emerg] bind() to ") && said.includes(`:${port} failed`) && Date.now() - begin < 20000, said);
+  }
+
+  /** state.js and day.js run by node, from a copy whose folder says that they are modules. */
+  async modules() {
+    const copy = join(this.folder, 'modules');
+    if (!existsSync(copy)) {
+      await cp(join(TOP, 'board'), copy, {recursive: true});
+      await writeFile(join(copy, 'package.json'), '{"type":"module"}');
+    }
+    const modules = await Promise.all(['state.js', 'day.js', 'agent/mine.js'].map(name => import(pathToFileURL(join(copy, name)))));
+    return Object.assign({}, ...modules);
+  }
+
+  async state() {
+    const lines = (await run('python3', ['-B', join(TOP, 'tests/office.py'), 'given'])).trim().split('\n'), size = Math.ceil(lines.length / ROUNDS);
+    const told = await record(await Desk.make(this.program, join(this.folder, 'office.db')), Array.from({length: ROUNDS}, (_, part) => lines.slice(part * size, (part + 1) * size)));
+    const {compared, wrong} = replay(await this.modules(), told);
+    this.see('the state of the page', wrong.length === 0, wrong.slice(0, 5).join('\n'));
+    const {planted, unseen} = await unseenFaults(join(TOP, 'board'), await mkdtemp(join(this.folder, 'faults')), told);
+    this.see('each planted fault is seen', unseen.length === 0, unseen.join('; '));
+    console.log(`    ${told.length} snapshots of an office's day, carried on to its end: ${compared} comparisons, ${wrong.length} differ; ${planted} faults planted in state.js and day.js, ${unseen.length} unseen`);
+  }
+
+  async buttons() {
+    const lines = (await run('python3', ['-B', join(TOP, 'tests/office.py'), 'given'])).trim().split('\n'), desk = await Desk.make(this.program, join(this.folder, 'buttons.db'));
+    await desk.feed(lines.slice(0, 1500));
+    await desk.serve();
+    this.keep(desk, () => desk.stop());
+    const {refused, granted, wrong} = await buttons(await this.modules(), desk, ROUNDS);
+    this.see('each button is enabled where the desk grants it', wrong.length === 0 && refused > 0 && granted > 0, wrong.slice(0, 5).join('\n'));
+    console.log(`    ${refused} requests of disabled buttons were refused, ${granted} of enabled ones granted, ${wrong.length} otherwise`);
+  }
+
+  async load() {
+    const lines = (await run('python3', ['-B', join(TOP, 'tests/office.py'), 'given'])).trim().split('\n'), desk = await Desk.make(this.program, join(this.folder, 'load.db'));
+    await desk.feed(lines.slice(0, 400));
+    await desk.serve();
+    this.keep(desk, () => desk.stop());
+    const {behind, wrong, still} = await inLoad(await this.modules(), desk, lines.slice(400), ROUNDS);
+    this.see('a state begun in the middle of load', wrong.length === 0 && behind > 0, wrong.slice(0, 5).join('\n'));
+    console.log(`    ${ROUNDS} rounds in the middle of load, ${behind} events behind the snapshots, ${wrong.length} differ${still ? '' : ' (the requests ended before the rounds)'}`);
+  }
+
+  async board() {
+    const [lines, others] = [await aDay(1.5, '--groups', 10, '--agents', 60), await aDay(1, '--groups', 4, '--agents', 12, '--seed', 2)];
+    const desk = await this.desk('day.db', lines), other = await this.desk('other.db', others);
+    await other.stop();
+    const front = await this.front(desk), browser = await this.browser(), folks = this.keep(people(desk, 12), one => one.end()), address = front.page('sup', '/board/');
+    await browser.open(`${address}?since=0#wall`);
+    await numbers(this.see, browser, desk, folks, 7);
+    const own = ['100', '103', '106'];
+    await browser.open(`${address}?since=0&groups=${own}&limit.100=45&limit.103=5#wall`);
+    await numbers(this.see, browser, desk, folks, 3, {groups: own, limits: {100: 45, 103: 5}});
+    await ownEvents(this.see, browser, desk, address, own);
+    await settings(this.see, browser, address);
+    folks.stop();
+    await ways(this.see, browser, desk, address);
+    folks.goOn();
+    await still(this.see, browser, address, 10);
+    await looks(this.see, browser, folks, address, this.pictures);
+    await callers(this.see, browser, desk, address);
+    folks.stop();
+    await sheets(this.see, browser, desk, address);
+    folks.goOn();
+    await folks.end();
+    await desk.post({requester: 'try', invoke: 90, service: 'tick'});
+    await alarm(this.see, browser, desk, address);
+    await clockAhead(this.see, browser, desk, new Desk(this.program, join(this.folder, 'early.db'), desk.port), address);
+    await losses(this.see, browser, desk, other.file, address);
+  }
+
+  async alarms() {
+    const desk = await this.desk('alarms.db', troubles(Math.floor(Date.now() / 1000))), front = await this.front(desk);
+    const browser = await this.browser();
+    await alarms(this.see, browser, desk, front.page('sup', '/board/'));
+    await nothing(this.see, browser, await this.front(await this.desk('nothing.db', PLAN.slice(3, 4))), await this.front(await this.desk('nobody.db', PLAN)));
+  }
+
+  async words() {
+    const desk = await this.desk('words.db', await aDay(0.5, '--groups', 10, '--agents', 40)), front = await this.front(desk), {groups, agents} = await desk.get('/snapshot');
+    await words(this.see, await this.browser(), join(front.file, 'share/board'), where => front.page('sup', where), [...groups, ...agents].map(one => one.name));
+  }
+
+  async shape() {
+    const desk = await this.desk('shape.db', await aDay(0.5, '--groups', 16, '--agents', 80)), front = await this.front(desk);
+    await shape(this.see, await this.browser(), front, this.pictures);
+  }
+
+  async days() {
+    const desk = await this.desk('days.db', days(Math.floor(Date.now() / 1000))), front = await this.front(desk), browser = await this.browser();
+    await zones(this.see, browser, desk, front);
+    await overMidnight(this.see, browser, front);
+  }
+
+  async lead() {
+    const desk = await this.desk('lead.db', office(Math.floor(Date.now() / 1000))), front = await this.front(desk);
+    await lead(this.see, await this.browser(), desk, front);
+    await session(this.see, await this.browser(), front);
+  }
+
+  async agent() {
+    const desk = await this.desk('shift.db', PLAN), front = await this.front(desk), browser = await this.browser();
+    await agentsPage(this.see, browser, desk, front, this.pictures);
+  }
+
+  async full() {
+    const lines = await aDay(1, '--groups', 64, '--agents', 1000, '--load', 0.9), moment = lines[lines.length - 1].split(' ')[0], asking = service => lines.filter(line => line.includes(`"${service}"`)).length;
+    // as many calls as a desk may have
+    for (let invoke = 1, live = asking('arriveCall') - asking('clearConnection'); live < MOST_CALLS; live++, invoke++) {
+      lines.push(`${moment} ${JSON.stringify({requester: 'many', invoke, service: 'arriveCall', caller: `04${invoke}`, called: String(100 + invoke % 64)})}`);
+    }
+    const desk = await this.desk('full.db', lines), front = await this.front(desk), browser = await this.browser();
+    await full(this.see, browser, desk, front.page('sup', '/board/'), this.figure);
+  }
+}
+
+export async function main(words) {
+  const given = name => { const place = words.indexOf(name); return place < 0 ? undefined : words.splice(place, 2)[1]; };
+  const [only, pictures] = [given('--only'), resolve(given('--pictures') ?? 'out/board')], program = resolve(words[0] ?? join(TOP, 'release/acd'));
+  const without = missing(NEEDED);
+  if (without) throw new Error(without);
+  const parts = only ? only.split(',') : PARTS, begin = Date.now();
+  // a file is synced with each request, which costs nothing in memory
+  const folder = await mkdtemp(join(existsSync('/dev/shm') ? '/dev/shm' : '/tmp', 'try-board-'));
+  await mkdir(pictures, {recursive: true});
+  const trial = new Trial(program, folder, pictures);
+  try {
+    const probe = await trial.desk('probe.db', PLAN);
+    await probe.get('/snapshot').catch(() => { throw new Error(`${program} answers no /snapshot`); });
+    await probe.stop();
+    for (const part of parts) await trial.part(part);
+  } finally {
+    for (const end of trial.ends) await end();
+    await sleep(100);
+    await rm(folder, {recursive: true, force: true});
+  }
+  console.log(`${trial.tried} tried, ${trial.wrong} wrong, ${trial.missed} figures missed, in ${((Date.now() - begin) / 1000).toFixed(0)} s; pictures in ${pictures}`);
+  return trial.wrong ? 1 : 0;
+}

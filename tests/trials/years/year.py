@@ -1,0 +1,129 @@
+"""A year of an office, by a clock that is handed in: each week its file is carried over by the command of acd-carry.service, which is killed at times. At the end archives and file, joined by
+SQLite, are sound, and so large was every file that was opened."""
+import json
+import os
+import random
+import signal
+import subprocess
+import sys
+import time
+
+from ground import TOP, Ground, held, joined
+from joined import knows_archives, stand_in
+from trial import Lines
+from units import command, lines_of
+
+sys.path.append(str(TOP / "client"))
+import acd_due  # noqa: E402
+
+DAY, HOUR, WEEKS, CALLS, TALK, STEP = 86400, 3600, 52, 20, 180, 10
+GROUPS, AGENTS = ("100", "110"), 4
+
+
+class Desk(Lines):
+    """Each request at its moment."""
+
+    def line(self, moment, text):
+        status, body = self.say(f"{moment} {text}").split(" ", 1)
+        return int(status), json.loads(body)
+
+
+class Office:
+    """Callers who come by day, agents who answer most of them, and ticks where one ends something."""
+
+    def __init__(self, chance):
+        self.chance, self.desk, self.invoke, self.asked, self.moment = chance, None, 0, 0, 0
+
+    def ask(self, moment, service, **members):
+        self.invoke += 1
+        self.asked += 1
+        status, body = self.desk.line(int(moment), json.dumps({"requester": "office", "invoke": self.invoke, "service": service, **members}))
+        return body.get("result") if status == 200 else None
+
+    def plan(self):
+        for group in GROUPS:
+            self.ask(0, "addGroup", device=group, name="G", ring=20, wrap=30)
+        for number in range(AGENTS):
+            station, agent = str(201 + number), str(number + 1)
+            self.ask(0, "addStation", device=station)
+            self.ask(0, "addAgent", agent=agent, name="A")
+            self.ask(0, "setAgentState", agent=agent, requested="loggedOn", device=station, group=GROUPS[number % 2])
+
+    def snapshot(self):
+        return self.desk.line(0, "GET /snapshot")[1]
+
+    def tick(self, until):
+        """The ticks that are due until a moment, at whole steps."""
+        while (end := acd_due.due_at(self.snapshot())) is not None and -(-end // STEP) * STEP <= until:
+            self.ask(-(-end // STEP) * STEP, "tick")
+
+    def act(self, moment):
+        """Somebody does something: a caller comes, rings are answered, talks end, agents are ready again."""
+        self.tick(moment)
+        shown = self.snapshot()
+        for call in shown["calls"]:
+            for each in call["connections"]:
+                if "offered" in each and self.chance.random() < 0.7:
+                    self.ask(moment, "answerCall", call=call["call"], device=each["device"])
+                elif each["state"] == "connected" and each["device"] == call["caller"] and self.chance.random() < 0.3:
+                    self.ask(moment, "clearConnection", call=call["call"], device=call["caller"])
+        for agent in shown["agents"]:
+            if agent["state"] == "notReady" and self.chance.random() < 0.8:
+                self.ask(moment, "setAgentState", agent=agent["agent"], requested="ready")
+        if self.chance.random() < 0.5:
+            self.ask(moment, "arriveCall", caller=f"0301{self.chance.randrange(9999)}", called=self.chance.choice(GROUPS))
+
+    def day(self, begin):
+        for moment in sorted(self.chance.uniform(begin + 8 * HOUR, begin + 18 * HOUR) for _ in range(CALLS * 2)):
+            self.act(int(moment))
+        self.tick(begin + DAY - 1)
+
+
+def archives_of(file):
+    """In their order."""
+    return sorted((path for path in file.parent.glob("desk.db-????-??-??-*") if not path.name.endswith(".archive")), key=lambda path: int(path.name.rpartition("-")[2]))
+
+
+def carry(ground, program, file, count, chance):
+    """By the unit's own command; at times it is killed, and the same command ends it."""
+    unit = ground.scripts / "acd-carry.service"
+    words = [*command(*lines_of(unit, "ExecStart"), ground.scripts, {"ACD_FILE": str(file), "ACD_CARRY_DAYS": "2"}), "--desk", program]
+    for _ in range(chance.choice([0, 0, 1, 2])):
+        killed = subprocess.Popen(words, stdout=subprocess.DEVNULL, stderr=subprocess.DEVNULL, start_new_session=True)
+        time.sleep(chance.uniform(0, 1.2))
+        # with what it had begun, as systemd does
+        os.killpg(killed.pid, signal.SIGKILL)
+        killed.wait()
+        time.sleep(0.1)
+    status, printed, faults = ground.ran(*words)
+    # status 3: the one that was killed had done all of it
+    ground.expect(f"carried over: {faults}", (status in (0, 3), len(archives_of(file))), (True, count))
+    ground.expect(f"and audited: {printed}", status == 3 or "what was broken off is ended" in printed or printed.splitlines()[1:] == ["sound"])
+
+
+class OfYear(Ground):
+    def try_year(self, weeks=WEEKS):
+        chance = random.Random(73)
+        office, longest, greatest = Office(chance), 0.0, 0
+        with self.scratch() as folder:
+            file = folder / "desk.db"
+            program = self.program if knows_archives(self.program) else stand_in(self.program, folder)
+            for week in range(weeks):
+                begun = time.monotonic()
+                office.desk = Desk(self.program, file, words=["--reads"])
+                office.snapshot()
+                opened = time.monotonic() - begun
+                if not week:
+                    office.plan()
+                for day in range(7):
+                    office.day((7 * week + day + 1) * DAY)
+                office.desk.ends()
+                rows = held(file)["kept"]
+                greatest, longest = max(greatest, len(rows)), max(longest, opened)
+                carry(self, program, file, week + 1, chance)
+            archives = archives_of(file)
+            self.expect("archives and file together", self.audit(joined(archives, file, folder / "joined.db")), (0, f"sound\nexecuted {office.asked}\n", ""))
+            self.expect("no file has over nine days", greatest < office.asked / weeks / 7 * 9 + 400)
+            status, printed, faults = self.export("--file", file, *(word for archive in archives for word in ("--archive", archive)))
+            self.expect(f"all events of the year: {faults}", (status, printed), (0, self.ran("acd", "export", "--file", folder / "joined.db")[1]))
+        print(f"{weeks} weeks: {office.asked} requests, in files of {greatest} at most, opened in {longest:.3f} s at most", flush=True)
