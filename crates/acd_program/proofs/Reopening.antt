@@ -68,7 +68,7 @@ use Rattle.acd_sql_columns.specs.AnyRows.{has_meta}
 use Rattle.acd_sql_columns.specs.Schema.{book_schema, no_schema}
 use Rattle.acd_sql_columns.specs.InTables.{content_of}
 use Rattle.acd_sql_columns.specs.Transactions.{IsBook}
-use Rattle.acd_sql_statements.specs.InRange.{IsInRange}
+use Rattle.acd_sql_columns.specs.InRange.{IsInRange}
 use Rattle.acd_sqlbook.specs.Caching.{IsBlank}
 use Rattle.acd_sqlbook.specs.StoreLaws.{IsAdoptAnswer, IsOverBook}
 use Rattle.acd_sqlbook.specs.View.{BookView, book_of}

@@ -26,7 +26,7 @@ use Rattle.acd_desk.specs.Stands.{IsSound}
 use Rattle.acd_desk.specs.declared.desk.Desk.{Desk}
 use Rattle.acd_desk.specs.declared.open_fault.OpenFault.{OpenFault}
 use Rattle.acd_sql_columns.specs.InTables.{content_of}
-use Rattle.acd_sql_statements.specs.InRange.{IsInRange}
+use Rattle.acd_sql_columns.specs.InRange.{IsInRange}
 use Rattle.acd_sqlbook.specs.Caching.{IsBlank}
 use Rattle.acd_sqlbook.specs.StoreLaws.{AdoptResult, Adopts, IsAdoptAnswer, IsOverBook}
 use Rattle.acd_sqlbook.specs.View.{BookView}

@@ -37,3 +37,4 @@ pub mod Selected
 pub mod Recorded
 pub mod Further
 pub mod Bounds
+pub mod ReadBack

@@ -15,7 +15,7 @@ use Rattle.acd_sql_schema.specs.declared.fault.AdoptFault.TheVariants.{WrongVers
 use Rattle.acd_sql_columns.specs.AnyRows.{IsCanonical, IsCanonicalAs, HaveAllColumns}
 use Rattle.acd_sql_schema.specs.declared.fault.Found.{Found}
 use Rattle.acd_sql_schema.specs.declared.fault.Found.TheVariants.{Book, Fault}
-use Rattle.acd_sql_statements.specs.InRange.{IsInRange}
+use Rattle.acd_sql_columns.specs.InRange.{IsInRange}
 use Rattle.acd_sql_schema.specs.Inspecting.{IsFound, IsOfBook, IsAdoptFaultOf, IsAdoptStoreFault, IsFoundFaultOf, adopt_fault_of}
 use Rattle.acd_sql_schema.specs.Migrating.{FailsToMigrate, IsMigration, IsMade, IsRestored, IsVersionRefused, MayAlter}
 use Rattle.std.proofs.lemmas.Bool.{cases_Bool}

@@ -59,7 +59,7 @@ use Rattle.acd_sql_schema.specs.declared.fault.Found.{Found}
 use Rattle.acd_sql_schema.specs.declared.fault.Found.TheVariants.{Book, Fault}
 use Rattle.acd_sql_schema.specs.Inspecting.{IsAdoptFaultOf, IsBadIn, IsFound, IsFoundFaultOf, IsMisplaced, IsOfBook, IsUnlike, IsVersion, IsVersionIn, other, none as unheld, apart as unlike}
 use Rattle.acd_sql_schema.proofs.Contents.{each_good, of_mapped}
-use Rattle.acd_sql_statements.specs.InRange.{values_of, is_good_table, IsInRange}
+use Rattle.acd_sql_columns.specs.InRange.{values_of, is_good_table, IsInRange}
 use Rattle.acd_sqlbook.proofs.Adopted.{apart_schemas, second_canonical}
 use Rattle.acd_sql_statements.specs.Failing.{StoreHasFailed}
 use Rattle.acd_sqlbook.specs.Adopting.{AdoptCause, IsAdopted, IsHandedBack, failed, shut, unlike as other_tables, refused}

@@ -17,7 +17,7 @@ use Rattle.acd_sql_columns.specs.Transactions.{LimitsFit}
 use Rattle.acd_sql_columns.specs.InTables.{content_of}
 use Rattle.acd_sql_columns.specs.Schema.{no_schema}
 use Rattle.acd_sql_differences.specs.Leading.{rows_differences}
-use Rattle.acd_sql_statements.specs.InRange.{IsInRange}
+use Rattle.acd_sql_columns.specs.InRange.{IsInRange}
 use Rattle.acd_sql_schema.specs.SettingUp.{IsUnstarted}
 use Rattle.acd_sqlbook.specs.State.{IsSoundState}
 use Rattle.acd_sqlbook.specs.View.{BookView, book_of}
