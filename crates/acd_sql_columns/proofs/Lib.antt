@@ -38,3 +38,5 @@ pub mod Recorded
 pub mod Further
 pub mod Bounds
 pub mod ReadBack
+pub mod GoodRecords
+pub mod KeptInRange

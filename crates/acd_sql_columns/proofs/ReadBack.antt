@@ -1,5 +1,5 @@
 -- A record whose values are in their ranges has a row that is read as the record.
-use Rattle.std.proofs.Common.{◌≡◌, ℕ, suc, ◌+◌, ◌<◌, ◌≤◌, ◌^◌, ◌==◌, length, decimal, cond, true, false, List, [], ◌∷◌, Option, Some, None, refl, sym, ap, ◌∙◌, arith, eq-eqb, le-leb, lt-ltb}
+use Rattle.std.proofs.Common.{◌≡◌, ℕ, suc, ◌+◌, ◌<◌, ◌^◌, ◌==◌, length, decimal, cond, true, false, List, [], ◌∷◌, Option, Some, None, refl, sym, ap, ◌∙◌, arith, eq-eqb, le-leb, lt-ltb}
 use Rattle.std.specs.Prelude.{⊤, option_map, IfSome}
 use Rattle.std.specs.Result.{result_ok}
 use Rattle.sqlite_value.specs.Order.{Row, column}
@@ -42,6 +42,11 @@ InColumn (maybe s) o = IfSome o (InSort s)
 abbrev pub AllIn : {R : Type 0} → List (Field R) → R → Type 0
 AllIn [] r = ⊤
 AllIn (f ∷ fs) r = InColumn f.column (f.get r) × AllIn fs r
+
+-- where each value of the sort is in range
+pub any_in : {A : Type 0} (P : A → Type 0) → ((x : A) → P x) → (o : Option A) → IfSome o P
+any_in P all None = tt
+any_in P all (Some x) = all x
 
 -- ---- it is read as it was written
 
