@@ -347,21 +347,21 @@ module _ (d : Database) (c : Content) (lists : d.schema ≡ book_schema) (is : E
   only (Book v) h = ap Book (second v h.schema_is)
   only (Fault f) h = absurd (never_fault f h)
 
-pub books_reopen : (d : Database) (c : Content) → IsDatabase d → IsBook d.trees c → IsInRange c → Reopens d c
-books_reopen d c obeys book range =
+pub books_reopen : (d : Database) (c : Content) → IsDatabase d → IsBook d.trees c → Reopens d c
+books_reopen d c obeys book =
     let schema = lists_once (d.trees catalog_tree) d.schema book_schema obeys.lists book.sound.lists in record {
       schema = schema;
       canonical = second_canonical d c schema book.encodes;
       content = decoded d.trees c book.encodes;
-      of_book = of_book d c schema book.encodes range;
-      only = only d c schema book.encodes range;
+      of_book = of_book d c schema book.encodes book.range;
+      only = only d c schema book.encodes book.range;
     }
 
 -- ---- what `adopt` answers
 
 -- of a connection that was opened over a book
-pub over_book : (s : State) (c : Content) → Opens s → IsLive s → IsBook s.now.trees c → IsInRange c → IsOverBook s c
-over_book s c opened live book range = record { idle = opened.clean; reopens = books_reopen s.now c (live opened.is_open).0 book range }
+pub over_book : (s : State) (c : Content) → Opens s → IsLive s → IsBook s.now.trees c → IsOverBook s c
+over_book s c opened live book = record { idle = opened.clean; reopens = books_reopen s.now c (live opened.is_open).0 book }
 
 module _ (old : State) (c : Content) (over : IsOverBook old c) where
   adopts_content : (new : State) (failures : ℕ) → IsAdopted old.now (book_state old 0) (book_state new failures) → content_of new.committed.trees ≡ c
