@@ -26,13 +26,26 @@ import notices
 PACKAGING = Path(__file__).resolve().parent
 TOP = PACKAGING.parent
 SERVICE = TOP / "service"
-COMMANDS = SERVICE / "acd_service"
+CLIENT = TOP / "client"
 # an address that takes no mail: README.Debian says whom to ask
 MAINTAINER = "The maintainers of acd <maintainers@users.noreply.hullapricot.example>"
 UNITS = ("acd.service", "acd-tick.service", "acd-gate.service", "acd-copy.service", "acd-copy.timer", "acd-local.service",
          "acd-node.service", "acd-node-upkeep.service", "acd-node-upkeep.timer", "acd-records.service", "acd-follow.service", "acd-carry.service", "acd-carry.timer",
          "acd-certificate.service", "acd-certificate.timer")
-MANUAL = ("acd.1", "acd-calls.1", "acd-plan.1", "acd-trail.1", "acd-ready.8", "acd-tick.8", "acd-gate.8", "acd-copy.8", "acd-carry.8", "acd-follow.8", "acd-forget.8", "acd-export.1", "acd-local.8", "acd-node.8", "acd-certificate.8")
+MANUAL = ("acd.1", "acdctl.1", "acd-calls.1", "acd-plan.1", "acd-trail.1", "acd-ready.8", "acd-tick.8", "acd-gate.8", "acd-copy.8", "acd-carry.8", "acd-follow.8", "acd-forget.8", "acd-export.1", "acd-local.8", "acd-node.8", "acd-certificate.8")
+# until the next minor version
+OLD_NAMES_OF_USERS = ("acd-calls", "acd-export", "acd-plan", "acd-trail")
+OLD_NAMES_OF_ROOT = ("acd-carry", "acd-certificate", "acd-copy", "acd-follow", "acd-forget", "acd-gate", "acd-local", "acd-node", "acd-ready", "acd-tick")
+# an office's programs import the first one by its path
+CLIENT_MODULES = ("acd_client.py", "acd_due.py")
+# as dh_python3 has it for a package with a folder of its own
+COMPILED_ANEW = """#!/bin/sh
+set -e
+if [ "$1" = rtupdate ]; then
+    py3clean -p {package} /usr/share/{package}
+    py3compile -p {package} /usr/share/{package}
+fi
+"""
 BOARD = TOP / "board"
 PAGES = (".html", ".css", ".js")
 
@@ -254,6 +267,26 @@ def sizes_and_sums(root):
     return size, "".join(f"{hashlib.md5(file.read_bytes()).hexdigest()}  {file.relative_to(root)}\n" for file in files if file.parts[len(root.parts)] != "etc")
 
 
+def put_modules(put, package, modules):
+    """The modules by their places in the package's own folder, and what compiles them anew for another version of Python."""
+    for place, file in modules.items():
+        put(f"usr/share/{package}/{place}", file.read_bytes())
+    put(f"usr/share/python3/runtime.d/{package}.rtupdate", COMPILED_ANEW.format(package=package), 0o755)
+
+
+def lay_out_service(root, put, version):
+    """The command acdctl with its package, and its old names."""
+    if f'VERSION = "{version}"\n' not in (SERVICE / "acd_service/__init__.py").read_text():
+        fail(f"CHANGELOG.md begins with version {version}, and service/acd_service/__init__.py has another one")
+    put("usr/share/acd/acdctl", (SERVICE / "acdctl").read_bytes(), 0o755)
+    put_modules(put, "acd", {file.relative_to(SERVICE): file for file in sorted((SERVICE / "acd_service").rglob("*.py"))} | {name: CLIENT / name for name in CLIENT_MODULES})
+    put("usr/share/acd/acd_service/local.sh", (SERVICE / "acd_service/local.sh").read_bytes(), 0o755)
+    for folder, names in {"usr/bin": ("acdctl", *OLD_NAMES_OF_USERS), "usr/sbin": OLD_NAMES_OF_ROOT}.items():
+        (root / folder).mkdir(parents=True, exist_ok=True)
+        for name in names:
+            (root / folder / name).symlink_to("../share/acd/acdctl")
+
+
 def lay_out(root, options, moment):
     """Fills the folder with what the package has; the folder DEBIAN has its control files."""
     versions = changes()
@@ -261,19 +294,14 @@ def lay_out(root, options, moment):
     program, toolchain, source = checked_program(options, version)
     differences = differences_from_help(program, SERVICE / "man/acd.1", SERVICE / "completion/acd.bash",
                                         {"--version"} if options.unchecked_version else frozenset())
-    differences += differences_of_plan(COMMANDS / "acd-plan", SERVICE / "man/acd-plan.1", SERVICE / "completion/acd.bash")
+    differences += differences_of_plan(SERVICE / "bin/acd-plan", SERVICE / "man/acd-plan.1", SERVICE / "completion/acd.bash")
     if differences:
         fail("\n".join(differences))
 
     put = putter(root)
     put("usr/bin/acd", program.read_bytes(), 0o755)
     told("strip", "--strip-unneeded", "--remove-section=.comment", "--remove-section=.note", root / "usr/bin/acd")
-    for name in ("acd-ready", "acd-tick", "acd-copy", "acd-carry", "acd-follow", "acd-forget", "acd-local", "acd-certificate", "acd-gate"):
-        put(f"usr/sbin/{name}", (COMMANDS / name).read_bytes(), 0o755)
-    for name in ("acd-calls", "acd-export", "acd-plan", "acd-trail"):
-        put(f"usr/bin/{name}", (COMMANDS / name).read_bytes(), 0o755)
-    for module in (*sorted(COMMANDS.glob("acd_*.py")), TOP / "client/acd_client.py", TOP / "client/acd_due.py"):
-        put(f"usr/share/acd/{module.name}", module.read_bytes())
+    lay_out_service(root, put, version)
     for page in sorted(path for path in BOARD.rglob("*") if path.suffix in PAGES):
         put(f"usr/share/acd/board/{page.relative_to(BOARD)}", page.read_bytes())
     for name in MANUAL:
@@ -285,15 +313,11 @@ def lay_out(root, options, moment):
     # records are written behind each copy, so their unit is wanted by that of the copies
     put("usr/share/lintian/overrides/acd", "acd: systemd-service-file-refers-to-unusual-wantedby-target acd-copy.service *\n")
     put("usr/share/bash-completion/completions/acd", (SERVICE / "completion/acd.bash").read_bytes())
-    for name in ("acd-calls", "acd-export", "acd-plan", "acd-trail"):
+    for name in OLD_NAMES_OF_USERS:
         (root / "usr/share/bash-completion/completions" / name).symlink_to("acd")
     doc = "usr/share/doc/acd/"
     for page in [TOP / "README.md", TOP / "docs/openapi.yaml", *sorted((TOP / "docs").glob("*.md")), *sorted((TOP / "docs").glob("*.png"))]:
         put(doc + page.name, page.read_bytes())
-    put("usr/share/acd/node/acd-node", (COMMANDS / "acd-node").read_bytes(), 0o755)
-    (root / "usr/sbin/acd-node").symlink_to("../share/acd/node/acd-node")
-    for file in sorted((COMMANDS / "machine").glob("*.py")):
-        put(f"usr/share/acd/node/machine/{file.name}", file.read_bytes())
     for example in ("nginx/nginx.conf", "settings/node.env", "settings/follow.env"):
         put(f"{doc}examples/{Path(example).name}", (SERVICE / example).read_bytes())
     # no conffiles, about which an upgrade would ask: postinst makes both in /etc/acd, once. It reads nothing of the documents, which a machine may leave out
@@ -320,11 +344,8 @@ def lay_out(root, options, moment):
 def lay_out_exchange(root, version, moment):
     """Fills the folder with the exchange: its bridge, its edge, and the client that it speaks to the desk by."""
     put, versions, doc = putter(root), changes(), "usr/share/doc/acd-exchange/"
-    for file in sorted((EXCHANGE / "bridge").glob("*.py")):
-        put(f"usr/share/acd-exchange/bridge/{file.name}", file.read_bytes())
-    for module in ("acd_client.py", "acd_due.py"):
-        put(f"usr/share/acd-exchange/{module}", (TOP / "client" / module).read_bytes())
-    put("usr/share/acd-exchange/acd_notify.py", (COMMANDS / "acd_notify.py").read_bytes())
+    put_modules(put, "acd-exchange", {file.relative_to(EXCHANGE): file for file in sorted((EXCHANGE / "bridge").glob("*.py"))}
+                | {name: EXCHANGE / name for name in (*CLIENT_MODULES, "acd_notify.py")})
     put("usr/share/acd-exchange/acd-exchange", (EXCHANGE / "acd-exchange").read_bytes(), 0o755)
     for name in ("acd-account", "acd-edge-limit"):
         put(f"usr/sbin/{name}", (EXCHANGE / name).read_bytes(), 0o755)

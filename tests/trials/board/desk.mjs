@@ -101,7 +101,7 @@ export class Front {
 http { include /etc/nginx/mime.types; access_log off; ${['client_body', 'proxy', 'fastcgi', 'uwsgi', 'scgi'].map(kind => `${kind}_temp_path ${file};`).join(' ')} ${conf} }\n`);
     const told = [];
     Object.assign(front, {file, gate, address: `https://127.0.0.1:${site}`, children: [
-      spawn('/usr/bin/python3', ['-B', join(TOP, 'service/acd_service/acd-gate'), '--port', gate, '--desk', desk.port, '--roles', `${file}/roles`, '--users', `${file}/users`, '--secret', `${file}/nginx-secret.conf`].map(String), {stdio: ['ignore', 'ignore', 'inherit']}),
+      spawn('/usr/bin/python3', ['-B', join(TOP, 'service/bin/acd-gate'), '--port', gate, '--desk', desk.port, '--roles', `${file}/roles`, '--users', `${file}/users`, '--secret', `${file}/nginx-secret.conf`].map(String), {stdio: ['ignore', 'ignore', 'inherit']}),
       spawn('nginx', ['-c', `${file}/nginx.conf`], {stdio: ['ignore', 'ignore', 'pipe']}),
     ]});
     front.children[1].stderr.on('data', part => told.push(part));

@@ -50,11 +50,9 @@ class Copying(Part):
     def try_settings(self):
         """Without a word it goes by the units' settings."""
         office = self.office()
-        scripts = self.folder / "scripts"
-        shutil.copytree(self.script.parent, scripts)
+        script, module = self.copied_script()
         (office.folder / "acd.env").write_text(f"# a note\nACD_FILE={office.file}\nACD_COPY_FOLDER={office.folder}/others\nACD_COPIES=1\n")
-        script = scripts / "acd-copy"
-        script.write_text(script.read_text().replace("/etc/acd/acd.env", f"{office.folder}/acd.env"))
+        module.write_text(module.read_text().replace("/etc/acd/acd.env", f"{office.folder}/acd.env"))
         done = office.run(PYTHON, script)
         self.expect(f"by the settings: {done}", (done[0], done[2], len(list((office.folder / "others").glob("*Z")))), (0, "", 1))
         # as another system's editor and somebody's quotes leave them, which systemd takes
@@ -186,10 +184,10 @@ class Copying(Part):
         file = self.folder / "busy"
         file.write_text("")
         busy = "import os, socket, sys; file = open(sys.argv[1], 'rb+'); print(flush=True)\nwhile True: socket.socket().close(); os.close(os.open('/dev/null', 0))"
-        looks = "import sys; sys.path.insert(0, sys.argv[1]); import acd_held; print({len(acd_held.opened(int(sys.argv[2]))) for _ in range(500)})"
+        looks = "import sys; sys.path.insert(0, sys.argv[1]); from acd_service import held; print({len(held.opened(int(sys.argv[2]))) for _ in range(500)})"
         with subprocess.Popen([PYTHON, "-c", busy, file], stdout=subprocess.PIPE) as goes_on:
             goes_on.stdout.readline()
-            seen = subprocess.run([PYTHON, "-c", looks, self.script.parent, str(goes_on.pid)], capture_output=True, text=True)
+            seen = subprocess.run([PYTHON, "-c", looks, self.script.parents[1], str(goes_on.pid)], capture_output=True, text=True)
             goes_on.kill()
         self.expect(f"files that it has open {seen.stderr[-200:]}", seen.stdout, "{1}\n")
 

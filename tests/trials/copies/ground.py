@@ -12,7 +12,8 @@ import threading
 import time
 from pathlib import Path
 
-from trial import TOP, Connection, Desk, Lines, Plan, Requests, Trial, compact, line, ran
+from shipped import SERVICE, shipped
+from trial import Connection, Desk, Lines, Plan, Requests, Trial, compact, line, ran
 
 # that of Debian, which the scripts are run by
 PYTHON = "/usr/bin/python3"
@@ -20,7 +21,6 @@ PLAN = Plan([("100", "Billing", 20, 30)], ["201"], [("7", "Ana")]).text()
 PLANNED = 3
 # another user, who owns a file
 OTHER = "daemon"
-OPERATING = TOP / "service/acd_service"
 
 
 def call(number, requester="x"):
@@ -183,12 +183,19 @@ def listing(folder):
 class Part(Trial):
     """Over desks in folders of their own, by a script that may have a fault."""
 
-    script = OPERATING / "acd-copy"
+    script = SERVICE / "bin/acd-copy"
 
     @classmethod
     def setUpClass(cls):
         super().setUpClass()
         cls.folder.chmod(0o755)
+
+    def copied_script(self):
+        """A copy of the script that is tried, in a folder of its own, and of the module that may get another text there."""
+        folder = Path(tempfile.mkdtemp(dir=self.folder))
+        folder.chmod(0o755)
+        script = shipped(folder / "operating", of=self.script.parents[1]) / "acd-copy"
+        return script, folder / "operating/acd_service/copy.py"
 
     def office(self, owner=None, folder=None):
         """A desk with a plan and two callers."""

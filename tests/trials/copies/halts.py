@@ -2,7 +2,6 @@
 import contextlib
 import os
 import re
-import shutil
 import signal
 import sqlite3
 import subprocess
@@ -68,11 +67,8 @@ class Halts(Part):
 
     def hurried(self, office, patience=4):
         """This office's acd-copy has so many seconds in place of ten minutes."""
-        scripts = Path(tempfile.mkdtemp(dir=self.folder)) / "operating"
-        scripts.parent.chmod(0o755)
-        shutil.copytree(self.script.parent, scripts)
-        office.script = scripts / "acd-copy"
-        office.script.write_text(re.sub(r"^BRIEF, PATIENCE, PAUSE, LONGEST = .*$", f"BRIEF, PATIENCE, PAUSE, LONGEST = 2, {patience}, 0.1, 1", office.script.read_text(), flags=re.MULTILINE))
+        office.script, module = self.copied_script()
+        module.write_text(re.sub(r"^BRIEF, PATIENCE, PAUSE, LONGEST = .*$", f"BRIEF, PATIENCE, PAUSE, LONGEST = 2, {patience}, 0.1, 1", module.read_text(), flags=re.MULTILINE))
 
     @contextlib.contextmanager
     def copying(self, office, *words):
@@ -207,11 +203,9 @@ class Halts(Part):
         for word in ("-1", "x", "1000", "1.5"):
             status, said, faults = office.copy("--halt", word)
             self.expect(f"--halt {word}: {faults}", (status, said, faults.count("\n")), (2, "", 1))
-        scripts = Path(tempfile.mkdtemp(dir=self.folder)) / "operating"
-        shutil.copytree(self.script.parent, scripts)
+        script, module = self.copied_script()
         (office.folder / "acd.env").write_text(f"ACD_FILE={office.file}\nACD_HALT=many\n")
-        script = scripts / "acd-copy"
-        script.write_text(script.read_text().replace("/etc/acd/acd.env", f"{office.folder}/acd.env"))
+        module.write_text(module.read_text().replace("/etc/acd/acd.env", f"{office.folder}/acd.env"))
         status, said, faults = office.run(PYTHON, script)
         self.expect(f"ACD_HALT=many: {faults}", (status, said, "acd.env: to halt the desk for 'many' seconds" in faults), (2, "", True))
         self.expect("a log", log_of(office.file).exists())

@@ -19,7 +19,7 @@ from typing import IO, Any, Self
 HERE = Path(__file__).resolve().parent
 TOP = HERE.parents[2]
 EXCHANGE = TOP / "exchange"
-sys.path[:0] = [str(EXCHANGE), str(TOP / "client")]
+sys.path.insert(0, str(EXCHANGE))
 sys.path += [str(TOP / "tests/trials"), str(TOP / "tests/trials/gate")]
 
 from acd_client import Answer, Client, Event  # noqa: E402
@@ -213,7 +213,7 @@ class Ground(Programs):
                                "--music-port", str(self.music_port), *self.options], "exchange", **self.reached_by)
 
     def start_ticks(self) -> None:
-        self.start([str(TOP / "service/acd_service/acd-tick"), "--port", str(self.desk_port), "--step", "2"], "ticks")
+        self.start([str(TOP / "service/bin/acd-tick"), "--port", str(self.desk_port), "--step", "2"], "ticks")
 
     def start_edge(self) -> None:
         ports = {"EDGE_PORT": self.edge_port, "TLS_PORT": self.tls_port, "EXCHANGE_PORT": self.port}

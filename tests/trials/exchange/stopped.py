@@ -8,7 +8,7 @@ from pathlib import Path
 from typing import Any
 
 TOP = Path(__file__).resolve().parents[3]
-sys.path[:0] = [str(TOP / part) for part in ("exchange", "client", "service/acd_service")]
+sys.path.insert(0, str(TOP / "exchange"))
 
 from bridge import loop  # noqa: E402
 from bridge.store import Store  # noqa: E402

@@ -15,9 +15,9 @@ import time
 from http.client import HTTPException
 from pathlib import Path
 
+from shipped import shipped, text_of
 from trial import TOP, Connection, Desk, Trial, planted, ran, until
 
-OPERATING, CLIENT = TOP / "service/acd_service", TOP / "client"
 sys.path.append(str(TOP / "tests"))
 import office  # noqa: E402
 import switch  # noqa: E402
@@ -27,7 +27,7 @@ import tables  # noqa: E402
 PYTHON = "/usr/bin/python3"
 STATE = re.compile(r" has the requests up to (\d+); (?:the desk hasn't answered yet|the last that the desk told of is (\d+), at ([-0-9: ]+ UTC))\n$")
 # what acd-carry keeps at least; a short day has less
-CARRY = planted((OPERATING / "acd-carry").read_text(), "LEAST, HOUR, DAY = 1000, 3600, 86400", "LEAST, HOUR, DAY = 1, 0, 86400")
+CARRY = planted(text_of("leaving/carry.py"), "LEAST, HOUR, DAY = 1000, 3600, 86400", "LEAST, HOUR, DAY = 1, 0, 86400")
 PATIENCE = 120
 # all that is tried is alone in its network, and below these nobody is given a port
 PORTS = itertools.count(18001)
@@ -41,15 +41,10 @@ class Ground(Trial):
     @classmethod
     def setUpClass(cls):
         super().setUpClass()
-        cls.scripts, program = cls.folder / "scripts", cls.folder / "bin/acd"
-        cls.scripts.mkdir()
+        program = cls.folder / "bin/acd"
         program.parent.mkdir()
         cls.program = Path(shutil.copy(Trial.program, program))
-        for file in (*OPERATING.glob("acd_*.py"), CLIENT / "acd_client.py", *(OPERATING / name for name in ("acd-follow", "acd-copy"))):
-            shutil.copy(file, cls.scripts)
-        (cls.scripts / "acd-carry").write_text(CARRY)
-        if cls.another:
-            (cls.scripts / "acd-follow").write_text(cls.another)
+        cls.scripts = shipped(cls.folder / "scripts", {"leaving/carry.py": CARRY, **({"follow.py": cls.another} if cls.another else {})})
 
     @classmethod
     def settings(cls, more=()):

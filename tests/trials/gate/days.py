@@ -53,7 +53,7 @@ class Days(Trial):
         """The same by acd-calls, and by the exported reports what it doesn't tell."""
         file = self.folder / f"{zone.replace('/', '-')}.db"
         self.acd("lines", "--file", file, given="".join(f"{line}\n" for line in lines))
-        by_file = [TOP / "service/acd_service/acd-calls", "--file", file]
+        by_file = [TOP / "service/bin/acd-calls", "--file", file]
         agents, calls = (rows([sys.executable, "-B", *by_file, *more]) for more in (["--agents"], []))
         callers = {int(call["number"]): call["caller"] for call in calls}
         begins = int(datetime.datetime.combine(DAY, datetime.time()).timestamp())

@@ -58,12 +58,9 @@ def office():
 
 
 def load():
-    if str(TOP / "service/acd_service") not in sys.path:
-        sys.path.insert(0, str(TOP / "service/acd_service"))
-    spec = importlib.util.spec_from_file_location("acd_following", TOP / "service/acd_service/acd_following.py")
-    module = sys.modules["acd_following"] = importlib.util.module_from_spec(spec)
-    spec.loader.exec_module(module)
-    return module
+    if str(TOP / "service") not in sys.path:
+        sys.path.insert(0, str(TOP / "service"))
+    return importlib.import_module("acd_service.leaving.following")
 
 
 class Asked(Lines):

@@ -164,7 +164,7 @@ class Units(Edges):
         """Where nobody shows a certificate there is none to look at; one that ends in a week is told, and one that lasts isn't."""
         self.expect("its timer", self.done("systemctl", "is-enabled", "acd-certificate.timer"), "enabled\n")
         self.done("systemctl", "start", "acd-certificate")
-        self.expect_in("nobody listens", self.journal("acd-certificate"), "acd-certificate: nobody listens at 127.0.0.1:8443")
+        self.expect_in("nobody listens", self.journal("acd-certificate"), "acdctl certificate: nobody listens at 127.0.0.1:8443")
         root = self.container.inside("/root")
         (root / "show.py").write_text(SHOWS)
         for days, told in ((7, "ends in 6 days, on "), (30, "ends on ")):

@@ -13,7 +13,7 @@ from pathlib import Path
 
 from trial import Connection, Trial, free_ports, until
 
-COMMANDS = Path(__file__).resolve().parents[3] / "service/acd_service"
+COMMANDS = Path(__file__).resolve().parents[3] / "service/bin"
 LINE = base64.b64encode(b"desk/line").decode()
 NAMES = "m1,m2,m3"
 USERS = [*NAMES.split(","), "upkeep", "root"]

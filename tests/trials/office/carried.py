@@ -58,7 +58,7 @@ class Carried(Office):
         mark, begun = self.mark(), time.monotonic()
         self.expect(what, self.ran("systemctl", "start", "acd-carry"), wanted)
         self.expect(f"{what}: soon", time.monotonic() - begun < 60)
-        return self.said_since(mark, "acd-carry")
+        return self.said_since(mark, "carry")
 
     def is_back(self, what):
         self.serves(what)

@@ -49,8 +49,8 @@ class Clock(Planned):
         self.expect("a request of a clock that is ahead", self.container.shell(f"echo '{moment} {request}' | acd lines --file {FILE}", user="acd")[1].startswith("200 "))
         self.restarts("with a moment ahead")
         self.expect("an offer isn't taken back", self.offers("ahead"), False)
-        lines = self.said_since(mark, "acd-tick")
-        wanted = f"acd-tick: the desk's time is over a minute ahead of this machine's clock: until {time.strftime('%Y-%m-%d %H:%M:%S', time.gmtime(moment))} UTC no ring and no after-call work ends by a tick"
+        lines = self.said_since(mark, "tick")
+        wanted = f"acdctl tick: the desk's time is over a minute ahead of this machine's clock: until {time.strftime('%Y-%m-%d %H:%M:%S', time.gmtime(moment))} UTC no ring and no after-call work ends by a tick"
         self.expect("and that is told, once", lines, [wanted])
         said = self.container.shell(f"export TZ=UTC; {self.recipe('A clock that was ahead', 'date -d @')}")[1]
         self.expect("by hand, as the page says", said, time.strftime("%a %b %e %H:%M:%S UTC %Y\n", time.gmtime(moment)))

@@ -12,7 +12,7 @@ BACK = "Copies"
 CALLS = ("rename", "link", "symlink", "unlink", "unlinkat", "rmdir", "mkdir")
 BEFORE = "/srv/before"
 # how a restore is ended that was broken off
-UNENDED = r"^acd-ready: the (restore|undo) of \S+ isn't ended: (acd-copy --restore \S+ ends it, )?acd-copy --undo (takes it back|ends it)$"
+UNENDED = r"^acdctl ready: the (restore|undo) of \S+ isn't ended: (acd-copy --restore \S+ ends it, )?acd-copy --undo (takes it back|ends it)$"
 
 
 class Copies(Planned):
@@ -23,7 +23,7 @@ class Copies(Planned):
     def copied(self, what):
         """The name of a copy that is made by the unit, and is good."""
         before, mark = self.good(), self.mark()
-        self.expect(f"{what}: a copy", (self.ran("systemctl", "start", "acd-copy"), self.said_since(mark, "acd-copy")), ((0, ""), []))
+        self.expect(f"{what}: a copy", (self.ran("systemctl", "start", "acd-copy"), self.said_since(mark, "copy")), ((0, ""), []))
         self.expect(f"{what}: it is there", self.good()[-1] not in before)
         return self.good()[-1]
 
@@ -175,13 +175,13 @@ class Copies(Planned):
             with self.loaded(what):
                 mark = self.mark()
                 self.done(*wrong)
-                lines = self.eventually(lambda: self.said_since(mark, "acd-tick"), [f"acd-tick: {line % process}"], 75)
-                self.expect(f"{what}: acd-tick tells it within a minute or so", lines, [f"acd-tick: {line % process}"])
+                lines = self.eventually(lambda: self.said_since(mark, "tick"), [f"acdctl tick: {line % process}"], 75)
+                self.expect(f"{what}: acd-tick tells it within a minute or so", lines, [f"acdctl tick: {line % process}"])
             self.expect(f"{what}: the copy fails", self.ran("systemctl", "start", "acd-copy")[0] != 0)
             self.expect_in(f"{what}: and is named", self.ran("systemctl", "--failed", "--no-legend", "--plain")[1], "acd-copy.service")
-            lines = self.said_since(mark, "acd-copy")
+            lines = self.said_since(mark, "copy")
             made = re.search(rf"this copy is of what the desk has open; it lies in {COPIES}/(moved-{MOMENT}),", "\n".join(lines))
-            self.expect(f"{what}: what it tells: {lines}", (f"acd-copy: {line % process}" in lines, bool(made)), (True, True))
+            self.expect(f"{what}: what it tells: {lines}", (f"acdctl copy: {line % process}" in lines, bool(made)), (True, True))
             self.expect(f"{what}: each answered request is in the copy, once", self.kept(what, f"{COPIES}/{made[1]}")[:len(self.answered)], self.answered)
             if what == "moved":
                 self.done("systemctl", "stop", "acd")
@@ -210,7 +210,7 @@ class Copies(Planned):
         for _ in range(2):
             self.expect("the copy fails", self.ran("systemctl", "start", "acd-copy")[0] != 0)
         lines = [line for line in self.lines() if "requests are missing" in line]
-        self.expect("what it tells", (len(lines), lines[-1].startswith(f"acd-copy: the copy has {now} executed requests, and the last one of the same file had {before}: requests are missing; it lies in {COPIES}/fewer-")), (2, True))
+        self.expect("what it tells", (len(lines), lines[-1].startswith(f"acdctl copy: the copy has {now} executed requests, and the last one of the same file had {before}: requests are missing; it lies in {COPIES}/fewer-")), (2, True))
         self.expect("nothing is cleared away", self.good(), good)
         self.put_back(good[-1])
         self.serves("of the last good copy")

@@ -102,7 +102,7 @@ class Damage(Planned):
         folder, *more = self.folders() or ["none"]
         self.expect("one folder, the desk's user's alone", (more, self.done("stat", "-c", "%U %a", f"{STATE}/{folder}")), ([], "acd 700\n"))
         self.expect("it has both, to the byte", self.held(f"{STATE}/{folder}/desk.db", f"{STATE}/{folder}/desk.db-wal") == held)
-        self.expect("the line is there", self.said_since(mark), [f"acd-ready: the log {LOG} is damaged from its frame {frame} on (byte {whole.at(frame)}), and answered requests from there on are missing; "
+        self.expect("the line is there", self.said_since(mark), [f"acdctl ready: the log {LOG} is damaged from its frame {frame} on (byte {whole.at(frame)}), and answered requests from there on are missing; "
                                                           f"both files, as they were, are in {STATE}/{folder} ('What a start looks at' in OPERATING.md)"])
         self.expect("what is before the damage is there", self.kept("middle"), list(range(1, 11)))
         self.restarts("the next start tells nothing")
@@ -110,7 +110,7 @@ class Damage(Planned):
         self.expect("nor keeps anything", self.folders(), [folder])
         mark = self.mark()
         self.expect("each copy fails while it is there", [self.ran("systemctl", "start", "acd-copy")[0] for _ in range(2)], [1, 1])
-        self.expect("and says why", self.said_since(mark, "acd-copy"), [f"acd-copy: {STATE}/{folder} is there: the log was damaged as the desk was started"] * 2)
+        self.expect("and says why", self.said_since(mark, "copy"), [f"acdctl copy: {STATE}/{folder} is there: the log was damaged as the desk was started"] * 2)
         self.done("mv", f"{STATE}/{folder}", f"{HOME}/damaged")
         self.done("systemctl", "start", "acd-copy")
 
@@ -122,8 +122,8 @@ class Damage(Planned):
         self.spoiled("early", lambda whole: whole.flipped(whole.at(whole.marks[4] + 1) + 50))
         held, mark = self.held(), self.mark()
         self.expect("the copy fails", self.ran("systemctl", "start", "acd-copy")[0], 1)
-        lines, more = self.said_since(mark, "acd-copy"), sorted(set(self.names(copies)) - set(good))
-        self.expect(f"it tells why: {lines}", [(line.startswith("acd-copy: the copy's log ends early, answered requests are missing: "), f"it lies in {copies}/{name}," in line) for line, name in zip(lines, more)], [(True, True)])
+        lines, more = self.said_since(mark, "copy"), sorted(set(self.names(copies)) - set(good))
+        self.expect(f"it tells why: {lines}", [(line.startswith("acdctl copy: the copy's log ends early, answered requests are missing: "), f"it lies in {copies}/{name}," in line) for line, name in zip(lines, more)], [(True, True)])
         self.expect("its name", bool(re.fullmatch(r"\d{4}-\d\d-\d\dT\d{6}Z\.early", more[0])))
         self.expect("its log is as it was copied", self.held(f"{copies}/{more[0]}/desk.db-wal"), held[1:])
         self.expect("the desk's own files too", self.held() == held)

@@ -5,6 +5,7 @@ from typing import NamedTuple
 from trial import planted
 
 UNITS, PAGE, POSTINST = "usr/lib/systemd/system", "usr/share/doc/acd/OPERATING.md", "DEBIAN/postinst"
+MODULES = "usr/share/acd/acd_service"
 DESK, TICKS, COPY = f"{UNITS}/acd.service", f"{UNITS}/acd-tick.service", f"{UNITS}/acd-copy.service"
 CARRY = f"{UNITS}/acd-carry.service"
 AGAIN = "StartLimitIntervalSec=0\n"
@@ -36,24 +37,24 @@ FAULTS = [
     Fault("a full disk leaves the desk down", (DESK, "Restart=always", "Restart=no"), "starting", ("plan", "try_full_disk")),
     Fault("systemd gives up", (DESK, AGAIN, ""), "starting", ("try_installed",)),
     Fault("ticks with a step that is refused are started again and again", (TICKS, "RestartPreventExitStatus=2\n", ""), "starting", ("try_settings",)),
-    Fault("quotes are taken for a part of a file's name", ("usr/sbin/acd-copy", r"""^(["'])(.*)\1$""", r"""^(["'])(.*)\1\1$"""), "starting", ("try_settings",)),
-    Fault("a log isn't looked at", ("usr/sbin/acd-ready", "    look_at_port(options.port)\n    look_at_log(file)\n", "    look_at_port(options.port)\n"), "damage", ("plan", "try_middle")),
-    Fault("nor whether one was removed", (DESK, "ExecStopPost=-/usr/sbin/acd-ready --stopped --file ${ACD_FILE}\n", ""), "damage", ("plan", "try_removed_log")),
+    Fault("quotes are taken for a part of a file's name", (f"{MODULES}/copy.py", r"""^(["'])(.*)\1$""", r"""^(["'])(.*)\1\1$"""), "starting", ("try_settings",)),
+    Fault("a log isn't looked at", (f"{MODULES}/ready.py", "    look_at_port(options.port)\n    look_at_log(file)\n", "    look_at_port(options.port)\n"), "damage", ("plan", "try_middle")),
+    Fault("nor whether one was removed", (DESK, "ExecStopPost=-/usr/bin/acdctl ready --stopped --file ${ACD_FILE}\n", ""), "damage", ("plan", "try_removed_log")),
     Fault("a start returns before the desk answers", (DESK, "Type=notify\n", "Type=exec\n"), "starting", ("try_slow_opening",)),
     Fault("a start ends behind 90 seconds", (DESK, "TimeoutStartSec=infinity\n", "TimeoutStartSec=2\n"), "starting", ("try_slow_opening",)),
-    Fault("nor whether file and log are of one time", ("usr/sbin/acd-ready", "if acd_pair.is_split(file):", "if False:"), "damage", ("plan", "try_older_file")),
-    Fault("a time that is ahead isn't told", ("usr/sbin/acd-tick", "if moment > int(time.time()) + MINUTE:", "if False:"), "clock", ("plan", "try_ahead")),
+    Fault("nor whether file and log are of one time", (f"{MODULES}/ready.py", "if pair.is_split(file):", "if False:"), "damage", ("plan", "try_older_file")),
+    Fault("a time that is ahead isn't told", (f"{MODULES}/tick.py", "if moment > int(time.time()) + MINUTE:", "if False:"), "clock", ("plan", "try_ahead")),
     Fault("the desk doesn't wait for the clock", (DESK, "After=local-fs.target time-sync.target", "After=local-fs.target"), "clock", ("plan", "try_late_clock")),
     Fault("copies by hand are too many", (COPY, AGAIN, ""), "copies", ("plan", "try_one_behind_the_other")),
     Fault("the ticks' user doesn't see what the desk has open", (TICKS, "User=acd\n", "User=acd-gate\n"), "copies", ("plan", "try_moved_file")),
-    Fault("a restore that is killed leaves no link", ("usr/share/acd/acd_restore.py", "    if is_hidden(file):\n        return\n    if leaving", "    return\n    if leaving"), "copies", ("plan", "try_killed")),
+    Fault("a restore that is killed leaves no link", (f"{MODULES}/restoring.py", "    if is_hidden(file):\n        return\n    if leaving", "    return\n    if leaving"), "copies", ("plan", "try_killed")),
     Fault("a recipe's files are for all to read", (PAGE, "        umask 077\n", ""), "copies", ("plan", "try_new_year")),
     Fault("nothing keeps the desk down", (DESK, "ConditionPathExists=!/run/acd-carry/down\n", ""), "carried", ("try_days", "try_meanwhile")),
-    Fault("a killed carry leaves it down", (CARRY, "ExecStopPost=-+/usr/sbin/acd-carry --start\nExecStopPost=+/usr/sbin/acd-carry --start\n", ""), "carried", ("try_days", "try_killed")),
+    Fault("a killed carry leaves it down", (CARRY, "ExecStopPost=-+/usr/bin/acdctl carry --start\nExecStopPost=+/usr/bin/acdctl carry --start\n", ""), "carried", ("try_days", "try_killed")),
     Fault("what starts it again isn't repeated", (CARRY, "ExecStopPost=-+", "ExecStopPost=+"), "carried", ("try_days", "try_killed")),
-    Fault("a stop waits for itself", ("usr/share/acd/acd_unit.py", '"start", "--no-block", UNIT', '"start", UNIT'), "carried", ("try_days", "try_stopped")),
-    Fault("what keeps it down lies elsewhere", ("usr/share/acd/acd_unit.py", 'Path("/run/acd-carry")', 'Path("/var/lib/acd-carry")'), "carried", ("try_days", "try_meanwhile")),
-    Fault("a desk that was down is started", ("usr/share/acd/acd_unit.py", "    if START.exists() or was_refused():", "    if True:"), "carried", ("try_days", "try_down")),
+    Fault("a stop waits for itself", (f"{MODULES}/unit.py", '"start", "--no-block", UNIT', '"start", UNIT'), "carried", ("try_days", "try_stopped")),
+    Fault("what keeps it down lies elsewhere", (f"{MODULES}/unit.py", 'Path("/run/acd-carry")', 'Path("/var/lib/acd-carry")'), "carried", ("try_days", "try_meanwhile")),
+    Fault("a desk that was down is started", (f"{MODULES}/unit.py", "    if START.exists() or was_refused():", "    if True:"), "carried", ("try_days", "try_down")),
     Fault("a recipe that logs nobody off", (PAGE, '"requested":"loggedOff"}', '"requested":"notReady"}'), "plans", ("plan", "try_forgotten")),
-    Fault("a mark of another system's editor is a part of the first login", ("usr/sbin/acd-gate", '.removeprefix(b"\\xef\\xbb\\xbf")', ""), "plans", ("plan", "try_roles")),
+    Fault("a mark of another system's editor is a part of the first login", (f"{MODULES}/leaving/server.py", '.removeprefix(b"\\xef\\xbb\\xbf")', ""), "plans", ("plan", "try_roles")),
 ]

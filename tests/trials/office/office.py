@@ -134,11 +134,11 @@ class Office(Booted):
         """A place in the journal."""
         return json.loads(self.done("journalctl", "--no-pager", "--lines=1", "--output=json"))["__CURSOR"]
 
-    def said_since(self, mark, name="acd-ready"):
-        """What a program has said since that place; the desk's own lines go by the name of acd-ready too, which it was."""
+    def said_since(self, mark, name="ready"):
+        """What a unit's command has said since that place."""
         # journalctl passes over what is behind a place where only some of the journal is asked for
         said = self.done("journalctl", "--no-pager", "--quiet", "--output=cat", f"--after-cursor={mark}")
-        return [line for line in said.splitlines() if line.startswith(f"{name}: ")]
+        return [line for line in said.splitlines() if line.startswith(f"acdctl {name}: ")]
 
     def fails(self, what, *words, status="64", before=()):
         """The desk is started again: it has failed within two seconds, by one line with these words, isn't started again, and is named; the files are as they were."""

@@ -121,8 +121,8 @@ class Plans(Office):
     def try_roles(self):
         """No file of roles, and one that can't be read as such: told in the journal. One that an editor of another system wrote: its first login has its role."""
         roles = self.inside("/etc/acd/roles")
-        for what, data, line in (("no file", None, "acd-gate: /etc/acd/roles can't be read: No such file or directory"),
-                                 ("a word that is none", b"pbx exchnge\n", "acd-gate: /etc/acd/roles, line 1: pbx is refused: its role is exchnge")):
+        for what, data, line in (("no file", None, "acdctl gate: /etc/acd/roles can't be read: No such file or directory"),
+                                 ("a word that is none", b"pbx exchnge\n", "acdctl gate: /etc/acd/roles, line 1: pbx is refused: its role is exchnge")):
             roles.unlink(missing_ok=True)
             if data:
                 roles.write_bytes(data)

@@ -127,7 +127,7 @@ class Starting(Office):
             found = status, self.curl("http://127.0.0.1:8080/"), time.monotonic() - began > OPENING, self.show("ActiveState") == ["active"]
             self.expect(f"a desk that {'listens' if listens else 'ends'} behind {OPENING} s", found, (0, 200, True, True) if listens else (1, 0, True, False))
             self.done("systemctl", "stop", "acd")
-            self.expect("nobody goes on asking", "acd-ready --serve" in self.done("ps", "-eo", "args"), False)
+            self.expect("nobody goes on asking", "acdctl ready --serve" in self.done("ps", "-eo", "args"), False)
         self.done("rm", "/usr/local/bin/acd")
         self.restarts("with the program")
 
@@ -204,8 +204,8 @@ class Starting(Office):
         self.stranger()
         self.fails("a taken port", "port 8080 is taken", "ss -ltnp sport = :8080", "ACD_PORT in /etc/acd/acd.env")
         self.expect_in("the line's own advice names who has it", self.done("ss", "-ltnp", "sport = :8080"), "python3")
-        lines = self.eventually(lambda: self.said_since(ticks, "acd-tick"), ["acd-tick: who listens at port 8080 is no desk, and is sent nothing"])
-        self.expect("the ticks tell it too", lines, ["acd-tick: who listens at port 8080 is no desk, and is sent nothing"])
+        lines = self.eventually(lambda: self.said_since(ticks, "tick"), ["acdctl tick: who listens at port 8080 is no desk, and is sent nothing"])
+        self.expect("the ticks tell it too", lines, ["acdctl tick: who listens at port 8080 is no desk, and is sent nothing"])
         asked = self.journal("stranger")
         self.expect("the stranger is asked, and sent nothing", ("GET /snapshot" in asked, "POST" in asked), (True, False))
         status, said = self.ran("dpkg", "--install", *[f"{HOME}/{path.name}" for path in self.inside(HOME).glob("acd_*.deb")])

@@ -1,15 +1,16 @@
 """What the trials of acd-ready stand on: the script and its modules in a folder of their own, of which one may have a fault; a desk's file, and a call that arrives there."""
-import importlib.machinery
-import importlib.util
+import importlib
 import os
 import re
 import sys
 import tempfile
 from pathlib import Path
+from unittest import mock
 
-from trial import TOP, Desk, Plan, Requests, Trial, free_port, line, ran
+from shipped import shipped, text_of
+from trial import Desk, Plan, Requests, Trial, free_port, line, ran
 
-SCRIPTS = ("acd-ready", "acd_audit.py", "acd_chain.py", "acd_held.py", "acd_log.py", "acd_notify.py", "acd_pair.py", "acd_put.py", "acd_restore.py", "acd_settings.py")
+MODULES = ("ready.py", "audit.py", "chain.py", "held.py", "log.py", "notify.py", "pair.py", "put.py", "restoring.py", "settings.py")
 MOMENT = 1800000000
 MEND, WORDS, ELSEWHERE, AGAIN = 64, 2, 4, 1
 
@@ -25,15 +26,12 @@ def arrival(number):
 
 
 class Scripts(Trial):
-    texts = {name: (TOP / "service/acd_service" / name).read_text() for name in SCRIPTS}
+    texts = {name: text_of(name) for name in MODULES}
 
     @classmethod
     def setUpClass(cls):
         super().setUpClass()
-        cls.scripts = cls.folder / "scripts"
-        cls.scripts.mkdir()
-        for name, text in cls.texts.items():
-            (cls.scripts / name).write_text(text)
+        cls.scripts = shipped(cls.folder / "scripts", cls.texts)
         cls.plan = cls.folder / "plan.csv"
         cls.plan.write_text(Plan([("100", "Billing", 20, 5)], ["201"], [("7", "Ana")]).text())
 
@@ -46,18 +44,17 @@ class Scripts(Trial):
         return file
 
     @classmethod
-    def module(cls):
-        """acd-ready as a module."""
-        sys.path.insert(0, str(cls.scripts))
-        try:
-            loader = importlib.machinery.SourceFileLoader("acd_ready", str(cls.scripts / "acd-ready"))
-            module = importlib.util.module_from_spec(importlib.util.spec_from_loader("acd_ready", loader))
-            for name in SCRIPTS:
-                sys.modules.pop(name.removesuffix(".py"), None)
-            loader.exec_module(module)
-        finally:
-            sys.path.remove(str(cls.scripts))
-        return module
+    def modules(cls, *names):
+        """Modules of the scripts, loaded anew with all that they stand on, which nobody else gets."""
+        with mock.patch.dict(sys.modules), mock.patch.object(sys, "path", [str(cls.scripts.parent), *sys.path]):
+            for each in [each for each in sys.modules if each.partition(".")[0] == "acd_service"]:
+                del sys.modules[each]
+            importlib.invalidate_caches()
+            return [importlib.import_module(f"acd_service.{name}") for name in names]
+
+    @classmethod
+    def module(cls, name="ready"):
+        return cls.modules(name)[0]
 
 
 class Served(Desk):

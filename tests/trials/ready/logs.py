@@ -1,4 +1,4 @@
-"""Cases of acd_log.py: logs of the program and of SQLite, spoiled in many places. The rule judges, over frames that this file reads by itself, and so does SQLite, by the rows that it finds."""
+"""Cases of log.py: logs of the program and of SQLite, spoiled in many places. The rule judges, over frames that this file reads by itself, and so does SQLite, by the rows that it finds."""
 import itertools
 import random
 import sqlite3
@@ -98,7 +98,7 @@ class Logs(Scripts):
     @classmethod
     def setUpClass(cls):
         super().setUpClass()
-        cls.reader, cls.places = cls.module().acd_log, itertools.count()
+        cls.reader, cls.places = cls.module("log"), itertools.count()
         cls.logs = [of_program(cls.program, cls.new()), *(of_sqlite(cls.folder, page) for page in (512, 4096)), of_sqlite(cls.folder, 1024, restarted=True)]
 
     def look(self, data):

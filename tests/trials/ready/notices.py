@@ -99,7 +99,7 @@ class Notices(Ready):
         for file in ("roles", "users"):
             (self.folder / file).touch()
         port = free_port()
-        for what, *words in (("the gate", "/usr/bin/python3", "-B", TOP / "service/acd_service/acd-gate", "--port", port, "--roles", self.folder / "roles", "--users", self.folder / "users"),
+        for what, *words in (("the gate", "/usr/bin/python3", "-B", TOP / "service/bin/acd-gate", "--port", port, "--roles", self.folder / "roles", "--users", self.folder / "users"),
                              ("the exchange", sys.executable, "-B", TOP / "exchange/acd-exchange", "--edge", "127.0.0.1:5060", "--listen", f"127.0.0.1:{port}", "--file", self.folder / "exchange.db")):
             with self.noticed() as (hears, variables), running(*words, env={**os.environ, **variables}, stdout=subprocess.DEVNULL):
                 self.expect(f"{what} tells it", self.heard(hears, 60), b"READY=1")

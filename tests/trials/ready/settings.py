@@ -30,7 +30,7 @@ class Settings(Ready):
 
     def try_all_names(self):
         """Each name that a shipped file has is known."""
-        module, found = self.module().acd_settings, set()
+        module, found = self.module("settings"), set()
         for folder in ("board", "client", "docs", "exchange", "packaging", "service"):
             for file in (TOP / folder).rglob("*"):
                 if file.is_file() and file.suffix not in (".png", ".pyc"):
@@ -120,5 +120,5 @@ class Settings(Ready):
             (found / "systemctl").chmod(0o755)
             with mock.patch.dict(os.environ, self.finding(found)):
                 self.expect(f"its status is {status}", ready.is_active(ready.timer()), status == 0)
-        ready.acd_held.unit = lambda _: "acd-north"
+        ready.held.unit = lambda _: "acd-north"
         self.expect("a second help line's", ready.timer(), "acd-copy-north.timer")

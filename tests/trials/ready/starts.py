@@ -298,8 +298,8 @@ class Starts(Ready):
         """What another program writes meanwhile looks damaged, and isn't."""
         file = self.new()
         log = file.with_name("desk.db-wal")
-        ready = self.module()
-        bad = ready.acd_log.Damaged
+        ready, logs = self.modules("ready", "log")
+        bad = ready.Damaged
 
         def writes():
             with open(log, "ab") as out:
@@ -315,10 +315,10 @@ class Starts(Ready):
                     one()
                     one = left.pop(0)
                 return one
-            ready.acd_log.look = look
+            ready.look = look
             return ready.settled(log)
 
-        sound, torn = ready.acd_log.Sound(), ready.acd_log.Torn(2, 100)
+        sound, torn = ready.Sound(), logs.Torn(2, 100)
         self.expect("damaged, and nobody writes", looks(bad(2, 100), bad(2, 100)), bad(2, 100))
         self.expect("torn, and nobody writes", looks(torn, torn), torn)
         self.expect("whole at once", looks(sound), sound)

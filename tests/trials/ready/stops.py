@@ -79,7 +79,7 @@ class Stops(Ready):
     def try_rewritten(self):
         """Who writes into the file without making it longer changes its time."""
         file, log, _ = self.ended("signal")
-        pairs, found, size = self.module().acd_pair, file.stat(), log.stat().st_size
+        pairs, found, size = self.module("pair"), file.stat(), log.stat().st_size
         log.unlink()
         self.expect("a log that is gone", pairs.lost(file), size)
         os.utime(file, ns=(found.st_atime_ns, found.st_mtime_ns + 1))

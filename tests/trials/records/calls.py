@@ -147,7 +147,7 @@ class Calls(Records):
             file = self.written(json.dumps({"limits": {"limit": limit}}))
             lines = self.script("--file", self.story, "--office", file, "--groups")[1].splitlines()[1:]
             self.expect(f"the limit {limit}", [list(map(int, line.split(",")[7:10])) for line in lines], [first, second])
-        quarter = self.module(self.scripts["acd-calls"].with_name("acd_quarters.py")).Quarter
+        quarter = self.module(self.scripts["acd-calls"].parents[1] / "acd_service/leaving/quarters.py").Quarter
         # the fourth as the page's Math.round has it, of the same number
         for in_time, answered, late, level in ((2, 3, 0, 67), (1, 8, 0, 13), (1, 3, 0, 33), (57, 150, 50, 28), (0, 0, 4, 0), (0, 0, 0, None)):
             self.expect(f"{in_time} of {answered} and {late}", quarter(answered=answered, in_time=in_time, late=late).level, level)
@@ -277,7 +277,7 @@ class Calls(Records):
 
     def try_gate(self):
         """The gate gives a lead the lines of the own groups; where there is a gate that serves files of records."""
-        file, folder = TOP / "service/acd_service/acd_files.py", self.folder / "written"
+        file, folder = TOP / "service/acd_service/gate/files.py", self.folder / "written"
         if not file.exists():
             return
         gate = self.module(file)
@@ -355,7 +355,7 @@ class Calls(Records):
 
     def try_live_anew(self):
         """Where the log begins anew while file and log are copied, they are copied again; where it does so each time, that is a fault, and no mixture."""
-        book = self.module(self.scripts["acd-calls"].with_name("acd_book.py"))
+        book = self.module(self.scripts["acd-calls"].parents[1] / "acd_service/book.py")
         copyfile, times = shutil.copyfile, []
 
         def slow(part, to):

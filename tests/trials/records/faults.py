@@ -9,12 +9,12 @@ CALLS = [
     ("until leaves its day out", "day <= self.options.until", "day < self.options.until"),
     ("names of the desk alone", "            names[kind] |= office.names[kind]", "            pass"),
     ("the oldest copy", "made, place = max(found)", "made, place = min(found)"),
-    ("archives that are named alone", "archives = [] if is_whole(book, since) else archives_of(file, since)", "archives = []"),
+    ("archives that are named alone", "earlier = [] if is_whole(book, since) else archives_of(file, since)", "earlier = []"),
     ("what is missing has the status 0", "sys.exit(0 if do(options, folder) else MISSING)", "sys.exit(0 * do(options, folder))"),
     ("what is missing isn't told", "        has_all = is_whole(book, since)\n", "        has_all = True\n"),
     ("the day of the file's begin is whole", "since > datetime.date.fromtimestamp(begins)", "since >= datetime.date.fromtimestamp(begins)"),
     ("each archive is opened", "[] if is_whole(book, since) else archives_of(file, since)", "archives_of(file, None)"),
-    ("copies of archives aren't found", "folders = [file.parent, acd_chain.copies_of(file.parent.parent)]", "folders = [file.parent]"),
+    ("copies of archives aren't found", "folders = [file.parent, chain.copies_of(file.parent.parent)]", "folders = [file.parent]"),
     ("a day ends with the last request", "end = max(book.last_moment(), made)", "end = book.last_moment()"),
 ]
 BOOK = [
@@ -112,7 +112,7 @@ PLAN = [
     ("a crossed number goes out", "    if crossed:\n        raise Fault(*crossed)\n", ""),
     ("a number may stand there twice", "        if key(row) in found:", "        if False:"),
     ("what is refused has the status 0", 'return not done["refused"]', "return True"),
-    ("one requester for ever", 'acd_reach.new_requester(options.login, "plan")', '"plan-0123456789abcdef"'),
+    ("one requester for ever", 'reach.new_requester(options.login, "plan")', '"plan-0123456789abcdef"'),
     ("it sends what it is to print", "    if options.send:", "    if client:"),
     ("one mark alone", "data.removeprefix(MARK).removeprefix(MARK)", "data.removeprefix(MARK)"),
     ("more than an hour", " or (form == SECONDS and int(member) > MOST_SECONDS)", ""),
@@ -129,5 +129,5 @@ REACH = [
 ]
 
 # of which script, in which file
-ALL = [("calls", "acd-calls", CALLS), ("calls", "acd_book.py", BOOK), ("calls", "acd_records.py", RECORDS), ("calls", "acd_quarters.py", QUARTERS), ("calls", "acd_record_days.py", DAYS),
-       ("calls", "acd_sheets.py", SHEETS), ("calls", "acd_office.py", OFFICE), ("plan", "acd-plan", PLAN), ("plan", "acd_reach.py", REACH)]
+ALL = [("calls", "calls.py", CALLS), ("calls", "book.py", BOOK), ("calls", "leaving/records.py", RECORDS), ("calls", "leaving/quarters.py", QUARTERS), ("calls", "record_days.py", DAYS),
+       ("calls", "sheets.py", SHEETS), ("calls", "office.py", OFFICE), ("plan", "plan.py", PLAN), ("plan", "reach.py", REACH)]

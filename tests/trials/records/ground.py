@@ -1,11 +1,12 @@
 """What the trials of acd-calls and acd-plan stand on: the two scripts, of which one may have a fault, and how they are run."""
 import os
 
-from trial import TOP, Trial, lines, ran
+from shipped import SERVICE
+from trial import Trial, lines, ran
 
 
 class Records(Trial):
-    scripts = {name: TOP / "service/acd_service" / name for name in ("acd-calls", "acd-plan")}
+    scripts = {name: SERVICE / "bin" / name for name in ("acd-calls", "acd-plan")}
 
     @classmethod
     def ran(cls, words, given="", zone="UTC", password=None):

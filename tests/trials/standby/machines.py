@@ -11,7 +11,7 @@ from pathlib import Path
 
 from trial import TOP
 
-OPERATING, CLIENT, BENCH = TOP / "service/acd_service", TOP / "client", TOP / "bench"
+OPERATING, CLIENT, BENCH = TOP / "service/bin", TOP / "client", TOP / "bench"
 
 # that of Debian, which the scripts are run by
 PYTHON = "/usr/bin/python3"

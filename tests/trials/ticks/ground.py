@@ -6,6 +6,7 @@ import threading
 from http.server import BaseHTTPRequestHandler, ThreadingHTTPServer
 from pathlib import Path
 
+from shipped import PACKAGE, shipped
 from trial import TOP, Trial, ran
 
 CLOCK = "clock-abcdefghijkl"
@@ -94,15 +95,14 @@ class Handler(BaseHTTPRequestHandler):
 class Ground(Trial):
     """A copy of acd-tick, with what it stands on beside it. `sources` are the two, of which one may have a fault."""
 
-    sources = TOP / "service/acd_service/acd-tick", TOP / "client/acd_due.py"
+    sources = PACKAGE / "tick.py", TOP / "client/acd_due.py"
 
     @classmethod
     def setUpClass(cls):
         super().setUpClass()
-        cls.ticks = cls.folder / "acd-tick"
-        for source, name in zip(cls.sources, ("acd-tick", "acd_due.py")):
-            shutil.copy(source, cls.folder / name)
-        (cls.folder / "acd_held.py").write_text(HELD)
+        tick, due = cls.sources
+        cls.ticks = shipped(cls.folder / "service", {"tick.py": tick.read_text(), "held.py": HELD}) / "acd-tick"
+        shutil.copy(due, cls.folder / "service")
 
     def by_its_own_clock(self, desk, hours, clock=CLOCK, begin=BEGIN, moved="", words=(), step=STEP, jumps=(), patience=None):
         """What it tells in so many hours, which pass as fast as the desk is asked."""

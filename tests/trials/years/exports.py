@@ -1,4 +1,4 @@
-"""acd-export over a file and its archives, and acd_archives.py: what they read is what one file of all has; holes, altered rows and a wrong order are told. And who
+"""acd-export over a file and its archives, and archives.py: what they read is what one file of all has; holes, altered rows and a wrong order are told. And who
 follows events over a file that was carried over."""
 import importlib.util
 import json
@@ -6,25 +6,26 @@ import re
 import subprocess
 import sys
 import urllib.request
+from unittest import mock
 
 from cases import changed
 from ground import TOP, Ground, copied, firsts, held, joined, log_of
 from kills import PLAN, calls
 
-sys.path += [str(TOP / "client"), str(TOP / "service/acd_service")]
+sys.path.append(str(TOP / "service"))
 import acd_client  # noqa: E402
-import acd_days as days  # noqa: E402
-import acd_following as following  # noqa: E402
+from acd_service.leaving import days, following  # noqa: E402
 from trial import Desk  # noqa: E402
 
 
 def module(ground):
-    """As it lies among the scripts."""
-    for name in ("acd_book", "acd_archives"):
-        spec = importlib.util.spec_from_file_location(name, ground.scripts / f"{name}.py")
-        sys.modules[name] = importlib.util.module_from_spec(spec)
-        spec.loader.exec_module(sys.modules[name])
-    return sys.modules["acd_archives"]
+    """The reader of archives, and what it stands on, as they lie among the scripts."""
+    with mock.patch.dict(sys.modules):
+        for name in ("acd_service.book", "acd_service.archives"):
+            spec = importlib.util.spec_from_file_location(name, ground.scripts.parent / f"{name.replace('.', '/')}.py")
+            sys.modules[name] = found = importlib.util.module_from_spec(spec)
+            spec.loader.exec_module(found)
+    return found
 
 
 class Exports:
@@ -81,7 +82,7 @@ class Exports:
             status, out, faults = self.ground.export(*self.words([self.archives[0], altered, self.archives[2]], self.file))
             self.ground.expect("two of one number", (status, out, faults), (3, self.text, f"acd-export: event {number} is another one in {altered} than in {self.archives[0]}\n"))
 
-    # acd_archives.py
+    # archives.py
 
     def reads(self, archives, file):
         """All that a reader gets, or why it gets nothing."""

@@ -6,14 +6,16 @@ import sys
 import tempfile
 from pathlib import Path
 
+from shipped import PACKAGE, shipped
 from trial import TOP, Lines, Trial, planted, ran
 
-COMMANDS, UNITS = TOP / "service/acd_service", TOP / "service/units"
+UNITS = TOP / "service/units"
 sys.path.append(str(TOP / "tests"))
 import tables  # noqa: E402
 
-SCRIPTS = {file.name: file.read_text() for file in (*COMMANDS.glob("acd_*.py"), *(COMMANDS / name for name in (
-    "acd-calls", "acd-carry", "acd-copy", "acd-export", "acd-forget", "acd-ready")), UNITS / "acd.service", UNITS / "acd-carry.service")}
+CARRY = "leaving/carry.py"
+MODULES = {str(file.relative_to(PACKAGE)): file.read_text() for file in PACKAGE.rglob("*.py")}
+TEXTS = {**MODULES, **{name: (UNITS / name).read_text() for name in ("acd.service", "acd-carry.service")}}
 # that of Debian, which the scripts are run by
 PYTHON = "/usr/bin/python3"
 HISTORY = {"kept": "stamp", "events": "number"}
@@ -29,24 +31,25 @@ class Ground(Trial):
     """A class has the program as `acd`, the scripts, of which one may have a fault, and a copy of acd-carry that short days can be cut by. `case` is the one that is tried of a part
     that has several."""
 
-    texts, short_carry, case = SCRIPTS, short(SCRIPTS["acd-carry"]), None
+    texts, short_carry, case = TEXTS, short(TEXTS[CARRY]), None
 
     @classmethod
     def lay(cls, faults):
         """For all that are tried from here on: pairs of texts by the file's name."""
-        Ground.texts = {name: planted(text, *faults[name]) if name in faults else text for name, text in SCRIPTS.items()}
-        Ground.short_carry = short(Ground.texts["acd-carry"])
+        Ground.texts = {name: planted(text, *faults[name]) if name in faults else text for name, text in TEXTS.items()}
+        Ground.short_carry = short(Ground.texts[CARRY])
 
     @classmethod
     def setUpClass(cls):
         super().setUpClass()
-        cls.scripts, cls.short, program = cls.folder / "scripts", cls.folder / "short", cls.folder / "bin/acd"
+        program = cls.folder / "bin/acd"
         program.parent.mkdir()
         cls.program = Path(shutil.copy(Trial.program, program))
-        for folder, texts in ((cls.scripts, cls.texts), (cls.short, {**cls.texts, "acd-carry": cls.short_carry})):
-            folder.mkdir()
-            for name, text in texts.items():
-                (folder / name).write_text(text)
+        modules = {name: cls.texts[name] for name in MODULES}
+        cls.scripts = shipped(cls.folder / "scripts", modules)
+        cls.short = shipped(cls.folder / "short", {**modules, CARRY: cls.short_carry})
+        for name in cls.texts.keys() - modules.keys():
+            (cls.scripts / name).write_text(cls.texts[name])
 
     @contextlib.contextmanager
     def scratch(self):

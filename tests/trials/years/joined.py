@@ -10,8 +10,8 @@ import tempfile
 from pathlib import Path
 
 sys.dont_write_bytecode = True
-sys.path[:0] = [str(Path(__file__).resolve().parents[3] / name) for name in ("tests/trials/years", "service/acd_service", "tests/trials")]
-import acd_chain  # noqa: E402
+sys.path[:0] = [str(Path(__file__).resolve().parents[3] / name) for name in ("tests/trials/years", "service", "tests/trials")]
+from acd_service import chain  # noqa: E402
 from ground import copied, joined  # noqa: E402
 
 
@@ -29,7 +29,7 @@ def stand_in(program, folder):
 
 def chained(archive):
     """The archives from the oldest one on, to this one."""
-    return [*(acd_chain.place(note, archive.parent) for note in reversed(acd_chain.chain(archive))), archive]
+    return [*(chain.place(note, archive.parent) for note in reversed(chain.chain(archive))), archive]
 
 
 def main():

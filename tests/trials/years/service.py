@@ -275,7 +275,7 @@ class Service:
         """It is told by a line; the desk is back over the old file, or was never stopped; and nothing else lies there than before."""
         process, before = self.desk.process(), {name: found for name, found in listing(self.place).items() if name not in LIES}
         has = self.unit.start()
-        lines = [line for line in self.unit.said.splitlines() if line.startswith("acd-carry: ")]
+        lines = [line for line in self.unit.said.splitlines() if line.startswith("acdctl carry: ")]
         self.ground.expect(f"{what}: {self.unit.said}", (has, len(lines), wanted in "".join(lines)), (ended, 1, True))
         self.ground.expect(f"{what}: nothing keeps the desk down", RUN.exists(), False)
         self.answers(what, 1)

@@ -1,7 +1,5 @@
 """What the gate's tests begin with: the gate, loaded as a module, over a stand-in for the desk that keeps the requests it gets."""
 import contextlib
-import importlib.machinery
-import importlib.util
 import io
 import json
 import sys
@@ -12,12 +10,12 @@ from http.server import BaseHTTPRequestHandler, ThreadingHTTPServer
 from pathlib import Path
 
 TOP = Path(__file__).resolve().parents[3]
-sys.path += [str(TOP / "service/acd_service"), str(TOP / "tests/trials")]
+sys.path += [str(TOP / "service"), str(TOP / "tests/trials")]
+from acd_service import command  # noqa: E402
+from acd_service.leaving import server as gate  # noqa: E402
 from trial import Connection, bytes_back  # noqa: E402
 
-loader = importlib.machinery.SourceFileLoader("gate", str(TOP / "service/acd_service/acd-gate"))
-gate = importlib.util.module_from_spec(importlib.util.spec_from_loader(loader.name, loader))
-loader.exec_module(gate)
+command.call_it("acd-gate", "acd-gate")
 
 ROLES = """# who may what
 pbx exchange

@@ -17,8 +17,7 @@ from unittest import mock
 
 from standing import FORBIDDEN, ROLES, SECRET, USERS, GateTest, gate
 
-import acd_passwords as passwords
-import acd_sessions as sessions
+from acd_service.gate import passwords, sessions
 from trial import Connection, until
 
 

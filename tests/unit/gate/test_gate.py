@@ -12,8 +12,7 @@ from unittest import mock
 
 from standing import FORBIDDEN, PAGE, ROLES, SECRET, USERS, GateTest, gate, lines, roles
 
-import acd_days as days
-import acd_following as following
+from acd_service.leaving import days, following
 
 CALL_SERVICES = ["makeCall", "phoneOffHook", "answerCall", "rejectCall", "holdCall", "retrieveCall", "clearConnection", "deflectCall", "singleStepTransfer"]
 PLAN_SERVICES = ["addGroup", "addStation", "addAgent", "setGroupPriority", "changeGroup", "changeAgent"]

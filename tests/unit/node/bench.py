@@ -8,12 +8,12 @@ import warnings
 from pathlib import Path
 
 HERE = Path(__file__).resolve().parent
-COMMANDS = HERE.parents[2] / "service/acd_service"
-sys.path[:0] = [str(COMMANDS), str(HERE)]
+SERVICE = HERE.parents[2] / "service"
+sys.path[:0] = [str(SERVICE), str(HERE)]
 
+from acd_service.node.journal import Journal  # noqa: E402
+from acd_service.node.log import Log  # noqa: E402
 from etcd import Member, Store  # noqa: E402
-from machine.journal import Journal  # noqa: E402
-from machine.log import Log  # noqa: E402
 
 LINE = b"desk/line"
 

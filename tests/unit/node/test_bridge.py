@@ -11,8 +11,8 @@ from pathlib import Path
 sys.path.insert(0, str(Path(__file__).resolve().parent))
 
 from bench import HERE, LINE, Bench, token  # noqa: E402
-from machine.bridge import PERIOD, Bridge  # noqa: E402
-from machine.folder import NOTHING, UNCHECKED, Checked, Folder, Reached, State  # noqa: E402
+from acd_service.node.bridge import PERIOD, Bridge  # noqa: E402
+from acd_service.node.folder import NOTHING, UNCHECKED, Checked, Folder, Reached, State  # noqa: E402
 
 DESK = str(HERE / "desk.py")
 

@@ -3,9 +3,9 @@ import sys
 import unittest
 from pathlib import Path
 
-sys.path.insert(0, str(Path(__file__).resolve().parents[3] / "service/acd_service"))
+sys.path.insert(0, str(Path(__file__).resolve().parents[3] / "service"))
 
-from machine.entries import entry_of, parts, request_of  # noqa: E402
+from acd_service.node.entries import entry_of, parts, request_of  # noqa: E402
 
 TOKEN = b"0123456789abcdefABCDEF0123456789"
 

@@ -13,8 +13,8 @@ from pathlib import Path
 sys.path.insert(0, str(Path(__file__).resolve().parent))
 
 from bench import Bench  # noqa: E402
-from machine.front import Front  # noqa: E402
-from machine.handshakes import network_of  # noqa: E402
+from acd_service.node.front import Front  # noqa: E402
+from acd_service.node.handshakes import network_of  # noqa: E402
 
 JSON = b'{"error":{"code":30,"member":"json","name":"malformed"}}'
 HEAD = b'{"error":{"code":30,"member":"head","name":"malformed"}}'

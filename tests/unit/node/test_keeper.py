@@ -8,8 +8,8 @@ sys.path.insert(0, str(Path(__file__).resolve().parent))
 
 from bench import LINE, Bench  # noqa: E402
 from collections import deque  # noqa: E402
-from machine.folder import UNCHECKED, Checked, Reached, State  # noqa: E402
-from machine.keeper import Keeper  # noqa: E402
+from acd_service.node.folder import UNCHECKED, Checked, Reached, State  # noqa: E402
+from acd_service.node.keeper import Keeper  # noqa: E402
 
 
 class Machine:

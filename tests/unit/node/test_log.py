@@ -12,7 +12,7 @@ sys.path.insert(0, str(Path(__file__).resolve().parent))
 
 from bench import LINE, Bench, token  # noqa: E402
 from etcd import text  # noqa: E402
-from machine.log import QUOTA, Compacted, Forgotten, Refused, events  # noqa: E402
+from acd_service.node.log import QUOTA, Compacted, Forgotten, Refused, events  # noqa: E402
 
 
 def followed(many, log, place=0, seen=0):
@@ -180,7 +180,7 @@ class Following(Bench):
         self.store.put(LINE + b"/place/m1", b"3")
         log = self.log()
         log.compact(log.end_of(3))
-        with mock.patch("machine.log.time.sleep", side_effect=lambda _: self.entries(1, 3)):
+        with mock.patch("acd_service.node.log.time.sleep", side_effect=lambda _: self.entries(1, 3)):
             self.assertEqual(followed(1, log, 3), [3])
 
     def test_places_that_are_forgotten_before_a_watch_begins(self):

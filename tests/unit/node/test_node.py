@@ -13,9 +13,9 @@ from pathlib import Path
 
 sys.path.insert(0, str(Path(__file__).resolve().parent))
 
-from bench import COMMANDS, HERE, LINE, Bench, token  # noqa: E402
+from bench import HERE, LINE, SERVICE, Bench, token  # noqa: E402
 
-NODE = str(COMMANDS / "acd-node")
+NODE = str(SERVICE / "bin/acd-node")
 NEEDED = ["--name", "m1", "--folder", "/nonexistent/folder", "--etcd", "127.0.0.1:9"]
 
 

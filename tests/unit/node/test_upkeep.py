@@ -7,7 +7,7 @@ from unittest import mock
 sys.path.insert(0, str(Path(__file__).resolve().parent))
 
 from bench import Bench  # noqa: E402
-from machine import upkeep  # noqa: E402
+from acd_service.node import upkeep  # noqa: E402
 
 MACHINES = ["m1", "m2", "m3"]
 

@@ -1,7 +1,5 @@
 """acd-certificate: what it says of certificates that openssl made, and with which status it ends."""
 import datetime
-import importlib.machinery
-import importlib.util
 import re
 import socket
 import ssl
@@ -13,11 +11,9 @@ import unittest
 from pathlib import Path
 
 TOP = Path(__file__).resolve().parents[3]
-PROGRAM = TOP / "service/acd_service/acd-certificate"
-sys.dont_write_bytecode = True
-loader = importlib.machinery.SourceFileLoader("acd_certificate", str(PROGRAM))
-program = importlib.util.module_from_spec(importlib.util.spec_from_loader(loader.name, loader))
-loader.exec_module(program)
+PROGRAM = TOP / "service/bin/acd-certificate"
+sys.path.append(str(TOP / "service"))
+from acd_service import certificate as program  # noqa: E402
 
 
 def openssl(folder, *words):

@@ -1,7 +1,5 @@
 #!/usr/bin/python3 -B
 """Tests of what acd-copy says of nginx's configurations.   usage: tests/unit/service/test_copy.py"""
-import importlib.machinery
-import importlib.util
 import sys
 import tempfile
 import unittest
@@ -9,11 +7,8 @@ from pathlib import Path
 from unittest import mock
 
 SERVICE = Path(__file__).resolve().parents[3] / "service"
-COMMANDS = SERVICE / "acd_service"
-sys.path.append(str(COMMANDS))
-loader = importlib.machinery.SourceFileLoader("acd_copy", str(COMMANDS / "acd-copy"))
-acd_copy = importlib.util.module_from_spec(importlib.util.spec_from_loader(loader.name, loader))
-loader.exec_module(acd_copy)
+sys.path.append(str(SERVICE))
+from acd_service import copy  # noqa: E402
 
 NOW = (SERVICE / "nginx/nginx.conf").read_text()
 # without what refuses a stranger, as it was up to 1.14
@@ -23,13 +18,13 @@ BEFORE = "".join(line for line in NOW.splitlines(keepends=True) if "secure_link"
 class OldProxies(unittest.TestCase):
     def named(self, **files):
         """The files that are named, of these by their folders."""
-        with tempfile.TemporaryDirectory() as folder, mock.patch.object(acd_copy, "NGINX", Path(folder)):
+        with tempfile.TemporaryDirectory() as folder, mock.patch.object(copy, "NGINX", Path(folder)):
             for name, texts in files.items():
                 place = Path(folder, name.replace("_", "-" if "sites" in name else "."))
                 place.mkdir()
                 for file, text in texts.items():
                     (place / file).write_bytes(text)
-            return [str(file.relative_to(folder)) for file in acd_copy.old_proxies()]
+            return [str(file.relative_to(folder)) for file in copy.old_proxies()]
 
     def test_without_nginx(self):
         self.assertEqual(self.named(), [])

@@ -17,7 +17,7 @@ def told(*words):
 
 def options_of(name):
     """The long options that --help names."""
-    return set(re.findall(r"^  (?:-h, )?(--[\w-]+)", told(sys.executable, SERVICE / "acd_service" / name, "--help"), re.MULTILINE))
+    return set(re.findall(r"^  (?:-h, )?(--[\w-]+)", told(sys.executable, SERVICE / "bin" / name, "--help"), re.MULTILINE))
 
 
 class Options(unittest.TestCase):

@@ -1,9 +1,7 @@
 #!/usr/bin/python3 -B
-"""Tests of acd_put, and of each program's small files that it puts in their place.   usage: tests/unit/service/test_put.py"""
+"""Tests of put, and of each program's small files that it puts in their place.   usage: tests/unit/service/test_put.py"""
 import csv
 import datetime
-import importlib.machinery
-import importlib.util
 import os
 import stat
 import sys
@@ -12,38 +10,30 @@ import unittest
 from pathlib import Path
 from unittest import mock
 
-COMMANDS = Path(__file__).resolve().parents[3] / "service/acd_service"
-sys.path.append(str(COMMANDS))
-import acd_chain  # noqa: E402
-import acd_pair  # noqa: E402
-import acd_put  # noqa: E402
-import acd_record_days  # noqa: E402
-import acd_restore  # noqa: E402
-import acd_sessions  # noqa: E402
-
-loader = importlib.machinery.SourceFileLoader("acd_copy", str(COMMANDS / "acd-copy"))
-acd_copy = importlib.util.module_from_spec(importlib.util.spec_from_loader(loader.name, loader))
-loader.exec_module(acd_copy)
+sys.path.append(str(Path(__file__).resolve().parents[3] / "service"))
+from acd_service import chain, copy, put, record_days, restoring  # noqa: E402
+from acd_service.gate.sessions import Session, Sessions  # noqa: E402
+from acd_service.pair import remember  # noqa: E402
 
 
 def records(folder, number):
     """The file of a day's records, of so many rows."""
     first, tomorrow = datetime.date(2026, 1, 1), datetime.date(2026, 1, 2)
-    with acd_record_days.Days(folder, first, tomorrow, {kind: ["number"] for kind in acd_record_days.KINDS}, csv.writer) as days:
+    with record_days.Days(folder, first, tomorrow, {kind: ["number"] for kind in record_days.KINDS}, csv.writer) as days:
         for row in range(number):
             days.write("records", first, [row])
 
 
 def sessions(folder, number):
     """The gate's file, of so many sessions."""
-    kept = acd_sessions.Sessions(folder / "sessions", mock.Mock(now=lambda: {"ana": "hash"}))
-    kept.found = {str(one): acd_sessions.Session("ana", "bound", one, one) for one in range(number)}
+    kept = Sessions(folder / "sessions", mock.Mock(now=lambda: {"ana": "hash"}))
+    kept.found = {str(one): Session("ana", "bound", one, one) for one in range(number)}
     kept.keep()
 
 
 def state(folder, number):
     """What a restore says of itself."""
-    put_away = acd_restore.PutAway(folder, folder / "desk.db")
+    put_away = restoring.PutAway(folder, folder / "desk.db")
     put_away.number = number
     put_away.save()
 
@@ -51,7 +41,7 @@ def state(folder, number):
 def pair(folder, number):
     """The note of which file and which log belong together, with a log of so many bytes."""
     (folder / "desk.db-wal").write_bytes(bytes(number))
-    acd_pair.remember(folder / "desk.db", is_left=True)
+    remember(folder / "desk.db", is_left=True)
 
 
 def writers(folder):
@@ -59,10 +49,10 @@ def writers(folder):
     (folder / "desk.db").touch()
     chained = folder / "chained.db"
     return [("the note of a pair", folder / "desk.db-pair", lambda number: pair(folder, number)),
-            ("the note of an archive", acd_chain.note_of(chained), lambda number: acd_chain.put_note(chained, acd_chain.Note("a", number, "b", "c"))),
-            ("a digest", folder / "one.sha256", lambda number: acd_chain.put_digest(folder / "one", number)),
+            ("the note of an archive", chain.note_of(chained), lambda number: chain.put_note(chained, chain.Note("a", number, "b", "c"))),
+            ("a digest", folder / "one.sha256", lambda number: chain.put_digest(folder / "one", number)),
             ("the state of a restore", folder / "state.json", lambda number: state(folder, number)),
-            ("the number of a copy", folder / "executed", lambda number: acd_copy.counted(folder, folder / "desk.db", number)),
+            ("the number of a copy", folder / "executed", lambda number: copy.counted(folder, folder / "desk.db", number)),
             ("a day's records", folder / "records/2026-01-01.csv", lambda number: records(folder, number)),
             ("the gate's sessions", folder / "sessions", lambda number: sessions(folder, number))]
 
@@ -100,20 +90,20 @@ class Put(unittest.TestCase):
         for umask in (0o000, 0o027, 0o077):
             before = os.umask(umask)
             try:
-                acd_put.put(self.folder / "file", "text", 0o640)
+                put.put(self.folder / "file", "text", 0o640)
             finally:
                 os.umask(before)
             self.assertEqual(stat.S_IMODE((self.folder / "file").stat().st_mode), 0o640)
 
     def test_remains_of_a_killed_try_make_room(self):
         (self.folder / ".file.new").write_text("half of another")
-        acd_put.put(self.folder / "file", "text")
+        put.put(self.folder / "file", "text")
         self.assertEqual([(one.name, one.read_text()) for one in self.folder.iterdir()], [("file", "text")])
 
     def test_a_fault_leaves_the_file_as_it_was(self):
-        acd_put.put(self.folder / "file", "old")
+        put.put(self.folder / "file", "old")
         with mock.patch("os.fsync", side_effect=OSError(28, "No space left on device")), self.assertRaises(OSError):
-            acd_put.put(self.folder / "file", "new")
+            put.put(self.folder / "file", "new")
         self.assertEqual([(one.name, one.read_text()) for one in self.folder.iterdir()], [("file", "old")])
 
 

@@ -1,4 +1,4 @@
-"""acd_reach: what a person is told who gets no answer, and how soon."""
+"""reach: what a person is told who gets no answer, and how soon."""
 import argparse
 import socket
 import ssl
@@ -13,8 +13,8 @@ from pathlib import Path
 from unittest import mock
 
 TOP = Path(__file__).resolve().parents[3]
-sys.path[:0] = [str(TOP / "service/acd_service"), str(TOP / "client")]
-import acd_reach  # noqa: E402
+sys.path.insert(0, str(TOP / "service"))
+from acd_service import reach  # noqa: E402
 
 HINT = "; only root and the group acd-local reach this port: be one of them, or use https://.. with --login"
 
@@ -26,9 +26,9 @@ def free_port():
 
 class NoAnswer(unittest.TestCase):
     def fault(self, address):
-        desk = acd_reach.desk_at(argparse.Namespace(address=address, ca=None, login=None))
-        with self.assertRaises(acd_reach.Fault) as told, mock.patch.multiple(acd_reach, SOON=0.1, PAUSE=0.05):
-            acd_reach.read(desk, "/snapshot")
+        desk = reach.desk_at(argparse.Namespace(address=address, ca=None, login=None))
+        with self.assertRaises(reach.Fault) as told, mock.patch.multiple(reach, SOON=0.1, PAUSE=0.05):
+            reach.read(desk, "/snapshot")
         return str(told.exception)
 
     @staticmethod
@@ -39,7 +39,7 @@ class NoAnswer(unittest.TestCase):
                 return types.SimpleNamespace(gr_gid=950)
             raise KeyError
 
-        return mock.patch.multiple(acd_reach, grp=types.SimpleNamespace(getgrnam=getgrnam), pwd=types.SimpleNamespace(getpwuid=lambda _: types.SimpleNamespace(pw_name=user)),
+        return mock.patch.multiple(reach, grp=types.SimpleNamespace(getgrnam=getgrnam), pwd=types.SimpleNamespace(getpwuid=lambda _: types.SimpleNamespace(pw_name=user)),
                                    os=types.SimpleNamespace(geteuid=lambda: 1000, getegid=lambda: 1000, getgroups=lambda: list(groups), environ={}))
 
     def test_a_user_of_this_machine(self):
@@ -69,11 +69,11 @@ class NoAnswer(unittest.TestCase):
                     pass
 
             threading.Thread(target=show, daemon=True).start()
-            desk = acd_reach.desk_at(argparse.Namespace(address=f"https://127.0.0.1:{plain.getsockname()[1]}", ca=None, login=None))
+            desk = reach.desk_at(argparse.Namespace(address=f"https://127.0.0.1:{plain.getsockname()[1]}", ca=None, login=None))
             begin = time.monotonic()
-            with self.assertRaisesRegex(acd_reach.Fault, "no answer: .*CERTIFICATE_VERIFY_FAILED"):
-                acd_reach.read(desk, "/snapshot")
-            self.assertLess(time.monotonic() - begin, acd_reach.SOON)
+            with self.assertRaisesRegex(reach.Fault, "no answer: .*CERTIFICATE_VERIFY_FAILED"):
+                reach.read(desk, "/snapshot")
+            self.assertLess(time.monotonic() - begin, reach.SOON)
 
 
 if __name__ == "__main__":

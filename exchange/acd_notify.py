@@ -1,0 +1,1 @@
+../service/acd_service/notify.py

@@ -1,0 +1,1 @@
+../client/acd_client.py

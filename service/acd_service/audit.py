@@ -1,0 +1,113 @@
+"""The program's verdict on a copy of a desk's file: it is sound, a request was sent again after a cut, its log ends early, or something else is wrong. Tested,
+not proved."""
+import contextlib
+import os
+import re
+import shutil
+import signal
+import sqlite3
+import subprocess
+from dataclasses import dataclass
+
+from acd_service import chain
+from acd_service.log import Damaged, Unreadable, look
+from acd_service.pair import holds_something, log_of
+
+SOUND, AGAIN, EARLY, UNSOUND, UNAUDITED = "sound", "again", "early", "unsound", "unaudited"
+# what `acd audit --whole` ends with where the log ends early
+ENDS_EARLY = 5
+QUIETLY = ["nice", "-n", "19", "acd"]
+NO_MEMORY = "acd: no memory"
+
+
+@dataclass(frozen=True)
+class Finding:
+    """The verdict; the program's words; and how many requests a sound file has, with those of its archives."""
+    verdict: str
+    said: str
+    executed: int = 0
+
+    def is_good(self):
+        return self.verdict in (SOUND, AGAIN)
+
+
+def run(*words):
+    """The status, and the lines that it printed."""
+    done = subprocess.run([*QUIETLY, *words], stdin=subprocess.DEVNULL, stdout=subprocess.PIPE, stderr=subprocess.STDOUT, text=True)
+    return done.returncode, done.stdout.splitlines()
+
+
+def finding(status, lines):
+    if status == -signal.SIGKILL or NO_MEMORY in lines:
+        return Finding(UNAUDITED, "it was ended, since it wanted more memory than it may have")
+    if status == ENDS_EARLY:
+        return Finding(EARLY, lines[0])
+    said = "; ".join(lines)
+    if status == 0 and len(lines) == 2 and lines[0] == "sound" and lines[1].startswith("executed "):
+        return Finding(SOUND, said, int(lines[1].split()[1]))
+    return Finding(UNSOUND, said)
+
+
+def last_stamp(file):
+    with contextlib.closing(sqlite3.connect(chain.immutable(file), uri=True)) as book:
+        return book.execute("SELECT last_stamp FROM meta").fetchone()[0]
+
+
+def sent_again(said, file, archive):
+    """The line where the audit with the archive says that the file differs at a request, and that one has the key of one that the archive alone has: the desk
+    can't know it any more, and did once more what it asks for. Else None. Nobody learns by it who the ticks' requester is."""
+    differs, found = re.fullmatch(r"differs at request (\d+)", said), None
+    if not differs:
+        return None
+    with contextlib.suppress(sqlite3.Error), contextlib.closing(sqlite3.connect(chain.immutable(file), uri=True)) as book:
+        book.execute("ATTACH ? AS old", (chain.immutable(archive),))
+        found = book.execute("""SELECT requester, invoke, json_extract(new.request, '$.service'), old.kept.stamp
+                                FROM main.kept AS new JOIN old.kept USING (requester, invoke)
+                                WHERE new.stamp = ? AND new.stamp > (SELECT last_stamp FROM old.meta)
+                                    AND old.kept.stamp < (SELECT min(stamp) FROM main.kept)""", (differs[1],)).fetchone()
+    if not found:
+        return None
+    requester, invoke, service, earlier = found
+    key = f"{service}, requester {re.sub('^clock-[a-z]+$', 'clock-..', requester)}, invoke {invoke}"
+    return (f"sound up to request {int(differs[1]) - 1}; request {differs[1]} ({key}) was sent again after the cut (request {earlier} of {archive.name} has its "
+            "key), and the requests after it weren't looked at")
+
+
+def carried(file, archive):
+    """The verdict on a file that was carried over. A program that can't audit it with its archive opens it, and SQL compares the rows of both."""
+    log_existed = log_of(archive).exists()
+    audit = chain.audited(QUIETLY, file, archive, "--whole", "--count")
+    # the audit makes one beside an archive, too, and leaves nothing in it
+    if not log_existed and not holds_something(log_of(archive)):
+        log_of(archive).unlink(missing_ok=True)
+    if audit:
+        found = finding(audit[0], audit[1].splitlines())
+        again = sent_again(found.said, file, archive)
+        if again:
+            return Finding(AGAIN, again, last_stamp(file))
+        return Finding(SOUND, found.said, last_stamp(file)) if found.verdict == SOUND else found
+    if isinstance(look(log_of(file)), (Damaged, Unreadable)):
+        return Finding(EARLY, "its log ends early")
+    status, lines = run("lines", "--file", file)
+    if status:
+        return finding(status, lines)
+    found = chain.differences(file, archive)
+    if found:
+        return Finding(UNSOUND, f"{found}, and not as in {archive}")
+    return Finding(SOUND, f"this acd can't look behind an archive (audit --archive): by SQL the copy continues {archive.name}", last_stamp(file))
+
+
+def audited(file, archive=None):
+    """The finding of the audit, with the archive if there is one. The audit empties the log; if the file isn't sound, the old log is put back."""
+    log, aside = log_of(file), f"{log_of(file)}.aside"
+    if log.exists():
+        shutil.copy2(log, aside)
+    found = carried(file, archive) if archive else finding(*run("audit", "--whole", "--count", "--file", file))
+    # of a file that differs the audit doesn't say it
+    if found.verdict == AGAIN and os.path.exists(aside) and isinstance(look(aside), (Damaged, Unreadable)):
+        found = Finding(EARLY, f"{found.said}, and its log ends early")
+    if os.path.exists(aside) and found.is_good():
+        os.unlink(aside)
+    elif os.path.exists(aside):
+        os.replace(aside, log)
+    return found

@@ -1,0 +1,320 @@
+"""Prints what became of each call of a desk, each leg of a call, each agent's day or each group's quarter of an hour, as CSV, out of a copy of the
+desk's file. Or writes files of the days that are over."""
+import argparse
+import csv
+import datetime
+import os
+import re
+import sqlite3
+import sys
+import tempfile
+from pathlib import Path
+
+from acd_service import archives, chain, command, sheets
+from acd_service.book import Book, Fault, opened
+from acd_service.command import report
+from acd_service.leaving.quarters import Quarters
+from acd_service.leaving.records import Records
+from acd_service.office import FILE, counting
+from acd_service.record_days import KINDS, Days, wanted_from
+
+CALLS = ["number", "caller", "called", "entered", "groups", "rings", "agent", "station", "waited", "talked", "held", "wrapped_up", "ended", "rung", "answered_at", "ended_at"]
+LEGS = ["call", "leg", "device", "agent", "group", "begun", "answered_at", "ended_at", "waited", "rang", "talked", "held", "wrapped_up", "ended", "to"]
+AGENTS = ["day", "agent", "name", "logged_on", "ready", "talking", "wrap_up", "rings_not_answered", "rings_refused", "rings_hung_up", "rings", "calls", "own_calls", "not_ready",
+          "first_on", "last_on", "groups"]
+GROUPS = ["begin", "group", "entered", "answered", "abandoned", "moved", "limit", "in_time", "abandoned_late", "service_level", "waited", "longest", "most_waiting", "handled", "handling"]
+# the columns that --names adds for those that have numbers, and of what these are
+NAMES = {"groups": ("group_names", "groups"), "group": ("group_name", "groups"), "agent": ("agent_names", "agents"), "rung": ("rung_names", "agents")}
+# columns of numbers that aren't to be reckoned with, and of names
+NUMBERED = {"caller", "called", "groups", "agent", "station", "rung", "device", "group", "to"}
+NAMED = {"name", *(name for name, _ in NAMES.values())}
+COPY = "%Y-%m-%dT%H%M%SZ"
+AGAIN = ".again"
+BESIDE = ("-wal", "-shm", "-journal", ".archive", AGAIN)
+# the status if some of what the user asked for is in archives that aren't there
+MISSING = 3
+# an archive is read if its last request is of this many days before the first day that is wanted, or later: who was logged on then is known so
+BEFORE = datetime.timedelta(days=2)
+
+
+# Rows
+
+def when(moment):
+    return "" if moment is None else datetime.datetime.fromtimestamp(moment).strftime("%Y-%m-%d %H:%M:%S")
+
+
+def call_row(call):
+    rung = [leg for leg in call.legs if leg.rings]
+    answered = [leg for leg in call.legs if leg.answered is not None]
+    missed = [leg.agent for leg in rung if leg.answered is None and leg.ended_at is not None]
+    return [call.number, call.caller, call.called, when(call.entered), " ".join(call.groups), len(rung), " ".join(leg.agent for leg in answered),
+            " ".join(leg.device for leg in answered), call.waited, call.talked, call.held, sum(leg.wrapped_up for leg in call.legs), call.ended, " ".join(missed),
+            when(min((leg.answered for leg in answered), default=None)), when(call.ended_at)]
+
+
+def leg_rows(call):
+    for number, leg in enumerate(call.legs, 1):
+        yield [call.number, number, leg.device, leg.agent, leg.group, when(leg.begun), when(leg.answered), when(leg.ended_at), leg.waited, leg.rang, leg.talked, leg.held,
+               leg.wrapped_up, leg.ended, leg.to]
+
+
+def agent_rows(records, names):
+    """Day and row, in the order of days and agents."""
+    for day, agent in sorted(records.days, key=lambda key: (key[0], int("1" + key[1]))):
+        has = records.days[day, agent]
+        groups = " ".join(sorted(has.groups, key=lambda group: int("1" + group)))
+        yield day, [day, agent, names["agents"].get(agent, ""), *(has.counts[column] for column in AGENTS[3:14]), when(has.first), when(has.last), groups]
+
+
+def group_rows(quarters):
+    for begin, group, has in quarters.lines():
+        yield begin, [when(begin), group, has.entered, has.answered, has.abandoned, has.moved, f"{quarters.limit_of(group):g}", has.in_time, has.late,
+                      "" if has.level is None else has.level, has.waited, "" if has.longest is None else has.longest, has.most, has.handled, has.handling]
+
+
+class Form:
+    """How rows are written: with names beside numbers, and so that a spreadsheet changes none."""
+
+    def __init__(self, names, is_named, is_guarded):
+        self.names, self.is_named, self.is_guarded = names, is_named, is_guarded
+
+    def head(self, columns):
+        return columns + ([NAMES[column][0] for column in self.to_name(columns)] if self.is_named else [])
+
+    @staticmethod
+    def to_name(columns):
+        return [column for column in columns if column in NAMES and not (column == "agent" and "name" in columns)]
+
+    def row(self, columns, row):
+        if self.is_named:
+            for column in self.to_name(columns):
+                names = self.names[NAMES[column][1]]
+                row.append("; ".join(names.get(number, number) for number in str(row[columns.index(column)]).split()))
+        if self.is_guarded:
+            row = [guarded(column, field) for column, field in zip(self.head(columns), row)]
+        return row
+
+
+def guarded(column, field):
+    """With ' before it, where a spreadsheet would change it."""
+    if column not in NUMBERED and column not in NAMED or field == "-":
+        return field
+    return sheets.guarded(field, column in NAMED)
+
+
+# The copy
+
+def newest(folder):
+    """The newest sound copy in a folder of acd-copy, and when it was made."""
+    found = []
+    for place in folder.iterdir() if folder.is_dir() else ():
+        try:
+            found.append((datetime.datetime.strptime(place.name, COPY).replace(tzinfo=datetime.timezone.utc).timestamp(), place))
+        except ValueError:
+            continue  # one that has another name isn't a good one
+    if not found:
+        raise Fault(f"there is no copy in {folder}")
+    made, place = max(found)
+    files = [file for file in place.iterdir() if not file.name.endswith(BESIDE)]
+    if len(files) != 1:
+        raise Fault(f"there are {len(files)} files in {place}, and not one")
+    for note in place.glob(f"*{AGAIN}"):
+        report(note.read_text().strip())
+    return files[0], int(made)
+
+
+def archives_of(file, since):
+    """The archives that a file goes on from, by the notes beside them, from the oldest on: those that have requests of the days from one on. Where one isn't
+    there it returns those after it."""
+    file, found = file.absolute(), []
+    folders = [file.parent, chain.copies_of(file.parent.parent)]
+    for note in chain.chain(file, folders):
+        last_day = re.search(r"-([0-9]{4}-[0-9]{2}-[0-9]{2})-[0-9]+$", note.name)
+        if since and last_day and datetime.date.fromisoformat(last_day[1]) < since - BEFORE:
+            break
+        try:
+            found.insert(0, chain.place(note, *folders))
+        except chain.Broken:
+            break
+    return found
+
+
+def follow(book, records, quarters, write_call, made=0):
+    """Goes through all events; a call is handed on as soon as it and those before it are finished."""
+    if quarters and book.begins() is not None:
+        quarters.begin(book.begins(), book.waited_before())
+    least = records.first if records else 1
+    for event in book.events():
+        if quarters:
+            quarters.take(event)
+        if records:
+            records.take(event)
+            for done in records.finished(least):
+                write_call(done)
+                least = done.number + 1
+    end = max(book.last_moment(), made)
+    if quarters:
+        quarters.finish(end)
+    if records:
+        records.finish(end)
+        for number in sorted(records.calls):
+            write_call(records.calls[number])
+
+
+# Options
+
+class Printed:
+    """One table, of the days that are asked for."""
+
+    def __init__(self, options, office, form, names):
+        self.options, self.office, self.form, self.names = options, office, form, names
+        self.writer = csv.writer(sys.stdout, lineterminator="\n")
+
+    def is_asked_for(self, day):
+        return (self.options.since is None or self.options.since <= day) and (self.options.until is None or day <= self.options.until)
+
+    def put(self, columns, moment, row):
+        day = moment if isinstance(moment, datetime.date) else datetime.date.fromtimestamp(moment)
+        if self.is_asked_for(day):
+            self.writer.writerow(self.form.row(columns, row))
+
+    def print(self, book):
+        columns = {"legs": LEGS, "agents": AGENTS, "groups": GROUPS}.get(self.options.table, CALLS)
+        if self.options.excel:
+            sys.stdout.write(sheets.MARK)
+        self.writer.writerow(self.form.head(columns))
+        if self.options.table == "groups":
+            quarters = Quarters(self.office.limit_of)
+            follow(book, None, quarters, None)
+            for begin, row in group_rows(quarters):
+                self.put(columns, begin, row)
+            return
+        records = Records(book)
+        follow(book, records, None, {"legs": self.put_legs, "agents": lambda call: None}.get(self.options.table, self.put_call))
+        if self.options.table == "agents":
+            for day, row in agent_rows(records, self.names):
+                self.put(columns, day, row)
+
+    def put_call(self, call):
+        self.put(CALLS, call.entered, call_row(call))
+
+    def put_legs(self, call):
+        for row in leg_rows(call):
+            self.put(LEGS, call.entered, row)
+
+
+def is_whole(book, since):
+    """Whether it has all requests of the days from this one on."""
+    begins = book.begins()
+    return begins is None or since is not None and since > datetime.date.fromtimestamp(begins)
+
+
+def book_of(file, options, folder, since):
+    """A file, with its archives if it hasn't all of the days from this one on."""
+    earlier = options.archive
+    if not earlier:
+        book = opened(file, folder, options.live)
+        earlier = [] if is_whole(book, since) else archives_of(file, since)
+        if not earlier:
+            return book
+        book.close()
+    return Book(archives.opened(file, earlier, folder, options.live))
+
+
+def write_days(folder, book, office, form, names, made):
+    """The files of the days that are over. Returns whether none is missing."""
+    heads = {kind: form.head(columns) for kind, columns in zip(KINDS, (CALLS, AGENTS, GROUPS))}
+    records, quarters = Records(book), Quarters(office.limit_of)
+    end, begins = made or book.last_moment(), book.begins()
+    # an older archive has the beginning of the first request's day
+    first = datetime.date.min if begins is None else datetime.date.fromtimestamp(begins) + datetime.timedelta(days=1)
+
+    def marked(stream):
+        stream.write(sheets.MARK)
+        return csv.writer(stream, lineterminator="\n")
+
+    with Days(folder, first, datetime.date.fromtimestamp(end), heads, marked) as days:
+        lacks = days.lacks()
+        if lacks:
+            report(f"days before {first} aren't there as a whole: name the archives, by --archive, where they are wanted")
+        follow(book, records, quarters, lambda call: days.write("records", datetime.date.fromtimestamp(call.entered), form.row(CALLS, call_row(call))), end)
+        for day, row in agent_rows(records, names):
+            days.write("agents", day, form.row(AGENTS, row))
+        for begin, row in group_rows(quarters):
+            days.write("groups", datetime.date.fromtimestamp(begin), form.row(GROUPS, row))
+    print(f"{days.written} files written")
+    return not lacks
+
+
+def day(text):
+    if not re.fullmatch(r"[0-9]{4}-[0-9]{2}-[0-9]{2}", text):
+        raise argparse.ArgumentTypeError(f"'{text}' is no day like 2026-11-26")
+    return datetime.date.fromisoformat(text)
+
+
+def add_files(parser):
+    """The options that say of what the records are."""
+    of = parser.add_mutually_exclusive_group(required=True)
+    of.add_argument("--file", type=Path, metavar="FILE", help="a copy of the desk's file, with its log beside it where it has one")
+    of.add_argument("--copies", type=Path, metavar="FOLDER", help="a folder of acd-copy: the newest good copy there")
+    parser.add_argument("--archive", action="append", default=[], type=Path, metavar="A",
+                        help="an archive that the file was carried over from, in place of those that its note names; as often as there are some, from the oldest on")
+
+
+def asked(words):
+    parser = argparse.ArgumentParser(prog=command.name, allow_abbrev=False, description="Prints CSV lines of the calls of a desk, out of a copy of its file.")
+    add_files(parser)
+    parser.add_argument("--live", action="store_true", help="of a file that a desk has open: what it has at this moment")
+    table = parser.add_mutually_exclusive_group()
+    for name, about in (("legs", "each leg of a call: its wait in a group, its ring and talk at a station"), ("agents", "each day and agent"), ("groups", "each quarter of an hour and group")):
+        table.add_argument(f"--{name}", dest="table", action="store_const", const=name, help=f"a line for {about}")
+    table.add_argument("--days", type=Path, metavar="FOLDER", help="writes records/DAY.csv, agents/DAY.csv and groups/DAY.csv there for the days that are over")
+    parser.add_argument("--since", type=day, metavar="DAY", help="from this day on, 2026-11-26 say")
+    parser.add_argument("--until", type=day, metavar="DAY", help="up to this day, and with it")
+    parser.add_argument("--names", action="store_true", help="names beside numbers")
+    parser.add_argument("--excel", action="store_true", help="' before what a spreadsheet would change")
+    parser.add_argument("--office", type=Path, metavar="FILE", help=f"names, limits and zone; {FILE} as it comes, where that is there")
+    options = parser.parse_args(words)
+    if options.days and (options.since or options.until or options.live):
+        parser.error("--days writes all days that are over, out of a copy")
+    if options.live and options.copies:
+        parser.error("--live is of the desk's file")
+    return options
+
+
+def do(options, folder):
+    """Whether all is there that was asked for."""
+    office = counting(options.office, report)
+    file, made = newest(options.copies) if options.copies else (options.file, 0)
+    since = wanted_from(options.days) if options.days else options.since
+    book = book_of(file, options, folder, since)
+    names = book.names()
+    if options.names or options.days:
+        for kind in names:
+            names[kind] |= office.names[kind]
+    if options.days:
+        has_all = write_days(options.days, book, office, Form(names, True, True), names, made)
+    else:
+        Printed(options, office, Form(names, options.names, options.excel), names).print(book)
+        sys.stdout.flush()
+        has_all = is_whole(book, since)
+        if not has_all:
+            report(f"what was before {when(book.begins())} isn't there: name the archives that have it, by --archive")
+    book.close()
+    return has_all
+
+
+def run(options):
+    # names are of any script, whatever the machine's language
+    sys.stdout.reconfigure(encoding="utf-8")
+    try:
+        with tempfile.TemporaryDirectory() as folder:
+            sys.exit(0 if do(options, folder) else MISSING)
+    except BrokenPipeError:
+        os.dup2(os.open(os.devnull, os.O_WRONLY), sys.stdout.fileno())
+    except (Fault, chain.Broken, OSError, sqlite3.Error) as fault:
+        sys.exit(f"{command.name}: {fault}")
+
+
+def main(words):
+    run(asked(words))

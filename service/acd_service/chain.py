@@ -1,0 +1,223 @@
+"""The archives that a desk's file goes on from. Tested, not proved.
+
+Beside a file F that was carried over is F.archive, the note of the file from which it was carried over, which is its archive:
+
+    archive desk.db-2026-11-28-81234
+    last 81234
+    digest 5e88...
+    was 131 1800000000.5
+
+The archive's name, in F's folder; its last stamp; its SHA-256; and its inode, with the moment when that was made, as F had it until then. An archive that was
+itself carried over has such a note too, so archives are a chain. A folder of copies has each archive once, in the folder `archives`, with its note and its
+digest at the time of the copy."""
+import contextlib
+import hashlib
+import os
+import re
+import sqlite3
+import subprocess
+import time
+from dataclasses import dataclass
+from pathlib import Path
+
+from acd_service import pair, put
+
+NOTE, DIGEST = ".archive", ".sha256"
+# beside a copy that isn't wholly sound: which request was sent again after a cut
+AGAIN = ".again"
+# the folder beside a file in which acd-carry makes the file that replaces it
+BESIDE = ".carry"
+FOLDER = "archives"
+# the columns of meta that are limits
+LIMITS = "max_requests, max_calls, max_groups, max_stations, max_agents, max_monitors"
+# what the program ends with where it doesn't know an option
+REFUSED = 2
+
+
+class Broken(Exception):
+    """An archive isn't there, or isn't the one that the note names."""
+
+
+# The note
+
+@dataclass(frozen=True)
+class Note:
+    name: str
+    last: int
+    digest: str
+    was: str
+
+    def text(self):
+        return f"archive {self.name}\nlast {self.last}\ndigest {self.digest}\nwas {self.was}\n"
+
+
+def note_of(file):
+    return Path(f"{file}{NOTE}")
+
+
+def read_note(file):
+    """The note beside a file; None if the file wasn't carried over."""
+    try:
+        said = dict(line.partition(" ")[::2] for line in note_of(file).read_text().splitlines())
+        return Note(said["archive"], int(said["last"]), said["digest"], said["was"])
+    except FileNotFoundError:
+        return None
+    except (KeyError, ValueError):
+        raise Broken(f"{note_of(file)} is no note of an archive") from None
+
+
+def put_note(file, note):
+    put.put(note_of(file), note.text())
+
+
+def change_digest(note, name, old, new):
+    """Replaces this digest of this archive in a note by the new one: in place, since a restore knows the note by its inode, and within one sector."""
+    data = note.read_bytes() if note.is_file() else b""
+    if {f"archive {name}".encode(), f"digest {old}".encode()} <= set(data.splitlines()):
+        with open(note, "rb+") as out:
+            out.seek(data.index(f"digest {old}".encode()))
+            out.write(f"digest {new}".encode())
+            out.flush()
+            os.fsync(out.fileno())
+
+
+def chain(file, folders=()):
+    """The notes of the archives, from the last one back to the oldest that is there. It looks for an archive's note beside the file, then in these folders."""
+    found, note = [], read_note(file)
+    while note and note.name not in [one.name for one in found]:
+        found.append(note)
+        places = [folder / note.name for folder in (file.parent, *folders)]
+        note = next((one for one in map(read_note, places) if one), None)
+    return found
+
+
+def exchanged(file):
+    """The note of an exchange that has put the new file in place and isn't finished: the note is in the folder where the new file was made. Else None."""
+    note = read_note(Path(f"{file}{BESIDE}") / file.name)
+    return note if note and pair.identity(file) != note.was else None
+
+
+def unfinished(file):
+    """The text for an exchange that was broken off."""
+    return f"acd-carry of {file} was broken off: acd-carry --file {file} ends it" if exchanged(file) else None
+
+
+# The archive
+
+def digest(file):
+    """The SHA-256 of a file's bytes."""
+    with open(file, "rb") as has:
+        return hashlib.file_digest(has, "sha256").hexdigest()
+
+
+def name_for(file, last, moment):
+    """The file's name as an archive: with the day of its last request, in Universal Time, and its stamp."""
+    return f"{file.name}-{time.strftime('%Y-%m-%d', time.gmtime(moment))}-{last}"
+
+
+def is_name(file, name):
+    return re.fullmatch(rf"{re.escape(file.name)}-\d{{4,}}-\d\d-\d\d-\d+", name) is not None
+
+
+def place(note, *folders):
+    """The path of an archive, in one of these folders."""
+    found = next((folder / note.name for folder in folders if (folder / note.name).is_file()), None)
+    if not found:
+        raise Broken(f"the archive {note.name} isn't in {' or '.join(map(str, folders))}")
+    return found
+
+
+# Copies of archives
+
+def copies_of(folder):
+    return folder / FOLDER
+
+
+def read_digest(copy):
+    return Path(f"{copy}{DIGEST}").read_text().partition(" ")[0]
+
+
+def put_digest(copy, found):
+    """Writes the digest as sha256sum --check reads it."""
+    put.put(Path(f"{copy}{DIGEST}"), f"{found}  {copy.name}\n")
+
+
+def keep(archive, note, copies):
+    """Copies an archive into a folder of copies, if it isn't there; the copy gets its name once it is whole, and has its digest."""
+    copies.mkdir(mode=0o700, exist_ok=True)
+    copy = copies / note.name
+    if copy.exists() and Path(f"{copy}{DIGEST}").exists():
+        if read_digest(copy) != note.digest:
+            raise Broken(f"{copy} is another archive than that which was noted: its digest is another one")
+        return
+    new = copies / f".{note.name}.new"
+    new.unlink(missing_ok=True)
+    if subprocess.run(["cp", "--reflink=auto", "--preserve=timestamps", "--", archive, new]).returncode:
+        raise Broken(f"{archive} can't be copied into {copies}")
+    if digest(new) != note.digest:
+        raise Broken(f"{archive} isn't the archive that was noted: its digest is another one")
+    with open(new, "rb") as has:
+        os.fsync(has.fileno())
+    archive_note = read_note(archive)
+    if archive_note:
+        put_note(copy, archive_note)
+    put_digest(copy, note.digest)
+    os.replace(new, copy)
+    put.sync_folder(copies)
+
+
+def look(copies):
+    """The faults of the archives in a folder of copies, a line each."""
+    for copy in sorted(copies.iterdir()) if copies.is_dir() else ():
+        # an audit by hand leaves a log beside an archive that holds nothing
+        if copy.name.startswith(".") or copy.name.endswith((NOTE, DIGEST)) or copy.name.endswith("-wal") and not pair.holds_something(copy):
+            continue
+        try:
+            if digest(copy) != read_digest(copy):
+                yield f"{copy} isn't what was copied: its digest is another one"
+        except FileNotFoundError:
+            yield f"{copy} has no digest beside it, {copy.name}{DIGEST}"
+
+
+# Whether a file continues its archive
+
+def immutable(file):
+    """The file's name for SQLite, which then takes no lock, and makes no file beside it."""
+    return f"{file.absolute().as_uri()}?immutable=1"
+
+
+def differences(file, archive):
+    """Why a file doesn't continue its archive, as far as SQL shows it: limits, and the rows that both have; None if it does. It doesn't check what its newer
+    requests make of the archive's tables."""
+    with contextlib.closing(sqlite3.connect(immutable(file), uri=True)) as book:
+        book.execute("ATTACH ? AS old", (immutable(archive),))
+        ours, theirs = (book.execute(f"SELECT version, {LIMITS} FROM {base}.meta").fetchone() for base in ("main", "old"))
+        if ours != theirs:
+            return "the limits are others"
+        for table, key, last in (("kept", "stamp", "last_stamp"), ("events", "number", "last_event")):
+            found = differs(book, table, key, last)
+            if found:
+                return found
+    return None
+
+
+def differs(book, table, key, last):
+    """The first difference between the rows of a table of both, or a missing row."""
+    end, = book.execute(f"SELECT {last} FROM old.meta").fetchone()
+    newest, = book.execute(f"SELECT {last} FROM main.meta").fetchone()
+    first, most, count = book.execute(f"SELECT coalesce(min({key}), ? + 1), coalesce(max({key}), ?), count(*) FROM main.{table}", (newest, newest)).fetchone()
+    if first > end + 1 or most != newest or count != newest - first + 1:
+        return f"its {table} aren't whole"
+    both = [f"SELECT * FROM {base}.{table} WHERE {key} BETWEEN {first} AND {end}" for base in ("main", "old")]
+    for one, other in (both, both[::-1]):
+        found, = book.execute(f"SELECT min({key}) FROM ({one} EXCEPT {other})").fetchone()
+        if found is not None:
+            return f"{key} {found} of {table} is another one"
+    return None
+
+
+def audited(program, file, archive, *more):
+    """Status and output of the program's audit of a file with its archive, or None if the program has no such audit."""
+    done = subprocess.run([*program, "audit", *more, "--file", file, "--archive", archive],
+                          stdin=subprocess.DEVNULL, stdout=subprocess.PIPE, stderr=subprocess.STDOUT, text=True)
+    return None if done.returncode == REFUSED else (done.returncode, done.stdout)

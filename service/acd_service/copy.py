@@ -1,0 +1,443 @@
+"""Copies a desk's file with its log, audits the copy, and clears old copies away. Puts a copy back, and takes that back.
+
+It copies the file while the desk runs, and then halts the desk for its log: if nothing wrote to the file meanwhile, both are what a power cut would leave, and
+every answered request is in them. A copy whose name is its moment alone is good, and has no fewer requests than the copy before. It keeps all other copies
+beside these for a look, ends with status 1, and clears no old copy away. It audits a file that was carried over together with its archive, and copies each
+archive once. It is tested, not proved."""
+import argparse
+import contextlib
+import os
+import re
+import shutil
+import signal
+import subprocess
+import sys
+import tempfile
+import time
+from pathlib import Path
+
+from acd_service import audit, chain, command, held, put, restoring
+from acd_service.command import report
+from acd_service.halt import Missed, desks_over, halted
+from acd_service.pair import identity, log_of
+from acd_service.restoring import Fault, name_of, sync
+
+USAGE = """usage: acd-copy [--file F] [--folder COPIES] [--keep DAYS] [--halt SECONDS]
+       acd-copy [--file F] [--folder COPIES] --restore MOMENT     puts a copy back, beside no program that has F open
+       acd-copy [--file F] --undo                                 takes the last restore back
+       acd-copy [--file F] --continue                             lets a halted desk go on, and copies nothing
+       (F, COPIES, DAYS and SECONDS are those of /etc/acd/acd.env, else /var/lib/acd/desk.db, its folder copies, 7 days, 20 seconds)"""
+SETTINGS, NGINX = Path("/etc/acd/acd.env"), Path("/etc/nginx")
+DATE, MOMENT = "YYYY-MM-DD", "%Y-%m-%dT%H%M%SZ"
+NAMED = r"\d{4}-\d\d-\d\dT\d{6}Z"
+DAY = 86400
+# for how many seconds the desk is halted for its log; for how many a copy is tried before the desk is halted for all of it, and the pauses between
+BRIEF, PATIENCE, PAUSE, LONGEST = 2, 600, 0.1, 60
+# seconds after which a later write of a file has another time, and where the file system counts whole ones
+TICK, SECOND = 0.1, 2.1
+# the most copies of one day that stay
+MOST = 20
+# seconds from which on a copy takes long, and how many bytes are compared at once
+SLOW, BLOCK = 1, 1 << 20
+CHANGED, LONGER = "its file was written, or moved, while it was copied", "the desk was halted, and its copy takes longer"
+
+
+def say(text):
+    print(text, flush=True)
+
+
+# A copy
+
+def sources(file, desk):
+    """The file and its log, each with its name in the copy: by their paths or, if one was removed or moved from under the desk, as the desk has them open."""
+    found = file, log_of(file)
+    if desk and desk.moved:
+        has = held.opened(desk.process)
+        found = next((one.at for one in has if one.is_database()), None), next((one.at for one in has if not one.is_database()), None)
+    if not found[0]:
+        raise Fault(f"the desk, process {desk.process}, has no file open that could be copied")
+    return {name: part for name, part in zip((file.name, log_of(file).name), found) if part}
+
+
+def state(part):
+    """Which file it is, its size, and when it was written; None if there is none."""
+    try:
+        found = os.stat(part)
+    except FileNotFoundError:
+        return None
+    return found.st_dev, found.st_ino, found.st_size, found.st_mtime_ns
+
+
+def settled(part):
+    """The same, of a file that was written so long ago that a later write has another time."""
+    found = state(part)
+    written = found[-1] if found else 0
+    rest = SECOND if written % 10**9 == 0 else TICK
+    if 0 <= time.time() - written / 10**9 < rest:
+        time.sleep(rest)
+        if state(part) != found:
+            raise Missed(CHANGED)
+    return found
+
+
+@contextlib.contextmanager
+def unchanged(parts):
+    """Nothing writes to them as long as this lasts."""
+    before = [state(part) for part in parts.values()]
+    yield
+    if [state(part) for part in parts.values()] != before:
+        raise Missed(CHANGED)
+
+
+def refresh(part, made, end):
+    """Makes an earlier copy of a part what that is now: it writes only what differs."""
+    with open(part, "rb") as source, open(made, "rb+") as copy:
+        while block := source.read(BLOCK):
+            if end and time.monotonic() > end:
+                raise Missed(LONGER)
+            old = copy.read(len(block))
+            if block != old:
+                copy.seek(-len(old), os.SEEK_CUR)
+                copy.write(block)
+        copy.truncate()
+
+
+def take(part, made, end=None):
+    """Copies a part, if it is there, by this moment."""
+    if not os.path.exists(part):
+        return
+    if made.exists():
+        return refresh(part, made, end)
+    try:
+        done = subprocess.run(["cp", "--reflink=auto", "--preserve=timestamps", "--", part, made], timeout=end and max(end - time.monotonic(), 0))
+    except subprocess.TimeoutExpired:
+        raise Missed(LONGER) from None
+    if done.returncode:
+        raise Fault("the copy wasn't made whole; no copy is kept")
+
+
+def copied(parts, desk, new, seconds, running):
+    """Copies so many of the parts while the desk runs, of which none may have changed by the end, and the others while it is halted, for so many seconds at
+    most: they are what a power cut would have left. Returns for how many milliseconds the desk was halted."""
+    early, late = list(parts.items())[:running], list(parts.items())[running:]
+    before = [settled(part) for _, part in early]
+    for name, part in early:
+        take(part, new / name)
+    begin = time.monotonic()
+    with halted(desk, seconds) if desk else contextlib.nullcontext() as end, unchanged(parts):
+        if [state(part) for _, part in early] != before:
+            raise Missed(CHANGED)
+        for name, part in late:
+            take(part, new / name, end)
+    if not (new / next(iter(parts))).exists():
+        raise Missed(CHANGED)
+    return round((time.monotonic() - begin) * 1000)
+
+
+def tried(file, desk, new, seconds):
+    """Copies the file with its log, and with the note of the archive that the file continues. Returns for how long the desk was halted: for so many seconds at
+    most or, where this says none, for no more than its log needs."""
+    parts, note = sources(file, desk), chain.note_of(file)
+    take(note, new / note.name)
+    if not desk:
+        return copied(parts, None, new, None, len(parts))
+    return copied(parts, desk, new, seconds, 0) if seconds else copied(parts, desk, new, BRIEF, 1)
+
+
+def taken(file, new, seconds):
+    """Tries it until nothing writes to the file meanwhile, and at last with a desk that is halted for all of it. Returns the desk that runs over the file, if
+    one does."""
+    last, pause, tries, why, is_slow = time.monotonic() + PATIENCE, PAUSE, 0, None, False
+    while True:
+        desk, begin = next(iter(desks_over(file)), None), time.monotonic()
+        is_last = begin >= last
+        if is_last and not seconds:
+            raise Fault(f"{why}, {tries} times, and ACD_HALT=0 says that the desk isn't halted for all of it; no copy is kept")
+        try:
+            halt = tried(file, desk, new, seconds if is_last else None)
+            if desk:
+                say(f"the desk was halted for {halt} ms{f', for all of the copy: {why}, {tries} times' if is_last else ''}")
+            return desk
+        except Missed as missed:
+            why, tries = missed, tries + 1
+        if not desk or is_last:
+            raise Fault(f"{why}{f', {tries} times, at last with the desk halted for up to {seconds} s (ACD_HALT)' if is_last else ''}; no copy is kept")
+        # a file whose copy takes long is made what it is by then, which is quicker
+        is_slow = is_slow or time.monotonic() > begin + SLOW
+        for half in new.iterdir():
+            if not (is_slow and half.name == file.name):
+                half.unlink()
+        time.sleep(max(0, min(pause, last - time.monotonic())))
+        pause = min(2 * pause, LONGEST)
+
+
+def counted(folder, file, executed):
+    """Looks how many requests the last sound copy had of the same file, or of one that it goes on from. Returns a line if this one has fewer; else
+    writes down its number."""
+    note, same = folder / "executed", {"device": str(os.stat(file).st_dev), "inode": identity(file)}
+    earlier = [{**same, "inode": archive.was} for archive in chain.chain(file, [chain.copies_of(folder)])]
+    try:
+        then = dict(line.partition(" ")[::2] for line in note.read_text().splitlines())
+        before = int(then.pop("executed"))
+    except (FileNotFoundError, KeyError, ValueError):
+        then = None
+    if then in (same, *earlier) and executed < before:
+        return f"the copy has {executed} executed requests, and the last one of the same file had {before}"
+    if then not in (None, same, *earlier):
+        say(f"this is another file than that of the last copy, which had {before} executed requests: counted anew, from {executed}")
+    put.put(note, "".join(f"{name} {value}\n" for name, value in {"executed": executed, **same}.items()))
+    return None
+
+
+def kept(new, folder, name):
+    """The copy's folder under its name; of two that are made in one second the later one waits."""
+    while (folder / name.format(time.strftime(MOMENT, time.gmtime()))).exists():
+        time.sleep(0.1)
+    made = folder / name.format(time.strftime(MOMENT, time.gmtime()))
+    os.rename(new, made)
+    sync(folder)
+    return made
+
+
+def kept_aside(new, folder, name, why):
+    """Keeps what isn't a good copy, and ends. Of those whose name has no moment the last is kept."""
+    if (folder / name).exists():
+        shutil.rmtree(folder / name)
+    raise Fault(f"{why}; it lies in {kept(new, folder, name)}, and the older copies are all kept")
+
+
+def archived(new, folder, file):
+    """The copied archive that a copy goes on from, if there is one. It copies each archive once, and checks the copies each time."""
+    copies = chain.copies_of(folder)
+    for note in chain.chain(new / file.name, [file.parent, copies]):
+        if (file.parent / note.name).is_file():
+            chain.keep(file.parent / note.name, note, copies)
+    note = chain.read_note(new / file.name)
+    return chain.place(note, copies) if note else None
+
+
+def judged(new, folder, file, desk):
+    """Keeps the copy under the name that is its due where it is a good one, says so, and returns its folder."""
+    try:
+        archive = archived(new, folder, file)
+        found = audit.audited(new / file.name, archive)
+    except chain.Broken as fault:
+        kept_aside(new, folder, "{}.unaudited", f"the copy can't be looked at behind its archive: {fault}")
+    if found.verdict == audit.UNAUDITED:
+        kept_aside(new, folder, "{}.unaudited", f"the copy's audit wasn't ended: {found.said}")
+    if found.verdict == audit.EARLY:
+        kept_aside(new, folder, "{}.early", f"the copy's log ends early, answered requests are missing: the audit says '{found.said}'")
+    if not found.is_good():
+        kept_aside(new, folder, "unsound", f"the copy isn't sound: the audit says '{found.said}'")
+    if desk and desk.moved:
+        kept_aside(new, folder, "moved-{}", "this copy is of what the desk has open")
+    if archive:
+        say(found.said)
+    fewer = counted(folder, file, found.executed)
+    if fewer:
+        kept_aside(new, folder, "fewer-{}", f"{fewer}: requests are missing")
+    if found.verdict == audit.AGAIN:
+        put.put(Path(f"{new / file.name}{chain.AGAIN}"), f"{found.said}\n")
+    made = kept(new, folder, "{}")
+    say(f"{'kept' if found.verdict == audit.AGAIN else 'sound'}: {made}")
+    return made
+
+
+def is_sound(copy):
+    """Whether a good copy is wholly sound, by what was noted as it was made."""
+    return not any(copy.glob(f"*{chain.AGAIN}"))
+
+
+def superfluous(copies, days):
+    """Those of good copies that nobody needs: all but the last copy of each of the last days that have one, and but the last twenty of today."""
+    by_day = {}
+    for copy in copies:
+        by_day.setdefault(copy.name[:len(DATE)], []).append(copy)
+    needed = {of_day[-1] for _, of_day in sorted(by_day.items())[-days:]} | set(by_day.get(today(), [])[-MOST:])
+    return [copy for copy in copies if copy not in needed]
+
+
+def has_room(made):
+    """Whether the disk has room for two more copies like this one."""
+    return shutil.disk_usage(made).free >= 2 * sum(part.stat().st_size for part in made.iterdir())
+
+
+def clear_away(folder, days, made):
+    """Clears away good copies that nobody needs, and then the older ones of today, until the disk has room for two more. Beside one that isn't wholly sound, all
+    that are stay."""
+    # the names sort by their moments
+    copies = sorted(path for path in folder.iterdir() if path.is_dir() and re.fullmatch(NAMED, path.name))
+    may_go = [copy for copy in copies if copy != made and (is_sound(made) or not is_sound(copy))]
+    needless = superfluous(copies, days)
+    for copy in may_go:
+        if copy in needless:
+            remove(copy)
+    for copy in may_go:
+        if copy not in needless and copy.name.startswith(today()) and not has_room(made):
+            remove(copy)
+
+
+def today():
+    return time.strftime("%Y-%m-%d", time.gmtime())
+
+
+def remove(copy):
+    shutil.rmtree(copy)
+    say(f"cleared away: {copy}")
+
+
+def clear_half_copies(folder):
+    for left in folder.glob(".new.*"):
+        if time.time() - left.stat().st_mtime > DAY:
+            shutil.rmtree(left, ignore_errors=True)
+
+
+def damaged(file):
+    """The folders in which acd-ready kept the file and its log as they were, where the log was damaged."""
+    return sorted(folder for folder in file.parent.glob("damaged-*") if folder.is_dir() and any(folder.glob(f"{file.name}*")))
+
+
+def looked_for(file, found):
+    """Refuses a file that isn't there, or that this user may not copy."""
+    unfinished = restoring.unfinished(file) or chain.unfinished(file)
+    if unfinished:
+        raise Fault(unfinished)
+    if not found and not file.is_file():
+        raise Fault(f"there is no file {file}")
+    at = file if file.is_file() else held.opened(found[0].process)[0].at
+    owner = os.stat(at).st_uid
+    if os.geteuid() != owner:
+        name = name_of(owner)
+        raise Fault(f"only the user {name} makes copies of {file}: runuser -u {name} -- acd-copy")
+
+
+def old_proxies():
+    """Configurations of nginx that have it ask the gate for strangers too: those of before 1.15."""
+    for file in sorted((*NGINX.glob("conf.d/*.conf"), *NGINX.glob("sites-enabled/*"))):
+        with contextlib.suppress(OSError):
+            text = file.read_text(errors="replace")
+            if "/auth/any" in text and "secure_link_md5" not in text:
+                yield file
+
+
+def copy(file, folder, keep, halt):
+    """Whether all is as it should be."""
+    found = desks_over(file)
+    looked_for(file, found)
+    for proxy in old_proxies():
+        report(f"{proxy} is of before 1.15: nginx asks the gate for every stranger. Take /usr/share/doc/acd/examples/nginx.conf, or add the lines that "
+               "OPERATING names ('A newer program')")
+    wrong = [desk.moved for desk in found if desk.moved] + [f"{left} is there: the log was damaged as the desk was started" for left in damaged(file)]
+    broken = list(chain.look(chain.copies_of(folder)))
+    for line in wrong + broken:
+        report(line)
+    folder.mkdir(parents=True, exist_ok=True)
+    clear_half_copies(folder)
+    new = Path(tempfile.mkdtemp(prefix=".new.", dir=folder))
+    try:
+        desk = taken(file, new, halt)
+        sync(*new.iterdir(), new)
+        made = judged(new, folder, file, desk)
+    finally:
+        shutil.rmtree(new, ignore_errors=True)
+    if not broken:
+        clear_away(folder, keep, made)
+    return not wrong + broken
+
+
+# The command
+
+class Parser(argparse.ArgumentParser):
+    def error(self, message):
+        raise Fault(message, 2)
+
+
+def number(text):
+    if not re.fullmatch("[1-9][0-9]{0,2}", text):
+        raise argparse.ArgumentTypeError(f"to keep copies of '{text}' days: that isn't a whole number from 1 to 999")
+    return int(text)
+
+
+def halt_seconds(text):
+    if not re.fullmatch("0|[1-9][0-9]{0,2}", text):
+        raise argparse.ArgumentTypeError(f"to halt the desk for '{text}' seconds: that isn't a whole number from 0 to 999")
+    return int(text)
+
+
+def settings():
+    """The settings that the administrator wrote for the units; quotes around a value don't belong to it, as with systemd."""
+    try:
+        lines = SETTINGS.read_text().splitlines()
+    except OSError:
+        return {}
+    found = (line.split("=", 1) for line in lines if "=" in line and not line.startswith("#"))
+    return {name: re.sub(r"""^(["'])(.*)\1$""", r"\2", value.strip()) for name, value in found}
+
+
+def read(words):
+    parser = Parser(add_help=False, allow_abbrev=False)
+    parser.add_argument("-h", "--help", action="store_true")
+    for name in ("--file", "--folder"):
+        parser.add_argument(name)
+    parser.add_argument("--keep", type=number)
+    parser.add_argument("--halt", type=halt_seconds)
+    does = parser.add_mutually_exclusive_group()
+    does.add_argument("--restore", metavar="MOMENT")
+    does.add_argument("--undo", action="store_true")
+    does.add_argument("--continue", dest="continues", action="store_true")
+    return with_settings(parser.parse_args(words))
+
+
+def with_settings(options):
+    """The options, with what the settings give where they don't."""
+    has = settings() if not options.file else {}
+    options.file = held.place(options.file or has.get("ACD_FILE") or "/var/lib/acd/desk.db")
+    options.folder = Path(os.path.abspath(options.folder or has.get("ACD_COPY_FOLDER") or options.file.parent / "copies"))
+    try:
+        options.keep = options.keep or number(has.get("ACD_COPIES") or "7")
+        options.halt = halt_seconds(has.get("ACD_HALT") or "20") if options.halt is None else options.halt
+    except argparse.ArgumentTypeError as fault:
+        raise Fault(f"{SETTINGS}: {fault}", 2) from None
+    return options
+
+
+def do(options):
+    """Does what was asked for; whether all is as it should be."""
+    os.umask(0o077)
+    if options.continues:
+        for desk in desks_over(options.file):
+            desk.go_on()
+    elif options.restore is not None:
+        restoring.restore(options.file, options.folder, options.restore, say)
+    elif options.undo:
+        restoring.undo(options.file, say)
+    else:
+        return copy(options.file, options.folder, options.keep, options.halt)
+    return True
+
+
+def end(*_):
+    """A signal ends it as a fault does: the desk continues, and no half copy stays."""
+    sys.exit(1)
+
+
+def run(read, usage, words):
+    for one in (signal.SIGHUP, signal.SIGINT, signal.SIGTERM):
+        signal.signal(one, end)
+    options = None
+    try:
+        options = read(words)
+        if options.help:
+            print(command.called(usage))
+        else:
+            sys.exit(0 if do(options) else 1)
+    except (Fault, chain.Broken) as fault:
+        report(fault)
+        sys.exit(getattr(fault, "status", 1))
+    except OSError as fault:
+        report(f"{fault.filename or options and options.file}: {fault.strerror}")
+        sys.exit(1)
+
+
+def main(words):
+    run(read, USAGE, words)

@@ -1,0 +1,460 @@
+"""Keeps a copy of a desk that runs elsewhere: asks it for the requests that it has executed, page after page, and feeds each to a desk of its own over a file.
+
+It feeds the next one once it has compared the copy's reply with the desk's. Each time it asks for the copy's last request once more: if the desk has
+another one there, or fewer requests, the two have different histories, and it feeds nothing more. It is tested, not proved."""
+import argparse
+import contextlib
+import json
+import os
+import re
+import signal
+import subprocess
+import sys
+import time
+from pathlib import Path
+from typing import NamedTuple
+
+from acd_client import Unanswered
+from acd_service import command, pair, put, reach
+from acd_service.command import report
+
+# seconds between two looks at a desk that has nothing new; between two attempts; and for how long a file may be open elsewhere, as by the desk that a
+# killed one left, and what doesn't answer is asked again where an end is wanted
+LOOK, PAUSE, SOON = 0.1, 1, 5
+# beside the copy: what it said of it last; it writes this at its end, and so often in seconds
+NOTE, NOTED = ".followed", 10
+# beyond each stamp
+BEYOND = 999_999_999_999_999
+# what the desk's program ends with where its file is open elsewhere
+OPEN_ELSEWHERE = 4
+ENDING = (signal.SIGHUP, signal.SIGINT, signal.SIGTERM)
+DIFFERS, LACKS = 3, 4
+DESK_FILE = "/var/lib/acd/desk.db"
+DECODER = json.JSONDecoder()
+# there is something in it once a signal came
+ending = []
+
+
+class Fault(Exception):
+    """Why it ends: a line or several."""
+
+    def __init__(self, *lines, status=1):
+        super().__init__(*lines)
+        self.status = status
+
+
+class Again(Exception):
+    """The copy's desk gave no answer, or one that says no more than that: it is opened and asked again."""
+
+
+class Ended(Exception):
+    """A signal wants it to end."""
+
+
+def say(text):
+    print(text, flush=True)
+
+
+def moment_text(moment):
+    return time.strftime("%Y-%m-%d %H:%M:%S UTC", time.gmtime(moment))
+
+
+# A page of requests
+
+class Record(NamedTuple):
+    """An executed request as the desk reports it: its numbers, and the texts of request and reply to the byte."""
+    stamp: int
+    moment: int
+    request: str
+    status: int
+    reply: str
+
+    def text(self):
+        """For people to read; nobody learns by it who the ticks' requester is."""
+        shown = re.sub(r'"clock-[a-z]+"', '"clock-.."', f"request {self.request}, answered {self.status} {self.reply}")
+        return f"request number {self.stamp}, at {self.moment}: {shown}"
+
+
+class Page(NamedTuple):
+    last: int
+    records: list
+
+
+def object_at(text, at):
+    """The members of the object that begins there, each as it is spelt, and where it ends; a desk writes no blanks between them."""
+    found, between = {}, "{"
+    while between != "}":
+        if between not in ("{", ",") or text[at] != between:
+            raise ValueError("no object")
+        name, at = DECODER.raw_decode(text, at + 1)
+        if text[at] != ":":
+            raise ValueError("no member")
+        begin = at + 1
+        _, at = DECODER.raw_decode(text, begin)
+        found[name], between = text[begin:at], text[at]
+    return found, at + 1
+
+
+def number(text):
+    if not re.fullmatch("0|[1-9][0-9]{0,14}", text):
+        raise ValueError("no number")
+    return int(text)
+
+
+def records_in(text):
+    """The records of a list."""
+    at = 1
+    while text != "[]" and at < len(text):
+        found, at = object_at(text, at)
+        yield Record(number(found["stamp"]), number(found["moment"]), found["request"], number(found["status"]), found["reply"])
+        if text[at] != ("," if at + 1 < len(text) else "]"):
+            raise ValueError("no list")
+        at += 1
+
+
+def page_of(data):
+    """A page, whose texts keep their bytes: each is a character of Latin-1."""
+    try:
+        members, _ = object_at(data.decode("latin-1"), 0)
+        page = Page(number(members["last"]), list(records_in(members["requests"])))
+    except (ValueError, LookupError, RecursionError):
+        raise Unanswered("the reply is no page of requests") from None
+    stamps = [record.stamp for record in page.records]
+    if any(stamp >= following for stamp, following in zip(stamps, [*stamps[1:], page.last + 1])):
+        raise Unanswered("the page isn't in order")
+    return page
+
+
+# The copy
+
+def note_of(file):
+    return Path(f"{file}{NOTE}")
+
+
+def remove(file):
+    """It and its log, where they are there."""
+    for part in (file, pair.log_of(file)):
+        part.unlink(missing_ok=True)
+
+
+class Copy:
+    """A desk's file, kept by the desk's program, which is fed by lines."""
+
+    def __init__(self, program, file):
+        self.program, self.file, self.desk = program, file, None
+        # the last request that it has, by number and whole; before it is opened nobody knows
+        self.last, self.record = None, None
+
+    def open(self):
+        """Opens the file, and looks what the last request in it is."""
+        end = time.monotonic() + SOON
+        while True:
+            try:
+                self.make()
+                self.start(self.file)
+                return self.look()
+            except Again as fault:
+                status = self.close()
+                # one that was killed as it opened the file is none to give up by
+                if status > 0 and status != OPEN_ELSEWHERE or time.monotonic() > end:
+                    raise Fault(f"{self.file} can't be opened: {fault}, with status {status}") from None
+            time.sleep(PAUSE)
+
+    def make(self):
+        """If there is no file, makes one of a desk without requests, which gets its name once it is whole: a start that is killed meanwhile leaves no file that can't be opened."""
+        folder, name = os.path.split(self.file)
+        new = Path(folder, f".{name}.acd-follow")
+        try:
+            # what a killed one left
+            remove(new)
+            if not os.path.lexists(self.file) and not pair.holds_something(pair.log_of(self.file)):
+                self.begin(new)
+        except OSError as fault:
+            raise Fault(f"{self.file} can't be made: {fault.strerror}") from None
+        finally:
+            with contextlib.suppress(OSError):
+                remove(new)
+
+    def begin(self, new):
+        """Nobody else knows the name at which it is made."""
+        self.start(new)
+        self.page(BEYOND)
+        status = self.close()
+        if status < 0:
+            raise Again("its desk was killed")
+        if status:
+            raise Fault(f"{self.file} can't be made: its desk ended with status {status}")
+        # what somebody else made meanwhile stays
+        with contextlib.suppress(FileExistsError):
+            os.link(new, self.file)
+
+    def start(self, file):
+        try:
+            # a signal of the terminal isn't for it
+            words = [self.program, "lines", "--file", file, "--reads"]
+            self.desk = subprocess.Popen(words, stdin=subprocess.PIPE, stdout=subprocess.PIPE, process_group=0)
+        except OSError as fault:
+            raise Fault(f"{self.program}: {fault.strerror}") from None
+
+    def look(self):
+        """The requests that it has by its own account."""
+        self.last = self.page(BEYOND).last
+        self.record = next(iter(self.page(self.last - 1).records), None) if self.last else None
+
+    def page(self, after):
+        status, body = self.answer(f"0 GET /requests?after={after}")
+        if status != 200:
+            raise Fault(f"{self.program} tells no requests, so no copy can be kept by it: it is of an older version")
+        try:
+            return page_of(body)
+        except Unanswered as fault:
+            raise Fault(f"{self.file} isn't a copy of a desk: {fault}") from None
+
+    def answer(self, line):
+        """The status and the body of the answer to a line."""
+        try:
+            self.desk.stdin.write(f"{line}\n".encode("latin-1"))
+            self.desk.stdin.flush()
+            status, _, body = self.desk.stdout.readline().partition(b" ")
+        except OSError as fault:
+            raise Again(f"its desk doesn't answer: {fault.strerror}") from None
+        if not body.endswith(b"\n"):
+            raise Again("its desk ended")
+        if status == b"503":
+            raise Again(f"its desk answered 503 {body.decode('latin-1').strip()}")
+        return int(status), body[:-1]
+
+    def fed(self, record):
+        """Feeds a request; it, with the answer that it gets here."""
+        status, body = self.answer(f"{record.moment} {record.request}")
+        answer = record._replace(status=status, reply=body.decode("latin-1"))
+        if answer == record:
+            self.last, self.record = record.stamp, record
+        else:
+            self.look()
+        return answer
+
+    def close(self):
+        """Has its desk end, and close the file; the status that it ends with."""
+        if self.desk is None:
+            return 0
+        desk, self.desk = self.desk, None
+        # where it has ended by itself there is a line left that nobody read
+        with contextlib.suppress(OSError):
+            desk.stdin.close()
+        status = desk.wait()
+        desk.stdout.close()
+        return status
+
+
+@contextlib.contextmanager
+def undisturbed():
+    """No signal ends it meanwhile."""
+    signal.pthread_sigmask(signal.SIG_BLOCK, ENDING)
+    try:
+        yield
+    finally:
+        signal.pthread_sigmask(signal.SIG_UNBLOCK, ENDING)
+
+
+# The follower
+
+class Trouble:
+    """A fault that keeps it from going on: it reports the fault once, and waits for its end for ever, or for some seconds only."""
+
+    def __init__(self, is_brief):
+        self.is_brief, self.since = is_brief, None
+
+    def wait(self, text):
+        if self.since is None:
+            self.since = time.monotonic()
+            report(text)
+        elif self.is_brief and time.monotonic() > self.since + SOON:
+            raise Fault(text)
+        time.sleep(PAUSE)
+
+    def is_over(self, text):
+        if self.since is not None:
+            self.since = None
+            report(text)
+
+
+class Follower:
+    def __init__(self, desk, copy, once):
+        self.desk, self.copy, self.once = desk, copy, once
+        self.silence, self.failure = Trouble(once), Trouble(once)
+        # the last request that the desk reported, and when
+        self.reported, self.when = None, None
+        self.has_caught_up, self.noted = False, -NOTED
+
+    def state(self):
+        """The last requests of the copy, and of the desk by its last report."""
+        reported = "the desk hasn't answered yet" if self.reported is None else f"the last that the desk told of is {self.reported}, at {moment_text(self.when)}"
+        return f"{self.copy.file} has the requests up to {self.copy.last}; {reported}"
+
+    def note(self):
+        """Writes the same beside the copy, for --last; a disk without room for it is the copy's own trouble."""
+        self.noted = time.monotonic()
+        with contextlib.suppress(OSError):
+            put.put(note_of(self.copy.file), f"{self.state()}\n")
+
+    def asked(self):
+        """The page after the copy's last request but one, and how many seconds it took."""
+        begin = time.monotonic()
+        status, data = self.desk.exchange("GET", f"/requests?after={max(self.copy.last - 1, 0)}")
+        if status != 200:
+            name = re.search(rb'"name":"([A-Za-z]{1,40})"', data)
+            raise Fault(f"the desk answered {status}{f' {name[1].decode()}' if name else ''}: it tells no requests, or not to this login")
+        page = page_of(data)
+        self.reported, self.when = page.last, time.time()
+        return page, time.monotonic() - begin
+
+    def insisted(self):
+        """The same, until there is one."""
+        while True:
+            try:
+                found = self.asked()
+            except Unanswered as fault:
+                self.has_caught_up = False
+                self.silence.wait(f"no answer ({fault.__cause__ or fault}), retrying. {self.state()}")
+            else:
+                self.silence.is_over("the desk answers again")
+                return found
+
+    def compare(self, page):
+        """Refuses a copy that isn't a beginning of the desk's requests."""
+        copy = self.copy
+        if page.last < copy.last:
+            raise Fault(f"the desk has the requests up to {page.last}, and {copy.file} those up to {copy.last}: it isn't the desk that was followed, "
+                        "or an older copy was put back there. Nothing was fed", status=DIFFERS)
+        needed, first = max(copy.last, 1), page.records[0].stamp if page.records else None
+        if copy.last and first == copy.last + 1:
+            # a cut has just left the copy's last request behind: what follows it is there, and is compared
+            return say(f"the desk's archive alone has request {copy.last}, the last of {copy.file}: it isn't compared")
+        if page.last >= needed and (first is None or first > needed):
+            raise Fault(f"request {needed} is needed of the desk, and {f'the first that it has is {first}' if first else 'it has none from there on'}: "
+                        f"{copy.file} has to be made of the desk's archive. Nothing was fed", status=LACKS)
+        if copy.last and page.records[0] != copy.record:
+            raise Fault(f"{copy.file} has another request {copy.last} than the desk: it isn't its copy, and nothing was fed",
+                        *self.both(page.records[0], copy.record), status=DIFFERS)
+
+    def both(self, of_desk, of_copy):
+        return f"the desk: {of_desk.text()}", f"{self.copy.file}: {of_copy.text()}"
+
+    def take(self, page):
+        """Feeds what is new in a page."""
+        for record in page.records:
+            before = self.copy.record
+            if record == before:
+                continue
+            if record.stamp != self.copy.last + 1:
+                raise Fault(f"request {self.copy.last + 1} is needed of the desk, and isn't among those that it tells", status=LACKS)
+            if before and record.moment < before.moment:
+                raise Fault("the desk tells a request whose moment is before that of the one before it", *self.both(record, before), status=DIFFERS)
+            with undisturbed():
+                self.feed(record)
+
+    def feed(self, record):
+        """Feeds one request; the copy's answer has to be the one that the desk reported."""
+        answer = self.copy.fed(record)
+        if answer != record:
+            raise Fault(f"{self.copy.file} answers a request otherwise than the desk did, and isn't its copy", *self.both(record, answer), status=DIFFERS)
+
+    def round(self):
+        """Asks once, and feeds what there is; how many seconds to wait before the next time, nothing where it has caught up and is to end."""
+        page, took = self.insisted()
+        self.compare(page)
+        if page.records and page.records[-1].stamp > self.copy.last:
+            self.take(page)
+            fed = self.copy.last
+            self.copy.look()
+            if self.copy.last != fed:
+                raise Fault(f"{self.copy.file} has the requests up to {self.copy.last}, where it was fed up to {fed}: the desk told one of them twice",
+                            status=DIFFERS)
+        if self.copy.last < page.last:
+            # the desk has as long for others as it had for this
+            return took
+        if not self.has_caught_up:
+            self.has_caught_up = True
+            say(f"caught up at {self.copy.last}")
+        if time.monotonic() > self.noted + NOTED:
+            self.note()
+        return None if self.once else LOOK
+
+    def follow(self):
+        """Until it has caught up, or without an end."""
+        self.copy.open()
+        rest = 0
+        while rest is not None:
+            time.sleep(rest)
+            try:
+                rest = self.round()
+                self.failure.is_over(f"{self.copy.file}: its desk answers again")
+            except Again as fault:
+                self.has_caught_up = False
+                self.failure.wait(f"{self.copy.file}: {fault}; it is opened and asked again")
+                self.copy.close()
+                self.copy.open()
+
+
+# The command
+
+def options_of(words):
+    about = "Keeps a copy of a desk that runs elsewhere, by the requests that it has executed."
+    parser = argparse.ArgumentParser(prog=command.name, description=about, allow_abbrev=False)
+    parser.add_argument("address", nargs="?", type=reach.address, metavar="URL", help="the desk's address, as http://127.0.0.1:8080 or https://desk.example:8443")
+    parser.add_argument("--file", metavar="G", help="the file that the copy is kept in; it is made where it isn't there")
+    parser.add_argument("--once", action="store_true", help="end as soon as the copy has what the desk told of")
+    parser.add_argument("--last", action="store_true", help=f"print what it said last of the copy G ({DESK_FILE} unless given), and end; it takes no URL")
+    parser.add_argument("--desk", default="acd", metavar="PROGRAM", help="the desk's program that keeps the copy; acd unless given")
+    reach.add_login_options(parser)
+    options = parser.parse_args(words)
+    if options.last and options.address:
+        parser.error("--last asks no desk: it takes no URL")
+    if not options.last:
+        if not options.address or not options.file:
+            parser.error("URL and --file have to be given, or --last")
+        reach.check(parser, options)
+    return options
+
+
+def last(file):
+    """What acd-follow said of the copy when it ended, or some seconds ago; the status."""
+    try:
+        say(note_of(file).read_text().strip())
+        return 0
+    except OSError as fault:
+        report(f"{note_of(file)}: {fault.strerror}: acd-follow hasn't caught up yet there")
+        return 1
+
+
+def end(*_):
+    """The first signal ends it, and a second one doesn't disturb that."""
+    if not ending:
+        ending.append(True)
+        raise Ended
+
+
+def main(words):
+    options = options_of(words)
+    if options.last:
+        sys.exit(last(options.file or DESK_FILE))
+    os.umask(0o077)
+    for one in ENDING:
+        signal.signal(one, end)
+    copy, follower, status = Copy(options.desk, options.file), None, 0
+    try:
+        follower = Follower(reach.desk_at(options), copy, options.once)
+        follower.follow()
+    except Ended:
+        pass
+    except (Fault, reach.Fault) as fault:
+        for text in fault.args:
+            report(text)
+        status = getattr(fault, "status", 1)
+    signal.pthread_sigmask(signal.SIG_BLOCK, ENDING)
+    copy.close()
+    if copy.last is not None:
+        follower.note()
+        say(follower.state())
+    sys.exit(status)

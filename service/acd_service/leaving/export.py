@@ -1,0 +1,103 @@
+"""Prints all event reports of a desk as CSV, those of its file and of the archives that it was carried over from: each once, by number.
+
+The desk's program prints those of each file. It is tested, not proved."""
+import argparse
+import contextlib
+import heapq
+import os
+import subprocess
+import sys
+import tempfile
+from pathlib import Path
+
+from acd_service import command
+
+# the status where the reports aren't whole, or aren't of one desk
+BROKEN = 3
+
+
+class Fault(Exception):
+    """Why nothing is printed, and the status: that of the program, if the program says why."""
+
+    def __init__(self, text, status=1):
+        super().__init__(text)
+        self.status = status
+
+
+def exported(program, file, text):
+    """Has the program write a file's reports into a text, and returns the head of their columns."""
+    with open(text, "wb") as out:
+        done = subprocess.run([program, "export", "--file", file], stdin=subprocess.DEVNULL, stdout=out, stderr=subprocess.PIPE, text=True)
+    if done.returncode:
+        raise Fault(done.stderr.strip(), done.returncode)
+    with open(text) as lines:
+        return lines.readline()
+
+
+def reports(file, text):
+    """The number, the line and the file of each report."""
+    with open(text) as lines:
+        next(lines)
+        for line in lines:
+            yield int(line.partition(",")[0]), line, file
+
+
+class Printed:
+    """The line that was printed for each number, and whether all is as it should be."""
+
+    def __init__(self):
+        self.number, self.line, self.file, self.is_whole = 0, "", None, True
+
+    def take(self, number, line, file):
+        if number == self.number:
+            if line != self.line:
+                self.fault(f"event {number} is another one in {file} than in {self.file}")
+            return
+        if number > self.number + 1:
+            self.missing(number - 1)
+        self.number, self.line, self.file = number, line, file
+        sys.stdout.write(line)
+
+    def missing(self, last):
+        first = self.number + 1
+        self.fault(f"event {first} is missing" if first == last else f"events {first} to {last} are missing")
+
+    def fault(self, text):
+        self.is_whole = False
+        command.report(text)
+
+
+def export(program, files, folder):
+    """Whether the reports are whole."""
+    texts = [Path(folder) / str(number) for number in range(len(files))]
+    heads = {exported(program, file, text) for file, text in zip(files, texts)}
+    if len(heads) > 1:
+        raise Fault(f"{program} prints other columns of one file than of another")
+    sys.stdout.write(*heads)
+    printed = Printed()
+    # of one number that of the file that was named first comes first
+    for report in heapq.merge(*map(reports, files, texts), key=lambda report: report[0]):
+        printed.take(*report)
+    sys.stdout.flush()
+    return printed.is_whole
+
+
+def main(words):
+    parser = argparse.ArgumentParser(prog=command.name, allow_abbrev=False,
+                                     description="Prints all event reports of a desk as CSV, each once, by number; with the status 3 where some are missing.")
+    parser.add_argument("--file", required=True, metavar="F", help="the desk's file, or a copy")
+    parser.add_argument("--archive", action="append", default=[], metavar="A", help="an archive that the file was carried over from; as often as there are some")
+    parser.add_argument("--desk", default="acd", metavar="PROGRAM", help="the desk's program; acd unless given")
+    options = parser.parse_args(words)
+    try:
+        with tempfile.TemporaryDirectory() as folder:
+            sys.exit(0 if export(options.desk, [*options.archive, options.file], folder) else BROKEN)
+    except BrokenPipeError:
+        os.dup2(os.open(os.devnull, os.O_WRONLY), sys.stdout.fileno())
+    except Fault as fault:
+        with contextlib.suppress(OSError):
+            command.report(fault)
+        sys.exit(fault.status)
+    except OSError as fault:
+        command.report(fault)
+        sys.exit(1)

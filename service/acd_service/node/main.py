@@ -1,0 +1,161 @@
+"""One of several machines with a desk each, fed from one log in etcd: a front that takes requests, and a bridge that feeds this machine's desk.
+
+usage: acd-node --name N --folder F --etcd HOST:PORT,.. [--machines N,N,N] [--gone HOURS] [--port P] [--bind A] [--line KEY] [--desk PROGRAM]
+                [--etcd-ca C --etcd-cert C --etcd-key K] [--etcd-user U --etcd-password FILE] [--cert C --key K] [--client-ca C]
+       acd-node --upkeep now|turn --name N --machines N,N,N --etcd HOST:PORT,.. [--line KEY] [--etcd-ca C --etcd-cert C --etcd-key K]
+                [--etcd-user U --etcd-password FILE]
+
+Not verified: what is proved of the desk is said in docs/PROVED.md, what this has to do for it in docs/OPERATING.md. Clients send requests as to
+`acd serve`, by POST to /csta, to any machine, and send one again, with its key, until its answer isn't 503. A read, by GET or HEAD, is answered by this
+machine's own desk (`acd lines --reads`), behind all that this machine has answered; it goes into no log, no count and no digest. F/desk.db is the desk,
+F/at the place of the last entry of the log that it has answered, how many those were, and a digest of their replies. Every 1,000 entries the machines
+compare digests: one that differs from two others of --machines says so, and answers 503 to everything. So does one that needs an entry that the log no longer
+has. F must then be replaced by a copy of another machine's.
+
+It asks nobody who they are, so it listens on the loopback address, behind a proxy and a gate, or asks each client for a certificate (--client-ca): then no gate
+knows the client's role, and /requests is 403.
+An entry is 32 hexadecimal digits, a blank, a moment of 1 to 10 digits, a blank, and a request of 1 to 4,096 bytes that begins with neither GET nor HEAD, without
+CR or LF. All else in the log is passed over, on all machines alike, and told.
+
+Each machine of --machines tells its place, every 1,000 entries and every minute, and the log is kept from the least of them on. For one that has told
+none for --gone hours (72) it isn't kept. With --etcd-user it asks etcd as this user, whose password is in a file that only root and a group may read: so etcd lets
+it write the log and the keys below its own name, and nothing else. --upkeep, for a timer, looks after etcd once: it gives back what the files of its members have free, and lets a full
+one take entries again."""
+import argparse
+import ipaddress
+import os
+import re
+import ssl
+import sys
+import threading
+import time
+
+from acd_service import command
+from acd_service.node import upkeep
+from acd_service.node.bridge import Bridge
+from acd_service.node.front import Front, end_process
+from acd_service.node.journal import Journal
+from acd_service.node.keeper import Keeper
+from acd_service.node.log import Log
+
+
+def name(word):
+    if not re.fullmatch(r"[A-Za-z0-9.-]{1,64}", word):
+        raise argparse.ArgumentTypeError(f"a machine's name is 1 to 64 letters, digits, dots and hyphens, and not '{word}'")
+    return word
+
+
+def names(words):
+    found = [name(word) for word in words.split(",")]
+    if len(set(found)) != len(found):
+        raise argparse.ArgumentTypeError(f"a machine stands twice in '{words}'")
+    return found
+
+
+def ends(words):
+    for end in words.split(","):
+        if not re.fullmatch(r"[^:]+:[0-9]{1,5}", end):
+            raise argparse.ArgumentTypeError(f"'{end}' isn't HOST:PORT")
+    return words.split(",")
+
+
+def hours(word):
+    if not float(word) > 0:
+        raise argparse.ArgumentTypeError(f"'{word}' isn't a number of hours")
+    return float(word)
+
+
+def is_loopback(address):
+    try:
+        return ipaddress.ip_address(address).is_loopback
+    except ValueError:
+        return address == "localhost"
+
+
+def options_of(words):
+    parser = argparse.ArgumentParser(prog=command.name, description=command.called(__doc__), formatter_class=argparse.RawDescriptionHelpFormatter, usage=argparse.SUPPRESS)
+    parser.add_argument("--name", type=name, required=True)
+    parser.add_argument("--etcd", type=ends, required=True)
+    parser.add_argument("--machines", type=names, default=[])
+    parser.add_argument("--gone", type=hours, default=72.0)
+    parser.add_argument("--upkeep", choices=["now", "turn"])
+    for word, usual in [("--port", 8080), ("--bind", "127.0.0.1"), ("--line", "desk/line"), ("--desk", "acd")]:
+        parser.add_argument(word, type=type(usual), default=usual)
+    for word in ["--folder", "--etcd-ca", "--etcd-cert", "--etcd-key", "--etcd-user", "--etcd-password", "--cert", "--key", "--client-ca"]:
+        parser.add_argument(word)
+    options = parser.parse_args(words)
+    if options.machines and options.name not in options.machines:
+        parser.error(f"--machines doesn't name {options.name}")
+    if options.upkeep and not options.machines:
+        parser.error("--upkeep needs --machines")
+    if not options.upkeep and not options.folder:
+        parser.error("--folder is needed")
+    if bool(options.cert) != bool(options.key) or options.client_ca and not options.cert:
+        parser.error("--cert and --key go together, and with --client-ca")
+    if bool(options.etcd_cert) != bool(options.etcd_key) or options.etcd_cert and not options.etcd_ca:
+        parser.error("--etcd-cert and --etcd-key go together, with --etcd-ca")
+    if options.etcd_user:
+        check_password(parser, options.etcd_password)
+    if not is_loopback(options.bind) and not options.client_ca:
+        parser.error(f"at {options.bind} strangers would ask for everything: bind it to 127.0.0.1, behind a proxy and a gate, or ask for certificates by --client-ca")
+    return options
+
+
+def check_password(parser, file):
+    """Refuses a file that isn't there, or that everybody may read."""
+    try:
+        with open(file or "") as words:
+            if os.fstat(words.fileno()).st_mode & 0o007:
+                parser.error(f"everybody may read {file}, which has the password of etcd's user: chmod o= {file}")
+    except OSError as fault:
+        parser.error(f"--etcd-user needs the file of its password, --etcd-password FILE: {fault}")
+
+
+def etcd_context(options):
+    """The context for TLS to etcd, or None without TLS."""
+    if not options.etcd_ca:
+        return None
+    context = ssl.create_default_context(cafile=options.etcd_ca)
+    if options.etcd_cert:
+        context.load_cert_chain(options.etcd_cert, options.etcd_key)
+    return context
+
+
+def front_context(options):
+    """The context for TLS to clients, or None without TLS."""
+    if not options.cert:
+        return None
+    context = ssl.SSLContext(ssl.PROTOCOL_TLS_SERVER)
+    context.load_cert_chain(options.cert, options.key)
+    if options.client_ca:
+        context.load_verify_locations(options.client_ca)
+        context.verify_mode = ssl.CERT_REQUIRED
+    return context
+
+
+def run(options, log, journal):
+    os.makedirs(options.folder, exist_ok=True)
+    if not options.machines:
+        journal.report("without --machines the log is never shortened, and no digest is compared")
+    if not options.etcd_ca:
+        journal.report("without --etcd-ca etcd has to be this machine's own: who reaches it asks for everything")
+    elif not options.etcd_user:
+        journal.report("without --etcd-user each machine may write what another one says of itself")
+    bridge = Bridge(options.folder, options.desk, log, journal)
+    keeper = Keeper(options.name, options.machines, options.gone, log, bridge, journal)
+    front = Front((options.bind, options.port), bridge, front_context(options))
+    keeper.look()                                          # before the first answer: a folder that differed still does
+    for part in (bridge, keeper):
+        threading.Thread(target=part.run, daemon=True).start()
+    front.serve_forever()
+
+
+def main(words):
+    options, journal = options_of(words), Journal()
+    sys.excepthook, threading.excepthook = end_process, lambda fault: end_process(*fault[:3])
+    user = (options.etcd_user, options.etcd_password) if options.etcd_user else None
+    log = Log(options.etcd, options.line.encode(), etcd_context(options), journal, user)
+    if not options.upkeep:
+        return run(options, log, journal)
+    if options.upkeep == "now" or upkeep.has_turn(options.name, options.machines, time.time()):
+        sys.exit(upkeep.once(log, options.machines, journal))

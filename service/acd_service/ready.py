@@ -1,0 +1,437 @@
+"""Looks whether a desk can be served, and becomes `acd serve --endless`; notes what a desk that has ended left; or makes the file of a new desk. Tested, not
+proved.
+
+If a start would fail, or would lose something, it says so in a line before anything opens the desk's file."""
+import argparse
+import contextlib
+import errno
+import filecmp
+import os
+import pwd
+import re
+import select
+import shlex
+import shutil
+import socket
+import stat
+import subprocess
+import sys
+import tempfile
+import time
+from pathlib import Path
+
+from acd_service import command, held, pair, put, restoring, settings
+from acd_service.command import report
+from acd_service.log import Damaged, Sound, Unreadable, look
+from acd_service.notify import ready
+from acd_service.restoring import name_of
+
+SETTINGS = "/etc/acd/acd.env"
+OURS = Path("/var/lib/acd")
+# what no unit sees, ProtectHome=yes
+HOMES = [Path(one) for one in ("/home", "/root", "/run/user")]
+PAGE = "'What a start looks at' in OPERATING.md"
+# the status of what has to be mended first, so that systemd starts nothing again, that of what may be otherwise the next time, and that of a bad command line
+MEND, AGAIN, WORDS = 64, 1, 2
+# seconds between two looks at a log that seems damaged
+PAUSE = 0.1
+# as many seconds has the program to write the log into the file behind a stop: systemd gives it 90
+WRITING = 60
+# the name of a copy that is good
+GOOD = r"\d{4}-\d\d-\d\dT\d{6}Z"
+WEEK = 7 * 86400
+
+
+class Fault(Exception):
+    """Why the desk doesn't start: the fault, and what to do."""
+
+    def __init__(self, text, status=MEND):
+        super().__init__(text)
+        self.status = status
+
+
+def is_there(path):
+    return os.path.lexists(path)
+
+
+def clear_away(folder, prefix):
+    """Removes the remains of an earlier try that was killed."""
+    for old in folder.glob(f"{prefix}*"):
+        shutil.rmtree(old, ignore_errors=True)
+
+
+# The settings
+
+def look_at_names(names):
+    for name in settings.others(names):
+        raise Fault(f"no setting is called {name}: {settings.nearest(name)} is the nearest that there is; mend it in {SETTINGS}, "
+                    "or in the unit's own file of settings")
+    for name in settings.earlier(names):
+        report(f"{name} is a setting of an earlier version, and is passed over: remove it from {SETTINGS}")
+
+
+# The file and its folder
+
+def advice(folder):
+    """What to do about a folder that the desk's user can't use. Others may need one that has something in it, so that it must not become this user's."""
+    user = name_of(os.geteuid())
+    if any(home == folder or home in folder.parents for home in HOMES):
+        return f"no unit sees a home: move the file under {OURS}, and name it there, ACD_FILE in {SETTINGS}"
+    try:
+        is_empty = not any(folder.iterdir())
+    except OSError:
+        is_empty = False
+    if is_empty or OURS in (folder, *folder.parents):
+        return f"give it to this user (chown {user} {shlex.quote(str(folder))})"
+    return f"others may need it, so move the file under {OURS}, or into an empty folder, and name it there, ACD_FILE in {SETTINGS}"
+
+
+def look_into(folder):
+    user = name_of(os.geteuid())
+    try:
+        is_folder = folder.is_dir()
+    except PermissionError:
+        raise Fault(f"the user {user} may not look into what is above {folder}: {advice(folder)}") from None
+    if not is_folder:
+        raise Fault(f"the folder {folder} isn't there for the user {user}: is ACD_FILE in {SETTINGS} spelt right? Else mount its disk")
+    if not os.access(folder, os.X_OK, effective_ids=True):
+        raise Fault(f"the user {user} may not look into {folder}: {advice(folder)}")
+
+
+def place(path):
+    """The file's path with links followed. Until a broken-off restore is finished, the file's name is a link that leads nowhere."""
+    if not path:
+        raise Fault("the file has no name", WORDS)
+    named = held.place(path)
+    look_into(named.parent)
+    unfinished = restoring.unfinished(named)
+    if unfinished:
+        raise Fault(unfinished)
+    file = Path(os.path.realpath(path))
+    look_into(file.parent)
+    return file
+
+
+def look_at_writing(folder):
+    user = name_of(os.geteuid())
+    if os.statvfs(folder).f_flag & os.ST_RDONLY:
+        raise Fault(f"{folder} is read-only: its disk is, or the unit isn't told of it (systemctl edit acd, and ReadWritePaths={folder} under [Service])")
+    if not os.access(folder, os.W_OK, effective_ids=True):
+        raise Fault(f"the user {user} may not write in {folder}: {advice(folder)}")
+
+
+def look_at_kind(path):
+    """A file, with one name, and this user's."""
+    found, user = os.lstat(path), name_of(os.geteuid())
+    if not stat.S_ISREG(found.st_mode):
+        raise Fault(f"{path} is no file: move it away, or name another file, ACD_FILE in {SETTINGS}")
+    if found.st_nlink != 1:
+        raise Fault(f"{path} has {found.st_nlink} names: remove all but this one (find / -xdev -samefile {shlex.quote(str(path))})")
+    if found.st_uid != os.geteuid():
+        raise Fault(f"{path} is the user {name_of(found.st_uid)}'s and not {user}'s: chown {user} {shlex.quote(str(path))}")
+
+
+def lone_log(file, what):
+    return Fault(f"{file} {what}, but its log {pair.log_of(file)} is there: put {file.name} or a copy back (acd-copy --restore MOMENT), or move the log away, "
+                 "but don't remove it: it may hold answered requests")
+
+
+def look_at_files(file):
+    log = pair.log_of(file)
+    if not is_there(file) and is_there(log):
+        raise lone_log(file, "isn't there")
+    if is_there(file) and not os.path.getsize(file) and pair.holds_something(log):
+        raise lone_log(file, "has no bytes")
+    if not is_there(file):
+        raise Fault(f"{file} isn't there: is ACD_FILE in {SETTINGS} spelt right? Else put a copy back (acd-copy --restore MOMENT), "
+                    f"or begin a new desk (acd-ready --make --file {shlex.quote(str(file))})")
+    both = [path for path in (file, log) if is_there(path)]
+    for path in both:
+        look_at_kind(path)
+    look_at_writing(file.parent)
+    for path in both:
+        if not os.access(path, os.R_OK | os.W_OK, effective_ids=True):
+            raise Fault(f"the user {name_of(os.geteuid())} may not read and write {path}: chmod 600 {shlex.quote(str(path))}")
+    if pair.is_split(file):
+        raise Fault(f"{file} and its log {log} weren't here together: put both of one copy back (acd-copy --restore MOMENT), or remove {pair.note_of(file)} where they are of one desk and one time")
+    if pair.lost(file):
+        raise lost_log(file)
+
+
+# A log that was removed
+
+def good_copies(file):
+    """The moments of the good copies of a file, the oldest first, and their folder."""
+    folder = Path(os.environ.get("ACD_COPY_FOLDER") or file.parent / "copies")
+    return sorted(one.name for one in folder.glob("*") if re.fullmatch(GOOD, one.name) and (one / file.name).is_file()), folder
+
+
+def lost_log(file):
+    copies, folder = good_copies(file)
+    until = time.strftime("%Y-%m-%dT%H%M%SZ", time.gmtime(os.stat(file).st_mtime))
+    copy = f"the newest good copy is {copies[-1]} (acd-copy --restore {copies[-1]})" if copies else f"there is no good copy in {folder}"
+    return Fault(f"the log {pair.log_of(file)} is gone, which had {pair.lost(file)} bytes as the desk ended, and nobody wrote it into {file}: "
+                 f"answered requests are lost. Put the log back; where it can't be had, {copy}, and {file} has what was written into it until {until}: "
+                 f"to start with that, remove {pair.note_of(file)}")
+
+
+def look_for_log(file):
+    if pair.is_gone(file):
+        report(f"the log {pair.log_of(file)} of the last start is gone, and no stop noted what it left: unless sqlite3 or acd wrote it into {file}, "
+               f"answered requests are lost ({PAGE})")
+
+
+# The port
+
+def look_at_port(port):
+    with socket.socket() as tried:
+        tried.setsockopt(socket.SOL_SOCKET, socket.SO_REUSEADDR, 1)
+        try:
+            tried.bind(("127.0.0.1", port))
+        except OSError as fault:
+            if fault.errno == errno.EADDRINUSE:
+                raise Fault(f"port {port} is taken: end who listens there (ss -ltnp sport = :{port}), or name another port, ACD_PORT in {SETTINGS}") from None
+            if fault.errno == errno.EACCES:
+                raise Fault(f"the user {name_of(os.geteuid())} may not use port {port}: choose 1024 or higher, ACD_PORT in {SETTINGS}") from None
+            raise Fault(f"port {port}: {fault.strerror}", AGAIN) from None
+
+
+# A log that is damaged
+
+def written(path):
+    found = os.stat(path)
+    return found.st_size, found.st_mtime_ns
+
+
+def settled(log):
+    """The state of the log, by two looks. If they differ, or the log was written in between, somebody is writing it: then it counts as sound, and the desk will
+    say that its file is open elsewhere."""
+    before, found = written(log), look(log)
+    if isinstance(found, Sound):
+        return found
+    time.sleep(PAUSE)
+    return found if look(log) == found and written(log) == before else Sound()
+
+
+def kept_before(file, log):
+    """The folder in which the two are kept as they are now, where an earlier start ended before it could open them."""
+    for folder in sorted(file.parent.glob("damaged-*")):
+        if all((folder / one.name).is_file() and filecmp.cmp(one, folder / one.name) for one in (file, log)):
+            return folder
+    return None
+
+
+def keep(file, log):
+    """Copies the two, as they are, into a folder beside them that is there whole or not at all; its name."""
+    clear_away(file.parent, ".damaged-")
+    moment = time.strftime("%Y-%m-%dT%H%M%SZ", time.gmtime())
+    with tempfile.TemporaryDirectory(prefix=f".damaged-{moment}-", dir=file.parent) as scratch:
+        new = Path(scratch, "new")
+        new.mkdir(mode=0o700)
+        words = ["cp", "--reflink=auto", "--preserve=mode,timestamps", "--", file, log, new]
+        for step in (words, ["sync", *(new / one.name for one in (file, log)), new]):
+            done = subprocess.run(step, stdin=subprocess.DEVNULL, stdout=subprocess.PIPE, stderr=subprocess.STDOUT, text=True)
+            if done.returncode:
+                raise Fault(f"the log {log} is damaged, and can't be kept as it is before the desk opens it: {' '.join(done.stdout.split())}", AGAIN)
+        made = file.parent / Path(scratch).name.lstrip(".")
+        os.rename(new, made)
+    put.sync_folder(file.parent)
+    return made
+
+
+def report_damage(file, log, found):
+    folder = kept_before(file, log) or keep(file, log)
+    if isinstance(found, Damaged):
+        what = f"is damaged from its frame {found.frame} on (byte {found.offset}), and answered requests from there on are missing"
+    else:
+        what = f"can't be read ({found.why}), and the answered requests that it may have held are missing"
+    report(f"the log {log} {what}; both files, as they were, are in {folder} ({PAGE})")
+
+
+def empty(file, patience=None):
+    """The program opens the file and closes it, which writes the log into the file and empties it. A start without this would write after the last good commit, and
+    the old frames there would seem damage, once a commit before them is torn. If this fails, the start will say why. However early it is ended, nothing is lost."""
+    with contextlib.suppress(subprocess.TimeoutExpired):
+        subprocess.run(["acd", "lines", "--file", file], stdin=subprocess.DEVNULL, stdout=subprocess.DEVNULL, stderr=subprocess.DEVNULL, timeout=patience)
+
+
+def look_at_log(file):
+    log = pair.log_of(file)
+    if not is_there(log):
+        return
+    found = settled(log)
+    if isinstance(found, (Damaged, Unreadable)):
+        report_damage(file, log, found)
+    if not isinstance(found, Sound):
+        empty(file)
+
+
+# Copies
+
+def timer():
+    """The timer of the copies of the unit that this process is of: acd-copy-north.timer of acd-north.service."""
+    return f"{(held.unit(os.getpid()) or 'acd').replace('acd', 'acd-copy', 1)}.timer"
+
+
+def is_active(unit):
+    try:
+        return subprocess.run(["systemctl", "is-active", "--quiet", unit], stdin=subprocess.DEVNULL, stderr=subprocess.DEVNULL).returncode == 0
+    except OSError:
+        return False
+
+
+def look_at_copies(file):
+    """Nothing else tells of a timer that was turned off and forgotten. A desk whose folder is younger than a week may have none yet."""
+    copies, folder = good_copies(file)
+    since = time.time() - WEEK
+    last = time.strftime("%Y-%m-%dT%H%M%SZ", time.gmtime(since))
+    # the moment at which the folder was made, where its file system says so
+    _, _, made = pair.identity(file.parent).partition(" ")
+    if float(made or 0) < since and not any(copy > last for copy in copies) and not is_active(timer()):
+        report(f"no good copy in {folder} is younger than a week: is {timer()} active? (systemctl enable --now {timer()})")
+
+
+# The work
+
+def write_note(file, is_left=False):
+    """Writes the note anew. A note that isn't true any more mustn't stay, and a full disk has no room for another."""
+    if not is_left and pair.read_note(file) == pair.pair(file):
+        return
+    try:
+        pair.remember(file, is_left)
+    except OSError:
+        pair.note_of(file).unlink(missing_ok=True)
+
+
+def answers(port):
+    try:
+        with socket.create_connection(("127.0.0.1", port), 5) as tried:
+            tried.sendall(b"GET / HTTP/1.1\r\nHost: localhost\r\n\r\n")
+            return bool(tried.recv(1))
+    except OSError:
+        return False
+
+
+def notify(port):
+    """Where systemd waits for it, a process tells it that the desk answers at its port, and ends then, or with this process, which becomes the desk. It is no
+    child of this one, since a desk waits for none."""
+    if "NOTIFY_SOCKET" not in os.environ:
+        return
+    desk = os.pidfd_open(os.getpid())
+    child = os.fork()
+    if child:
+        os.waitpid(child, 0)
+        return os.close(desk)
+    try:
+        if os.fork():
+            return
+        ended = select.poll()
+        ended.register(desk, select.POLLIN)
+        while not ended.poll(PAUSE * 1000):
+            if answers(port):
+                return ready()
+    finally:
+        os._exit(0)
+
+
+def serve(options):
+    look_at_names(os.environ)
+    file = place(options.file)
+    look_at_files(file)
+    look_at_port(options.port)
+    look_at_log(file)
+    look_for_log(file)
+    look_at_copies(file)
+    write_note(file)
+    notify(options.port)
+    try:
+        os.execvp("acd", ["acd", "serve", "--file", options.file, "--port", str(options.port), "--endless"])
+    except FileNotFoundError:
+        raise Fault("there is no program acd in the PATH: install it") from None
+
+
+def stopped(options):
+    """Behind a desk that has ended: what it left is noted, so that a start sees a log that was removed. Behind a clean stop there is nothing in the log by then.
+    What keeps a desk from being served is told by its start alone."""
+    is_clean = os.environ.get("SERVICE_RESULT") == "success"
+    try:
+        file = place(options.file)
+        look_at_files(file)
+    except Fault:
+        return
+    look_for_log(file)
+    if is_clean:
+        try:
+            look_at_log(file)
+            empty(file, WRITING)
+        except Fault as fault:
+            report(fault)
+    write_note(file, is_left=True)
+
+
+def become_owner(folder):
+    """Root makes what is in a folder as the folder's owner."""
+    owner = os.stat(folder).st_uid
+    if os.geteuid() == 0 and owner:
+        user = pwd.getpwuid(owner)
+        os.initgroups(user.pw_name, user.pw_gid)
+        os.setgid(user.pw_gid)
+        os.setuid(owner)
+
+
+def make(options):
+    """The new file is there whole or not at all: it is made in another folder, and then moved to its name."""
+    file = place(options.file)
+    become_owner(file.parent)
+    look_into(file.parent)
+    clear_away(file.parent, ".new-desk-")
+    if is_there(file):
+        return print(f"{file} is there already")
+    if is_there(pair.log_of(file)):
+        raise lone_log(file, "isn't there")
+    look_at_writing(file.parent)
+    # of a file that was here before; the new one has had no log yet
+    pair.note_of(file).unlink(missing_ok=True)
+    os.umask(0o077)
+    with tempfile.TemporaryDirectory(prefix=".new-desk-", dir=file.parent) as scratch:
+        new = Path(scratch, file.name)
+        done = subprocess.run(["acd", "lines", "--file", new], stdin=subprocess.DEVNULL, stdout=subprocess.DEVNULL, stderr=subprocess.PIPE, text=True)
+        if done.returncode:
+            raise Fault(f"{file} isn't made: {' '.join(done.stderr.split())}", AGAIN)
+        os.rename(new, file)
+    put.sync_folder(file.parent)
+    return print(f"made {file}")
+
+
+class Words(argparse.ArgumentParser):
+    def error(self, message):
+        report(message)
+        sys.exit(WORDS)
+
+
+def port_of(text):
+    if not (text.isascii() and text.isdigit() and len(text) < 6 and 1 <= int(text) <= 65535):
+        raise argparse.ArgumentTypeError(f"the port {text!r} isn't a whole number from 1 to 65535")
+    return int(text)
+
+
+def main(words):
+    parser = Words(usage=f"{command.name} --serve [--file F] [--port P]    looks, and becomes acd serve --endless\n"
+                         f"       {command.name} --stopped [--file F]             notes how a desk that has ended left its file and its log\n"
+                         f"       {command.name} --make [--file F]                makes the file of a new desk, where neither it nor its log is",
+                   epilog="the file is /var/lib/acd/desk.db and the port 8080, unless they are given")
+    act = parser.add_mutually_exclusive_group(required=True)
+    act.add_argument("--serve", action="store_const", const=serve, dest="act", help="serve the desk on a port of the loopback address")
+    act.add_argument("--stopped", action="store_const", const=stopped, dest="act", help="write the log into the file behind a clean stop, and note what is left")
+    act.add_argument("--make", action="store_const", const=make, dest="act", help="make the file of a new desk; root makes it for the folder's owner")
+    parser.add_argument("--file", metavar="F", default="/var/lib/acd/desk.db", help="the desk's file")
+    parser.add_argument("--port", metavar="P", type=port_of, default=8080, help="the port of the loopback address")
+    options = parser.parse_args(words)
+    try:
+        options.act(options)
+    except Fault as fault:
+        report(fault)
+        sys.exit(fault.status)
+    except OSError as fault:
+        report(f"{fault.filename or options.file}: {fault.strerror or fault}")
+        sys.exit(AGAIN)

@@ -1,0 +1,97 @@
+"""Files of records, a day each: the days that are over, in FOLDER/records, FOLDER/agents and FOLDER/groups. Tested, not proved."""
+import contextlib
+import datetime
+import os
+from pathlib import Path
+
+from acd_service import put
+
+KINDS = ("records", "agents", "groups")
+# that ended so many days ago at most are written anew where they differ: a call that went on is over by now, say. Older ones stay as they are, also
+# removed: callers' numbers are in them, and somebody may have to remove them in time
+AGAIN = 7
+
+
+def newest_of(folder, kind):
+    """The newest day of which there is a file, as its text; empty where there is none."""
+    return max((file.stem for file in (folder / kind).glob("*.csv")), default="")
+
+
+def wanted_from(folder):
+    """The first day that hasn't its files yet; None where that may be any."""
+    try:
+        return min(datetime.date.fromisoformat(newest_of(folder, kind)) for kind in KINDS) + datetime.timedelta(days=1)
+    except ValueError:
+        return None
+
+
+class Days:
+    """The files below a folder. `first` is the first day that is there as a whole, and `today` the first that isn't over; `writer_of` makes a writer of rows of a stream."""
+
+    def __init__(self, folder, first, today, heads, writer_of):
+        self.folder, self.first, self.today, self.heads, self.writer_of = folder, first, today, heads, writer_of
+        self.open, self.written, self.newest = {}, 0, {}
+        for kind in KINDS:
+            (folder / kind).mkdir(mode=0o750, exist_ok=True)
+            # the remains of a run that was killed
+            for left in (folder / kind).glob(".*.new"):
+                left.unlink()
+            self.newest[kind] = newest_of(folder, kind)
+
+    def lacks(self):
+        """Whether days before the first one would be the next, after those that are written."""
+        newest = max(self.newest.values())
+        return self.first > datetime.date.min and newest < str(self.first - datetime.timedelta(days=1))
+
+    def place(self, kind, day):
+        return self.folder / kind / f"{day}.csv"
+
+    def wants(self, kind, day):
+        return self.first <= day < self.today and ((self.today - day).days <= AGAIN or str(day) > self.newest[kind])
+
+    def write(self, kind, day, row):
+        """Rows come day by day; those of a day that needs no file are dropped."""
+        if kind not in self.open or self.open[kind][0] != day:
+            self.end(kind)
+            self.begin(kind, day)
+        writer = self.open[kind][2]
+        if writer:
+            writer.writerow(row)
+
+    def begin(self, kind, day):
+        stream = writer = None
+        if self.wants(kind, day):
+            stream = put.opened(self.place(kind, day), 0o640)
+            writer = self.writer_of(stream)
+            writer.writerow(self.heads[kind])
+        self.open[kind] = day, stream, writer
+
+    def end(self, kind):
+        """The file is in its place at once, or as it was."""
+        day, stream, _ = self.open.pop(kind, (None, None, None))
+        if not stream:
+            return
+        place = self.place(kind, day)
+        with stream:
+            stream.flush()
+            if place.exists() and place.read_bytes() == Path(stream.name).read_bytes():
+                return os.unlink(stream.name)
+            put.settle(stream, place)
+        self.written += 1
+
+    def __enter__(self):
+        return self
+
+    def __exit__(self, kind, *_):
+        for each in list(self.open):
+            if kind is None:
+                self.end(each)
+            else:
+                self.drop(each)
+
+    def drop(self, kind):
+        _, stream, _ = self.open.pop(kind)
+        if stream:
+            with contextlib.suppress(OSError):
+                stream.close()
+            Path(stream.name).unlink(missing_ok=True)

@@ -1,0 +1,216 @@
+"""Sends a tick to a desk in each step in which one ends something: an offer that has rung, or after-call work that has lasted, as long as its group gives.
+
+The desk's snapshot shows when. It passes over a desk that isn't there: systemd may be about to start it again, and the next step finds it. Each minute it
+looks whether the file or its log were removed or moved from under the desk. Somebody who foresaw the ticks' keys could use them up. So it draws their
+requester at random, and passes it on in the environment, never on a command line. It is tested, not proved."""
+import argparse
+import contextlib
+import http.client
+import json
+import os
+import re
+import secrets
+import signal
+import string
+import sys
+import time
+
+import acd_due
+from acd_service import command, held
+
+USAGE = "usage: acd-tick [--port P] [--step SECONDS] [--file F]    (default: port 8080, step 10, the file /var/lib/acd/desk.db)"
+REQUESTER = "clock-[a-z]{12}"
+MINUTE, HOUR = 60, 3600
+# the greatest invoke and the last moment that a desk accepts; and more bytes than any answer of a desk has
+GREATEST, LAST, MOST = 999_999_999, 4294967295, 1 << 24
+
+
+class Fault(Exception):
+    """Why it doesn't run."""
+
+
+# Lines on standard error
+
+class Journal:
+    """Says each line on standard error, the same one once an hour at most."""
+
+    def __init__(self):
+        self.reported_at = {}
+
+    def report(self, text):
+        now = time.time()
+        # a line from a time when the clock was ahead keeps no line back
+        if not now - HOUR < self.reported_at.get(text, -HOUR) <= now:
+            self.reported_at = {line: moment for line, moment in self.reported_at.items() if now - HOUR < moment <= now} | {text: now}
+            command.report(text)
+
+
+# The desk
+
+def is_error(body):
+    """Whether it is what a desk answers where it refuses."""
+    error = body.get("error") if isinstance(body, dict) else None
+    return isinstance(error, dict) and type(error.get("code")) is int and isinstance(error.get("name"), str)
+
+
+def name_of(body):
+    """The name of an error: the rest of its text has the requester, which isn't for the journal."""
+    return f" {body['error']['name']}" if is_error(body) and re.fullmatch("[A-Za-z]{1,40}", body["error"]["name"]) else ""
+
+
+class Desk:
+    """The program that listens at a port of the loopback address; its whole answer comes within so many seconds, or it counts as not there."""
+
+    def __init__(self, port, patience):
+        self.port, self.patience = port, patience
+
+    def ask(self, method, path, body=None):
+        """The status of an answer, and its JSON, None where it is none; OSError or HTTPException where no whole answer comes."""
+        connection = http.client.HTTPConnection("127.0.0.1", self.port)
+        # no limit of one read is one of all together
+        signal.setitimer(signal.ITIMER_REAL, self.patience)
+        try:
+            connection.request(method, path, body)
+            reply = connection.getresponse()
+            data = reply.read(MOST)
+        finally:
+            signal.setitimer(signal.ITIMER_REAL, 0)
+            connection.close()
+        try:
+            return reply.status, json.loads(data)
+        except (ValueError, RecursionError):
+            return reply.status, None
+
+
+def too_late(*_):
+    raise TimeoutError
+
+
+class Ticker:
+    def __init__(self, port, step, requester, file):
+        self.desk, self.step, self.requester, self.file = Desk(port, step), step, requester, file
+        self.journal, self.looked, self.silent_since = Journal(), -MINUTE, None
+
+    def run(self):
+        while True:
+            # the number of steps since 1970 is new with each step
+            invoke = int(time.time()) // self.step
+            if invoke > GREATEST:
+                raise Fault(f"the step {self.step} is too short by now: its number since 1970 has more than nine digits")
+            self.turn(invoke)
+            self.wait()
+
+    def turn(self, invoke):
+        try:
+            if self.is_due():
+                self.send(invoke)
+        except TimeoutError:
+            return self.look_at_silence()
+        # one that isn't there just now the next step finds
+        except (OSError, http.client.HTTPException):
+            pass
+        self.silent_since = None
+
+    def look_at_silence(self):
+        """A desk that takes connections and answers none is told once that has lasted a minute. A step has passed by then; a clock that was put back begins anew."""
+        now = time.time()
+        if self.silent_since is None or now < self.silent_since:
+            self.silent_since = now - self.step
+        if now - self.silent_since >= MINUTE:
+            self.journal.report(f"the desk at port {self.desk.port} has answered nothing for a minute, and is there: it is halted (acd-copy --continue), "
+                                "or its disk hangs; until it answers no ring and no after-call work ends by a tick")
+
+    def is_due(self):
+        """Whether a tick ends something. A desk that refuses to say (an older one has no snapshot) is sent a tick each step. Who answers otherwise than a desk does is
+        sent nothing."""
+        status, body = self.desk.ask("GET", "/snapshot")
+        if 300 <= status <= 599 and is_error(body):
+            return True
+        # who isn't one may answer anything
+        with contextlib.suppress(LookupError, TypeError, AttributeError):
+            if status == 200 and type(body["moment"]) is int and body["moment"] <= LAST:
+                due = acd_due.is_due(body, time.time())
+                self.look_at_clock(body["moment"])
+                return due
+        self.journal.report(f"who listens at port {self.desk.port} is no desk, and is sent nothing")
+        return False
+
+    def look_at_clock(self, moment):
+        """The snapshot's moment is that of the last request; if it is ahead, the desk's time doesn't advance until the clock reaches it."""
+        if moment > int(time.time()) + MINUTE:
+            until = time.strftime("%Y-%m-%d %H:%M:%S UTC", time.gmtime(moment))
+            self.journal.report(f"the desk's time is over a minute ahead of this machine's clock: until {until} no ring and no after-call work ends by a tick")
+
+    def send(self, invoke):
+        """Sends the tick of a step; its answer has to be 200."""
+        request = {"requester": self.requester, "invoke": invoke, "service": "tick"}
+        status, body = self.desk.ask("POST", "/csta", json.dumps(request, separators=(",", ":")))
+        if status != 200:
+            self.journal.report(f"the desk answered a tick with {status}{name_of(body)}")
+
+    def look_at_files(self):
+        """Reports each minute that the file or its log was removed or moved from under the desk: the desk's answers are lost with it."""
+        now = time.time()
+        if self.looked <= now < self.looked + MINUTE:
+            return
+        self.looked = now
+        with contextlib.suppress(OSError):
+            for line in filter(None, (held.moved(process, self.file) for process in held.desks(self.file))):
+                command.report(line)
+
+    def wait(self):
+        """Until the next step begins."""
+        left = self.step - time.time() % self.step
+        while left > 0:
+            self.look_at_files()
+            time.sleep(min(left, MINUTE))
+            left -= MINUTE
+
+
+# The command
+
+class Parser(argparse.ArgumentParser):
+    def error(self, message):
+        raise Fault(message)
+
+
+def between(least, greatest):
+    """A whole number, of at most five digits, from the least to the greatest."""
+    def number(text):
+        if not re.fullmatch("[1-9][0-9]{0,4}", text) or not least <= int(text) <= greatest:
+            raise argparse.ArgumentTypeError(f"'{text}' isn't a whole number from {least} to {greatest}")
+        return int(text)
+    return number
+
+
+def drawn():
+    """A requester as the package draws one: twelve letters, which are more than anybody tries."""
+    return "clock-" + "".join(secrets.choice(string.ascii_lowercase) for _ in range(12))
+
+
+def read(words):
+    parser = Parser(add_help=False, allow_abbrev=False)
+    parser.add_argument("--help", action="store_true")
+    parser.add_argument("--port", type=between(1, 65535), default=8080)
+    parser.add_argument("--step", type=between(2, 3600), default=10)
+    parser.add_argument("--file", default="/var/lib/acd/desk.db")
+    options = parser.parse_args(words)
+    options.requester = os.environ.get("ACD_CLOCK") or drawn()
+    if not re.fullmatch(REQUESTER, options.requester):
+        raise Fault("ACD_CLOCK, which /etc/acd/clock.env gives, isn't 'clock-' and 12 letters of a-z")
+    return options
+
+
+def main(words):
+    signal.signal(signal.SIGALRM, too_late)
+    for one in (signal.SIGTERM, signal.SIGINT):
+        signal.signal(one, signal.SIG_DFL)
+    try:
+        options = read(words)
+        if options.help:
+            print(command.called(USAGE))
+        else:
+            Ticker(options.port, options.step, options.requester, options.file).run()
+    except Fault as fault:
+        command.report(fault)
+        sys.exit(2)
