@@ -212,7 +212,7 @@ after("tests/trials/try-http", ("    (request(\"changeAgent\", agent=\"8\", name
 put("tests/trials/refuse-growths", ("(64, request(\"changeGroup\", device=\"100\", name=\"Bills\", ring=1, wrap=1)),", "(64, request(\"changeGroup\", device=\"100\", name=\"Bills\", ring=1, wrap=1)), (64, request.at(\"parkHere\", 2, \"202\")),"))
 put("tests/trials/trail/foreseen.py", ("\"holdCall\", \"retrieveCall\",", "\"holdCall\", \"parkHere\", \"retrieveCall\","))
 put("tests/trials/gate/leads.py", ("\"rejectCall\", \"holdCall\", \"retrieveCall\", \"singleStepTransfer\", \"monitorStart\"", "\"rejectCall\", \"holdCall\", \"parkHere\", \"retrieveCall\", \"singleStepTransfer\", \"monitorStart\""))
-put("service/acd_service/leaving/server.py", ("\"holdCall\", \"retrieveCall\",", "\"holdCall\", \"parkHere\", \"retrieveCall\","))
+put("service/acd_service/gate/roles.py", ("\"holdCall\", \"retrieveCall\",", "\"holdCall\", \"parkHere\", \"retrieveCall\","))
 put("tests/unit/gate/test_gate.py", ("\"rejectCall\", \"holdCall\", \"retrieveCall\",", "\"rejectCall\", \"holdCall\", \"parkHere\", \"retrieveCall\","))
 put("board/agent/calls.js", ("holdCall: '', ", "holdCall: '', parkHere: '', "))
 put("board/agent/mine.js", ("connected: ['holdCall', ", "connected: ['holdCall', 'parkHere', "))

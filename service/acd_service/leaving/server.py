@@ -49,32 +49,19 @@ import time
 import urllib.parse
 from collections import Counter
 from http.server import BaseHTTPRequestHandler, ThreadingHTTPServer
-from pathlib import Path
-from typing import NamedTuple
 
 from acd_service import command, notify
 from acd_service.command import report
 from acd_service.gate import files
-from acd_service.gate.passwords import FORMS, RIGHT, TOO_MANY, WRONG, Passwords, network, text
+from acd_service.gate.passwords import RIGHT, TOO_MANY, WRONG, Passwords, network, text
+from acd_service.gate.roles import MEMBERS, NO_KEYS, NOTHING, Twice, Watched, has_keys, hashes_of, may, once, roles_of
 from acd_service.gate.sessions import Sessions, cookie_field, cookie_of, secret_of
 from acd_service.leaving.following import Away, Following
 
-PLAN = {"addGroup", "addStation", "addAgent", "setGroupPriority", "changeGroup", "changeAgent"}
-CALLS = {"makeCall", "phoneOffHook", "answerCall", "rejectCall", "holdCall", "retrieveCall", "clearConnection", "deflectCall", "singleStepTransfer"}
-ROLES = {"supervisor", "lead", "agent", "office", "exchange", "follow"}
-MEMBERS = {"agent": r"[0-9]{1,9}", "stations": r"[0-9]{1,15}(,[0-9]{1,15})*", "groups": r"[0-9]{1,15}(,[0-9]{1,15})*", "reads": "none|own|all"}
-# what a line of a role has to have, and may have besides `reads`
-NEEDS, MAY_HAVE = {"agent": {"agent"}, "lead": {"groups"}}, {"agent": {"agent", "stations", "groups"}, "lead": {"groups"}}
-LEADS_TO = ("ready", "notReady", "loggedOff")
-# the states that need neither a station nor a group
-OTHER_STATES = ("ready", "notReady", "workingAfterCall", "loggedOff")
-# requesters of acd-tick and acd-plan
-RESERVED = ("clock", "plan")
 # the field by which nginx says that it has looked at the signature of a session's cookie, and what the journal is told where it doesn't
 SIGNED = "X-Signed"
 OLD_PROXY = ("nginx asks for everybody, strangers too: its configuration is of before 1.15. Take /usr/share/doc/acd/examples/nginx.conf, or add its lines to "
              "yours: the include of nginx-secret.conf and its maps, secure_link, if ($stranger), X-Signed and @heavy")
-NO_KEYS = "it only reads: to ask for services a login is 1 to 15 of a-z, 0-9 and hyphen, and neither clock nor plan, nor begins with clock- or plan-"
 
 # requests a second of one login, and how many it may have saved up
 EACH_SECOND, AT_ONCE = {"exchange": 1000, None: 500}, 10_000
@@ -103,113 +90,6 @@ def error(status):
     return status, "application/json", f'{{"error":{{{ERRORS[status]}}}}}'.encode()
 
 
-class Watched:
-    """The content of a file, read again when the file changes. A file that can't be read counts as empty, or, where it `keeps`, as what it was."""
-
-    def __init__(self, file, read, keeps=False):
-        self.file, self.read, self.keeps, self.lock = Path(file), read, keeps, threading.Lock()
-        self.stamp, self.said, self.fault = None, {}, None
-
-    def now(self):
-        with self.lock:
-            try:
-                found = self.file.stat()
-                stamp = found.st_mtime_ns, found.st_size, found.st_ino
-                if stamp != self.stamp:
-                    lines = self.file.read_bytes().removeprefix(b"\xef\xbb\xbf").decode("utf-8", "replace").split("\n")
-                    self.said, self.stamp, self.fault = self.read(self.file, lines), stamp, None
-            except OSError as fault:
-                if fault.strerror != self.fault:
-                    report(f"{self.file} can't be read: {fault.strerror}")
-                self.said, self.stamp, self.fault = self.said if self.keeps else {}, None, fault.strerror
-            return self.said
-
-
-class Role(NamedTuple):
-    """The rights of a login; None is no limit."""
-    name: str | None = None
-    agent: str | None = None
-    stations: frozenset | None = None
-    groups: frozenset | None = None
-    reads: str | None = None
-
-    @property
-    def reading(self):
-        return self.reads or {"agent": "own", "follow": "none"}.get(self.name, "all")
-
-    @property
-    def reads_requests(self):
-        return self.name == "follow" or (self.name == "office" and self.reading == "all")
-
-    @property
-    def asks(self):
-        """Whether it may ask for any service."""
-        return self.name in ("lead", "agent", "office", "exchange")
-
-
-NOTHING = Role("nothing")
-
-
-def role_of(words):
-    """The role by the words after a login; ValueError says why they give none."""
-    names, members = [], {}
-    for word in re.sub(" agent (?=[0-9])", " agent agent=", " ".join(["", *words])).split():
-        member, equals, value = word.partition("=")
-        if not equals:
-            names.append(word)
-        elif member in members or not re.fullmatch(MEMBERS.get(member, "(?!)"), value):
-            raise ValueError(f'cannot read "{word}"' + (f" (separate {member} by commas)" if member in ("stations", "groups") else ""))
-        else:
-            members[member] = value if member in ("agent", "reads") else frozenset(value.split(","))
-    if len(names) != 1 or names[0] not in ROLES:
-        raise ValueError(f"its role is {' '.join(names) or 'missing'}")
-    has, needs = members.keys() - {"reads"}, NEEDS.get(names[0], set())
-    if not needs <= has or has - MAY_HAVE.get(names[0], set()):
-        raise ValueError("an agent has a number, and with it stations and groups, a lead has groups, and nobody else has any of these")
-    if members.get("reads") == "own" and names[0] != "agent":
-        raise ValueError("an agent alone reads its own")
-    if "reads" in members and names[0] == "follow":
-        raise ValueError("a follow reads /requests, and nothing else of the desk")
-    return Role(names[0], **members)
-
-
-def roles_of(file, lines):
-    """The role of each login that has a line."""
-    found = {}
-    for number, line in enumerate(lines, 1):
-        login, *words = line.partition("#")[0].split() or [None]
-        if login is None:
-            continue
-        try:
-            role = role_of(words)
-            if found.get(login, role) != role:
-                raise ValueError("another line of it says something else")
-        except ValueError as fault:
-            role = NOTHING
-            report(f"{file}, line {number}: {login} is refused: {fault}")
-        if role.asks and not has_keys(login):
-            report(f"{file}, line {number}: {login}: {NO_KEYS}")
-        found[login] = role
-    return found
-
-
-def hashes_of(file, lines):
-    """The hash of each login's password."""
-    found = {}
-    for number, line in enumerate(lines, 1):
-        login, colon, rest = line.rstrip("\r").partition(":")
-        hashed = rest.partition(":")[0]
-        if not line.strip() or line.startswith("#"):
-            continue
-        if not colon or not login or not login.isprintable() or " " in login or "\ufffd" in login:
-            report(f"{file}, line {number}: it isn't LOGIN:HASH")
-        elif not FORMS.identify(hashed):
-            report(f"{file}, line {number}: {login} has no hash of htpasswd, by bcrypt, say")
-        else:
-            found.setdefault(login, hashed)
-    return found
-
-
 def credentials(field):
     """Login and password of a field Authorization, as bytes; None where it has none."""
     scheme, _, given = field.partition(" ")
@@ -218,97 +98,6 @@ def credentials(field):
     except ValueError:
         return None
     return (login, password) if scheme.lower() == "basic" and colon else None
-
-
-class Twice(Exception):
-    """A member is there twice: the desk decides which one counts, so the gate doesn't guess."""
-
-
-def once(members):
-    found = dict(members)
-    if len(found) != len(members):
-        raise Twice
-    return found
-
-
-def has_keys(login):
-    """Whether the login can have requesters; those that begin with a name of RESERVED belong to nobody."""
-    return bool(re.fullmatch(r"[a-z0-9-]{1,15}", login)) and not any(login == name or login.startswith(f"{name}-") for name in RESERVED)
-
-
-def owner(requester, logins):
-    """The longest login that is the requester, or with which the requester begins, followed by a hyphen."""
-    return max((login for login in logins if requester == login or requester.startswith(f"{login}-")), key=len, default=None)
-
-
-def are_within(allowed, numbers):
-    return allowed is None or (isinstance(numbers, list) and all(isinstance(one, str) and one in allowed for one in numbers))
-
-
-def logs_on_within(role, request):
-    """Whether setAgentState of an agent keeps to the role's stations and groups."""
-    if request.get("requested") in OTHER_STATES:
-        return True
-    groups = [request["group"]] if "group" in request else request.get("groups")
-    return are_within(role.stations, [request.get("device")]) and are_within(role.groups, groups)
-
-
-def may(role, login, logins, body, station_of, led=None):
-    """Whether the login may send this body; station_of returns where an agent is logged on, led lets a lead's rule look at the desk."""
-    if not role.asks or not has_keys(login):
-        return False
-    try:
-        request = json.loads(body.decode("utf-8"), object_pairs_hook=once)
-    except Twice:
-        return False
-    except (ValueError, RecursionError):
-        request = None
-    if not isinstance(request, dict) or not isinstance(request.get("requester"), str):
-        return role.name == "exchange"  # the desk answers 400
-    if owner(request["requester"], logins) != login:
-        return False
-    if role.name == "lead":
-        return may_be_leads(role, request) and led(lambda state: may_lead(role, request, state))
-    return role.name == "exchange" or may_ask(role, request, station_of)
-
-
-def may_ask(role, request, station_of):
-    service, device = request.get("service"), request.get("device")
-    if not isinstance(service, str):
-        return False
-    if role.name == "office":
-        return service in PLAN
-    if service == "setAgentState":
-        return request.get("agent") == role.agent and logs_on_within(role, request)
-    return service in CALLS and isinstance(device, str) and (role.stations is None or device in role.stations) and device == station_of(role.agent)
-
-
-def may_be_leads(role, request):
-    """The part of a lead's rule that needs no look at the desk."""
-    service = request.get("service")
-    if service == "setAgentState":
-        return request.get("requested") in LEADS_TO and isinstance(request.get("agent"), str)
-    if service in ("clearConnection", "deflectCall"):
-        return type(request.get("call")) is int and isinstance(request.get("device"), str) and (service == "clearConnection" or isinstance(request.get("to"), str))
-    return service == "setGroupPriority" and are_within(role.groups, [request.get("device")])
-
-
-def may_lead(role, request, state):
-    """Whether a lead may ask for this, as the desk is now."""
-    service = request["service"]
-    if service == "setAgentState":
-        agent = state.agents.get(request["agent"])
-        return agent is not None and not role.groups.isdisjoint(agent.groups)
-    if service == "setGroupPriority":
-        return request["device"] in state.groups
-    call = state.calls.get(request["call"])
-    here = call and call.connections.get(request["device"])
-    if not here or here.group not in role.groups:
-        return False
-    if service == "clearConnection":
-        return here.state != "queued" and all(one.group is None or one.group in role.groups for one in call.connections.values())
-    there = state.agent_at(request["to"])
-    return here.state == "queued" and (request["to"] in role.groups or (there is not None and not role.groups.isdisjoint(there.groups)))
 
 
 class Replies:

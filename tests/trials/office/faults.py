@@ -56,5 +56,5 @@ FAULTS = [
     Fault("what keeps it down lies elsewhere", (f"{MODULES}/unit.py", 'Path("/run/acd-carry")', 'Path("/var/lib/acd-carry")'), "carried", ("try_days", "try_meanwhile")),
     Fault("a desk that was down is started", (f"{MODULES}/unit.py", "    if START.exists() or was_refused():", "    if True:"), "carried", ("try_days", "try_down")),
     Fault("a recipe that logs nobody off", (PAGE, '"requested":"loggedOff"}', '"requested":"notReady"}'), "plans", ("plan", "try_forgotten")),
-    Fault("a mark of another system's editor is a part of the first login", (f"{MODULES}/leaving/server.py", '.removeprefix(b"\\xef\\xbb\\xbf")', ""), "plans", ("plan", "try_roles")),
+    Fault("a mark of another system's editor is a part of the first login", (f"{MODULES}/gate/roles.py", '.removeprefix(b"\\xef\\xbb\\xbf")', ""), "plans", ("plan", "try_roles")),
 ]

@@ -12,6 +12,7 @@ from unittest import mock
 
 from standing import FORBIDDEN, PAGE, ROLES, SECRET, USERS, GateTest, gate, lines, roles
 
+from acd_service.gate.roles import Role
 from acd_service.leaving import days, following
 
 CALL_SERVICES = ["makeCall", "phoneOffHook", "answerCall", "rejectCall", "holdCall", "retrieveCall", "clearConnection", "deflectCall", "singleStepTransfer"]
@@ -61,10 +62,10 @@ class RoleTest(GateTest):
         self.assertEqual(self.allowed("ana", CALL_SERVICES, device="203"), CALL_SERVICES)
 
     def test_lines(self):
-        agent = gate.Role("agent", "7", frozenset({"201", "202"}), frozenset({"100"}))
+        agent = Role("agent", "7", frozenset({"201", "202"}), frozenset({"100"}))
         for words in ("agent agent=7 stations=201,202 groups=100", "groups=100 stations=202,201 agent 7", "agent=7 groups=100 agent stations=201,202", "agent 7 groups=100 stations=201,202"):
             self.assertEqual(roles(f"ana {words}"), ({"ana": agent}, ""), words)
-        self.assertEqual(roles("agent agent 7\n exchange\texchange\t#all"), ({"agent": gate.Role("agent", "7"), "exchange": gate.Role("exchange")}, ""))
+        self.assertEqual(roles("agent agent 7\n exchange\texchange\t#all"), ({"agent": Role("agent", "7"), "exchange": Role("exchange")}, ""))
 
     def test_faulty_lines(self):
         for words in ("", "wizard", "agent", "agent 7 8", "agent 7 agent=7", "agent=7", "agent agent 7", "office 7", "office agent=7", "exchange stations=201", "supervisor groups=100",
@@ -72,7 +73,7 @@ class RoleTest(GateTest):
                       "agent 7 Stations=201", "lead", "lead agent=7 groups=100", "lead groups=100 stations=201", "lead groups=", "lead groups=100 reads=own", "supervisor reads=own", "office reads=some",
                       "follow reads=all", "follow reads=none", "follow groups=100", "follow office", "agent 7 reads=", "agent 7 reads=own reads=own", "reads=all", "agent 7 office", "agent=1234567890 agent", "agent 7 stations=1234567890123456", "agent ٧", "agent agent=٧", "agent agent= 7"):
             found, printed = roles(f"pbx exchange\n\nana {words}\r")
-            self.assertEqual(found, {"pbx": gate.Role("exchange"), "ana": gate.NOTHING}, words)
+            self.assertEqual(found, {"pbx": Role("exchange"), "ana": gate.NOTHING}, words)
             self.assertRegex(printed, r"\Aacd-gate: roles, line 3: ana .*\n\Z")
 
     def test_what_a_faulty_line_is_told(self):
@@ -102,14 +103,14 @@ class RoleTest(GateTest):
 
     def test_two_lines_of_a_login(self):
         found, printed = roles("ana agent 7\nben office\nana agent 8")
-        self.assertEqual(found, {"ana": gate.NOTHING, "ben": gate.Role("office")})
+        self.assertEqual(found, {"ana": gate.NOTHING, "ben": Role("office")})
         self.assertRegex(printed, r"\Aacd-gate: roles, line 3: ana .*\n\Z")
         self.assertEqual(roles("ana agent 7\nana agent 8\nana agent 7")[0], {"ana": gate.NOTHING})
-        self.assertEqual(roles("pbx exchange\npbx exchange"), ({"pbx": gate.Role("exchange")}, ""))
+        self.assertEqual(roles("pbx exchange\npbx exchange"), ({"pbx": Role("exchange")}, ""))
 
     def test_byte_order_mark_and_carriage_returns(self):
         (found, _), printed = lines(b"\xef\xbb\xbfana agent 7\r\nben office\r\n\r\n# caf\xe9\r\n")
-        self.assertEqual(found, {"ana": gate.Role("agent", "7"), "ben": gate.Role("office")})
+        self.assertEqual(found, {"ana": Role("agent", "7"), "ben": Role("office")})
         self.assertNotIn("gets nothing", printed)
         (_, hashes), _ = lines(f"\ufeffana:{SECRET}\r\nben:{SECRET}:a note\r\n".encode())
         self.assertEqual(hashes, {"ana": SECRET, "ben": SECRET})
@@ -255,7 +256,7 @@ def desk_state():
 class LeadTest(unittest.TestCase):
     def may(self, service, **members):
         body = json.dumps({"requester": "lea-1", "invoke": 1, "service": service, **members}).encode()
-        return gate.may(gate.Role("lead", groups=frozenset({"100", "110"})), "lea", {"lea"}, body, None, lambda judge: judge(desk_state()))
+        return gate.may(Role("lead", groups=frozenset({"100", "110"})), "lea", {"lea"}, body, None, lambda judge: judge(desk_state()))
 
     def test_what_a_lead_may(self):
         for service, members in (("setAgentState", {"agent": "7", "requested": "ready"}), ("setAgentState", {"agent": "8", "requested": "loggedOff"}), ("clearConnection", {"call": 1, "device": "201"}),
@@ -284,7 +285,7 @@ class LeadTest(unittest.TestCase):
 
     def test_rates(self):
         now = [0.0]
-        rates, role = gate.Rates(lambda: now[0]), gate.Role("supervisor")
+        rates, role = gate.Rates(lambda: now[0]), Role("supervisor")
 
         def taken(login, tries, path="/events?after=1"):
             return sum(rates.takes_request(login, role, path) for _ in range(tries))
@@ -299,9 +300,9 @@ class LeadTest(unittest.TestCase):
         for path in ("/callsx", "/agents/7", "/events", "/board/snapshot"):
             now[0] += 1
             self.assertEqual((path, taken("ana", 600, path)), (path, 500))
-        self.assertEqual(sum(rates.takes_request("pbx", gate.Role("exchange"), "/snapshot") for _ in range(600)), 500)
+        self.assertEqual(sum(rates.takes_request("pbx", Role("exchange"), "/snapshot") for _ in range(600)), 500)
         now[0] += 1
-        self.assertEqual(sum(rates.takes_request("pbx", gate.Role("exchange"), "/snapshot") for _ in range(600)), 50)
+        self.assertEqual(sum(rates.takes_request("pbx", Role("exchange"), "/snapshot") for _ in range(600)), 50)
 
     def test_rates_of_log_ins(self):
         now = [0.0]
