@@ -1,4 +1,4 @@
-#!/usr/bin/env python3
+#!/usr/bin/python3
 """Input lines of a busy call centre for `acd lines`: the same arguments print the same lines.
 
 usage: busy.py REQUESTS [--plan small|full] [--groups N] [--agents N] [--calls N] [--each N] [--seed N]

@@ -1,4 +1,4 @@
-#!/usr/bin/env python3
+#!/usr/bin/python3
 """Times the snapshot of a full plan, read in lines: 64 groups, 1,000 stations, 1,000 agents who are logged on and ready, 1,800 calls.
 
 usage: bench/snapshot.py [PROGRAM] [--reads N]     (default: release/acd, 100 reads)

@@ -1,4 +1,4 @@
-#!/usr/bin/env python3
+#!/usr/bin/python3
 """Prints the notices of the toolchain's crates that a program has linked in: proof/release writes them to release/NOTICES.
 
 usage: packaging/notices.py PROGRAM

@@ -1,4 +1,4 @@
-#!/usr/bin/env python3
+#!/usr/bin/python3
 """A day in an office of working size, and a morning in a small one: input lines for `acd lines`, and what has to come.
 
 usage: office.py given | wanted | seen | scene | try [PROGRAM] | limits [PROGRAM]

@@ -1,4 +1,4 @@
-#!/usr/bin/env python3
+#!/usr/bin/python3
 """Tries what a column costs: agents get `logged`, the moment at which each last logged on, NULL before.
 
 usage: proof/places/column.py COPY    (COPY is a clone of the repository, which is changed)

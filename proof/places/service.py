@@ -1,4 +1,4 @@
-#!/usr/bin/env python3
+#!/usr/bin/python3
 """Tries what a service costs: `parkHere` call, device makes the move of holdCall, and refuses in another order.
 
 usage: proof/places/service.py COPY    (COPY is a clone of the repository, which is changed)

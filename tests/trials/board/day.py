@@ -1,4 +1,4 @@
-#!/usr/bin/env python3
+#!/usr/bin/python3
 """A made-up day of a help line: a plan, shifts, callers with and without patience, talks, holds, transfers, breaks and ticks.
 
 usage: day.py --begin B --end E [--groups G] [--agents A] [--load L] [--seed S]     (default: 12, 150, 0.95, 1)

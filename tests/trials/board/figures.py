@@ -1,4 +1,4 @@
-#!/usr/bin/env python3
+#!/usr/bin/python3
 """Reckons the figures of a day out of a desk's events, call by call and agent by agent: what a board has to show, written once more without looking at it.
 
 usage: figures.py --desk PORT [--begin B] [--end E] [--groups 100,110] [--limit 20] [--limit-of 100=30]     (default: all events)

@@ -1,4 +1,4 @@
-#!/usr/bin/env python3
+#!/usr/bin/python3
 """Carries a help line's day on in real time: callers and agents who do what the desk's events tell them to, and a tick each five seconds.
 
 usage: live.py --desk PORT [--calls C] [--seconds S] [--seed N]     (default: 20 calls a minute, for ever, 1)

@@ -1,4 +1,4 @@
-#!/usr/bin/python3 -B
+#!/usr/bin/python3
 """A stranger who floods nginx, until it has sent for so many seconds. It prints what it sent, and what came back.
 
 usage: attacker.py WAY PORT --protocol 1|2 --addresses N --rate R --seconds S [--resets]

@@ -1,4 +1,4 @@
-#!/usr/bin/python3 -B
+#!/usr/bin/python3
 """Tests of the gate's doors: passwords, who waits for their check, sessions, what is bounded.   usage: tests/unit/gate/test_doors.py
 
 Needs htpasswd of apache2-utils, python3-passlib and python3-bcrypt (Debian packages)."""

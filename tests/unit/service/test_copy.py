@@ -1,4 +1,4 @@
-#!/usr/bin/python3 -B
+#!/usr/bin/python3
 """Tests of what acd-copy says of nginx's configurations.   usage: tests/unit/service/test_copy.py"""
 import sys
 import tempfile

@@ -1,4 +1,4 @@
-#!/usr/bin/python3 -B
+#!/usr/bin/python3
 """Tests of put, and of each program's small files that it puts in their place.   usage: tests/unit/service/test_put.py"""
 import csv
 import datetime
