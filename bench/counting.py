@@ -24,7 +24,7 @@ def fed(desk, lines, count):
     while answered < count:
         if given < len(lines):
             with contextlib.suppress(BlockingIOError):
-                given += os.write(desk.stdin.fileno(), lines[given : given + 65536])
+                given += os.write(desk.stdin.fileno(), lines[given:given + 65536])
         if given == len(lines) or readable(desk):
             told.append(os.read(desk.stdout.fileno(), 65536))
             if not told[-1]:

@@ -404,7 +404,7 @@ def reads(switch):
     found.append(got("/reports/queues", reply_of(200, tables.report(switch), "text/plain")))
     missing = reply_of(404, "{\"error\":{\"code\":35,\"name\":\"notFound\"}}")
     return found + [got(path, missing) for path in [f"/calls/{switch.last_call + 1}", "/calls/1000000000", "/monitors/257/events",
-                                                     "/agents/1111111111", "/devices/1111111111111111", f"/queues/{STATIONS[0]}"]]
+                                                    "/agents/1111111111", "/devices/1111111111111111", f"/queues/{STATIONS[0]}"]]
 
 
 def posts(course, first=0):

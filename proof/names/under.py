@@ -54,9 +54,9 @@ class Reader:
         waiting = []        # names of `let`, until their `in`
         while at < len(words):
             text = words[at].text
-            if text in "({" :
+            if text in "({":
                 at = self.group(words, at, scope)
-            elif text == "[" :
+            elif text == "[":
                 at = self.cases(words, at, scope)
             elif text == "λ":
                 at = self.binders(words, at + 1, scope)

@@ -109,8 +109,8 @@ after(DESK + "state/values.rt", ("        stamp,\n        since: 0,\n", "       
 after(DESK + "codec/shown.rt", ("        stamp: 0,\n        since: 0,\n", "        logged: None,\n"), ("        since: 18,\n", "        logged: Some(15),\n"),
       ('"group":"110",', '"logged":15,'), ('"device":"201","groups":["100","110"],', '"logged":15,'), ('"106","107"],', '"logged":15,'))
 put(DESK + "http/scenes.rt",
-      ('"group":"100","name":"Ana","since":120', '"group":"100","logged":90,"name":"Ana","since":120'), ('"group":"100","name":"Ana","since":25', '"group":"100","logged":15,"name":"Ana","since":25'),
-      ("Content-Length: 86\\r\nConnection", "Content-Length: 98\\r\nConnection"), ("Content-Length: 598\\r", "Content-Length: 610\\r", 2))
+    ('"group":"100","name":"Ana","since":120', '"group":"100","logged":90,"name":"Ana","since":120'), ('"group":"100","name":"Ana","since":25', '"group":"100","logged":15,"name":"Ana","since":25'),
+    ("Content-Length: 86\\r\nConnection", "Content-Length: 98\\r\nConnection"), ("Content-Length: 598\\r", "Content-Length: 610\\r", 2))
 put(SCENES + "scenes/priorities.rt", *[(f'{old}"name":"Ana","since":{since}', f'{old}"logged":{logged},"name":"Ana","since":{since}') for old, since, logged in [
     ('"groups":["100","110"],', 18, 15), ('"agent":"7",', 22, 20), ('"group":"110",', 24, 23), ('"170"],', 20, 15), ('"0201"],', 3, 3), ('"agent":"7",', 60, 3), ('"07"],', 2, 2), ('"agent":"7",', 15, 5)]])
 put(SCENES + "scenes/reads.rt", ('"group":"100","name":"Ana"', '"group":"100","logged":15,"name":"Ana"', 3), ('"groups":["100","110"],"name"', '"groups":["100","110"],"logged":15,"name"'),

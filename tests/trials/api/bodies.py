@@ -50,7 +50,7 @@ def lengthen(chance, request, member, body):
 
 def rename(chance, request, member, body):
     request["service"] = chance.choice(["tick", "Tick", "holdCall", "setAgentState", "arriveCall", "addGroup", "setGroupPriority", "rejectCall",
-                                         "changeGroup", "changeAgent"])
+                                        "changeGroup", "changeAgent"])
 
 
 def add_member(chance, request, member, body):

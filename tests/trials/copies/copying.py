@@ -238,7 +238,7 @@ class Copying(Part):
         load.goes_on, load.until = False, lambda count: True
         name = "log" if what == "the log" else "file"
         return self.says_so(f"{what} was removed", office, load,
-                         rf"the {name} \S+ was removed from under the desk, process \d+: what it answered is lost where it is stopped before acd-copy made a copy\n")
+                            rf"the {name} \S+ was removed from under the desk, process \d+: what it answered is lost where it is stopped before acd-copy made a copy\n")
 
     def try_moved_meanwhile(self):
         """A file that is moved while nobody runs over it and it is copied: no copy of half of one and half of another is kept."""

@@ -234,7 +234,7 @@ def gone_and_alone(ground: Stage, music: bool) -> None:
     expect("alone: ready again", ground.key("201", "*24"), 200)
     ground.ends("alone, the same agent", callers[1], first)
     ground.expect_story("alone", f"queued@100 {OFFERED} {BACK} diverted@100 delivered@202 established@202 {cleared('0303030', '202')} "
-                                f"diverted@100 delivered@201 established@201 {cleared('0303131', '201')}")
+                                 f"diverted@100 delivered@201 established@201 {cleared('0303131', '201')}")
 
 
 def state(ground: Ground, agent: int) -> str:

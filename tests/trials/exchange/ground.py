@@ -210,7 +210,7 @@ class Ground(Programs):
         program = [str(HERE / "stopped.py"), stop_at] if stop_at else [str(EXCHANGE / "acd-exchange")]
         who = ["--edge", f"127.0.0.1:{self.edge_port}"] if self.by_edge else ["--phones", "phones.json"]
         return self.start([sys.executable, *program, *who, "--listen", f"127.0.0.1:{self.port}",
-                               "--music-port", str(self.music_port), *self.options], "exchange", **self.reached_by)
+                           "--music-port", str(self.music_port), *self.options], "exchange", **self.reached_by)
 
     def start_ticks(self) -> None:
         self.start([str(TOP / "service/bin/acd-tick"), "--port", str(self.desk_port), "--step", "2"], "ticks")

@@ -66,7 +66,7 @@ TORTURES = [
                     uri="sip:1_a!%7F%40(~)&=+$,;/?x:&=+$,p@[2001:db8::1]:65535;a-_.!~*'()=%41[]/:&+$",
                     sender='From: "\\\x01\u20ac" <sip:h>;tag=_token~1\'+`*%!-.', to="To: a.b-c d~' <sip:100@127.0.0.1>;p=\"\u20ac\""), (501,)),
     Torture("3.1.1.3", "a valid use of the % escape", invite("escape", uri="sip:%31%30%30@127.0.0.1", to="To: <sip:sips%3Auser%40h@127.0.0.1>",
-                                                          contact="Contact: <sip:%61@127.0.0.1:6001>"), (100,)),
+                                                             contact="Contact: <sip:%61@127.0.0.1:6001>"), (100,)),
     Torture("3.1.1.4", "escaped nulls in URIs", invite("null", sender="From: <sip:%00301%00@127.0.0.1>;tag=1", contact="Contact: <sip:%00@127.0.0.1:6001>"),
             (100,)),
     Torture("3.1.1.5", "a % that is no escape", request("RE%47IST%45R", "percent", contact='Contact: "%Z%45" <sip:a@127.0.0.1>'), (501,)),

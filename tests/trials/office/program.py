@@ -52,8 +52,8 @@ class Program(Planned):
         whole = Log("of the desk", log, file, "kept")
         early, no_head = (r"the log of \S+ ends early: it is damaged in its middle", r"the head of the log of \S+ can't be read")
         for what, data, wanted, reason in (("whole", log, (0, "sound\n"), None), ("torn", whole.flipped(whole.at(whole.marks[-1]) + 50), (0, "sound\n"), None),
-                                         ("damaged", whole.flipped(whole.at(whole.marks[9] + 1) + 50), (5, "sound, but its log ends early\n"), early),
-                                         ("without a head", whole.flipped(18), (5, "sound, but the head of its log can't be read\n"), no_head)):
+                                           ("damaged", whole.flipped(whole.at(whole.marks[9] + 1) + 50), (5, "sound, but its log ends early\n"), early),
+                                           ("without a head", whole.flipped(18), (5, "sound, but the head of its log can't be read\n"), no_head)):
             for option, said in (("--whole", wanted), (None, (0, "sound\n"))):
                 self.laid(file, data)
                 self.expect(f"an audit of a log that is {what}, {option}", self.acd("audit", *filter(None, [option]), "--file", FILE), said)

@@ -2,7 +2,6 @@
 import os
 import statistics
 import subprocess
-import time
 
 from machines import BENCH, PORT, Machine, grown
 from trial import until

@@ -170,4 +170,3 @@ def lay(state, inodes):
             for was, new in now.items():
                 text = text.replace(was, new)
             Path(path).write_text(text)
-

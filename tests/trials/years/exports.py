@@ -130,7 +130,6 @@ class Exports:
             changed(altered, statement)
             yield what, [*self.archives[:place], altered, *self.archives[place + 1:]], said.format(altered)
 
-
     # followers
 
     def follow(self):

@@ -217,7 +217,7 @@ class Forgets:
         before = listing(office.folder)
         status, printed, faults = self.forget(office, "--caller", caller, named=named)
         self.ground.expect(f"{caller}: {printed}{faults}", (status, printed, faults.count("\n"), all(text in faults for text in said),
-                                                         listing(office.folder) == before), (1, "", 1, True, True))
+                                                            listing(office.folder) == before), (1, "", 1, True, True))
 
     def audited(self):
         """By a program that looks behind an archive, a stand-in: what it says of the new ones has to be what it said before."""
@@ -275,8 +275,8 @@ class Forgets:
             before = {path: path.read_bytes() for path in office.archives()}
             what = f"killed at {name} {number}"
             status, printed, faults = self.forget(office, "--caller", CALLERS[0],
-                                               wrapped=["strace", "-qq", "-o", trace, "-e", "trace=" + ",".join(names), "-e",
-                                                        f"inject={name}:signal=KILL:when={number}"])
+                                                  wrapped=["strace", "-qq", "-o", trace, "-e", "trace=" + ",".join(names), "-e",
+                                                           f"inject={name}:signal=KILL:when={number}"])
             self.ground.expect(f"{what}: it is", status, -signal.SIGKILL)
             states.add(sum(path.read_bytes() != data for path, data in before.items()))
             self.ground.expect(f"{what}: of before or behind",

@@ -377,7 +377,6 @@ class FollowTest(unittest.TestCase):
         state.differs(before)
         self.assertEqual((state.touched, state.dirty, state.renamed), ({"7", "8"}, {"110"}, True))
 
-
     def test_which_log_on_it_is(self):
         state = desk_state()
         self.changes(state, event="agentLoggedOn", agent="9", device="203", group="120")
