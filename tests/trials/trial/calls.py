@@ -36,13 +36,15 @@ class OverCalls(Trial):
     def log_of(file):
         return Path(f"{file}-wal")
 
-    def copy(self, name):
-        return Path(shutil.copy(self.file, self.folder / name))
+    @classmethod
+    def copy(cls, name):
+        return Path(shutil.copy(cls.file, cls.folder / name))
 
-    def stopped(self, name, ticks):
+    @classmethod
+    def stopped(cls, name, ticks):
         """A copy over which a desk was killed: what it answered lies in the log."""
-        copy, request = self.copy(name), Requests()
-        with Lines(self.program, copy) as desk:
+        copy, request = cls.copy(name), Requests()
+        with Lines(cls.program, copy) as desk:
             for _ in range(ticks):
                 desk.say(line(60, request.tick()))
         return copy
