@@ -88,13 +88,6 @@ class Cases(Ground):
     def tearDownClass(cls):
         cls.desk.kill()
 
-    def setUp(self):
-        self.before = self.count.tried
-
-    def tearDown(self):
-        if not self.count.is_planted:
-            print(f"    {self.id().rpartition('.try_')[2]}: {self.count.tried - self.before}", flush=True)
-
     @classmethod
     def day_at(cls, name, lines):
         """A desk that has answered these lines."""

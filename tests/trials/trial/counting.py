@@ -13,6 +13,8 @@ import unittest
 from pathlib import Path
 
 from .desks import ran
+from .leash import hold
+from .spaces import is_alone
 
 TOP = Path(__file__).resolve().parents[3]
 LONGEST = 900   # so many characters of a value are printed
@@ -42,11 +44,35 @@ class Result(unittest.TestResult):
 
 
 class Count(Result):
-    """How many checks there were, and how many went otherwise, of which `most` are printed. Where a fault is planted the first of these ends its case."""
+    """How many checks there were, and how many went otherwise, of which `most` are printed. Where a fault is planted the first of these ends its case. A case passes if none of its
+    checks went otherwise; each is told as it ends."""
 
     def __init__(self, most=None):
         super().__init__()
         self.tried, self.wrong, self.most, self.is_planted, self.begun = 0, 0, most, False, time.monotonic()
+        self.passed, self.failed, self.told = 0, 0, 0   # cases; and what went wrong in those that were told, or was told apart
+
+    def startTest(self, test):
+        super().startTest(test)
+        self.tell_apart()
+
+    def stopTest(self, test):
+        super().stopTest(test)
+        name = test.id().removeprefix("__main__.")
+        self.tell("failed" if self.wrong > self.told else "passed", name)
+
+    def tell(self, became, name):
+        if became == "failed":
+            self.failed += 1
+        else:
+            self.passed += 1
+        self.told = self.wrong
+        print(f"{self.seconds:6.1f} s  {became}  {name}", flush=True)
+
+    def tell_apart(self):
+        """What went wrong before or after a case, while its class was set up or cleared, fails by itself."""
+        if self.wrong > self.told:
+            self.tell("failed", "outside_of_cases")
 
     def __str__(self):
         return f"{self.tried} tried, {self.wrong} wrong"
@@ -148,16 +174,22 @@ class Trial(unittest.TestCase):
         print(f"{what}: {str(found.found)[:300]}", flush=True)
 
 
-def suite(cases):
+def each_of(cases):
     """The cases in their order, and the methods of each in the order in which they stand, those of the classes below first."""
-    made = unittest.TestSuite()
     for case in cases:
         if isinstance(case, unittest.TestCase):
-            made.addTest(case)
+            yield case
         else:
-            names = {name: None for each in reversed(case.__mro__) for name in vars(each) if name.startswith("try_")}
-            made.addTests(map(case, names))
-    return made
+            yield from map(case, {name: None for each in reversed(case.__mro__) for name in vars(each) if name.startswith("try_")})
+
+
+def suite(cases, name=None):
+    """All cases, or those of a name: that of the method, with `try_` or without, or that of the class and the method."""
+    def is_named(case):
+        method = case.id().rpartition(".")[2]
+        return name in (None, method, method.removeprefix("try_"), f"{type(case).__name__}.{method}")
+
+    return unittest.TestSuite(filter(is_named, each_of(cases)))
 
 
 def planted(text, old, new):
@@ -181,6 +213,7 @@ def command(document, parts=(), program="program"):
     usage = re.search(r"^usage: (.*?)(?:  +\(|$)", document, re.MULTILINE)[1]
     parser = argparse.ArgumentParser(usage=usage, description=document, formatter_class=argparse.RawDescriptionHelpFormatter)
     parser.add_argument(program, **({} if program.startswith("-") else {"nargs": "?"}), type=lambda text: Path(text).resolve(), default=TOP / "release/acd")
+    parser.add_argument("--case", metavar="NAME", help="one case alone: try_success, success or Statuses.try_success")
     if parts:
         parser.add_argument("--only", type=lambda text: text.split(","), default=list(parts), help=f"of {','.join(parts)}")
     return parser
@@ -188,19 +221,22 @@ def command(document, parts=(), program="program"):
 
 def main(cases, options, says=str, most=None):
     """Tries the cases, prints what `says` makes of the count, and ends: with status 1 where anything went otherwise, or nothing was tried. Cases that have names, each a list, are
-    parts, of which `options.only` says which."""
-    signal.signal(signal.SIGTERM, lambda *_: sys.exit(143))     # so that what was started is ended too
+    parts, of which `options.only` says which. The last line ends with the number of cases, and the seconds. With the trial ends whatever it started."""
+    if not is_alone():
+        hold()
+    signal.signal(signal.SIGTERM, lambda *_: sys.exit(143))     # so that what was made is removed too
     count = Trial.count = Count(most)
     Trial.options, Trial.program = options, options.program
     parts = {part: cases[part] for part in options.only} if isinstance(cases, dict) else {None: cases}
     try:
         for part, chosen in parts.items():
             tried, wrong = count.tried, count.wrong
-            suite(chosen).run(count)
+            suite(chosen, options.case).run(count)
+            count.tell_apart()
             if part:
                 print(f"{part}: {count.tried - tried} tried, {count.wrong - wrong} wrong", flush=True)
     finally:
         for case in itertools.chain(*parts.values()):
             case.doClassCleanups()
-    print(says(count))
+    print(f"{says(count)}; {count.passed} passed, {count.failed} failed, {count.seconds:.0f} s", flush=True)
     sys.exit(1 if count.wrong or not count.tried else 0)

@@ -3,9 +3,17 @@ import os
 import sys
 import tempfile
 
+from .leash import hold
+
+
+def is_alone():
+    """Whether the trial has begun again in name spaces of its own."""
+    return "TRIAL_ALONE" in os.environ
+
 
 def alone(*spaces):
     """Starts the same command in name spaces of its own, of processes too: with it ends all that it started. There it goes on."""
-    if "TRIAL_ALONE" not in os.environ:
-        os.execvpe("unshare", ["unshare", *spaces, "--pid", "--fork", "--kill-child", "--mount-proc", sys.executable, "-B", *sys.argv], {**os.environ, "TRIAL_ALONE": "yes"})
+    if not is_alone():
+        hold()
+        os.execvpe("unshare", ["unshare", *spaces, "--pid", "--fork", "--kill-child", "--mount-proc", "/usr/bin/python3", *sys.argv], {**os.environ, "TRIAL_ALONE": "yes"})
     tempfile.tempdir = "/dev/shm"
