@@ -1,4 +1,4 @@
-# completion in bash of acd, acd-plan, acd-calls, acd-export and acd-trail; packaging/package and tests/unit/run compare their commands and options with what --help says
+# completion in bash of acd, acd-plan, acd-calls, acd-export and acd-trail; packaging/package and a unit test compare their commands and options with what --help says
 _acd() {
     local word=${COMP_WORDS[COMP_CWORD]} before=${COMP_WORDS[COMP_CWORD - 1]} command=${COMP_WORDS[1]} offered
     COMPREPLY=()

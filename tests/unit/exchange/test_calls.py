@@ -5,7 +5,7 @@ import itertools
 import unittest
 from typing import Any
 
-from bench import CALLER, OTHER, PHONE, Bench, body
+from exchange_bench import CALLER, OTHER, PHONE, Bench, body
 
 
 class OnABench(unittest.TestCase):

@@ -4,7 +4,7 @@ from __future__ import annotations
 import time
 import unittest
 
-from bench import CALLER, Bench
+from exchange_bench import CALLER, Bench
 from bridge.store import Store
 
 HOUR = 3600.0

@@ -13,7 +13,7 @@ from typing import Any
 from unittest import mock
 
 from acd_client import Answer, Event, Missed, Page, Unanswered
-from bench import Bench
+from exchange_bench import Bench
 from bridge import desk
 from bridge.desk import DeskLine
 

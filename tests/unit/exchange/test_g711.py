@@ -10,7 +10,6 @@ import wave
 from pathlib import Path
 from tempfile import TemporaryDirectory
 
-import bench  # noqa: F401  (the path)
 from bridge import g711
 from bridge.music import sounds
 

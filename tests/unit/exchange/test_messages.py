@@ -3,9 +3,9 @@ from __future__ import annotations
 
 import unittest
 
-import bench  # noqa: F401  (the path)
 from bridge import sdp
 from bridge.message import Message
+from exchange_bench import body
 
 HEAD = ("INVITE sip:100@x SIP/2.0\r\nv: SIP/2.0/UDP a;branch=z9hG4bK1, SIP/2.0/UDP b;branch=z2\r\nf: \"A, \\\"B\\\"\" <sip:1@x;tag=no>;tag=yes\r\n"
         "t: <sip:100@x>\r\ni: id\r\nCSeq: 1 INVITE\r\nRoute: <sip:r1;lr>,\r\n  <sip:r2;lr>\r\n")
@@ -48,18 +48,18 @@ class Messages(unittest.TestCase):
 
 class Bodies(unittest.TestCase):
     def test_media(self) -> None:
-        self.assertEqual(sdp.media(bench.body(7000)), ("127.0.0.1", 7000, (8, 0)))
-        for wrong in ("", bench.body(70000), bench.body(7000).replace("IN IP4 127.0.0.1\r\nt", "IN IP4 host\r\nt"), bench.body(7000).replace("audio", "video")):
+        self.assertEqual(sdp.media(body(7000)), ("127.0.0.1", 7000, (8, 0)))
+        for wrong in ("", body(70000), body(7000).replace("IN IP4 127.0.0.1\r\nt", "IN IP4 host\r\nt"), body(7000).replace("audio", "video")):
             self.assertIsNone(sdp.media(wrong))
 
     def test_holding(self) -> None:
-        self.assertEqual([sdp.is_held(bench.body(1, more)) for more in ("a=sendonly\r\n", "a=inactive\r\n", "a=recvonly\r\n", "")], [True, True, False, False])
-        self.assertTrue(sdp.is_held(bench.body(1).replace("c=IN IP4 127.0.0.1", "c=IN IP4 0.0.0.0")))
+        self.assertEqual([sdp.is_held(body(1, more)) for more in ("a=sendonly\r\n", "a=inactive\r\n", "a=recvonly\r\n", "")], [True, True, False, False])
+        self.assertTrue(sdp.is_held(body(1).replace("c=IN IP4 127.0.0.1", "c=IN IP4 0.0.0.0")))
 
     def test_music(self) -> None:
         self.assertIn("RTP/AVP 8\r\n", sdp.music("h", 1, ""))
-        self.assertIn("RTP/AVP 0\r\n", sdp.music("h", 1, bench.body(1).replace("AVP 8 0", "AVP 9 0 8")))
-        self.assertEqual(sdp.music("h", 1, bench.body(1).replace("AVP 8 0", "AVP 9 18")), "")
+        self.assertIn("RTP/AVP 0\r\n", sdp.music("h", 1, body(1).replace("AVP 8 0", "AVP 9 0 8")))
+        self.assertEqual(sdp.music("h", 1, body(1).replace("AVP 8 0", "AVP 9 18")), "")
 
 
 if __name__ == "__main__":

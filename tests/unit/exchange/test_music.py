@@ -4,7 +4,7 @@ from __future__ import annotations
 import unittest
 from typing import Any
 
-from bench import CALLER, PHONE, Bench, body
+from exchange_bench import CALLER, PHONE, Bench, body
 from bridge import music
 from bridge.records import Leg
 

@@ -2,17 +2,15 @@
 from __future__ import annotations
 
 import json
-import sys
 import unittest
 from collections.abc import Callable
 from importlib import import_module
 from typing import Any
 
 from acd_client import Answer
-from bench import CALLER, OTHER, PHONE, PHONES, TOP, Bench, body
+from exchange_bench import CALLER, OTHER, PHONE, PHONES, Bench, body
 from bridge.message import Message
 
-sys.path.append(str(TOP / "tests"))
 switch: Any = import_module("switch")
 
 # 0: no answer at all

@@ -11,7 +11,6 @@ from tempfile import TemporaryDirectory
 from typing import Any
 from unittest import mock
 
-import bench  # noqa: F401  (the path)
 from bridge.settings import Settings
 
 

@@ -7,7 +7,7 @@ import unittest
 from typing import Any
 
 from acd_client import Answer
-from bench import CALLER, PHONE, Bench, body
+from exchange_bench import CALLER, PHONE, Bench, body
 from bridge.records import Call
 from bridge.store import Store
 

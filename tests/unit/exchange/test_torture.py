@@ -1,16 +1,12 @@
 """The torture messages of the trial, over a bench."""
 from __future__ import annotations
 
-import sys
 import unittest
 from typing import Any
 
-from bench import CALLER, TOP, Bench
-
-sys.path.append(str(TOP / "tests/trials/exchange"))
-
-from bridge.message import Message, Refused  # noqa: E402
-from torture import TORTURES, Torture  # noqa: E402
+from bridge.message import Message, Refused
+from exchange_bench import CALLER, Bench
+from torture import TORTURES, Torture
 
 # of RFC 4475, those that concern a user agent server over UDP
 SECTIONS = [*(f"3.1.1.{each}" for each in range(1, 14)), *(f"3.1.2.{each}" for each in range(1, 20)), "3.2.1", *(f"3.3.{each}" for each in range(1, 16)), "3.4.1"]

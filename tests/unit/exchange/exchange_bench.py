@@ -2,21 +2,18 @@
 from __future__ import annotations
 
 import json
-import sys
 import tempfile
 from pathlib import Path
 from typing import Any
 
+from acd_client import Answer, Event
+from bridge.exchange import Exchange
+from bridge.message import Message
+from bridge.records import Request
+from bridge.settings import Settings
+from bridge.store import Store
+
 TOP = Path(__file__).resolve().parents[3]
-sys.path[:0] = [str(TOP / "exchange"), str(TOP / "client")]
-
-from acd_client import Answer, Event  # noqa: E402
-from bridge.exchange import Exchange  # noqa: E402
-from bridge.message import Message  # noqa: E402
-from bridge.records import Request  # noqa: E402
-from bridge.settings import Settings  # noqa: E402
-from bridge.store import Store  # noqa: E402
-
 CALLER, PHONE, OTHER = "127.0.0.1:6001", "127.0.0.1:5201", "127.0.0.1:5202"
 PHONES = {"201": f"sip:201@{PHONE}", "202": f"sip:202@{OTHER}"}
 
