@@ -128,7 +128,7 @@ def run_python(options: argparse.Namespace, total: Total) -> bool:
 
 
 def run_release(options: argparse.Namespace, total: Total) -> bool:
-    return run([one("release", "proof/release", "--check", good=(0, OLDER))], total)
+    return all([run([one("release", "proof/release", "--check", good=(0, OLDER))], total), run([one("history", "proof/check-history")], total)])
 
 
 def run_coverage(options: argparse.Namespace, total: Total) -> bool:

@@ -58,7 +58,7 @@ class Count(Result):
 
     def stopTest(self, test):
         super().stopTest(test)
-        name = test.id().removeprefix("__main__.")
+        name = ".".join(test.id().rsplit(".", 2)[-2:])
         self.tell("failed" if self.wrong > self.told else "passed", name)
 
     def tell(self, became, name):
