@@ -2,11 +2,11 @@
 
 usage: ./test [--only STAGE,..] [--install] [--may-lack FILE] [WORD ..]
 
-Stages, in their order: `shape` (what has to be believed, sizes of clauses and pages), `proof` (rt ci: an hour or two), `python` (lint, types, unit tests and
-the trials of the gate, in some minutes), `release` (whether release/ is of these sources; the log's subjects). All of them run unless --only chooses;
-`--only coverage` runs the unit tests and prints how many branches of each module they take. A WORD chooses jobs of `python` by their names: `./test --only
-python unit/gate` or `./test --only python 'trial gate'`. Tests take the program that `rt ci` built, without the stage `proof` release/acd, or the one that the
-variable ACD names.
+Stages, in their order: `shape` (what has to be believed, sizes of clauses and pages), `proof` (rt ci: an hour or two), `program` (trials of the process that this
+built, some minutes), `python` (lint, types, unit tests and trials of what stands around it, some minutes), `release` (whether release/ is of these sources; the
+subjects of the log). All of them run unless --only chooses; `--only coverage` runs the unit tests and prints how many branches of each module they take. A WORD
+chooses jobs of `program` and `python` by their names: `./test --only python unit/gate` or `./test --only python 'trial gate'`. Tests take the program that `rt ci`
+built, without the stage `proof` release/acd, or the one that the variable ACD names.
 
 Debian packages that are missing are named, with the line that gets them; --install gets them, as root. What can't run without them is left out and
 counted, and the status is 75. With --may-lack it is 0 if FILE names each of these packages. The status is 1 where anything failed."""
@@ -24,7 +24,7 @@ from typing import NoReturn
 from . import branches, counts, packages, parts
 from .jobs import TOP, Count, Job, Jobs, Outcome
 
-STAGES = ("shape", "proof", "python", "release")
+STAGES = ("shape", "proof", "program", "python", "release")
 LEFT_OUT = 75       # the status where a machine lacks something
 OLDER = 3           # of proof/release: release/ is of older sources
 BUILT = TOP / "crates/acd/out/acd"
@@ -120,11 +120,17 @@ def run_proof(options: argparse.Namespace, total: Total) -> bool:
     return run([one("rt ci", "proof/gate-cost", "rt", "ci")], total)
 
 
-def run_python(options: argparse.Namespace, total: Total) -> bool:
-    """What takes longest comes first, so that four run until the end."""
-    acd = program(options.only)
-    trials = parts.trials(acd)
-    return run(chosen(options.words, [*trials[:1], *parts.lint(), *parts.types(), *parts.unit(acd), *trials[1:]]), total)
+def tests(stages: list[str], acd: Path) -> list[Job]:
+    """The jobs of `program` and `python`: they run side by side."""
+    of_program = parts.trials(acd, parts.OF_THE_PROGRAM) if "program" in stages else []
+    of_python = [*parts.lint(), *parts.types(), *parts.trials(acd, parts.OF_THE_SERVICE), *parts.unit(acd)] if "python" in stages else []
+    return of_program + of_python
+
+
+def run_tests(options: argparse.Namespace, total: Total) -> bool:
+    """Whatever fails, the stages that follow can run."""
+    run(chosen(options.words, tests(options.only, program(options.only))), total)
+    return True
 
 
 def run_release(options: argparse.Namespace, total: Total) -> bool:
@@ -138,14 +144,14 @@ def run_coverage(options: argparse.Namespace, total: Total) -> bool:
     return is_good
 
 
-RUN: dict[str, Callable[[argparse.Namespace, Total], bool]] = {"shape": run_shape, "proof": run_proof, "python": run_python, "release": run_release, "coverage": run_coverage}
+# what runs for which stages; where it says that it failed, nothing follows, since that would be of another program
+RUN: dict[tuple[str, ...], Callable[[argparse.Namespace, Total], bool]] = {
+    ("shape",): run_shape, ("proof",): run_proof, ("program", "python"): run_tests, ("release",): run_release, ("coverage",): run_coverage}
 
 
 def needed(options: argparse.Namespace) -> list[str]:
     """The packages of the jobs that are to run."""
-    jobs = parts.unit(Path()) if {"python", "coverage"} & set(options.only) else []
-    if "python" in options.only:
-        jobs += [*parts.lint(), *parts.types(), *parts.trials(Path())]
+    jobs = tests(options.only, Path()) + (parts.unit(Path()) if "coverage" in options.only else [])
     found = {package for job in jobs for package in job.packages} | set(parts.HELPERS if jobs else ())
     return sorted(found | ({"python3-coverage"} if "coverage" in options.only else set()))
 
@@ -184,7 +190,7 @@ def command_line() -> argparse.Namespace:
     parser.add_argument("--may-lack", type=Path)
     parser.add_argument("words", nargs="*")
     options = parser.parse_args()
-    if unknown := set(options.only) - set(RUN):
+    if unknown := set(options.only) - {*STAGES, "coverage"}:
         parser.error(f"no stage {', '.join(sorted(unknown))}")
     return options
 
@@ -194,9 +200,9 @@ def main() -> NoReturn:
     os.environ.pop("PYTHONPATH", None)      # ./test has set it, and what ships has to find its modules without it
     signal.signal(signal.SIGTERM, lambda *_: sys.exit(128 + signal.SIGTERM))
     get_packages(options)
-    for stage in RUN:
-        if stage in options.only and not RUN[stage](options, total) and stage != "python":
-            break   # what comes later would be of another program
+    for stages, work in RUN.items():
+        if set(stages) & set(options.only) and not work(options, total):
+            break
     end(options, total)
 
 

@@ -31,18 +31,22 @@ class Part(NamedTuple):
     needs_root: bool = False
 
 
-TRIALS = {
+# of the process itself; the greatest comes first, so that it ends with the others
+OF_THE_PROGRAM = {
     "sizes": Part("try-sizes", (), ("try-sizes",)),
     "statuses": Part("try-statuses", (), ("try-statuses",)),
     "untouched": Part("try-untouched", (), ("try-untouched",)),
     "logs": Part("try-logs", (), ("try-logs",)),
     "docs": Part("try-docs", (), ("try-docs",), ("curl",)),
+}
+# of what stands around it: the parts that are done in seconds
+OF_THE_SERVICE = {
     **{f"gate {part}": Part("try-gate", ("--only", part), (f"gate/{file}",), NGINX)
        for part, file in (("days", "days.py"), ("sessions", "sessions.py"), ("leads", "leads.py"), ("reads", "mine.py:Reads"), ("executed", "executed.py"), ("mine", "mine.py:Mine"))},
     **{f"trail {part}": Part("try-trail", ("--only", part), (f"try-trail:{case}",), packages)
        for part, case, packages in (("story", "Story", ()), ("archives", "Archives", ()), ("faults", "Bad", ()), ("pages", "OfPages", ()), ("served", "Served", NGINX))},
     "follow cases": Part("try-follow", ("--only", "cases"), ("follow/cases.py",), SPACES, True),
-    "copies": Part("try-copies", ("--some", "--only", "copies,again,restores"), ("copies/copying.py", "copies/again.py", "copies/restores.py"), ("strace", "util-linux"), True),
+    "copies": Part("try-copies", ("--some", "--only", "copies,again"), ("copies/copying.py", "copies/again.py"), ("strace", "util-linux"), True),
 }
 
 
@@ -102,11 +106,11 @@ def unit(program: Path, variables: dict[str, str] | None = None) -> list[Job]:
     return [unit_job(file, program, by_pytest, UNIT_PACKAGES[file.relative_to(TOP / UNIT).parts[0]], variables) for file in unit_files()]
 
 
-def trials(program: Path) -> list[Job]:
+def trials(program: Path, of: dict[str, Part]) -> list[Job]:
     """The trials that the gate runs. Their folders are in memory where there is room, so that none waits for a disk."""
     variables = {"TMPDIR": "/dev/shm"} if has_room_in_memory() else {}
     return [Job(f"trial {name}", (PYTHON, f"tests/trials/{part.script}", str(program), *part.words), counts.of_trial, part.packages,
-                functools.partial(cases_in, tuple(f"tests/trials/{place}" for place in part.cases)), 1800, variables) for name, part in TRIALS.items()]
+                functools.partial(cases_in, tuple(f"tests/trials/{place}" for place in part.cases)), 1800, variables) for name, part in of.items()]
 
 
 def has_room_in_memory() -> bool:
@@ -118,5 +122,5 @@ def has_room_in_memory() -> bool:
 
 
 def needs_root(job: Job) -> bool:
-    part = TRIALS.get(job.name.removeprefix("trial "))
+    part = {**OF_THE_PROGRAM, **OF_THE_SERVICE}.get(job.name.removeprefix("trial "))
     return part is not None and part.needs_root

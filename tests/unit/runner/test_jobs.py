@@ -102,7 +102,7 @@ class Lacks(unittest.TestCase):
     """`./test --only python` with one job, on machines that lack packages."""
 
     def ended(self, *words: str, lacked: set[str] = frozenset(), status: int = 0) -> tuple[int | str | None, list[str]]:  # type: ignore[assignment]
-        file = parts.TOP / "tests/unit/gate/test_gate.py"
+        file = TOP / "tests/unit/gate/test_gate.py"
         jobs = [Job("gate", ("sh", "-c", f"exit {status}"), counts.of_status, ("python3-bcrypt",), lambda: parts.cases_in((str(file),))), Job("other", ("true",), counts.of_status)]
         with mock.patch.object(packages, "is_there", lambda package: package not in lacked), mock.patch.object(parts, "unit", lambda *_: jobs), \
                 mock.patch.object(parts, "trials", lambda *_: []), mock.patch.object(parts, "lint", lambda: []), mock.patch.object(parts, "types", lambda: []), \
@@ -162,14 +162,14 @@ class Chosen(unittest.TestCase):
         self.assertEqual({file.relative_to(TOP / parts.UNIT).parts[0] for file in (TOP / parts.UNIT).rglob("test_*.py")}, set(parts.UNIT_PACKAGES))
 
     def test_words(self) -> None:
-        jobs = [*parts.unit(Path("/bin/true")), *parts.trials(Path("/bin/true")), *parts.lint()]
+        jobs = [*parts.unit(Path("/bin/true")), *parts.trials(Path("/bin/true"), parts.OF_THE_PROGRAM), *parts.lint()]
         self.assertEqual({job.name.split("/")[2] for job in command.chosen(["unit/node", "unit/gate"], jobs)}, {"node", "gate"})
         self.assertEqual([job.name for job in command.chosen(["lint", "trial docs"], jobs)], ["trial docs", "lint"])
         self.assertEqual((command.chosen([], jobs), command.chosen(["no such job"], jobs)), (jobs, []))
 
     def test_cases_of_trials(self) -> None:
         """Each part of a trial has cases, so that what is left out is counted."""
-        for job in parts.trials(Path("/bin/true")):
+        for job in [*parts.trials(Path("/bin/true"), parts.OF_THE_PROGRAM), *parts.trials(Path("/bin/true"), parts.OF_THE_SERVICE)]:
             with self.subTest(job=job.name):
                 self.assertGreater(job.cases(), 0)
 
