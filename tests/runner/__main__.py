@@ -1,11 +1,12 @@
 """Runs all tests, and ends with their count alone on the last line: `N passed, M failed`.
 
-usage: ./test [--only STAGE,..] [--install] [--may-lack FILE] [WORD ..]
+usage: ./test [--only STAGE,..] [--trials] [--install] [--may-lack FILE] [WORD ..]
 
 Stages, in their order: `shape` (what has to be believed, sizes of clauses and pages), `proof` (rt ci: an hour or two), `program` (trials of the process that this
 built, some minutes), `python` (lint, types, unit tests and trials of what stands around it, some minutes), `release` (whether release/ is of these sources; the
-subjects of the log). All of them run unless --only chooses; `--only coverage` runs the unit tests and prints how many branches of each module they take. A WORD
-chooses jobs of `program` and `python` by their names: `./test --only python unit/gate` or `./test --only python 'trial gate'`. Tests take the program that `rt ci`
+subjects of the log). All of them run unless --only chooses; `--only coverage` runs the unit tests and prints how many branches of each module they take, `--trials`
+what takes hours or needs a browser, a booted system, etcd, a telephone exchange or root, one trial after the other, as far as this machine has that. A WORD
+chooses jobs by their names: `./test --only python unit/gate` or `./test --trials ready`. Tests take the program that `rt ci`
 built, without the stage `proof` release/acd, or the one that the variable ACD names.
 
 Debian packages that are missing are named, with the line that gets them; --install gets them, as root. What can't run without them is left out and
@@ -14,7 +15,6 @@ from __future__ import annotations
 
 import argparse
 import os
-import signal
 import sys
 import tempfile
 from collections.abc import Callable, Iterable
@@ -22,7 +22,7 @@ from pathlib import Path
 from typing import NoReturn
 
 from . import branches, counts, packages, parts
-from .jobs import TOP, Count, Job, Jobs, Outcome
+from .jobs import AT_ONCE, STOP, TOP, Count, Job, Jobs, Outcome
 
 STAGES = ("shape", "proof", "program", "python", "release")
 LEFT_OUT = 75       # the status where a machine lacks something
@@ -84,19 +84,15 @@ def one(name: str, *words: str, good: tuple[int, ...] = (0,), needed: tuple[str,
     return Job(name, words, count, needed, longest=DAY, is_shown=True)
 
 
-def lacks(job: Job) -> list[str]:
-    return packages.missing(job.packages) + (["root"] if parts.needs_root(job) and os.geteuid() else [])
-
-
-def run(jobs: Iterable[Job], total: Total) -> bool:
-    """Runs those that can run, four at a time; whether all passed."""
+def run(jobs: Iterable[Job], total: Total, at_once: int = AT_ONCE) -> bool:
+    """Runs those that can run; whether all passed."""
     able, before = [], total.failed
     for job in jobs:
-        if lacked := lacks(job):
+        if lacked := packages.missing(job.packages):
             total.leave_out(job, lacked)
         else:
             able.append(job)
-    with Jobs() as running:
+    with Jobs(at_once) as running:
         for outcome in running.run_all(able):
             total.add(outcome)
     return total.failed == before
@@ -144,20 +140,27 @@ def run_coverage(options: argparse.Namespace, total: Total) -> bool:
     return is_good
 
 
+def run_by_hand(options: argparse.Namespace, total: Total) -> bool:
+    """One after the other: some measure, and some take ports of their own."""
+    return run(chosen(options.words, parts.trials(program(options.only), parts.BY_HAND)), total, 1)
+
+
 # what runs for which stages; where it says that it failed, nothing follows, since that would be of another program
 RUN: dict[tuple[str, ...], Callable[[argparse.Namespace, Total], bool]] = {
-    ("shape",): run_shape, ("proof",): run_proof, ("program", "python"): run_tests, ("release",): run_release, ("coverage",): run_coverage}
+    ("shape",): run_shape, ("proof",): run_proof, ("program", "python"): run_tests, ("release",): run_release, ("coverage",): run_coverage, ("trials",): run_by_hand}
 
 
 def needed(options: argparse.Namespace) -> list[str]:
     """The packages of the jobs that are to run."""
     jobs = tests(options.only, Path()) + (parts.unit(Path()) if "coverage" in options.only else [])
+    jobs += parts.trials(Path(), parts.BY_HAND) if "trials" in options.only else []
+    jobs = chosen(options.words, jobs)
     found = {package for job in jobs for package in job.packages} | set(parts.HELPERS if jobs else ())
     return sorted(found | ({"python3-coverage"} if "coverage" in options.only else set()))
 
 
 def get_packages(options: argparse.Namespace) -> None:
-    lacked = packages.missing(needed(options))
+    lacked = [package for package in packages.missing(needed(options)) if package in packages.KNOWN_BY]
     if lacked and options.install:
         packages.install(lacked, {package for those in parts.UNIT_PACKAGES.values() for package in those})
         lacked = packages.missing(lacked)
@@ -186,11 +189,12 @@ def command_line() -> argparse.Namespace:
     parser = argparse.ArgumentParser("./test", usage=text.partition("usage: ./test ")[2].partition("\n")[0], description=text,
                                      formatter_class=argparse.RawDescriptionHelpFormatter)
     parser.add_argument("--only", type=lambda text: text.split(","), default=list(STAGES))
+    parser.add_argument("--trials", dest="only", action="store_const", const=["trials"])
     parser.add_argument("--install", action="store_true")
     parser.add_argument("--may-lack", type=Path)
     parser.add_argument("words", nargs="*")
     options = parser.parse_args()
-    if unknown := set(options.only) - {*STAGES, "coverage"}:
+    if unknown := set(options.only) - {*STAGES, "coverage", "trials"}:
         parser.error(f"no stage {', '.join(sorted(unknown))}")
     return options
 
@@ -198,7 +202,7 @@ def command_line() -> argparse.Namespace:
 def main() -> NoReturn:
     options, total = command_line(), Total()
     os.environ.pop("PYTHONPATH", None)      # ./test has set it, and what ships has to find its modules without it
-    signal.signal(signal.SIGTERM, lambda *_: sys.exit(128 + signal.SIGTERM))
+    STOP.listen()
     get_packages(options)
     for stages, work in RUN.items():
         if set(stages) & set(options.only) and not work(options, total):

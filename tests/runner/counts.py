@@ -6,6 +6,7 @@ from pathlib import Path
 
 from .jobs import Count
 
+LAST_OF_CHECKS = re.compile(r"(\d+) tried, (\d+) wrong\b")     # of a trial of the pages, in JavaScript
 LAST_OF_TRIAL = re.compile(r"(\d+) passed, (\d+) failed, \d+ s$")
 
 
@@ -40,6 +41,9 @@ def of_trial(status: int, output: str, _place: Path) -> Count:
     """By the last line of a trial. One that ended without it is one case that failed."""
     lines = output.rstrip().splitlines()
     found = LAST_OF_TRIAL.search(lines[-1]) if lines else None
+    if lines and (checks := LAST_OF_CHECKS.match(lines[-1])) and not found:
+        wrong = int(checks[2])
+        return Count(int(checks[1]) - wrong, ("checks",) * wrong or (f"status {status}",) * bool(status))
     if not found:
         return Count(0, (f"its process ended with status {status}",))
     failed = re.findall(r"^ *[\d.]+ s  failed  (\S+)$", output, re.MULTILINE)

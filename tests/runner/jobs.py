@@ -4,11 +4,12 @@ from __future__ import annotations
 import os
 import signal
 import subprocess
+import sys
 import tempfile
 import threading
 import time
 from collections.abc import Callable, Iterable, Iterator
-from concurrent.futures import ThreadPoolExecutor, as_completed
+from concurrent.futures import FIRST_COMPLETED, ThreadPoolExecutor, wait
 from dataclasses import dataclass, field
 from pathlib import Path
 
@@ -16,7 +17,28 @@ TOP = Path(__file__).resolve().parents[2]
 PYTHON = "/usr/bin/python3"
 LEASH = (PYTHON, str(TOP / "tests/trials/trial/leash.py"))
 AT_ONCE = 4
+LOOK = 0.3      # seconds after which a signal is seen
 ENDING = 6      # seconds after which a job that was told to end is killed
+
+
+class Stop:
+    """A signal that came. It is obeyed where that breaks nothing off, since an exception out of a signal may fall between any two steps."""
+
+    number = 0
+
+    def listen(self) -> None:
+        for number in (signal.SIGTERM, signal.SIGINT, signal.SIGHUP):
+            signal.signal(number, self.note)
+
+    def note(self, number: int, _frame: object) -> None:
+        self.number = number
+
+    def obey(self) -> None:
+        if self.number:
+            sys.exit(128 + self.number)
+
+
+STOP = Stop()
 
 
 @dataclass(frozen=True)
@@ -51,9 +73,10 @@ class Outcome:
 
 
 class Jobs:
-    """Runs jobs, and ends those that still run when the block ends."""
+    """Runs so many jobs at a time, and ends those that still run when the block ends."""
 
-    def __init__(self) -> None:
+    def __init__(self, at_once: int = AT_ONCE) -> None:
+        self.at_once = at_once
         self.running: set[subprocess.Popen[bytes]] = set()
         self.lock = threading.Lock()
         self.has_ended = False
@@ -67,12 +90,15 @@ class Jobs:
         self.scratch.cleanup()
 
     def run_all(self, jobs: Iterable[Job]) -> Iterator[Outcome]:
-        """Each outcome as soon as it is there."""
-        with ThreadPoolExecutor(AT_ONCE) as pool:
-            waiting = [pool.submit(self.run, job) for job in jobs]
+        """Each outcome as soon as it is there. After a signal all end."""
+        with ThreadPoolExecutor(self.at_once) as pool:
+            waiting = {pool.submit(self.run, job) for job in jobs}
             try:
-                for done in as_completed(waiting):
-                    yield done.result()
+                while waiting:
+                    done, waiting = wait(waiting, LOOK, FIRST_COMPLETED)
+                    for each in done:
+                        yield each.result()
+                    STOP.obey()
             finally:
                 for each in waiting:
                     each.cancel()

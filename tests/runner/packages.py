@@ -5,31 +5,60 @@ import os
 import shutil
 import subprocess
 import sys
-from collections.abc import Iterable
+from collections.abc import Callable, Iterable
+from pathlib import Path
 
-# of each package a program or a module of Python, by which it is known
+TOP = Path(__file__).resolve().parents[2]
+# of each package a program, a module of Python or a file, by which it is known
 KNOWN_BY = {
     "apache2-utils": "htpasswd",
+    "binutils": "nm",
+    "chromium": "chromium",
+    "chromium-driver": "chromedriver",
     "curl": "curl",
+    "debootstrap": "debootstrap",
+    "etcd-client": "etcdctl",
+    "etcd-server": "etcd",
     "flake8": "flake8",
+    "gcc": "gcc",
+    "golang-go": "go",
     "iproute2": "ip",
+    "kamailio": "kamailio",
+    "kamailio-tls-modules": "/usr/lib/x86_64-linux-gnu/kamailio/modules/tls.so",
+    "libjson-validator-perl": "/usr/share/perl5/JSON/Validator.pm",
+    "lintian": "lintian",
     "mypy": "mypy",
+    "nftables": "nft",
     "nginx-light": "nginx",
+    "node-typescript": "tsc",
+    "nodejs": "node",
     "openssl": "openssl",
     "python3-bcrypt": "bcrypt",
     "python3-coverage": "coverage",
+    "python3-h2": "h2",
+    "python3-jsonschema": "jsonschema",
     "python3-passlib": "passlib",
     "python3-pytest": "pytest",
     "python3-pytest-timeout": "pytest_timeout",
+    "python3-yaml": "yaml",
+    "sip-tester": "sipp",
+    "sqlite3": "sqlite3",
     "strace": "strace",
+    "systemd-container": "systemd-nspawn",
     "util-linux": "unshare",
 }
+# what a machine may lack beside packages, and whether it is there
+CONDITIONS: dict[str, Callable[[], bool]] = {"root": lambda: os.geteuid() == 0, "packages in out/": lambda: any((TOP / "out").glob("acd_*.deb"))}
 LONGEST = 900       # seconds that apt-get may take
 APT = ("timeout", "--kill-after=10", str(LONGEST), "apt-get", "-q", "-o", "DPkg::Lock::Timeout=120", "-o", "Acquire::Retries=1", "-o", "Acquire::http::Timeout=30")
 
 
 def is_there(package: str) -> bool:
+    if package in CONDITIONS:
+        return CONDITIONS[package]()
     known_by = KNOWN_BY[package]
+    if known_by.startswith("/"):
+        return Path(known_by).exists()
     if package.startswith("python3-"):
         return importlib.util.find_spec(known_by) is not None
     return shutil.which(known_by, path=f"{os.environ.get('PATH', '')}:/usr/sbin:/sbin") is not None

@@ -22,15 +22,27 @@ NGINX = ("nginx-light", "openssl", "python3-bcrypt", "python3-passlib")
 SPACES = ("iproute2", "openssl", "strace", "util-linux")
 
 
+LONGEST = 4 * 3600      # seconds that a trial may take
+
+
 class Part(NamedTuple):
-    """A part of a trial that the gate runs; `cases` are files of cases, or FILE:CLASS."""
+    """A trial, or a part of one; `cases` are files of cases, or FILE:CLASS. A mark says what it needs of a machine."""
     script: str
     words: tuple[str, ...]
     cases: tuple[str, ...]
     packages: tuple[str, ...] = ()
-    needs_root: bool = False
+    marks: tuple[str, ...] = ()
+    takes_program: bool = True
 
 
+# what a trial needs of its machine, by the mark that it has
+MARKS = {
+    "booted": ("root", "debootstrap", "systemd-container", "util-linux", "openssl", "packages in out/"),
+    "browser": ("chromium", "chromium-driver", "nodejs", "node-typescript"),
+    "etcd": ("root", "etcd-client", "etcd-server", "curl", "openssl"),
+    "root": ("root",),
+    "sip": ("root", "sip-tester", "kamailio", "kamailio-tls-modules", "nftables", "curl"),
+}
 # of the process itself; the greatest comes first, so that it ends with the others
 OF_THE_PROGRAM = {
     "sizes": Part("try-sizes", (), ("try-sizes",)),
@@ -45,8 +57,33 @@ OF_THE_SERVICE = {
        for part, file in (("days", "days.py"), ("sessions", "sessions.py"), ("leads", "leads.py"), ("reads", "mine.py:Reads"), ("executed", "executed.py"), ("mine", "mine.py:Mine"))},
     **{f"trail {part}": Part("try-trail", ("--only", part), (f"try-trail:{case}",), packages)
        for part, case, packages in (("story", "Story", ()), ("archives", "Archives", ()), ("faults", "Bad", ()), ("pages", "OfPages", ()), ("served", "Served", NGINX))},
-    "follow cases": Part("try-follow", ("--only", "cases"), ("follow/cases.py",), SPACES, True),
-    "copies": Part("try-copies", ("--some", "--only", "copies,again"), ("copies/copying.py", "copies/again.py"), ("strace", "util-linux"), True),
+    "follow cases": Part("try-follow", ("--only", "cases"), ("follow/cases.py",), SPACES, ("root",)),
+    "copies": Part("try-copies", ("--some", "--only", "copies,again"), ("copies/copying.py", "copies/again.py"), ("strace", "util-linux"), ("root",)),
+}
+# what takes long, or needs what few machines have: `./test --trials` runs them one after the other
+BY_HAND = {
+    "api": Part("try-api", (), ("try-api",), ("curl", "golang-go", "libjson-validator-perl", "node-typescript", "nodejs", "python3-jsonschema", "python3-yaml")),
+    "board": Part("try-board", (), (), (*NGINX, "curl"), ("browser",)),
+    "copies whole": Part("try-copies", (), ("copies/copying.py", "copies/again.py", "copies/halts.py", "copies/restores.py", "copies/kills.py"), ("strace", "util-linux"), ("root",)),
+    "edges": Part("try-edges", (), ("machine/users.py", "machine/units.py", "machine/second.py"), (), ("booted", "browser"), False),
+    "exchange": Part("try-exchange", (), ("try-exchange",), NGINX, ("sip",)),
+    "files": Part("try-files", (), ("try-files",)),
+    "flood": Part("try-flood", ("--seconds", "8", "--floods", "4"), ("flood/doors.py",), (*NGINX, "apache2-utils", "python3-h2"), ("root",)),
+    "follow whole": Part("try-follow", (), ("follow/cases.py", "follow/kills.py", "follow/runs.py"), SPACES, ("root",)),
+    "gate whole": Part("try-gate", (), ("try-gate", "gate/followed.py", "gate/many.py"), NGINX),
+    "http": Part("try-http", (), ("try-http",), (*NGINX, "apache2-utils", "curl", "sqlite3")),
+    "node": Part("try-node", (), ("node/carried.py", "node/day.py", "node/hostile.py"), (), ("etcd",)),
+    "office": Part("try-office", (), tuple(f"office/{name}.py" for name in ("starting", "damage", "clock", "copies", "carried", "plans", "program", "byhand", "clone")), (), ("booted",), False),
+    "package": Part("try-package", (), ("try-package",), ("debootstrap", "iproute2", "lintian", "util-linux"), ("root",), False),
+    "ready": Part("try-ready", (), tuple(f"ready/{name}.py" for name in ("cuts", "logs", "notices", "settings", "starts", "stops")), (), ("root",)),
+    "records": Part("try-records", (), ("try-records", "records/calls.py", "records/changes.py"), ("curl", "nodejs", "openssl")),
+    "release": Part("try-release", (), ("try-release",), ("binutils",), (), False),
+    "standby": Part("try-standby", (), ("standby/costs.py", "standby/takeovers.py"), (*NGINX, *SPACES, "curl", "gcc"), ("root",)),
+    "stops": Part("try-stops", (), ("try-stops",)),
+    "ticks": Part("try-ticks", (), ("try-ticks",)),
+    "trail day": Part("try-trail", ("--only", "day"), ("try-trail:Day",)),
+    "years": Part("try-years", (), tuple(f"years/{name}.py" for name in ("audits", "cases", "chains", "cuts", "exports", "figures", "forgets", "kills", "service", "stops", "year")),
+                  ("strace", "util-linux"), ("root",)),
 }
 
 
@@ -76,8 +113,9 @@ def types() -> list[Job]:
 
 def number_of_cases(text: str, of: str | None = None) -> int:
     """How many cases a file has, or a class of it."""
-    classes = [node for node in ast.walk(ast.parse(text)) if isinstance(node, ast.ClassDef) and of in (None, node.name)]
-    return sum(isinstance(node, ast.FunctionDef) and node.name.startswith(("test_", "try_")) for each in classes for node in each.body)
+    tree = ast.parse(text)
+    places: list[ast.AST] = [tree] if of is None else [node for node in ast.walk(tree) if isinstance(node, ast.ClassDef) and node.name == of]
+    return sum(isinstance(node, ast.FunctionDef) and node.name.startswith(("test_", "try_")) for place in places for node in ast.walk(place))
 
 
 def cases_in(places: tuple[str, ...]) -> int:
@@ -109,8 +147,14 @@ def unit(program: Path, variables: dict[str, str] | None = None) -> list[Job]:
 def trials(program: Path, of: dict[str, Part]) -> list[Job]:
     """The trials that the gate runs. Their folders are in memory where there is room, so that none waits for a disk."""
     variables = {"TMPDIR": "/dev/shm"} if has_room_in_memory() else {}
-    return [Job(f"trial {name}", (PYTHON, f"tests/trials/{part.script}", str(program), *part.words), counts.of_trial, part.packages,
-                functools.partial(cases_in, tuple(f"tests/trials/{place}" for place in part.cases)), 1800, variables) for name, part in of.items()]
+    return [trial(name, part, program, variables) for name, part in of.items()]
+
+
+def trial(name: str, part: Part, program: Path, variables: dict[str, str]) -> Job:
+    words = (PYTHON, f"tests/trials/{part.script}", *([str(program)] if part.takes_program else []), *part.words)
+    needed = {package for mark in part.marks for package in MARKS[mark]} | set(part.packages)
+    places = tuple(f"tests/trials/{place}" for place in part.cases)
+    return Job(f"trial {name}", words, counts.of_trial, tuple(sorted(needed)), functools.partial(cases_in, places), LONGEST, variables)
 
 
 def has_room_in_memory() -> bool:
@@ -119,8 +163,3 @@ def has_room_in_memory() -> bool:
     except OSError:
         return False
     return room.f_bavail * room.f_frsize > 2 << 30
-
-
-def needs_root(job: Job) -> bool:
-    part = {**OF_THE_PROGRAM, **OF_THE_SERVICE}.get(job.name.removeprefix("trial "))
-    return part is not None and part.needs_root

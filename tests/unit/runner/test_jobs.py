@@ -15,6 +15,7 @@ from unittest import mock
 from runner import __main__ as command
 from runner import counts, packages, parts
 from runner.jobs import LEASH, PYTHON, TOP, Job, Jobs
+from trial import leash
 
 # a program whose grandchild leaves its session and its parent, and notes who it is
 AWAY = """import os, pathlib, sys, time
@@ -37,6 +38,18 @@ def is_alive(process: int) -> bool:
     except OSError:
         return False
     return state != "Z"
+
+
+def descendants(process: int) -> dict[int, str]:
+    """The processes below one, each with its words."""
+    parent_of, found = leash.parents(), [process]
+    for each in found:
+        found += [child for child, parent in parent_of.items() if parent == each]
+    words = {}
+    for each in found[1:]:
+        with contextlib.suppress(OSError):
+            words[each] = Path(f"/proc/{each}/cmdline").read_text().replace("\0", " ")
+    return words
 
 
 class Ends(unittest.TestCase):
@@ -98,6 +111,24 @@ class Ends(unittest.TestCase):
         self.assertFalse(is_alive(away))
 
 
+class Command(unittest.TestCase):
+    def test_a_signal(self) -> None:
+        """./test ends within five seconds, with what it has started."""
+        for number in (signal.SIGTERM, signal.SIGINT):
+            process = subprocess.Popen([TOP / "test", "--only", "python", "trial trail pages"], stdout=subprocess.DEVNULL, stderr=subprocess.PIPE, start_new_session=True, text=True)
+            end = time.monotonic() + 60
+            while not (started := descendants(process.pid)) or not any("try-trail" in words for words in started.values()):
+                self.assertLess(time.monotonic(), end)
+                time.sleep(0.05)
+            began = time.monotonic()
+            process.send_signal(number)
+            faults = process.communicate(timeout=60)[1]
+            with self.subTest(number=number):
+                self.assertLess(time.monotonic() - began, 5)
+                self.assertEqual((process.returncode, faults), (128 + number, ""))
+                self.assertEqual([words for each, words in started.items() if is_alive(each)], [])
+
+
 class Lacks(unittest.TestCase):
     """`./test --only python` with one job, on machines that lack packages."""
 
@@ -106,7 +137,7 @@ class Lacks(unittest.TestCase):
         jobs = [Job("gate", ("sh", "-c", f"exit {status}"), counts.of_status, ("python3-bcrypt",), lambda: parts.cases_in((str(file),))), Job("other", ("true",), counts.of_status)]
         with mock.patch.object(packages, "is_there", lambda package: package not in lacked), mock.patch.object(parts, "unit", lambda *_: jobs), \
                 mock.patch.object(parts, "trials", lambda *_: []), mock.patch.object(parts, "lint", lambda: []), mock.patch.object(parts, "types", lambda: []), \
-                mock.patch("sys.argv", ["./test", "--only", "python", *words]), mock.patch.object(signal, "signal"), \
+                mock.patch("sys.argv", ["./test", "--only", "python", *words]), mock.patch.object(signal, "signal"), mock.patch.dict(os.environ), \
                 contextlib.redirect_stdout(io.StringIO()) as said, self.assertRaises(SystemExit) as ended:
             command.main()
         return ended.exception.code, said.getvalue().splitlines()
@@ -146,6 +177,11 @@ class Lacks(unittest.TestCase):
         self.assertEqual(command.may_lack(TOP / ".ci/may-lack") & needed, set())
         self.assertLessEqual(command.may_lack(TOP / ".ci/may-lack") - {"root"}, set(packages.KNOWN_BY))
 
+    def test_each_package_is_known(self) -> None:
+        trials = [*parts.trials(Path(), parts.OF_THE_PROGRAM), *parts.trials(Path(), parts.OF_THE_SERVICE), *parts.trials(Path(), parts.BY_HAND)]
+        for job in [*trials, *parts.unit(Path()), *parts.lint(), *parts.types()]:
+            self.assertLessEqual(set(job.packages), {*packages.KNOWN_BY, *packages.CONDITIONS}, job.name)
+
     def test_install(self) -> None:
         """What comes first is got by itself; no question can be asked, and apt-get has an end."""
         with mock.patch.object(packages, "run_apt") as run, mock.patch.object(os, "geteuid", lambda: 0):
@@ -169,7 +205,8 @@ class Chosen(unittest.TestCase):
 
     def test_cases_of_trials(self) -> None:
         """Each part of a trial has cases, so that what is left out is counted."""
-        for job in [*parts.trials(Path("/bin/true"), parts.OF_THE_PROGRAM), *parts.trials(Path("/bin/true"), parts.OF_THE_SERVICE)]:
+        for job in [*parts.trials(Path("/bin/true"), parts.OF_THE_PROGRAM), *parts.trials(Path("/bin/true"), parts.OF_THE_SERVICE),
+                    *(job for job in parts.trials(Path("/bin/true"), parts.BY_HAND) if job.name != "trial board")]:
             with self.subTest(job=job.name):
                 self.assertGreater(job.cases(), 0)
 
