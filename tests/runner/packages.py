@@ -1,4 +1,5 @@
 """The Debian packages that tests need: which of them are missing, and how to get them."""
+import functools
 import importlib
 import importlib.util
 import os
@@ -47,10 +48,36 @@ KNOWN_BY = {
     "systemd-container": "systemd-nspawn",
     "util-linux": "unshare",
 }
-# what a machine may lack beside packages, and whether it is there
-CONDITIONS: dict[str, Callable[[], bool]] = {"root": lambda: os.geteuid() == 0, "packages in out/": lambda: any((TOP / "out").glob("acd_*.deb"))}
+ROOM = 1 << 30      # bytes in memory that folders of trials may take
 LONGEST = 900       # seconds that apt-get may take
 APT = ("timeout", "--kill-after=10", str(LONGEST), "apt-get", "-q", "-o", "DPkg::Lock::Timeout=120", "-o", "Acquire::Retries=1", "-o", "Acquire::http::Timeout=30")
+
+
+@functools.cache
+def does(*words: str) -> bool:
+    """Whether a command can be run here, and succeeds."""
+    try:
+        return subprocess.run(words, stdin=subprocess.DEVNULL, stdout=subprocess.DEVNULL, stderr=subprocess.DEVNULL, timeout=60, check=False).returncode == 0
+    except (OSError, subprocess.TimeoutExpired):
+        return False
+
+
+def has_room_in_memory() -> bool:
+    try:
+        room = os.statvfs("/dev/shm")
+    except OSError:
+        return False
+    return room.f_bavail * room.f_frsize > ROOM
+
+
+# what a machine may lack beside packages, and whether it is there
+CONDITIONS: dict[str, Callable[[], bool]] = {
+    "root": lambda: os.geteuid() == 0,
+    "name spaces": lambda: does("unshare", "--mount", "--net", "--pid", "--fork", "--mount-proc", "mount", "-t", "tmpfs", "trial", "/mnt"),
+    "tracing": lambda: does("strace", "-f", "-qq", "-o", "/dev/null", "true"),
+    "room in /dev/shm": has_room_in_memory,
+    "packages in out/": lambda: any((TOP / "out").glob("acd_*.deb")),
+}
 
 
 def is_there(package: str) -> bool:

@@ -4,12 +4,11 @@ from __future__ import annotations
 import ast
 import functools
 import importlib.util
-import os
 import subprocess
 from pathlib import Path
 from typing import NamedTuple
 
-from . import counts
+from . import counts, packages
 from .jobs import PYTHON, TOP, Job
 
 UNIT = "tests/unit"
@@ -41,6 +40,7 @@ MARKS = {
     "browser": ("chromium", "chromium-driver", "nodejs", "node-typescript"),
     "etcd": ("root", "etcd-client", "etcd-server", "curl", "openssl"),
     "root": ("root",),
+    "alone": ("root", "name spaces", "tracing", "room in /dev/shm"),
     "sip": ("root", "sip-tester", "kamailio", "kamailio-tls-modules", "nftables", "curl"),
 }
 # of the process itself; the greatest comes first, so that it ends with the others
@@ -57,8 +57,8 @@ OF_THE_SERVICE = {
        for part, file in (("days", "days.py"), ("sessions", "sessions.py"), ("leads", "leads.py"), ("reads", "mine.py:Reads"), ("executed", "executed.py"), ("mine", "mine.py:Mine"))},
     **{f"trail {part}": Part("try-trail", ("--only", part), (f"try-trail:{case}",), packages)
        for part, case, packages in (("story", "Story", ()), ("archives", "Archives", ()), ("faults", "Bad", ()), ("pages", "OfPages", ()), ("served", "Served", NGINX))},
-    "follow cases": Part("try-follow", ("--only", "cases"), ("follow/cases.py",), SPACES, ("root",)),
-    "copies": Part("try-copies", ("--some", "--only", "copies,again"), ("copies/copying.py", "copies/again.py"), ("strace", "util-linux"), ("root",)),
+    "follow cases": Part("try-follow", ("--only", "cases"), ("follow/cases.py",), SPACES, ("alone",)),
+    "copies": Part("try-copies", ("--some", "--only", "copies,again"), ("copies/copying.py", "copies/again.py"), ("strace", "util-linux"), ("alone",)),
 }
 # what takes long, or needs what few machines have: `./test --trials` runs them one after the other
 BY_HAND = {
@@ -131,10 +131,10 @@ def has_pytest() -> bool:
     return importlib.util.find_spec("pytest") is not None
 
 
-def unit_job(file: Path, program: Path, by_pytest: bool, packages: tuple[str, ...] = (), variables: dict[str, str] | None = None) -> Job:
+def unit_job(file: Path, program: Path, by_pytest: bool, needed: tuple[str, ...] = (), variables: dict[str, str] | None = None) -> Job:
     run = ("-m", "pytest", "-q", "-p", "no:cacheprovider", "--junit-xml={place}", str(file)) if by_pytest else (str(PLAIN), str(file), "{place}")
     name = str(file.relative_to(TOP)) if file.is_relative_to(TOP) else file.name
-    return Job(name, (PYTHON, *run), counts.of_pytest if by_pytest else counts.of_unittest, packages, functools.partial(cases_in, (str(file),)), 1800,
+    return Job(name, (PYTHON, *run), counts.of_pytest if by_pytest else counts.of_unittest, needed, functools.partial(cases_in, (str(file),)), 1800,
                {"ACD": str(program), **(variables or {})})
 
 
@@ -146,7 +146,7 @@ def unit(program: Path, variables: dict[str, str] | None = None) -> list[Job]:
 
 def trials(program: Path, of: dict[str, Part]) -> list[Job]:
     """The trials that the gate runs. Their folders are in memory where there is room, so that none waits for a disk."""
-    variables = {"TMPDIR": "/dev/shm"} if has_room_in_memory() else {}
+    variables = {"TMPDIR": "/dev/shm"} if packages.has_room_in_memory() else {}
     return [trial(name, part, program, variables) for name, part in of.items()]
 
 
@@ -155,11 +155,3 @@ def trial(name: str, part: Part, program: Path, variables: dict[str, str]) -> Jo
     needed = {package for mark in part.marks for package in MARKS[mark]} | set(part.packages)
     places = tuple(f"tests/trials/{place}" for place in part.cases)
     return Job(f"trial {name}", words, counts.of_trial, tuple(sorted(needed)), functools.partial(cases_in, places), LONGEST, variables)
-
-
-def has_room_in_memory() -> bool:
-    try:
-        room = os.statvfs("/dev/shm")
-    except OSError:
-        return False
-    return room.f_bavail * room.f_frsize > 2 << 30
