@@ -95,9 +95,16 @@ class Ends(unittest.TestCase):
         self.assertEqual(process.wait(60), 128 + signal.SIGTERM)
 
     def test_a_job_that_takes_too_long(self) -> None:
-        with Jobs() as jobs:
-            outcome = jobs.run(Job("slow", self.words(600), counts.of_status, longest=3))
-        self.assertEqual(outcome.count.failed, ("it took longer than 3 seconds",))
+        ended = Jobs.ended
+
+        def late(process: subprocess.Popen[bytes], end: float) -> float | None:
+            """Its time isn't over before all that it starts is there."""
+            self.away()
+            return ended(process, end)
+
+        with mock.patch.object(Jobs, "ended", staticmethod(late)), Jobs() as jobs:
+            outcome = jobs.run(Job("slow", self.words(600), counts.of_status, longest=1))
+        self.assertEqual(outcome.count.failed, ("it took longer than 1 seconds",))
         self.assertFalse(is_alive(self.away()))
 
     def test_jobs_that_run_when_the_block_ends(self) -> None:
