@@ -185,8 +185,9 @@ class PutAway:
 
     def save(self):
         """Writes the state in one step, so that there is always a whole one."""
-        put.put(self.state(), json.dumps({"file": self.file.name, "number": self.number, "moment": self.moment, "way": self.way, "was_in_place": self.was_in_place,
-                                              "old": self.old.parts, "new": self.new.parts}) + "\n")
+        state = {"file": self.file.name, "number": self.number, "moment": self.moment, "way": self.way, "was_in_place": self.was_in_place,
+                 "old": self.old.parts, "new": self.new.parts}
+        put.put(self.state(), json.dumps(state) + "\n")
 
     def is_ended(self):
         return self.way == IN and not self.new.home.exists()
