@@ -37,7 +37,7 @@ MANUAL = ("acd.1", "acdctl.1", "acd-calls.1", "acd-plan.1", "acd-trail.1", "acd-
 OLD_NAMES_OF_USERS = ("acd-calls", "acd-export", "acd-plan", "acd-trail")
 OLD_NAMES_OF_ROOT = ("acd-carry", "acd-certificate", "acd-copy", "acd-follow", "acd-forget", "acd-gate", "acd-local", "acd-node", "acd-ready", "acd-tick")
 # an office's programs import the first one by its path
-CLIENT_MODULES = ("acd_client.py", "acd_due.py")
+CLIENT_MODULES = ("acd_client.py", "acd_due.py", "acd_notify.py")
 # as dh_python3 has it for a package with a folder of its own
 COMPILED_ANEW = """#!/bin/sh
 set -e
@@ -345,7 +345,7 @@ def lay_out_exchange(root, version, moment):
     """Fills the folder with the exchange: its bridge, its edge, and the client that it speaks to the desk by."""
     put, versions, doc = putter(root), changes(), "usr/share/doc/acd-exchange/"
     put_modules(put, "acd-exchange", {file.relative_to(EXCHANGE): file for file in sorted((EXCHANGE / "bridge").glob("*.py"))}
-                | {name: EXCHANGE / name for name in (*CLIENT_MODULES, "acd_notify.py")})
+                | {name: CLIENT / name for name in CLIENT_MODULES})
     put("usr/share/acd-exchange/acd-exchange", (EXCHANGE / "acd-exchange").read_bytes(), 0o755)
     for name in ("acd-account", "acd-edge-limit"):
         put(f"usr/sbin/{name}", (EXCHANGE / name).read_bytes(), 0o755)

@@ -20,10 +20,11 @@ import tempfile
 import time
 from pathlib import Path
 
+from acd_notify import ready
+
 from acd_service import command, held, pair, put, restoring, settings
 from acd_service.command import report
 from acd_service.log import Damaged, Sound, Unreadable, look
-from acd_service.notify import ready
 from acd_service.restoring import name_of
 
 SETTINGS = "/etc/acd/acd.env"

@@ -50,7 +50,9 @@ import urllib.parse
 from collections import Counter
 from http.server import BaseHTTPRequestHandler, ThreadingHTTPServer
 
-from acd_service import command, notify
+import acd_notify
+
+from acd_service import command
 from acd_service.command import report
 from acd_service.gate import files
 from acd_service.gate.passwords import RIGHT, TOO_MANY, WRONG, Passwords, network, text
@@ -492,7 +494,7 @@ def main(words):
         gate = Gate(options.port, options.desk, options.roles, options.users, options.sessions, options.records, secret_of(options.secret))
     except (OSError, OverflowError):
         sys.exit(f"{command.name}: cannot listen on port {options.port}")
-    notify.ready()
+    acd_notify.ready()
     try:
         gate.serve_forever()
     except KeyboardInterrupt:

@@ -207,7 +207,7 @@ class Ground(Programs):
 
     def start_alone(self, stop_at: str = "") -> subprocess.Popen[bytes]:
         """Without waiting for the desk."""
-        program = [str(HERE / "stopped.py"), stop_at] if stop_at else [str(EXCHANGE / "acd-exchange")]
+        program = [str(HERE / "stopped.py"), stop_at] if stop_at else [str(EXCHANGE / "bin/acd-exchange")]
         who = ["--edge", f"127.0.0.1:{self.edge_port}"] if self.by_edge else ["--phones", "phones.json"]
         return self.start([sys.executable, *program, *who, "--listen", f"127.0.0.1:{self.port}",
                            "--music-port", str(self.music_port), *self.options], "exchange", **self.reached_by)

@@ -1,6 +1,6 @@
 """Faults that are planted in acd-ready and its modules, by the part whose cases find them: where, what each is, the text that it changes, and what it changes it to."""
 
-READY, LOG, PAIR, PUT, SETTINGS, NOTIFY = "ready.py", "log.py", "pair.py", "put.py", "settings.py", "notify.py"
+READY, LOG, PAIR, PUT, SETTINGS, NOTIFY = "ready.py", "log.py", "pair.py", "put.py", "settings.py", "acd_notify.py"
 STARTS = [
     (READY, "a lone log isn't seen", "if not is_there(file) and is_there(log):", "if False:"),
     (READY, "a log beside no bytes isn't seen", "if is_there(file) and not os.path.getsize(file) and pair", "if False and pair"),

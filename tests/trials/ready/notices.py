@@ -100,7 +100,7 @@ class Notices(Ready):
             (self.folder / file).touch()
         port = free_port()
         for what, *words in (("the gate", "/usr/bin/python3", "-B", TOP / "service/bin/acd-gate", "--port", port, "--roles", self.folder / "roles", "--users", self.folder / "users"),
-                             ("the exchange", sys.executable, "-B", TOP / "exchange/acd-exchange", "--edge", "127.0.0.1:5060", "--listen", f"127.0.0.1:{port}", "--file", self.folder / "exchange.db")):
+                             ("the exchange", "/usr/bin/python3", "-B", TOP / "exchange/bin/acd-exchange", "--edge", "127.0.0.1:5060", "--listen", f"127.0.0.1:{port}", "--file", self.folder / "exchange.db")):
             with self.noticed() as (hears, variables), running(*words, env={**os.environ, **variables}, stdout=subprocess.DEVNULL):
                 self.expect(f"{what} tells it", self.heard(hears, 60), b"READY=1")
 

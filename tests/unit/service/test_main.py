@@ -3,6 +3,7 @@ import contextlib
 import io
 import os
 import re
+import shutil
 import subprocess
 import sys
 import tempfile
@@ -27,36 +28,39 @@ def said(*words, **how):
 
 class CommandsTest(unittest.TestCase):
     def test_help_names_each_command_and_each_answers(self):
-        status, out, faults = said(SERVICE / "acdctl", "--help")
+        status, out, faults = said(SERVICE / "bin/acdctl", "--help")
         self.assertEqual((status, faults), (0, ""))
         named = re.findall(r"^  ([a-z]+)  ", out, re.MULTILINE)
         self.assertEqual(named, sorted(main.COMMANDS))
         for name in named:
             with self.subTest(name):
-                status, out, faults = said(SERVICE / "acdctl", name, "--help")
+                status, out, faults = said(SERVICE / "bin/acdctl", name, "--help")
                 self.assertEqual((status, faults), (0, ""))
                 self.assertIn(f"acdctl {name}", out)
                 self.assertNotIn(f"acd-{name} ", out)
 
     def test_the_version_is_that_of_the_changelog(self):
         heading, = re.findall(r"\A# acd (\S+) ", (TOP / "CHANGELOG.md").read_text())
-        self.assertEqual((VERSION, said(SERVICE / "acdctl", "--version")), (heading, (0, f"acdctl {heading}\n", "")))
+        self.assertEqual((VERSION, said(SERVICE / "bin/acdctl", "--version")), (heading, (0, f"acdctl {heading}\n", "")))
 
     def test_a_word_that_is_no_command(self):
         for words in ([], ["none"], ["-copy"], ["acd-copy"], ["--version", "x"]):
             with self.subTest(words):
-                status, out, faults = said(SERVICE / "acdctl", *words)
+                status, out, faults = said(SERVICE / "bin/acdctl", *words)
                 self.assertEqual((status, out, faults.count("\n"), faults.startswith("acdctl: ")), (2, "", 1, True))
 
-    def test_by_a_link_of_a_link_from_elsewhere(self):
+    def test_as_it_is_installed_by_a_link_of_a_link_from_elsewhere(self):
         with tempfile.TemporaryDirectory() as folder:
-            links = Path(folder) / "acd-copy", Path(folder) / "other/acd-copy"
-            links[0].symlink_to(SERVICE / "acdctl")
+            installed, links = Path(folder) / "share", (Path(folder) / "acd-copy", Path(folder) / "other/acd-copy")
+            shutil.copytree(SERVICE / "acd_service", installed / "acd_service")
+            for file in (SERVICE / "acdctl", *(TOP / "client").glob("acd_*.py")):
+                shutil.copy(file, installed)
+            links[0].symlink_to("share/acdctl")
             links[1].parent.mkdir()
             links[1].symlink_to("../acd-copy")
             for link in links:
                 self.assertEqual(said(link, "--file", "/none", cwd="/"), (1, "", "acd-copy: there is no file /none\n"))
-        self.assertEqual(said(SERVICE / "acdctl", "copy", "--file", "/none", cwd="/"), (1, "", "acdctl copy: there is no file /none\n"))
+            self.assertEqual(said(installed / "acdctl", "copy", "--file", "/none", cwd="/"), (1, "", "acdctl copy: there is no file /none\n"))
 
 
 class RecordsTest(unittest.TestCase):
@@ -69,7 +73,7 @@ class RecordsTest(unittest.TestCase):
             requests = '"service":"addGroup","device":"100","name":"A","ring":5,"wrap":5', '"service":"arriveCall","caller":"0301234567","called":"100"'
             lines = "".join(f'100000 {{"requester":"x","invoke":{invoke},{request}}}\n' for invoke, request in enumerate(requests, 1))
             subprocess.run([os.environ.get("ACD", TOP / "release/acd"), "lines", "--file", file], input=lines, capture_output=True, text=True, check=True)
-            done = [said(*words, "--copies", f"{folder}/copies") for words in ((SERVICE / "acdctl", "records", f"{folder}/new"), (SERVICE / "bin/acd-calls", "--days", f"{folder}/old"))]
+            done = [said(*words, "--copies", f"{folder}/copies") for words in ((SERVICE / "bin/acdctl", "records", f"{folder}/new"), (SERVICE / "bin/acd-calls", "--days", f"{folder}/old"))]
             written = [{str(one.relative_to(f"{folder}/{name}")): one.read_bytes() for one in Path(folder, name).rglob("*.csv")} for name in ("new", "old")]
         self.assertEqual(done[0], done[1])
         self.assertRegex(done[0][1], r"\A[1-9]\d* files written\n\Z")
@@ -77,9 +81,9 @@ class RecordsTest(unittest.TestCase):
 
 
 class OldNamesTest(unittest.TestCase):
-    def test_all_are_links_and_say_their_own_name(self):
-        links = {link.name for link in (SERVICE / "bin").iterdir() if os.readlink(link) == "../acdctl"}
-        self.assertEqual((links - {"acdctl"}, set(main.OLD)), (OLD, OLD))
+    def test_each_says_its_own_name(self):
+        programs = {program.name for program in (SERVICE / "bin").glob("acd*")}
+        self.assertEqual((programs - {"acdctl"}, set(main.OLD)), (OLD, OLD))
         for name in sorted(OLD):
             with self.subTest(name):
                 status, out, faults = said(SERVICE / "bin" / name, "--help")
@@ -128,7 +132,7 @@ class ShippedTest(unittest.TestCase):
     """What ships finds its modules by lying beside them, and runs by Debian's Python."""
 
     def shipped(self):
-        folders = (SERVICE / "acd_service").rglob("*.py"), (TOP / "exchange").rglob("*.py"), (TOP / "client").glob("*.py")
+        folders = (SERVICE / "acd_service").rglob("*.py"), (TOP / "exchange/bridge").rglob("*.py"), (TOP / "client").glob("*.py")
         programs = (SERVICE / "acdctl", TOP / "exchange/acd-exchange", TOP / "packaging/acd/keep-reads")
         return sorted({*programs, *(file for files in folders for file in files)})
 

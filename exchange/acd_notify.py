@@ -1,1 +1,0 @@
-../service/acd_service/notify.py

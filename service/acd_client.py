@@ -1,1 +1,0 @@
-../client/acd_client.py
