@@ -31,6 +31,14 @@ class Cuts(Trial):
             file = folder / name
             return file.read_bytes() if file.exists() else None
 
+    @staticmethod
+    def accounts(folder):
+        """The file of all telephone accounts: its name, its path and what writes it, each number another account."""
+        def write(number):
+            subprocess.run([TOP / "exchange/acd-account", str(200 + number), folder / "subscriber"], input=f"secret{number}\n", text=True, check=True)
+
+        return "the accounts", folder / "subscriber", write
+
     def try_cuts(self):
         """Each small file of each program, put there the first time and once more."""
         import test_put
@@ -45,7 +53,7 @@ class Cuts(Trial):
             with self.mounted(image) as folder:
                 (folder / "first").mkdir()
                 subprocess.run(["sync", "-f", folder], check=True)
-                for what, path, write in test_put.writers(folder / "first"):
+                for what, path, write in [*test_put.writers(folder / "first"), self.accounts(folder / "first")]:
                     for number in (1, 2):
                         write(number)
                         found = self.after_cut(image, path.relative_to(folder), options)
