@@ -150,7 +150,7 @@ def taken(file, new, seconds):
     last, pause, tries, why, is_slow = time.monotonic() + PATIENCE, PAUSE, 0, None, False
     while True:
         desk, begin = next(iter(desks_over(file)), None), time.monotonic()
-        is_last = begin >= last
+        is_last = tries > 0 and begin >= last
         if is_last and not seconds:
             raise Fault(f"{why}, {tries} times, and ACD_HALT=0 says that the desk isn't halted for all of it; no copy is kept")
         try:

@@ -13,6 +13,7 @@ COPY = [
     ("its copy takes as long as it takes", "timeout=end and max(end - time.monotonic(), 0))", "timeout=None)", "try_bounded"),
     ("it is halted in each case at last", "        if is_last and not seconds:", "        if False:", "try_always"),
     ("at last it is as before", "seconds if is_last else None)", "None)", "try_always"),
+    ("the first try may be the last one", "tries > 0 and begin >= last", "begin >= last", "try_late"),
     ("another's setting", '"ACD_HALT"', '"ACD_HALTS"', "try_limits"),
     ("what is wholly sound goes", "(is_sound(made) or not is_sound(copy))", "True", "try_again"),
     ("what isn't wholly sound isn't noted", "    if found.verdict == audit.AGAIN:\n        put.put", "    if False:\n        put.put", "try_again"),

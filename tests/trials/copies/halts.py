@@ -181,6 +181,15 @@ class Halts(Part):
         self.whole("once", office, load, said, faults, status, answered)
         self.expect(f"the desk was halted for a moment: {said}", bool(re.match(f"{HALTED}\n", said)))
 
+    def try_late(self):
+        """A machine so slow that the time is over before the first try: that one too lets the desk go on meanwhile."""
+        office, _, load = self.loaded()
+        load.stop()
+        self.hurried(office, patience=0)
+        with self.copying(office, "--halt", "0") as process:
+            status, said, faults, _ = self.ended(process, load)
+        self.expect(f"late: a good copy: {said}{faults}", (status, bool(re.fullmatch(f"{HALTED}\n{SOUND}", said)), faults), (0, True, ""))
+
     def try_always(self):
         """It is written each time: at last the desk is halted for all of it, and the line says so; where that isn't allowed, no copy is kept."""
         office, desk, load = self.loaded()
