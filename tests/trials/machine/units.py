@@ -42,7 +42,12 @@ LIMITS = {
     "acd-gate": {"CPUWeight": "200", "TasksMax": "4096", "MemoryMax": str(400 << 20), "OOMScoreAdjust": "0"},
     "acd-copy": {"CPUWeight": "20", "TasksMax": "64"},
     "acd-records": {"CPUWeight": "20", "TasksMax": "64"},
-    "acd-tick": {"TasksMax": "64"}, "acd-local": {"TasksMax": "64"}, "acd-follow": {"TasksMax": "64"},
+    "acd-exchange": {"CPUWeight": "400", "TasksMax": "64", "MemoryMax": str(256 << 20)},
+    "acd-edge": {"TasksMax": "128", "MemoryMax": str(1536 << 20)},
+    "acd-node": {"CPUWeight": "400", "TasksMax": "4096", "MemoryMax": str(6 << 30), "OOMScoreAdjust": "-500"},
+    "acd-node-upkeep": {"CPUWeight": "20", "TasksMax": "16", "MemoryMax": str(256 << 20)},
+    "acd-tick": {"TasksMax": "64"}, "acd-local": {"TasksMax": "64"}, "acd-follow": {"TasksMax": "64"}, "acd-carry": {"TasksMax": "64"},
+    "acd-certificate": {"TasksMax": "64"}, "acd-edge-limit": {"TasksMax": "16"},
 }
 FOLDER = "/usr/lib/systemd/system"
 # shows a certificate where nginx would
@@ -74,6 +79,7 @@ class Units(Edges):
 
     def try_limits(self):
         """The desk comes first where the processor or memory lacks, and no unit that a stranger reaches takes the machine."""
+        self.expect("units that have no limits here", [unit for unit in self.units() if unit.removesuffix(".service") not in LIMITS], [])
         for unit, limits in LIMITS.items():
             said = self.done("systemctl", "show", unit, *(f"--property={name}" for name in limits))
             self.expect(f"limits of {unit}", dict(line.split("=", 1) for line in said.splitlines()), limits)
