@@ -73,6 +73,9 @@ class Desk:
             connection.request(method, path, body)
             reply = connection.getresponse()
             data = reply.read(MOST)
+            # a read of so many bytes at most passes over an end that comes too early
+            if reply.length and len(data) < MOST:
+                raise http.client.IncompleteRead(data, reply.length)
         finally:
             signal.setitimer(signal.ITIMER_REAL, 0)
             connection.close()
