@@ -1,19 +1,16 @@
-"""acd-certificate: what it says of certificates that openssl made, and with which status it ends."""
+"""acdctl certificate: what it says of certificates that openssl made, and with which status it ends."""
 import datetime
 import re
 import socket
 import ssl
 import subprocess
-import sys
 import tempfile
 import threading
 import unittest
 from pathlib import Path
 
-TOP = Path(__file__).resolve().parents[3]
-PROGRAM = TOP / "service/bin/acd-certificate"
-sys.path.append(str(TOP / "service"))
-from acd_service import certificate as program  # noqa: E402
+from service_ground import TOP, said
+from acd_service import certificate as program
 
 
 def openssl(folder, *words):
@@ -60,8 +57,8 @@ class Certificates(unittest.TestCase):
         self.folder = Path(folder.name)
 
     def ran(self, port, *words):
-        done = subprocess.run([sys.executable, PROGRAM, "--port", str(port), *words], stdout=subprocess.PIPE, stderr=subprocess.STDOUT, text=True, timeout=60)
-        return done.returncode, done.stdout
+        done = said("certificate", "--port", port, *words)
+        return done.status, done.out + done.faults
 
     def in_days(self, days):
         moment = datetime.datetime.now(datetime.timezone.utc) + datetime.timedelta(days=days)
@@ -76,7 +73,7 @@ class Certificates(unittest.TestCase):
             with self.subTest(days=days):
                 said = self.ran(port.port, *options)
                 self.assertEqual(said[0], status)
-                self.assertRegex(said[1], re.escape(f"acd-certificate: the certificate at 127.0.0.1:{port.port} {told.format(shown)}"))
+                self.assertRegex(said[1], re.escape(f"acdctl certificate: the certificate at 127.0.0.1:{port.port} {told.format(shown)}"))
                 self.assertEqual(len(said[1].splitlines()), 1)
             port.socket.close()
 
@@ -124,19 +121,18 @@ class Certificates(unittest.TestCase):
     def test_nobody_listens(self):
         with socket.create_server(("127.0.0.1", 0)) as taken:
             port = taken.getsockname()[1]
-        self.assertEqual(self.ran(port), (0, f"acd-certificate: nobody listens at 127.0.0.1:{port}, so there is no certificate to look at (ACD_TLS_HOST and ACD_TLS_PORT in acd.env)\n"))
+        self.assertEqual(self.ran(port), (0, f"acdctl certificate: nobody listens at 127.0.0.1:{port}, so there is no certificate to look at (ACD_TLS_HOST and ACD_TLS_PORT in acd.env)\n"))
 
     def test_a_port_without_tls(self):
         with socket.create_server(("127.0.0.1", 0)) as plain:
             threading.Thread(target=lambda: [connection.sendall(b"HTTP/1.1 400 Bad Request\r\n\r\n") for connection, _ in [plain.accept()]], daemon=True).start()
             status, said = self.ran(plain.getsockname()[1])
         self.assertEqual((status, said.count("\n")), (1, 1))
-        self.assertRegex(said, "acd-certificate: 127.0.0.1:[0-9]+: ")
+        self.assertRegex(said, "acdctl certificate: 127.0.0.1:[0-9]+: ")
 
     def test_refused_words(self):
         for words in (("--port", "0"), ("--port", "65536"), ("--port", "x"), ("--days", "-1"), ("8443",)):
-            done = subprocess.run([sys.executable, PROGRAM, *words], stdout=subprocess.PIPE, stderr=subprocess.PIPE, text=True)
-            self.assertEqual(done.returncode, 2)
+            self.assertEqual(said("certificate", *words).status, 2)
 
 
 if __name__ == "__main__":
