@@ -68,7 +68,6 @@ use Rattle.acd_sql_columns.specs.AnyRows.{has_meta}
 use Rattle.acd_sql_columns.specs.Schema.{book_schema, no_schema}
 use Rattle.acd_sql_columns.specs.InTables.{content_of}
 use Rattle.acd_sql_columns.specs.Transactions.{IsBook}
-use Rattle.acd_sql_statements.specs.InRange.{IsInRange}
 use Rattle.acd_sqlbook.specs.Caching.{IsBlank}
 use Rattle.acd_sqlbook.specs.StoreLaws.{IsAdoptAnswer, IsOverBook}
 use Rattle.acd_sqlbook.specs.View.{BookView, book_of}
@@ -120,10 +119,10 @@ module _ {D : Type 0} (g : disk.Ghosts D) (files : Files D) (db : Trees) (held_t
   never_refused rest e (inr (inl refused)) = absurd (refused.1 (inl (db, held_there)))
   never_refused rest e (inr (inr other)) = inr (inr other)
 
-  over_it : (conn : Held (FileStore D g)) (c : Content) → IsOpened conn × Finds files conn → IsBook db c → IsInRange c → IsOverBook (file_state conn) c
-  over_it conn c opened book range =
+  over_it : (conn : Held (FileStore D g)) (c : Content) → IsOpened conn × Finds files conn → IsBook db c → IsOverBook (file_state conn) c
+  over_it conn c opened book =
       over_book (file_state conn) c opened.0.0 opened.0.1
-      (subst (λ (d : Trees). IsBook d c) (sym (ap (λ (d : Database). d.trees) opened.0.0.clean ∙ opened.1.holds db held_there)) book) range
+      (subst (λ (d : Trees). IsBook d c) (sym (ap (λ (d : Database). d.trees) opened.0.0.clean ∙ opened.1.holds db held_there)) book)
 
 -- the bytes of two files
 abbrev pub image_as : List ℕ → List ℕ → Image
@@ -145,17 +144,17 @@ module _ {D : Type 0} (g : disk.Ghosts D) (image : Image) (db : Trees) (there : 
   held_in : (files : Files D) → image_of g files ≡ image → HoldsDatabase (image_of g files) db
   held_in files same = subst (λ (x : Image). HoldsDatabase x db) (sym same) there
 
-  over_files_so : (files : Files D) (conn : Held (FileStore D g)) → image_of g files ≡ image → IsOpenedOver files conn ⊎ IsTakenFrom files conn → HasCleanDisk (file_state conn) → IsInRange c → IsOverBook (file_state conn) c
-  over_files_so files conn same (inl opened) clean range = over_it g files db (held_in files same) conn c (opened clean) book range
-  over_files_so files conn same (inr taken) clean range =
+  over_files_so : (files : Files D) (conn : Held (FileStore D g)) → image_of g files ≡ image → IsOpenedOver files conn ⊎ IsTakenFrom files conn → HasCleanDisk (file_state conn) → IsOverBook (file_state conn) c
+  over_files_so files conn same (inl opened) clean = over_it g files db (held_in files same) conn c (opened clean) book
+  over_files_so files conn same (inr taken) clean =
       let is = taken.0 in
       let found = is.found clean in
-      over_it g is.handed db (held_in is.handed (handed_same g files conn is taken.1 found.honest ∙ same)) conn c (is.opened clean, found) book range
+      over_it g is.handed db (held_in is.handed (handed_same g files conn is taken.1 found.honest ∙ same)) conn c (is.opened clean, found) book
 
   pub files_reopen : FilesReopen g image c
   files_reopen = record {
     never = λ files rest e same. never_refused g files db (held_in files same) rest e;
-    opened = λ files conn same how clean range. books_make_desks over_files conn c (over_files_so files conn same how clean range);
+    opened = λ files conn same how clean. books_make_desks over_files conn c (over_files_so files conn same how clean);
   }
 
 -- ---- where a database was to be made in them first
@@ -252,10 +251,10 @@ module _ {D : Type 0} (g : disk.Ghosts D) (stays : SeenMayStay g) (files : Files
 
 module _ {D : Type 0} (g : disk.Ghosts D) (stays : SeenMayStay g) (image : Image) (db : Trees) (there : HoldsIn new_page image db) (c : Content) (book : IsBook db c) where
   synced_reopen : SyncedReopen g image c
-  synced_reopen files conn same synced is clean range =
+  synced_reopen files conn same synced is clean =
       let found = is.found clean in
       let held = synced_holds g stays files db (subst (λ (x : Image). HoldsIn new_page x db) (sym same) there) (has_tables db c book) synced conn is found.honest in
-      books_make_desks over_files conn c (over_it g is.handed db held conn c (is.opened clean, found) book range)
+      books_make_desks over_files conn c (over_it g is.handed db held conn c (is.opened clean, found) book)
 
 module _ {D E : Type 0} (g : disk.Ghosts D) (h : disk.Ghosts E) (stays : SeenMayStay h) (old : Held (FileStore D g)) (image : Image) where
   -- it opens so

@@ -26,7 +26,6 @@ use Rattle.acd_desk.specs.Stands.{IsSound}
 use Rattle.acd_desk.specs.declared.desk.Desk.{Desk}
 use Rattle.acd_desk.specs.declared.open_fault.OpenFault.{OpenFault}
 use Rattle.acd_sql_columns.specs.InTables.{content_of}
-use Rattle.acd_sql_statements.specs.InRange.{IsInRange}
 use Rattle.acd_sqlbook.specs.Caching.{IsBlank}
 use Rattle.acd_sqlbook.specs.StoreLaws.{AdoptResult, Adopts, IsAdoptAnswer, IsOverBook}
 use Rattle.acd_sqlbook.specs.View.{BookView}
@@ -82,12 +81,11 @@ module _ {D : Type 0} {g : disk.Ghosts D} where
   abbrev pub IsTakenFrom : Files D → Held (FileStore D g) → Type 0
   IsTakenFrom files conn = IsOpenedIn g files conn × (new_page < length (g.seen files.db))
 
--- Files whose bytes are these open as a book of this content. Their opening is never refused for what they hold; a connection over them is one over that book,
--- where each value is in its range.
+-- Files whose bytes are these open as a book of this content. Their opening is never refused for what they hold; a connection over them is one over that book.
 pub record FilesReopen {D : Type 0} (g : disk.Ghosts D) (image : Image) (c : Content) : Type 0 where
   pub never : (files : Files D) (rest : Leftover D g) (e : Error) → image_of g files ≡ image → FailsToOpenFiles files rest e → FailsByDisk files rest e
   pub opened : (files : Files D) (conn : Held (FileStore D g)) → image_of g files ≡ image → IsOpenedOver files conn ⊎ IsTakenFrom files conn
-      → HasCleanDisk (file_state conn) → IsInRange c → Reopened over_files conn c
+      → HasCleanDisk (file_state conn) → Reopened over_files conn c
 
 -- what the files read as is all that a crash leaves of them, as of files that were just opened
 abbrev pub AreSynced : {D : Type 0} → disk.Ghosts D → Files D → Type 0
@@ -96,7 +94,7 @@ AreSynced g files = Only (g.seen files.log) (g.may_leave files.log) × Only (g.s
 -- so it is of such files of any length, also where a database was to be made in them first
 abbrev pub SyncedReopen : {D : Type 0} → disk.Ghosts D → Image → Content → Type 0
 SyncedReopen {D} g image c = (files : Files D) (conn : Held (FileStore D g)) → image_of g files ≡ image → AreSynced g files → IsOpenedIn g files conn
-    → HasCleanDisk (file_state conn) → IsInRange c → Reopened over_files conn c
+    → HasCleanDisk (file_state conn) → Reopened over_files conn c
 
 -- Two files that were just opened read as what they held, and a crash leaves nothing else.
 abbrev pub FreshAreSynced : {D S : Type 0} → disk.Ghosts D → (Bool → D → Type 0) → start.Ghosts S → Type 0

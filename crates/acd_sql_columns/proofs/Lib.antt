@@ -37,3 +37,6 @@ pub mod Selected
 pub mod Recorded
 pub mod Further
 pub mod Bounds
+pub mod ReadBack
+pub mod GoodRecords
+pub mod KeptInRange

@@ -15,5 +15,6 @@ pub mod Finding
 pub mod InTables
 pub mod Seeing
 pub mod AnyRows
+pub mod InRange
 pub mod Descriptions
 pub mod Tables

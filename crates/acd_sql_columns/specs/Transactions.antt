@@ -9,13 +9,16 @@ use Rattle.acd_terms.specs.declared.rows.Limits.{Limits}
 use Rattle.acd_book.specs.Content.{Content}
 use Rattle.acd_sql_columns.specs.declared.meta.Meta.{Meta}
 use Rattle.acd_sql_columns.specs.Schema.{book_schema}
-use Rattle.acd_sql_columns.specs.Relations.{Relations}
+use Rattle.acd_sql_columns.specs.Relations.{Relations, relations_of}
 use Rattle.acd_sql_columns.specs.Content.{AreTables, Encodes}
+use Rattle.acd_sql_columns.specs.InRange.{IsInRange}
 
--- a database that opens as a book of this content: its catalog lists the book's schema, its rows and indexes obey that, and its tables are those of the content
+-- A database that opens as a book of this content: its catalog lists the book's schema, its rows and indexes obey that, its tables are those of the content, and
+-- each value of that is in its range.
 pub record IsBook (db : Trees) (c : Content) : Type 0 where
   pub sound : IsSound book_schema db
   pub encodes : Encodes db c
+  pub range : IsInRange c
 
 -- the transaction sees these relations, in a database that obeys the book's schema
 pub record HoldsUncommitted (s : State) (r : Relations) : Type 0 where
@@ -23,6 +26,11 @@ pub record HoldsUncommitted (s : State) (r : Relations) : Type 0 where
   pub schema : s.now.schema ≡ book_schema
   pub sound : IsSound book_schema s.now.trees
   pub tables : AreTables s.now.trees r
+
+-- the same of the tables of a content, each of whose values is in its range
+pub record HoldsGood (s : State) (c : Content) : Type 0 where
+  pub relations : HoldsUncommitted s (relations_of c)
+  pub range : IsInRange c
 
 -- nothing is committed, and a crash leaves what it left before
 pub record Works (old new : State) : Type 0 where
@@ -33,13 +41,14 @@ pub record Works (old new : State) : Type 0 where
 abbrev pub RanStatement : List ℕ → Row → State → State → Type 0
 RanStatement sql params old new = (count : ℕ) × Executes sql params old new (Ok count)
 
--- between transactions: the connection is open, and the last commit obeys the book's schema and has this content
+-- between transactions: the connection is open, and the last commit obeys the book's schema and has this content, each of whose values is in its range
 pub record HoldsContent (s : State) (c : Content) : Type 0 where
   pub is_open : IsTrue s.is_open
   pub idle : s.now ≡ s.committed
   pub schema : s.committed.schema ≡ book_schema
   pub sound : IsSound book_schema s.committed.trees
   pub encodes : Encodes s.committed.trees c
+  pub range : IsInRange c
 
 -- a crash leaves what it left before, or a book of this
 abbrev pub AddsStop : State → State → (Content → Content) → Type 0

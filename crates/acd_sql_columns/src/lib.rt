@@ -11,6 +11,7 @@ pub mod codes;
 mod columns;
 pub mod decode;
 pub mod encode;
+pub mod good;
 mod meta;
 mod relations;
 mod shape;

@@ -41,7 +41,7 @@ use Rattle.acd_sql_columns.specs.declared.tables.Version.{Version}
 use Rattle.acd_sql_columns.specs.declared.tables.Version.TheVariants as version
 use Rattle.acd_sql_columns.specs.AnyRows.{is_good, are_good, is_good_in, values_in, rows_in, schema_of, IsCanonicalAs, HaveAllColumns}
 use Rattle.acd_sql_schema.specs.Inspecting.{IsOfBook}
-use Rattle.acd_sql_statements.specs.InRange.{is_good_table, IsInRange}
+use Rattle.acd_sql_columns.specs.InRange.{is_good_table, IsInRange}
 use Rattle.acd_sql_columns.specs.declared.relations.AgentRow.{AgentRow}
 use Rattle.acd_sql_columns.specs.declared.relations.GroupRow.{GroupRow}
 use Rattle.acd_sql_columns.specs.declared.relations.GroupPriority.{GroupPriority}

@@ -10,3 +10,4 @@ mod Taken
 mod Takings
 mod Steps
 mod Faults
+mod NewBook

@@ -9,6 +9,7 @@ ghost use Rattle.acd_sql_schema.specs.SettingUp.{MakesTables, MakesTwo, none_mad
 ghost use Rattle.acd_sql_statements.specs.Between.{IsUp};
 ghost use Rattle.acd_sql_statements.specs.Inside.{RunsText};
 
+use acd_sql_columns::good::meta_is_good;
 use acd_sql_columns::texts::{
     CREATE_AGENT_GROUPS, CREATE_AGENTS, CREATE_CALLS, CREATE_CONNECTIONS, CREATE_EVENTS,
     CREATE_GROUP_PRIORITY, CREATE_GROUPS, CREATE_KEPT, CREATE_META, CREATE_MONITORS,
@@ -137,6 +138,7 @@ pub fn set_up<S: Alter>(conn: &mut Connection<S>, limits: Limits) -> Result<(), 
         last_monitor: 0,
         last_event: 0,
     };
+    meta_is_good(&meta);
     let mut tx = conn.transaction();
     make_tables(&mut tx)?;
     insert_meta(&mut tx, &meta)?;

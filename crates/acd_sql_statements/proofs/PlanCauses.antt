@@ -21,7 +21,7 @@ use Rattle.acd_sql_columns.proofs.Decoded.{agents_rise}
 use Rattle.acd_sql_columns.proofs.Joined.{agents_joined}
 use Rattle.acd_sql_columns.proofs.Listings.{stored}
 use Rattle.acd_sql_statements.specs.Failing.{IsMemory}
-use Rattle.acd_sql_statements.specs.InRange.{IsInRange}
+use Rattle.acd_sql_columns.specs.InRange.{IsInRange}
 use Rattle.acd_sql_statements.specs.Reading.{HasStray, HasTableValues, FailsToRead, HasReadCause, HasReadCauseIf}
 
 pub groups_have_values : HasTableValues groups

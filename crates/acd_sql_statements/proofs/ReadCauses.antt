@@ -35,7 +35,7 @@ use Rattle.acd_sql_columns.specs.Rows.{meta_shown}
 use Rattle.acd_sql_columns.proofs.Listings.{schema_is}
 use Rattle.acd_sql_columns.proofs.Looked.{bad_among}
 use Rattle.acd_sql_columns.proofs.Queries.{probe_text, probe_plain}
-use Rattle.acd_sql_statements.specs.InRange.{IsInRange, values_of, is_good_table}
+use Rattle.acd_sql_columns.specs.InRange.{IsInRange, values_of, is_good_table}
 use Rattle.acd_sql_statements.specs.Failing.{IsMemory}
 use Rattle.acd_sql_statements.specs.Reading.{HasReadCauseIf, Spares, IsUnanswered, RefusesToShow, FailsToShow, IsAnswered, FailsToRead, HasReadCause}
 use Rattle.acd_sql_statements.proofs.Answered.{answered}

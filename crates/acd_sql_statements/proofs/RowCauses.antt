@@ -20,7 +20,7 @@ use Rattle.acd_sql_columns.specs.Transactions.{Fits}
 use Rattle.acd_sql_columns.specs.Finding.{Finds}
 use Rattle.acd_sql_columns.specs.Values.{whole_at}
 use Rattle.acd_sql_statements.specs.Failing.{IsMemory}
-use Rattle.acd_sql_statements.specs.InRange.{values_of}
+use Rattle.acd_sql_columns.specs.InRange.{values_of}
 use Rattle.acd_sql_statements.specs.Reading.{FailsToDecode, HasFitting, FailsToRead, HasReadCause}
 use Rattle.acd_sql_statements.proofs.ReadCauses.{cause_on, bad_row}
 use Rattle.acd_sql_statements.proofs.Pages.{greatest, least_of_large}

@@ -28,7 +28,7 @@ use Rattle.acd_sql_columns.specs.Rows.{meta_shown}
 use Rattle.acd_sql_columns.specs.Schema.{book_schema}
 use Rattle.acd_sql_columns.specs.Values.{whole_at}
 use Rattle.acd_sql_statements.specs.Failing.{IsMemory, StoreHasFailed, IsUnreadText}
-use Rattle.acd_sql_statements.specs.InRange.{IsInRange, values_of}
+use Rattle.acd_sql_columns.specs.InRange.{IsInRange, values_of}
 
 -- ---- of one text
 

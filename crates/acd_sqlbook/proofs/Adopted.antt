@@ -15,7 +15,7 @@ use Rattle.acd_sql_schema.specs.declared.fault.AdoptFault.TheVariants.{WrongVers
 use Rattle.acd_sql_columns.specs.AnyRows.{IsCanonical, IsCanonicalAs, HaveAllColumns}
 use Rattle.acd_sql_schema.specs.declared.fault.Found.{Found}
 use Rattle.acd_sql_schema.specs.declared.fault.Found.TheVariants.{Book, Fault}
-use Rattle.acd_sql_statements.specs.InRange.{IsInRange}
+use Rattle.acd_sql_columns.specs.InRange.{IsInRange}
 use Rattle.acd_sql_schema.specs.Inspecting.{IsFound, IsOfBook, IsAdoptFaultOf, IsAdoptStoreFault, IsFoundFaultOf, adopt_fault_of}
 use Rattle.acd_sql_schema.specs.Migrating.{FailsToMigrate, IsMigration, IsMade, IsRestored, IsVersionRefused, MayAlter}
 use Rattle.std.proofs.lemmas.Bool.{cases_Bool}
@@ -161,6 +161,7 @@ module _ (old mid : State) (settles : Settles old) (k : HasCleanDisk mid) where
               schema = ap (λ (d : Database). d.schema) after.committed ∙ found.schema_is;
               sound = subst (λ (d : Database). IsSound book_schema d.trees) (sym after.committed) whole;
               encodes = subst (λ (d : Database). Encodes d.trees c.0) (sym after.committed) c.1;
+              range = c.2;
             } in
             record { stands = λ up. (c.0, held); left = λ db left. (c.0, is_book mid c.0 db held (settled_after db up left)) };
         in_range = λ canonical. let c = made canonical in subst IsInRange (held c) c.2;
@@ -239,7 +240,7 @@ module _ (old mid new : State) (settles : Settles old) (stays : Stays old) (k : 
         keeps = λ canonical c stop. (new.committed.trees, stays_after m.is_open, stop.2 ∙ ap content_of (settles stop.0 was stop.1) ∙ sym (same_there new.committed.trees moved canonical));
         sound = λ canonical.
             let c = made canonical in
-            let held : HoldsContent new c.0 = record { is_open = m.is_open; idle = m.idle; schema = m.schema_is; sound = moved.sound; encodes = whole c } in
+            let held : HoldsContent new c.0 = record { is_open = m.is_open; idle = m.idle; schema = m.schema_is; sound = moved.sound; encodes = whole c; range = c.2 } in
             record { stands = λ up. (c.0, held); left = λ db left. (c.0, is_book new c.0 db held (settled_after db m.is_open left)) };
         in_range = λ canonical. let c = made canonical in subst IsInRange (held c) c.2;
         ordered = λ canonical. let c = made canonical in subst IsInOrder (held c) (stored_ordered new.committed.trees c.0 (whole c) c.2);
@@ -298,7 +299,7 @@ without_limit s = record s { step_limit = None }
 module _ (s : State) where
   sound_before : IsSoundState s → IsSoundState (without_limit s)
   sound_before sound = record {
-    stands = λ up. let held = sound.stands up in (held.0, record { is_open = held.1.is_open; idle = held.1.idle; schema = held.1.schema; sound = held.1.sound; encodes = held.1.encodes });
+    stands = λ up. let held = sound.stands up in (held.0, record { is_open = held.1.is_open; idle = held.1.idle; schema = held.1.schema; sound = held.1.sound; encodes = held.1.encodes; range = held.1.range });
     left = sound.left;
   }
 

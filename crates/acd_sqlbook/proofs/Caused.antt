@@ -16,7 +16,7 @@ use Rattle.acd_book.specs.declared.fault.BookFault.TheVariants.{NoMemory, Store}
 use Rattle.acd_sql_columns.specs.InTables.{content_of}
 use Rattle.acd_sql_differences.specs.Leading.{rows_differences}
 use Rattle.acd_sql_statements.specs.Failing.{IsMemory, StoreHasFailed}
-use Rattle.acd_sql_statements.specs.InRange.{IsInRange}
+use Rattle.acd_sql_columns.specs.InRange.{IsInRange}
 use Rattle.acd_sql_statements.specs.Reading.{FailsToRead, HasReadCause}
 use Rattle.acd_sql_schema.specs.SettingUp.{FailsToSetUp, IsUnstarted}
 use Rattle.acd_sqlbook.specs.Commit.{counted}

@@ -20,7 +20,7 @@ use Rattle.acd_sql_statements.specs.Reading.{HasReadCause, FailsToRead}
 use Rattle.acd_sqlbook.specs.Calls.{HasRead}
 use Rattle.acd_sqlbook.specs.Choosing.{written}
 use Rattle.acd_sqlbook.specs.Counters.{AreCounters, StopsWith}
-use Rattle.acd_sqlbook.specs.Commit.{ChangeFits, EventFits, counted, applied, all_applied, with_events}
+use Rattle.acd_sqlbook.specs.Commit.{ChangeFits, EventFits, KeptFits, counted, applied, all_applied, with_events}
 use Rattle.acd_sqlbook.specs.Stopping.{AllNumbersFit, AreCounted, HasReadCauseOr, Drops, HasAbove, IsCausedByReadOr, FailsToApply, IsUndone, IsUncounted, RefusesInAll, RefusesInChanges, RefusesInEvents, StopsInAll, StopsInChanges, StopsInEvents, StopsCommit, StopsReplace}
 use Rattle.acd_sqlbook.proofs.Replacing.{Leading}
 use Rattle.acd_sqlbook.proofs.Standing.{Counts}
@@ -30,9 +30,9 @@ pub counts_not : {A B : Type 0} (R : Content → Type 0) (old new : State) (e : 
 counts_not {A} {B} R old new e r is h = subst (HasReadCauseOr {A = B} R old new) (sym is) (record { cause = λ k c held. inl (h.cause k c held tt); counts = tt; limit = tt })
 
 pub counts_unfit : {A : Type 0} (old new : State) (held : Option Meta) (meta : Meta) (e : Error) (changes : List Change) (events : ℕ) (kept : Kept) → HasRead {A = Meta} old new (Ok meta) (λ c found. AreCounters held c → found ≡ meta_of c.rows)
-    → ¬ (MetaFits (counted meta changes events kept)) → HasReadCauseOr {A = A} (StopsWith held (IsUncounted changes events kept)) old new (Err e)
+    → ¬ (MetaFits (counted meta changes events kept) × KeptFits kept) → HasReadCauseOr {A = A} (StopsWith held (IsUncounted changes events kept)) old new (Err e)
 counts_unfit old new held meta e changes events kept read unfit = record {
-  cause = λ k c holds. inr (λ of. subst (λ m. ¬ (MetaFits (counted m changes events kept))) (read.value k c holds of) unfit);
+  cause = λ k c holds. inr (λ of. subst (λ m. ¬ (MetaFits (counted m changes events kept) × KeptFits kept)) (read.value k c holds of) unfit);
   counts = tt;
   limit = tt;
 }

@@ -16,3 +16,4 @@ mod Beginning
 pub mod Followed
 mod ReadAhead
 mod Unmet
+mod Ranging

@@ -59,7 +59,7 @@ use Rattle.acd_sql_schema.specs.declared.fault.Found.{Found}
 use Rattle.acd_sql_schema.specs.declared.fault.Found.TheVariants.{Book, Fault}
 use Rattle.acd_sql_schema.specs.Inspecting.{IsAdoptFaultOf, IsBadIn, IsFound, IsFoundFaultOf, IsMisplaced, IsOfBook, IsUnlike, IsVersion, IsVersionIn, other, none as unheld, apart as unlike}
 use Rattle.acd_sql_schema.proofs.Contents.{each_good, of_mapped}
-use Rattle.acd_sql_statements.specs.InRange.{values_of, is_good_table, IsInRange}
+use Rattle.acd_sql_columns.specs.InRange.{values_of, is_good_table, IsInRange}
 use Rattle.acd_sqlbook.proofs.Adopted.{apart_schemas, second_canonical}
 use Rattle.acd_sql_statements.specs.Failing.{StoreHasFailed}
 use Rattle.acd_sqlbook.specs.Adopting.{AdoptCause, IsAdopted, IsHandedBack, failed, shut, unlike as other_tables, refused}
@@ -347,21 +347,21 @@ module _ (d : Database) (c : Content) (lists : d.schema ≡ book_schema) (is : E
   only (Book v) h = ap Book (second v h.schema_is)
   only (Fault f) h = absurd (never_fault f h)
 
-pub books_reopen : (d : Database) (c : Content) → IsDatabase d → IsBook d.trees c → IsInRange c → Reopens d c
-books_reopen d c obeys book range =
+pub books_reopen : (d : Database) (c : Content) → IsDatabase d → IsBook d.trees c → Reopens d c
+books_reopen d c obeys book =
     let schema = lists_once (d.trees catalog_tree) d.schema book_schema obeys.lists book.sound.lists in record {
       schema = schema;
       canonical = second_canonical d c schema book.encodes;
       content = decoded d.trees c book.encodes;
-      of_book = of_book d c schema book.encodes range;
-      only = only d c schema book.encodes range;
+      of_book = of_book d c schema book.encodes book.range;
+      only = only d c schema book.encodes book.range;
     }
 
 -- ---- what `adopt` answers
 
 -- of a connection that was opened over a book
-pub over_book : (s : State) (c : Content) → Opens s → IsLive s → IsBook s.now.trees c → IsInRange c → IsOverBook s c
-over_book s c opened live book range = record { idle = opened.clean; reopens = books_reopen s.now c (live opened.is_open).0 book range }
+pub over_book : (s : State) (c : Content) → Opens s → IsLive s → IsBook s.now.trees c → IsOverBook s c
+over_book s c opened live book = record { idle = opened.clean; reopens = books_reopen s.now c (live opened.is_open).0 book }
 
 module _ (old : State) (c : Content) (over : IsOverBook old c) where
   adopts_content : (new : State) (failures : ℕ) → IsAdopted old.now (book_state old 0) (book_state new failures) → content_of new.committed.trees ≡ c

@@ -12,7 +12,7 @@ use Rattle.acd_book.specs.Order.{Rises, IsOrdered}
 use Rattle.acd_book.specs.declared.kept.Kept.{Kept}
 use Rattle.acd_sql_columns.specs.declared.tables.Table.TheVariants as table
 use Rattle.acd_sql_columns.specs.AnyRows.{is_good}
-use Rattle.acd_sql_statements.specs.InRange.{is_good_table, IsInRange}
+use Rattle.acd_sql_columns.specs.InRange.{is_good_table, IsInRange}
 use Rattle.acd_sql_columns.specs.Content.{Encodes}
 use Rattle.acd_sql_columns.specs.Values.{at_least, whole_at, stamp_at}
 use Rattle.acd_sql_columns.specs.Fields.{read_whole}

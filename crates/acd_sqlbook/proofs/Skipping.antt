@@ -15,8 +15,7 @@ use Rattle.acd_lemmas.proofs.Keyed.{Keyed, others_left}
 use Rattle.acd_lemmas.proofs.State.{by_connection}
 use Rattle.acd_book.specs.Content.{Content}
 use Rattle.acd_sql_columns.specs.declared.tables.Table.TheVariants as table
-use Rattle.acd_sql_columns.specs.Relations.{relations_of}
-use Rattle.acd_sql_columns.specs.Transactions.{HoldsUncommitted}
+use Rattle.acd_sql_columns.specs.Transactions.{HoldsGood}
 use Rattle.acd_sqlbook.specs.Choosing.{is_taken_away, written, IsWrittenNext}
 use Rattle.acd_sqlbook.specs.Commit.{applied, all_applied}
 
@@ -48,13 +47,13 @@ in_vain first second x call device is_put is_gone same_call same_device c up =
 -- the one that is written next, and the last of them
 pub next_applied : (old new : State) (first : Change) (rest remaining changes : List Change) (c : Content)
     → ((x : Content) → IsAscending connection_order x.rows.connections → all_applied x rest ≡ all_applied (applied x first) remaining)
-    → ((x : Content) → HoldsUncommitted old (relations_of x) → HoldsUncommitted new (relations_of (applied x first)))
-    → (x : Content) × HoldsUncommitted old (relations_of x) × (all_applied x rest ≡ all_applied c changes) → (x : Content) × HoldsUncommitted new (relations_of x) × (all_applied x remaining ≡ all_applied c changes)
+    → ((x : Content) → HoldsGood old x → HoldsGood new (applied x first))
+    → (x : Content) × HoldsGood old x × (all_applied x rest ≡ all_applied c changes) → (x : Content) × HoldsGood new x × (all_applied x remaining ≡ all_applied c changes)
 next_applied old new first rest remaining changes c step put held =
-    (applied held.0 first, put held.0 held.1, sym (step held.0 (held.1.tables table.Connections).ascending) ∙ held.2)
+    (applied held.0 first, put held.0 held.1, sym (step held.0 (held.1.relations.tables table.Connections).ascending) ∙ held.2)
 
-pub none_left : (s : State) (rest changes : List Change) (c : Content) → rest ≡ [] → (x : Content) × HoldsUncommitted s (relations_of x) × (all_applied x rest ≡ all_applied c changes) → HoldsUncommitted s (relations_of (all_applied c changes))
-none_left s rest changes c none held = subst (λ x. HoldsUncommitted s (relations_of x)) (ap (all_applied held.0) (sym none) ∙ held.2) held.1
+pub none_left : (s : State) (rest changes : List Change) (c : Content) → rest ≡ [] → (x : Content) × HoldsGood s x × (all_applied x rest ≡ all_applied c changes) → HoldsGood s (all_applied c changes)
+none_left s rest changes c none held = subst (λ x. HoldsGood s x) (ap (all_applied held.0) (sym none) ∙ held.2) held.1
 
 -- ---- the one that is written next
 

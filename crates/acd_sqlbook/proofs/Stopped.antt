@@ -6,7 +6,7 @@ use Rattle.sqlite.specs.Steps.{FailsToCommit}
 use Rattle.acd_terms.specs.declared.event.Event.{Event}
 use Rattle.acd_model.specs.declared.moves.Change.{Change}
 use Rattle.acd_book.specs.Content.{Content}
-use Rattle.acd_sql_columns.specs.Transactions.{HoldsUncommitted, Works}
+use Rattle.acd_sql_columns.specs.Transactions.{HoldsGood, Works}
 use Rattle.acd_sql_columns.specs.Relations.{Relations, relations_of}
 use Rattle.acd_sql_statements.specs.Refusing.{HasWriteCause, FailsToLeave}
 use Rattle.acd_sql_statements.proofs.Failures.{failed_before, failed_after, commit_failed}
@@ -18,7 +18,7 @@ module _ (old new : State) where
   -- of a content's relations, where there is no limit of steps
   pub stops_as : old.step_limit ≡ None → (P : Option ℕ → Relations → Type 0) (R : Content → Type 0) (result : Result (Unit {0}) Error) → ((c : Content) → P None (relations_of c) → R c) → HasWriteCause P old new result → IsStopped R old new result
   stops_as free P R (Ok x) so h = λ clean c d. tt
-  stops_as free P R (Err e) so h = λ clean c d. each c (h clean (relations_of c) d)
+  stops_as free P R (Err e) so h = λ clean c d. each c (h clean (relations_of c) d.relations)
     where
       each : (c : Content) → FailsToLeave P (relations_of c) old new e → FailsToApply R c old new e
       each c (inl memory) = inl memory
@@ -40,12 +40,12 @@ module _ (old new : State) where
       each c (inr (inl failed)) = inr (inl failed)
       each c (inr (inr p)) = inr (inr (so c p))
 
-  pub stops_same : (R : Content → Type 0) (e : Error) (result : Result (Unit {0}) Error) → result ≡ Err e → (HasCleanDisk new → (c : Content) → HoldsUncommitted old (relations_of c) → FailsToApply R c old new e) → IsStopped R old new result
+  pub stops_same : (R : Content → Type 0) (e : Error) (result : Result (Unit {0}) Error) → result ≡ Err e → (HasCleanDisk new → (c : Content) → HoldsGood old c → FailsToApply R c old new e) → IsStopped R old new result
   stops_same R e result is h = λ clean c d. subst (λ b. IfErr b (FailsToApply R c old new)) (sym is) (h clean c d)
 
 -- after what was written before
 pub stops_later : (old mid new : State) (change : Content → Content) (R : Content → Type 0) (result : Result (Unit {0}) Error) → Works old mid → Works mid new
-    → (HasCleanDisk mid → (c : Content) → HoldsUncommitted old (relations_of c) → HoldsUncommitted mid (relations_of (change c))) → IsStopped R mid new result → IsStopped (λ c. R (change c)) old new result
+    → (HasCleanDisk mid → (c : Content) → HoldsGood old c → HoldsGood mid (change c)) → IsStopped R mid new result → IsStopped (λ c. R (change c)) old new result
 stops_later old mid new change R (Ok x) first second made h = λ clean c d. tt
 stops_later old mid new change R (Err e) first second made h =
     λ clean c d. let middle : HasCleanDisk mid = omega (arith, clean, second.survives.clean) in each c middle (h clean (change c) (made middle c d))

@@ -16,7 +16,7 @@ use Rattle.acd_sql_columns.specs.Seeing.{HasDatabase}
 use Rattle.acd_sql_columns.specs.declared.tables.Version.{Version}
 use Rattle.acd_sql_columns.specs.Schema.{old_schema}
 use Rattle.acd_sql_schema.specs.Migrating.{IsMigration, IsVersionRefused}
-use Rattle.acd_sql_statements.specs.InRange.{IsInRange}
+use Rattle.acd_sql_columns.specs.InRange.{IsInRange}
 use Rattle.acd_sql_schema.specs.Inspecting.{IsAdoptFaultOf, IsOfBook, IsUnlike}
 
 -- each row of its version's tables has its number, and a value for each column

@@ -17,7 +17,7 @@ use Rattle.acd_sql_columns.specs.Transactions.{LimitsFit}
 use Rattle.acd_sql_columns.specs.InTables.{content_of}
 use Rattle.acd_sql_columns.specs.Schema.{no_schema}
 use Rattle.acd_sql_differences.specs.Leading.{rows_differences}
-use Rattle.acd_sql_statements.specs.InRange.{IsInRange}
+use Rattle.acd_sql_columns.specs.InRange.{IsInRange}
 use Rattle.acd_sql_schema.specs.SettingUp.{IsUnstarted}
 use Rattle.acd_sqlbook.specs.State.{IsSoundState}
 use Rattle.acd_sqlbook.specs.View.{BookView, book_of}
@@ -31,7 +31,7 @@ pub data BookCall : Type 0 where
   change : List Change → List Event → Kept → BookCall
   replace : Rows → List Event → Kept → BookCall
 
--- a number of it, of a change that it makes, or of the counters after it, doesn't fit its column
+-- a number of it, of a change that it makes, or of the counters after it, doesn't fit its column or its range, or an event or the kept record isn't as each has to be
 abbrev pub IsUnfit : BookCall → State → Type 0
 IsUnfit (create limits) s = ¬ (LimitsFit limits)
 IsUnfit read s = ⊥

@@ -6,33 +6,52 @@ use Rattle.sqlite_trees.specs.declared.store.Store.{Ghosts}
 use Rattle.sqlite.specs.Held.{Held, state}
 use Rattle.sqlite.specs.State.{State, HasCleanDisk}
 use Rattle.sqlite.specs.declared.error.Error.{Error}
-use Rattle.acd_terms.specs.Columns.{columns_of}
 use Rattle.acd_terms.specs.Lists.{put_by}
 use Rattle.acd_terms.specs.declared.event.Event.{Event}
 use Rattle.acd_model.specs.Moves.{changed}
 use Rattle.acd_model.specs.declared.moves.Change.{Change}
 use Rattle.acd_model.specs.declared.moves.Change.TheVariants.{Nothing, PutGroup, PutStation, PutAgent, PutCall, PutConnection, PutMonitor, RemoveCall, RemoveConnection, RemoveMonitor}
+use Rattle.acd_codec.specs.Formed.{IsSerial}
 use Rattle.acd_book.specs.Content.{Content}
 use Rattle.acd_book.specs.declared.kept.Kept.{Kept}
 use Rattle.acd_sql_columns.specs.declared.meta.Meta.{Meta}
+use Rattle.acd_sql_columns.specs.InRange.{IsGoodGroup, IsGoodStation, IsGoodAgent, IsGoodCall, IsGoodConnection, IsGoodMonitor, IsReported, IsStamp, IsStatus}
 use Rattle.acd_sql_columns.specs.Relations.{meta_of, relations_of}
-use Rattle.acd_sql_columns.specs.Transactions.{HoldsUncommitted, Fits, FiguresFitColumns}
+use Rattle.acd_sql_columns.specs.Transactions.{HoldsGood, HoldsUncommitted, Fits, FiguresFitColumns}
 
--- its numbers fit
+-- a stamp, a place or the number of an event, which its column can hold
+abbrev pub StampFits : ℕ → Type 0
+StampFits n = IsStamp n × Fits n
+
+-- its numbers fit, and are in their ranges
 abbrev pub ChangeFits : Change → Type 0
 ChangeFits Nothing = ⊤
 ChangeFits (PutGroup g) = FiguresFitColumns g.figures
 ChangeFits (PutStation s) = ⊤
-ChangeFits (PutAgent a) = Fits a.stamp
-ChangeFits (PutCall k) = Fits k.call
-ChangeFits (PutConnection x) = Fits x.call × IfSome x.place Fits
-ChangeFits (PutMonitor w) = Fits w.monitor × Fits w.after_event
+ChangeFits (PutAgent a) = StampFits a.stamp
+ChangeFits (PutCall k) = IsSerial k.call
+ChangeFits (PutConnection x) = IsSerial x.call × IfSome x.place StampFits
+ChangeFits (PutMonitor w) = IsSerial w.monitor × Fits w.after_event
 ChangeFits (RemoveCall call) = Fits call
 ChangeFits (RemoveConnection call device) = Fits call
 ChangeFits (RemoveMonitor monitor) = Fits monitor
 
 abbrev pub EventFits : Event → Type 0
-EventFits e = Fits e.number × IfSome (columns_of e.report).call Fits
+EventFits e = StampFits e.number × IsReported e.report
+
+-- its stamp fits, and its status is that of a reply that is kept
+abbrev pub KeptFits : Kept → Type 0
+KeptFits k = StampFits k.stamp × IsStatus k.status
+
+-- what is put by the change is read back: each value that is written of it is in its range
+abbrev pub IsGoodChange : Change → Type 0
+IsGoodChange (PutGroup g) = IsGoodGroup g
+IsGoodChange (PutStation s) = IsGoodStation s
+IsGoodChange (PutAgent a) = IsGoodAgent a
+IsGoodChange (PutCall k) = IsGoodCall k
+IsGoodChange (PutConnection x) = IsGoodConnection x
+IsGoodChange (PutMonitor w) = IsGoodMonitor w
+IsGoodChange _ = ⊤
 
 -- a change made in its table, with the counters as they were
 abbrev pub applied : Content → Change → Content
@@ -68,13 +87,21 @@ with_meta m c = record c {
 abbrev pub made_by : List Change → List Event → Kept → Meta → Content → Content
 made_by changes events kept meta c = with_meta meta (with_kept (with_events (all_applied c changes) events) kept)
 
--- each content that the transaction saw is now what `change` makes of it
+-- each content that the transaction saw, with each value in its range, is now what `change` makes of it
 abbrev pub MakesOfEach : (Content → Content) → State → State → Type 0
-MakesOfEach change old new = (c : Content) → HoldsUncommitted old (relations_of c) → HoldsUncommitted new (relations_of (change c))
+MakesOfEach change old new = (c : Content) → HoldsGood old c → HoldsGood new (change c)
+
+-- the same of the tables of any content
+abbrev pub MakesTablesOfEach : (Content → Content) → State → State → Type 0
+MakesTablesOfEach change old new = (c : Content) → HoldsUncommitted old (relations_of c) → HoldsUncommitted new (relations_of (change c))
 
 -- so it is after a write that succeeded, if no disk broke a promise
 abbrev pub LeavesContent : {S : Type 0} → Ghosts S → MutBor (Held S) → MutBor (Held S) → Result (Unit {0}) Error → (Content → Content) → Type 0
 LeavesContent g old new result change = HasCleanDisk (state g new.now) → OnOk result (MakesOfEach change (state g old.now) (state g new.now))
+
+-- the tables of a change, after a write that succeeded
+abbrev pub PutsChange : {S : Type 0} → Ghosts S → MutBor (Held S) → MutBor (Held S) → Result (Unit {0}) Error → Change → Type 0
+PutsChange g old new result change = HasCleanDisk (state g new.now) → OnOk result (MakesTablesOfEach (λ c. applied c change) (state g old.now) (state g new.now))
 
 -- a write makes this change, or all of these
 abbrev pub WritesChange : {S : Type 0} → Ghosts S → MutBor (Held S) → MutBor (Held S) → Result (Unit {0}) Error → Change → Type 0

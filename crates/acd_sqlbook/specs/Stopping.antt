@@ -14,7 +14,7 @@ use Rattle.acd_model.specs.declared.moves.Change.{Change}
 use Rattle.acd_model.specs.declared.moves.Change.TheVariants.{Nothing, PutGroup, PutStation, PutAgent, PutCall, PutConnection, PutMonitor, RemoveCall, RemoveConnection, RemoveMonitor}
 use Rattle.acd_book.specs.Content.{Content}
 use Rattle.acd_book.specs.declared.kept.Kept.{Kept}
-use Rattle.acd_sql_columns.specs.Transactions.{HoldsUncommitted, Fits, HoldsContent, MetaFits}
+use Rattle.acd_sql_columns.specs.Transactions.{HoldsGood, HoldsContent, MetaFits}
 use Rattle.acd_sql_columns.specs.Relations.{Relations, meta_of, relations_of}
 use Rattle.acd_sql_columns.specs.Rows.{connection_values, kept_values, meta_shown}
 use Rattle.acd_sql_columns.specs.Tables.{stations, calls, monitors}
@@ -28,7 +28,7 @@ use Rattle.acd_sql_statements.specs.Reading.{FailsToRead}
 use Rattle.acd_sql_statements.specs.Refusing.{HasWriteCause, RefusesOn, RefusesPut, RefusesPutConnection, RefusesGroup, RefusesAgent}
 use Rattle.acd_sql_statements.specs.Several.{RefusesEvents}
 use Rattle.acd_sqlbook.specs.Choosing.{written}
-use Rattle.acd_sqlbook.specs.Commit.{ChangeFits, EventFits, counted, counters_after, applied, all_applied, with_events, with_kept}
+use Rattle.acd_sqlbook.specs.Commit.{ChangeFits, EventFits, KeptFits, counted, counters_after, applied, all_applied, with_events, with_kept}
 
 -- no call that it has, and no call of its connections, is above this one
 pub record AreUpTo (last : ℕ) (c : Content) : Type 0 where
@@ -53,7 +53,7 @@ RefusesChange Meets (RemoveCall call) r = RefusesOn DELETE_CALL.now (id_value ca
 RefusesChange Meets (RemoveConnection call device) r = RefusesOn DELETE_CONNECTION.now (id_value call ∷ id_value device ∷ []) None r
 RefusesChange Meets (RemoveMonitor monitor) r = RefusesOn DELETE_MONITOR.now (id_value monitor ∷ []) None r
 
--- a number of it doesn't fit its column, or the store refuses it
+-- a number of it doesn't fit its column or its range, or the store refuses it
 abbrev pub StopsAtChange : Type 0 → Change → Content → Type 0
 StopsAtChange Meets change c = (¬ (ChangeFits change)) ⊎ RefusesChange Meets change (relations_of c)
 
@@ -81,7 +81,7 @@ InEvents At (e ∷ f ∷ []) c = At (e ∷ f ∷ []) c
 InEvents At (e ∷ f ∷ g ∷ []) c = At (e ∷ f ∷ g ∷ []) c
 InEvents At (e ∷ f ∷ g ∷ h ∷ es) c = At (e ∷ f ∷ g ∷ h ∷ []) c ⊎ InEvents At es (with_events c (e ∷ f ∷ g ∷ h ∷ []))
 
--- a number of theirs doesn't fit its column, or the store refuses the statement that puts them
+-- a number of theirs doesn't fit its column or its range, one isn't as its kind is, or the store refuses the statement that puts them
 abbrev pub StopsAtEvents : List Event → Content → Type 0
 StopsAtEvents es c = (¬ (Every EventFits es)) ⊎ RefusesEvents es None (relations_of c)
 
@@ -107,7 +107,7 @@ StopsInCommit last changes events kept meta c = StopsInAll (HasAbove last c) cha
 
 -- ---- what of it doesn't fit, and what the store refuses
 
--- each number of the changes that are written, and of the events, fits its column
+-- each number of the changes that are written, and of the events, fits its column and its range
 abbrev pub AllNumbersFit : List Change → List Event → Type 0
 AllNumbersFit changes events = Every ChangeFits (written changes) × Every EventFits events
 
@@ -133,7 +133,7 @@ FailsToApply Stops c old new e = IsMemory e ⊎ (StoreHasFailed old new ⊎ Stop
 
 -- it fails by this alone
 abbrev pub IsStopped : {A : Type 0} → (Content → Type 0) → State → State → Result A Error → Type 0
-IsStopped Stops old new result = HasCleanDisk new → (c : Content) → HoldsUncommitted old (relations_of c) → IfErr result (FailsToApply Stops c old new)
+IsStopped Stops old new result = HasCleanDisk new → (c : Content) → HoldsGood old c → IfErr result (FailsToApply Stops c old new)
 
 -- so it is with the connection of a transaction
 abbrev pub FailsAt : {S A : Type 0} → Ghosts S → MutBor (Held S) → MutBor (Held S) → Result A Error → (Content → Type 0) → Type 0
@@ -153,9 +153,9 @@ IsUndoneAt g old new result Stops = IsUndone Stops (state g old) (state g new) r
 
 -- ---- a commit of changes
 
--- the counters after so many events don't fit their columns
+-- the counters after so many events don't fit their columns, or the kept record doesn't fit
 abbrev pub IsUncounted : List Change → ℕ → Kept → Content → Type 0
-IsUncounted changes events kept c = ¬ (MetaFits (counted (meta_of c.rows) changes events kept))
+IsUncounted changes events kept c = ¬ (MetaFits (counted (meta_of c.rows) changes events kept) × KeptFits kept)
 
 -- those don't fit, or it stops at something that it writes
 abbrev pub StopsCommit : List Change → List Event → Kept → Content → Type 0
@@ -164,9 +164,9 @@ StopsCommit changes events kept c =
 
 -- ---- a commit of tables
 
--- the limits and the counters of the rows fit their columns, and so does the stamp
+-- the limits and the counters of the rows fit their columns, and the kept record fits
 abbrev pub AreCounted : Rows → Kept → Type 0
-AreCounted rows kept = MetaFits (meta_of rows) × Fits kept.stamp
+AreCounted rows kept = MetaFits (meta_of rows) × KeptFits kept
 
 -- a group, a station or an agent that is held isn't among the rows
 abbrev pub DropsOf : Rows → Rows → Type 0

@@ -21,7 +21,7 @@ use Rattle.acd_sql_schema.specs.declared.fault.Found.{Found}
 use Rattle.acd_sql_schema.specs.declared.fault.Found.TheVariants.{Book}
 use Rattle.acd_sql_schema.specs.Inspecting.{IsFound, IsOfBook}
 use Rattle.acd_sql_statements.specs.Failing.{StoreHasFailed}
-use Rattle.acd_sql_statements.specs.InRange.{IsInRange}
+use Rattle.acd_sql_columns.specs.InRange.{IsInRange}
 use Rattle.acd_sqlbook.specs.Opening.{HasAdoptCause, IfHandedBack, IfOpened, IsAdoptedOver, IsHandedBackOver}
 use Rattle.acd_sqlbook.specs.State.{book_state}
 use Rattle.acd_sqlbook.specs.View.{BookView}
@@ -42,9 +42,9 @@ pub record Reopens (d : Database) (c : Content) : Type 0 where
   pub of_book : IsOfBook Second d
   pub only : (found : Found) → IsFound d found → found ≡ Book Second
 
--- a database whose trees are a book of this content, with each value in its range, reopens with this content
+-- a database whose trees are a book of this content reopens with this content
 abbrev pub BooksReopen : Type 0
-BooksReopen = (d : Database) (c : Content) → IsDatabase d → IsBook d.trees c → IsInRange c → Reopens d c
+BooksReopen = (d : Database) (c : Content) → IsDatabase d → IsBook d.trees c → Reopens d c
 
 -- between transactions, over a database that reopens with this content
 pub record IsOverBook (s : State) (c : Content) : Type 0 where

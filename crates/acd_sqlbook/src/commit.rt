@@ -2,19 +2,25 @@
 
 ghost use Rattle.std.specs.Prelude.{◌≡◌, ◌≢◌, ◌↔◌, ◌<◌, ◌≤◌, [], length, filter, false, None, IfSome, IsTrue};
 ghost use Rattle.sqlite.specs.Held.{state};
+ghost use Rattle.acd_codec.specs.Formed.{IsSerial};
 ghost use Rattle.acd_codec.specs.RequestTexts.{request_text};
 ghost use Rattle.acd_terms.specs.Lists.{Every};
 ghost use Rattle.acd_sqlbook.specs.Calls.{AddsOneStop, CommitsContent, KeepsContent, StaysOpen, WasClean};
 ghost use Rattle.acd_sqlbook.specs.Choosing.{is_taken_away, IsVainBefore, IsWrittenNext, IsNextPart, puts_the_same, is_put_once, is_above, is_new};
-ghost use Rattle.acd_sqlbook.specs.Commit.{LeavesContent, WritesChange, WritesChanges, ChangeFits, EventFits, with_events, made_by, top_call, top_monitor, last_call, last_monitor, counted};
+ghost use Rattle.acd_sqlbook.specs.Commit.{LeavesContent, PutsChange, WritesChange, WritesChanges, ChangeFits, EventFits, KeptFits, StampFits, IsGoodChange, with_events, made_by, top_call, top_monitor, last_call, last_monitor, counted};
 ghost use Rattle.acd_sqlbook.specs.Stopping.{RefusesWrite, StopsWrite, StopsInWritten, StopsAtEvents, StopsInEvents, StopsInCommit, FailsAt, HasWriteCauseAt, IsUndoneAt};
 ghost use Rattle.acd_sql_schema.specs.SettingUp.{WasOpen};
 ghost use Rattle.acd_sql_statements.specs.Refusing.{RefusesAgent};
+ghost use Rattle.acd_sql_columns.specs.InRange.{IsGoodEvent, IsReported};
 ghost use Rattle.acd_sql_columns.specs.Transactions.{Works, Fits, FiguresFitColumns, MetaFits};
 
 use acd_book::Kept;
 use acd_model::Change;
 use acd_sql_columns::Meta;
+use acd_sql_columns::good::{
+    agent_is_good, call_is_good, connection_is_good, event_is_good, group_is_good, is_formed,
+    kept_is_good, meta_is_good, monitor_is_good, station_is_good,
+};
 use acd_sql_statements::fitting::{fits, too_large};
 use acd_sql_statements::parts::{put_agent, put_group};
 use acd_sql_statements::put::{insert, put, remove};
@@ -35,11 +41,34 @@ fn figures_fit(figures: &Figures) -> bool
         && fits(figures.waited)
 }
 
+// A stamp, a place or the number of an event.
+fn stamp_fits(number: u64) -> bool
+    ensures { IsTrue result ↔ StampFits number }
+{
+    number >= 1 && fits(number)
+}
+
 fn place_fits(place: Option<u64>) -> bool
-    ensures { IsTrue result ↔ IfSome place Fits }
+    ensures { IsTrue result ↔ IfSome place StampFits }
 {
     match place {
-        Some(place) => fits(place),
+        Some(place) => stamp_fits(place),
+        None => true,
+    }
+}
+
+// A call or a monitor.
+fn is_serial(number: u64) -> bool
+    ensures { IsTrue result ↔ IsSerial number }
+{
+    (1..=1_000_000_000).contains(&number)
+}
+
+fn is_serial_or_none(number: Option<u64>) -> bool
+    ensures { IsTrue result ↔ IfSome number IsSerial }
+{
+    match number {
+        Some(number) => is_serial(number),
         None => true,
     }
 }
@@ -50,21 +79,58 @@ fn change_fits(change: &Change) -> bool
     match change {
         Change::Nothing | Change::PutStation(_) => true,
         Change::PutGroup(group) => figures_fit(&group.figures),
-        Change::PutAgent(agent) => fits(agent.stamp),
-        Change::PutCall(call) => fits(call.call),
+        Change::PutAgent(agent) => stamp_fits(agent.stamp),
+        Change::PutCall(call) => is_serial(call.call),
         Change::PutConnection(connection) => {
-            fits(connection.call) && place_fits(connection.place)
+            is_serial(connection.call) && place_fits(connection.place)
         }
-        Change::PutMonitor(monitor) => fits(monitor.monitor) && fits(monitor.after_event),
+        Change::PutMonitor(monitor) => is_serial(monitor.monitor) && fits(monitor.after_event),
         Change::RemoveCall(call) | Change::RemoveConnection(call, _) => fits(*call),
         Change::RemoveMonitor(monitor) => fits(*monitor),
     }
 }
 
-fn event_fits(event: &Event) -> bool
-    ensures { IsTrue result ↔ EventFits event.now }
+fn is_reported(event: &Event) -> bool
+    ensures { IsTrue result ↔ IsReported event.now.report }
 {
-    fits(event.number) && place_fits(event.report.columns().call)
+    is_formed(event) && is_serial_or_none(event.report.columns().call)
+}
+
+fn event_fits(event: &Event) -> bool
+    ensures fit { IsTrue result ↔ EventFits event.now }
+    ensures good { IsTrue result → IsGoodEvent event.now }
+{
+    if stamp_fits(event.number) && is_reported(event) {
+        event_is_good(event);
+        return true;
+    }
+    false
+}
+
+/// Whether the stamp and the status are those of a kept record.
+pub(crate) fn kept_fits(kept: &Kept) -> bool
+    ensures { IsTrue result ↔ KeptFits kept.now }
+{
+    stamp_fits(kept.stamp) && (kept.status == 200 || kept.status == 409)
+}
+
+// What is put is read back.
+fn change_is_good(change: &Change)
+    requires { ChangeFits change.now }
+    ensures { IsGoodChange change.now }
+{
+    match change {
+        Change::PutGroup(group) => group_is_good(group),
+        Change::PutStation(station) => station_is_good(station),
+        Change::PutAgent(agent) => agent_is_good(agent),
+        Change::PutCall(call) => call_is_good(call),
+        Change::PutConnection(connection) => connection_is_good(connection),
+        Change::PutMonitor(monitor) => monitor_is_good(monitor),
+        Change::Nothing
+        | Change::RemoveCall(_)
+        | Change::RemoveConnection(_, _)
+        | Change::RemoveMonitor(_) => {}
+    }
 }
 
 // Puts an agent. Reading its groups shows that they ascend.
@@ -72,7 +138,7 @@ fn write_agent<S: Alter>(tx: &mut Transaction<'_, S>, agent: &AgentRecord) -> Re
     requires { Fits agent.now.stamp }
     ensures same { tx.new.conn.ghost_name ≡ tx.old.conn.ghost_name }
     ensures works { Works (state S.Store tx.old.conn.now) (state S.Store tx.new.conn.now) }
-    ensures put { WritesChange S.Store tx.old.conn tx.new.conn result (Change.PutAgent agent.now) }
+    ensures put { PutsChange S.Store tx.old.conn tx.new.conn result (Change.PutAgent agent.now) }
     ensures failed { HasWriteCauseAt S.Store tx.old.conn tx.new.conn result
         (RefusesAgent agent.now) }
 {
@@ -90,7 +156,7 @@ fn make_change<S: Alter>(
     requires free { (state S.Store tx.old.conn.now).step_limit ≡ None }
     ensures same { tx.new.conn.ghost_name ≡ tx.old.conn.ghost_name }
     ensures works { Works (state S.Store tx.old.conn.now) (state S.Store tx.new.conn.now) }
-    ensures put { WritesChange S.Store tx.old.conn tx.new.conn result change.now }
+    ensures put { PutsChange S.Store tx.old.conn tx.new.conn result change.now }
     ensures failed { FailsAt S.Store tx.old.conn tx.new.conn result
         (RefusesWrite is_new change.now) }
 {
@@ -124,6 +190,7 @@ fn write_change<S: Alter>(
     if !change_fits(change) {
         return Err(too_large());
     }
+    change_is_good(change);
     make_change(tx, change, is_new)
 }
 
@@ -241,7 +308,8 @@ fn write_changes<S: Alter>(
 }
 
 fn events_fit(events: &[Event]) -> bool
-    ensures { IsTrue result ↔ Every EventFits events.now }
+    ensures fit { IsTrue result ↔ Every EventFits events.now }
+    ensures good { IsTrue result → Every IsGoodEvent events.now }
 {
     for event in events {
         if !event_fits(event) {
@@ -364,7 +432,7 @@ fn write_all<S: Alter>(
     request: &str,
     meta: &Meta,
 ) -> Result<(), Error>
-    requires stamp { Fits kept.now.stamp }
+    requires kept { KeptFits kept.now }
     requires request { request.now ≡ request_text kept.now.request }
     requires meta { MetaFits meta.now }
     requires free { (state S.Store tx.old.conn.now).step_limit ≡ None }
@@ -377,7 +445,9 @@ fn write_all<S: Alter>(
 {
     write_changes(tx, last, changes)?;
     write_events(tx, events)?;
+    kept_is_good(kept);
     insert_kept(tx, kept, request)?;
+    meta_is_good(meta);
     set_meta(tx, meta)?;
     Ok(())
 }
@@ -393,7 +463,7 @@ pub(crate) fn commit_all<S: Alter>(
     request: &str,
     meta: &Meta,
 ) -> Result<(), Error>
-    requires stamp { Fits kept.now.stamp }
+    requires kept { KeptFits kept.now }
     requires request { request.now ≡ request_text kept.now.request }
     requires meta { MetaFits meta.now }
     requires idle { conn.old.in_transaction ≡ false }

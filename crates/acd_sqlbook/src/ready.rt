@@ -5,15 +5,15 @@ ghost use Rattle.std.specs.Prelude.{◌≡◌, ◌↔◌, false, None, Some, IsT
 ghost use Rattle.sqlite.specs.State.{HasCleanDisk};
 ghost use Rattle.sqlite.specs.Held.{state};
 ghost use Rattle.acd_book.specs.Content.{events_page, kept_under, records_page};
-ghost use Rattle.acd_sqlbook.specs.Commit.{counted, counters_of};
+ghost use Rattle.acd_sqlbook.specs.Commit.{KeptFits, counted, counters_of};
 ghost use Rattle.acd_sqlbook.specs.Counters.{StopsWith};
 ghost use Rattle.acd_sql_columns.specs.Relations.{meta_of};
-ghost use Rattle.acd_sql_columns.specs.Transactions.{Quiet, NoStop, Fits, LimitsFit, MetaFits};
+ghost use Rattle.acd_sql_columns.specs.Transactions.{Quiet, NoStop, LimitsFit, MetaFits};
 ghost use Rattle.acd_sql_schema.specs.SettingUp.{IfClean};
 ghost use Rattle.acd_sql_statements.specs.Between.{IsUp};
 ghost use Rattle.acd_sqlbook.specs.Stopping.{IsUncounted, StopsCommit};
 
-use crate::commit::{commit_all, counted};
+use crate::commit::{commit_all, counted, kept_fits};
 use acd_book::Kept;
 use acd_codec::request_text;
 use acd_model::Change;
@@ -63,11 +63,12 @@ pub(crate) fn meta_fits(meta: &Meta) -> bool
 fn next_meta(meta: &Meta, changes: &[Change], events: u64, kept: &Kept) -> Result<Meta, Error>
     ensures is { IfOk result (λ next. next ≡ counted meta.now changes.now events kept.now) }
     ensures fits { IfOk result (λ next. MetaFits next) }
+    ensures kept { OnOk result (KeptFits kept.now) }
     ensures unfit { IfErr result (λ _.
-        ¬ (MetaFits (counted meta.now changes.now events kept.now))) }
+        ¬ (MetaFits (counted meta.now changes.now events kept.now) × KeptFits kept.now)) }
 {
     match counted(meta, changes, events, kept) {
-        Some(next) if meta_fits(&next) => Ok(next),
+        Some(next) if meta_fits(&next) && kept_fits(kept) => Ok(next),
         _ => Err(too_large()),
     }
 }
@@ -184,7 +185,7 @@ impl<S: Alter> Ready<S> {
         ensures read { ReadyCounts self.old self.new held result
             (counters_of changes.now events kept.now) }
         ensures fits { IfOk result (λ found. MetaFits found.1) }
-        ensures stamp { OnOk result (Fits kept.now.stamp) }
+        ensures kept { OnOk result (KeptFits kept.now) }
         ensures cause { ReadyFailsOr self.old self.new result
             (StopsWith held (IsUncounted changes.now events kept.now)) }
     {

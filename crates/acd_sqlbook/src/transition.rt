@@ -3,21 +3,22 @@
 ghost use Rattle.std.specs.Prelude.{◌≡◌, ◌⊎◌, IfErr, IfOk, OnOk};
 ghost use Rattle.acd_book.specs.Content.{commit_of};
 ghost use Rattle.acd_sqlbook.specs.Calls.{LeadsBetween, LeadsTo};
+ghost use Rattle.acd_sqlbook.specs.Commit.{KeptFits};
 ghost use Rattle.acd_sqlbook.specs.OverReady.{ReadyCommits, ReadyFailsOr, ReadyReads, ReadyStops};
 ghost use Rattle.acd_sqlbook.specs.Stopping.{AreCounted, Drops, DropsOf, StopsReplace};
 ghost use Rattle.acd_sql_columns.specs.Relations.{meta_of};
-ghost use Rattle.acd_sql_columns.specs.Transactions.{Fits, MetaFits};
+ghost use Rattle.acd_sql_columns.specs.Transactions.{MetaFits};
 ghost use Rattle.acd_sql_differences.specs.Leading.{rows_differences};
 ghost use Rattle.acd_sql_statements.specs.Failing.{IsMemory};
 
-use crate::commit::commit_all;
+use crate::commit::{commit_all, kept_fits};
 use crate::ready::{Ready, meta_fits};
 use acd_book::Kept;
 use acd_codec::request_text;
 use acd_model::Change;
 use acd_sql_columns::Meta;
 use acd_sql_differences::{are_whole, rows_changes};
-use acd_sql_statements::fitting::{fits, too_large};
+use acd_sql_statements::fitting::too_large;
 use acd_terms::{Event, Rows};
 use sqlite::{Alter, Constraint, Error, ErrorCode};
 use std::alloc::Global;
@@ -54,11 +55,11 @@ fn changes_to<S: Alter>(
     whole_changes(alloc, &held, rows)
 }
 
-// The limits and the counters of the rows, where their columns can hold them and the stamp.
+// The limits and the counters of the rows, where their columns can hold them, and the kept record fits.
 fn meta_of(rows: &Rows, kept: &Kept) -> Result<Meta, Error>
     ensures is { IfOk result (λ meta. meta ≡ meta_of rows.now) }
     ensures fits { IfOk result (λ meta. MetaFits meta) }
-    ensures stamp { OnOk result (Fits kept.now.stamp) }
+    ensures kept { OnOk result (KeptFits kept.now) }
     ensures unfit { IfErr result (λ _. ¬ (AreCounted rows.now kept.now)) }
 {
     let meta = Meta {
@@ -69,7 +70,7 @@ fn meta_of(rows: &Rows, kept: &Kept) -> Result<Meta, Error>
         last_monitor: rows.last_monitor,
         last_event: rows.last_event,
     };
-    if meta_fits(&meta) && fits(kept.stamp) {
+    if meta_fits(&meta) && kept_fits(kept) {
         Ok(meta)
     } else {
         Err(too_large())

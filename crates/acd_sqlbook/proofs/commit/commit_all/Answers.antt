@@ -3,8 +3,7 @@ use Rattle.sqlite.specs.State.{HasCleanDisk, KeepsCommit}
 use Rattle.sqlite.specs.Held.{state}
 use Rattle.acd_book.specs.Content.{Content}
 use Rattle.acd_sqlbook.specs.Commit.{made_by}
-use Rattle.acd_sql_columns.specs.Transactions.{HoldsContent, HoldsUncommitted, AddsStop}
-use Rattle.acd_sql_columns.specs.Relations.{relations_of}
+use Rattle.acd_sql_columns.specs.Transactions.{HoldsContent, HoldsGood, AddsStop}
 use Rattle.acd_sql_columns.proofs.Endings.{not_committed, begins, made_whole, adds_stop}
 use Rattle.std.proofs.Common.{Err, IfErr, sym, ap, ◌∙◌}
 use Rattle.acd_sql_columns.specs.Transactions.{Works}
@@ -25,7 +24,7 @@ returns-clause-done g c clean =
     let begun = c.transaction-tx.ensures.begun in
     let middle : HasCleanDisk mid = omega (arith, c.commit.ensures.survives.clean) in
     let made = made_by c.args.changes.now c.args.events.now c.args.kept.now c.args.meta.now in
-    let put : (x : Content) → HoldsContent old x → HoldsUncommitted mid (relations_of (made x)) =
+    let put : (x : Content) → HoldsContent old x → HoldsGood mid (made x) =
     λ (x : Content) (h : HoldsContent old x). (rw begun at c.in_ok-write_all.ensures.put) middle x (begins old (state g.S.Store (record c.args.conn.now { in_transaction = true })) x refl refl h) in
     subst (λ h. OnOk c.commit.result ((x : Content) → HoldsContent old x → HoldsContent (state g.S.Store h) (made x))) same
     (made_whole old mid (state g.S.Store end) c.commit.result made put (c.commit.ensures.ok late))
@@ -42,7 +41,7 @@ returns-clause-undone g c clean =
     let keeps = (rw begun at c.write_all.ensures.works).kept middle in
     let kept : KeepsCommit old mid = record { was_open = keeps.was_open; committed = keeps.committed } in
     let inside : (x : Content) → HoldsContent old x → mid.in_transaction ≡ true =
-    λ (x : Content) (h : HoldsContent old x). ((rw begun at c.in_ok-write_all.ensures.put) middle x (begins old (state g.S.Store (record c.args.conn.now { in_transaction = true })) x refl refl h)).inside in
+    λ (x : Content) (h : HoldsContent old x). ((rw begun at c.in_ok-write_all.ensures.put) middle x (begins old (state g.S.Store (record c.args.conn.now { in_transaction = true })) x refl refl h)).relations.inside in
     subst (λ h. OnErr c.commit.result ((x : Content) → HoldsContent old x → IsTrue (state g.S.Store h).is_open → HoldsContent (state g.S.Store h) x)) same
     (not_committed old mid (state g.S.Store end) c.commit.result kept inside (c.commit.ensures.err late))
 
@@ -57,7 +56,7 @@ returns-clause-stops g c clean =
     let begun = c.transaction-tx.ensures.begun in
     let middle : HasCleanDisk mid = omega (arith, c.commit.ensures.survives.clean) in
     let made = made_by c.args.changes.now c.args.events.now c.args.kept.now c.args.meta.now in
-    let put : (x : Content) → HoldsContent old x → HoldsUncommitted mid (relations_of (made x)) =
+    let put : (x : Content) → HoldsContent old x → HoldsGood mid (made x) =
     λ (x : Content) (h : HoldsContent old x). (rw begun at c.in_ok-write_all.ensures.put) middle x (begins old begun-state x refl refl h) in
     subst (λ h. AddsStop old (state g.S.Store h) made) same
     (adds_stop old begun-state mid (state g.S.Store end) made (λ db left. left) (rw begun at c.write_all.ensures.works).survives c.commit.ensures.survives put middle late)
@@ -93,4 +92,4 @@ returns-clause-failed g c clean x held =
     let stops : Content → Type 0 = λ (x : Content). StopsInAll (HasAbove c.args.last x) c.args.changes.now c.args.events.now c.args.kept.now c.args.meta.now x in
     let uncommitted = (rw begin at c.in_ok-write_all.ensures.put) middle x (begins old begun x refl refl held) in
     subst (λ h. IfErr c.commit.result (FailsToApply stops x old (state g.S.Store h))) same
-    (commit_stopped stops x begun mid (state g.S.Store end) c.commit.result works middle c.commit.ensures.survives.counts uncommitted.inside (c.commit.ensures.err late))
+    (commit_stopped stops x begun mid (state g.S.Store end) c.commit.result works middle c.commit.ensures.survives.counts uncommitted.relations.inside (c.commit.ensures.err late))

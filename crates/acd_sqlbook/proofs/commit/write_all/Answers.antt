@@ -11,6 +11,7 @@ use Rattle.acd_sql_statements.specs.Refusing.{RefusesOn}
 use Rattle.acd_sqlbook.specs.Commit.{all_applied, with_events, with_kept}
 use Rattle.acd_sqlbook.specs.Choosing.{written}
 use Rattle.acd_sqlbook.specs.Stopping.{HasAbove, StopsInChanges, StopsInEvents, StopsInAll}
+use Rattle.acd_sqlbook.proofs.Ranging.{kept_in_range, meta_in_range}
 use Rattle.acd_sqlbook.proofs.Stopped.{stops_as, stops_more, stops_same, stops_later}
 use Rattle.acd_sqlbook.proofs.commit.write_all.Goals as goal
 
@@ -22,7 +23,15 @@ returns-clause-put g c clean x d =
     let third : HasCleanDisk (state g.S.Store c.insert_kept.new.tx.conn.now) = omega (arith, c.set_meta.ensures.works.survives.clean) in
     let second : HasCleanDisk (state g.S.Store c.write_events.new.tx.conn.now) = omega (arith, c.insert_kept.ensures.works.survives.clean) in
     let first : HasCleanDisk (state g.S.Store c.write_changes.new.tx.conn.now) = omega (arith, c.write_events.ensures.works.survives.clean) in
-    c.in_ok-set_meta.ensures.put clean _ (c.in_ok-insert_kept.ensures.put third _ (c.in_ok-write_events.ensures.put second _ (c.in_ok-write_changes.ensures.put first x d)))
+    let kept = c.args.kept.now in
+    let meta = c.args.meta.now in
+    let two = c.in_ok-write_events.ensures.put second _ (c.in_ok-write_changes.ensures.put first x d) in
+    let y : Content = with_events (all_applied x c.args.changes.now) c.args.events.now in
+    let z : Content = with_kept y kept in
+    record {
+      relations = c.in_ok-set_meta.ensures.put clean _ (c.in_ok-insert_kept.ensures.put third _ two.relations);
+      range = meta_in_range meta c.meta_is_good.ensures z (kept_in_range kept c.kept_is_good.ensures y two.range);
+    }
 
 pub returns-in_err-write_changes-clause-failed : goal.returns-in_err-write_changes-clause-failed
 returns-in_err-write_changes-clause-failed g c =
@@ -86,5 +95,6 @@ returns-in_err-set_meta-clause-failed g c =
     (λ third x d.
     let second : HasCleanDisk two = omega (arith, third, c.insert_kept.ensures.works.survives.clean) in
     let first : HasCleanDisk one = omega (arith, second, c.write_events.ensures.works.survives.clean) in
-    c.in_ok-insert_kept.ensures.put third _ (c.in_ok-write_events.ensures.put second _ (c.in_ok-write_changes.ensures.put first x d)))
+    let held = c.in_ok-write_events.ensures.put second _ (c.in_ok-write_changes.ensures.put first x d) in
+    record { relations = c.in_ok-insert_kept.ensures.put third _ held.relations; range = kept_in_range kept c.kept_is_good.ensures (with_events (all_applied x changes) events) held.range })
     (stops_as three four free (RefusesOn UPDATE_META.now (meta_shown c.args.meta.now)) stop (Err c.in_err-set_meta.field-0.0) (λ x h. h) c.in_err-set_meta.ensures.failed)))

@@ -3,8 +3,7 @@ use Rattle.sqlite.specs.State.{HasCleanDisk}
 use Rattle.sqlite.specs.Held.{state}
 use Rattle.acd_book.specs.Content.{Content}
 use Rattle.acd_sqlbook.specs.Commit.{all_applied}
-use Rattle.acd_sql_columns.specs.Relations.{relations_of}
-use Rattle.acd_sql_columns.specs.Transactions.{HoldsUncommitted, Works}
+use Rattle.acd_sql_columns.specs.Transactions.{HoldsGood, Works}
 use Rattle.acd_sqlbook.specs.Choosing.{written}
 use Rattle.acd_sqlbook.specs.Stopping.{HasAbove, StopsInChanges}
 use Rattle.acd_sqlbook.proofs.Unmet.{Unmet}
@@ -14,9 +13,9 @@ abbrev pub invariant-loop-change : goal.invariant-loop-change
 invariant-loop-change g l = record {
   same : l.tx.conn.ghost_name ≡ l.fn.tx.conn.ghost_name;
   works : Works (state g.S.Store l.fn.tx.conn.now) (state g.S.Store l.tx.conn.now);
-  put : HasCleanDisk (state g.S.Store l.tx.conn.now) → (c : Content) → HoldsUncommitted (state g.S.Store l.fn.tx.conn.now) (relations_of c) → (x : Content) × HoldsUncommitted (state g.S.Store l.tx.conn.now) (relations_of x) × (all_applied x l.rest ≡ all_applied c l.changes);
-  stops : HasCleanDisk (state g.S.Store l.tx.conn.now) → (c : Content) → HoldsUncommitted (state g.S.Store l.fn.tx.conn.now) (relations_of c)
-      → (x : Content) × HoldsUncommitted (state g.S.Store l.tx.conn.now) (relations_of x) × (StopsInChanges (HasAbove l.last c) (written l.rest) x → StopsInChanges (HasAbove l.last c) (written l.changes) c) × Unmet l.rest l.changes c x;
+  put : HasCleanDisk (state g.S.Store l.tx.conn.now) → (c : Content) → HoldsGood (state g.S.Store l.fn.tx.conn.now) c → (x : Content) × HoldsGood (state g.S.Store l.tx.conn.now) x × (all_applied x l.rest ≡ all_applied c l.changes);
+  stops : HasCleanDisk (state g.S.Store l.tx.conn.now) → (c : Content) → HoldsGood (state g.S.Store l.fn.tx.conn.now) c
+      → (x : Content) × HoldsGood (state g.S.Store l.tx.conn.now) x × (StopsInChanges (HasAbove l.last c) (written l.rest) x → StopsInChanges (HasAbove l.last c) (written l.changes) c) × Unmet l.rest l.changes c x;
 }
 
 abbrev pub decreases-loop-change : goal.decreases-loop-change

@@ -2,8 +2,7 @@ use Rattle.std.proofs.Common.{◌≡◌, inl, inr, rules, subst, ◌∙◌, arit
 use Rattle.sqlite.specs.State.{HasCleanDisk}
 use Rattle.sqlite.specs.Held.{state}
 use Rattle.acd_sql_columns.proofs.Endings.{works_on}
-use Rattle.acd_sql_columns.specs.Transactions.{HoldsUncommitted}
-use Rattle.acd_sql_columns.specs.Relations.{relations_of}
+use Rattle.acd_sql_columns.specs.Transactions.{HoldsGood}
 use Rattle.acd_sqlbook.specs.Commit.{with_events}
 use Rattle.acd_sqlbook.specs.Stopping.{StopsAtEvents, StopsInEvents}
 use Rattle.acd_sqlbook.proofs.Applying.{part_applied}
@@ -34,7 +33,7 @@ loop-some-preserved g c =
 pub returns-clause-put : goal.returns-clause-put
 returns-clause-put g c clean x d =
     let held = c.loop-some.invariant.put clean x d in
-    subst (λ k. HoldsUncommitted (state g.S.Store c.loop-some.tx.conn.now) (relations_of k)) (subst (λ l. with_events held.0 l ≡ with_events x c.args.events.now) (c.next_events.ensures.none c.in_default.is) held.2) held.1
+    subst (λ k. HoldsGood (state g.S.Store c.loop-some.tx.conn.now) k) (subst (λ l. with_events held.0 l ≡ with_events x c.args.events.now) (c.next_events.ensures.none c.in_default.is) held.2) held.1
 
 pub returns-in_err-write_some-clause-failed : goal.returns-in_err-write_some-clause-failed
 returns-in_err-write_some-clause-failed g c =

@@ -1,4 +1,4 @@
-use Rattle.std.proofs.Common.{refl, rules}
+use Rattle.std.proofs.Common.{rules}
 use Rattle.sqlite.specs.Held.{state}
 use Rattle.acd_sqlbook.specs.Stopping.{Drops}
 use Rattle.acd_sqlbook.proofs.Counting.{counts_not, whole_caused}
