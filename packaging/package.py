@@ -2,8 +2,8 @@
 
 FOLDER/acd_VERSION_amd64.deb and FOLDER/acd-exchange_VERSION_all.deb: VERSION is that of the first heading of CHANGELOG.md, and of what the program says to --version.
 The program is that of release/, which release/SHA256SUMS has to name; another one is packaged by --program, for a trial, and
-one that doesn't know --version by --unchecked-version. The manual page and the completion for bash are compared with what
---help says. The notices of the toolchain's crates that are linked in are those of release/NOTICES, which have to name each crate that the program's symbols name.
+one that doesn't know --version by --unchecked-version. The program's manual page and its completion for bash are compared with
+what --help says; those of acdctl are made of what its parsers know. The notices of the toolchain's crates that are linked in are those of release/NOTICES, which have to name each crate that the program's symbols name.
 
 The same commit and program make the same bytes on the same Debian: what is packaged has the moment of the commit where this is a clone and git is here, else that of
 the first heading of CHANGELOG.md."""
@@ -32,7 +32,6 @@ MAINTAINER = "The maintainers of acd <maintainers@users.noreply.hullapricot.exam
 UNITS = ("acd.service", "acd-tick.service", "acd-gate.service", "acd-copy.service", "acd-copy.timer", "acd-local.service",
          "acd-node.service", "acd-node-upkeep.service", "acd-node-upkeep.timer", "acd-records.service", "acd-follow.service", "acd-carry.service", "acd-carry.timer",
          "acd-certificate.service", "acd-certificate.timer")
-MANUAL = ("acd.1", "acdctl.1", "acd-calls.1", "acd-plan.1", "acd-trail.1", "acd-ready.8", "acd-tick.8", "acd-gate.8", "acd-copy.8", "acd-carry.8", "acd-follow.8", "acd-forget.8", "acd-export.1", "acd-local.8", "acd-node.8", "acd-certificate.8")
 # until the next minor version
 OLD_NAMES_OF_USERS = ("acd-calls", "acd-export", "acd-plan", "acd-trail")
 OLD_NAMES_OF_ROOT = ("acd-carry", "acd-certificate", "acd-copy", "acd-follow", "acd-forget", "acd-gate", "acd-local", "acd-node", "acd-ready", "acd-tick")
@@ -157,14 +156,6 @@ def differences_from_help(program, page, script, left_out=frozenset()):
     return found
 
 
-def differences_of_plan(script, page, completion):
-    """How the manual page and the completion of acd-plan differ from what its --help says."""
-    wanted = set(re.findall(r"^  (?:-h, )?(--[\w-]+)", told(script, "--help"), re.MULTILINE))
-    typed = 'source "$0"; COMP_WORDS=(acd-plan ""); COMP_CWORD=1; _acd_plan; printf "%s\\n" "${COMPREPLY[@]}"'
-    has = {"manual page": page_options(sections(page.read_text(), ".SH ")["OPTIONS"]), "completion": set(told("bash", "-c", typed, completion).split())}
-    return [f"{what} of acd-plan: {' '.join(sorted(options ^ wanted))} on one side alone" for what, options in has.items() if options != wanted]
-
-
 # Licences
 
 def copyright_text(version, *more):
@@ -287,6 +278,19 @@ def lay_out_service(root, put, version):
             (root / folder / name).symlink_to("../share/acd/acdctl")
 
 
+def lay_out_help(root, put, version, date):
+    """The manual pages and the completions: those of the program as they are, those of acdctl and its old names by what its parsers know."""
+    completions = "usr/share/bash-completion/completions"
+    put(f"{completions}/acd", (SERVICE / "completion/acd.bash").read_bytes())
+    with tempfile.TemporaryDirectory() as folder:
+        told("/usr/bin/python3", "-B", SERVICE / "man/make", folder, env={**os.environ, "PYTHONPATH": f"{SERVICE}:{CLIENT}"})
+        for page in (SERVICE / "man/acd.1", *sorted(Path(folder).glob("man*/*"))):
+            put(f"usr/share/man/man{page.suffix[1:]}/{page.name}.gz", manual_page(page, version, date))
+        put(f"{completions}/acdctl", Path(folder, "acdctl").read_bytes())
+    for name in (*OLD_NAMES_OF_USERS, *OLD_NAMES_OF_ROOT):
+        (root / completions / name).symlink_to("acdctl")
+
+
 def lay_out(root, options, moment):
     """Fills the folder with what the package has; the folder DEBIAN has its control files."""
     versions = changes()
@@ -294,7 +298,6 @@ def lay_out(root, options, moment):
     program, toolchain, source = checked_program(options, version)
     differences = differences_from_help(program, SERVICE / "man/acd.1", SERVICE / "completion/acd.bash",
                                         {"--version"} if options.unchecked_version else frozenset())
-    differences += differences_of_plan(SERVICE / "bin/acd-plan", SERVICE / "man/acd-plan.1", SERVICE / "completion/acd.bash")
     if differences:
         fail("\n".join(differences))
 
@@ -304,17 +307,13 @@ def lay_out(root, options, moment):
     lay_out_service(root, put, version)
     for page in sorted(path for path in BOARD.rglob("*") if path.suffix in PAGES):
         put(f"usr/share/acd/board/{page.relative_to(BOARD)}", page.read_bytes())
-    for name in MANUAL:
-        put(f"usr/share/man/man{name[-1]}/{name}.gz", manual_page(SERVICE / "man" / name, version, date))
+    lay_out_help(root, put, version, date)
     for name in UNITS:
         put(f"usr/lib/systemd/system/{name}", (SERVICE / "units" / name).read_bytes())
     put("usr/share/acd/keep-reads", (PACKAGING / "acd/keep-reads").read_bytes(), 0o755)
     (root / "etc/acd").mkdir(parents=True)
     # records are written behind each copy, so their unit is wanted by that of the copies
     put("usr/share/lintian/overrides/acd", "acd: systemd-service-file-refers-to-unusual-wantedby-target acd-copy.service *\n")
-    put("usr/share/bash-completion/completions/acd", (SERVICE / "completion/acd.bash").read_bytes())
-    for name in OLD_NAMES_OF_USERS:
-        (root / "usr/share/bash-completion/completions" / name).symlink_to("acd")
     doc = "usr/share/doc/acd/"
     for page in [TOP / "README.md", TOP / "docs/openapi.yaml", *sorted((TOP / "docs").glob("*.md")), *sorted((TOP / "docs").glob("*.png"))]:
         put(doc + page.name, page.read_bytes())

@@ -94,7 +94,7 @@ def carried(file, archive):
     found = chain.differences(file, archive)
     if found:
         return Finding(UNSOUND, f"{found}, and not as in {archive}")
-    return Finding(SOUND, f"this acd can't look behind an archive (audit --archive): by SQL the copy continues {archive.name}", last_stamp(file))
+    return Finding(SOUND, f"this acd can't audit with an archive (audit --archive): by SQL the copy continues {archive.name}", last_stamp(file))
 
 
 def audited(file, archive=None):

@@ -8,6 +8,8 @@ import time
 from collections import Counter
 from pathlib import Path
 
+from acd_service.command import Fault
+
 KINDS = ["serviceInitiated", "originated", "queued", "delivered", "diverted", "established", "held", "retrieved", "transferred", "failed", "connectionCleared",
          "callCleared", "agentLoggedOn", "agentLoggedOff", "agentNotReady", "agentReady", "agentBusy", "agentWorkingAfterCall"]
 CAUSES = [None, "newCall", "distributed", "deflected", "transferred", "noAnswer", "busy"]
@@ -16,10 +18,6 @@ CAUSES = [None, "newCall", "distributed", "deflected", "transferred", "noAnswer"
 LOCKED, PAGELESS = 0x40000000, 56
 # the bytes of a log's head, and how often a file that is written meanwhile is copied
 HEAD, TRIES = 32, 10
-
-
-class Fault(Exception):
-    """Why there is nothing to print."""
 
 
 def identifier(number):
@@ -111,7 +109,7 @@ def connected(file, folder, is_live=False):
     log = Path(f"{file}-wal")
     if is_open(file):
         if not is_live:
-            raise Fault(f"{file} is open elsewhere: take a copy of it, by acd-copy, or add --live")
+            raise Fault(f"{file} is open elsewhere: take a copy of it, by acdctl copy, or add --live")
         return sqlite3.connect(copied_live(file, log, Path(tempfile.mkdtemp(dir=folder))))
     if log.exists() and log.stat().st_size > PAGELESS:
         return sqlite3.connect(copied(file, log, Path(tempfile.mkdtemp(dir=folder))))
@@ -151,7 +149,7 @@ def copied_live(file, log, folder):
         if before and before == head(folder / "book-wal") == head(log):
             return book
         time.sleep(0.2)
-    raise Fault(f"{file} changes faster than it can be copied: take a copy of it, by acd-copy")
+    raise Fault(f"{file} changes faster than it can be copied: take a copy of it, by acdctl copy")
 
 
 def head(log):

@@ -3,16 +3,14 @@ desk's file. Or writes files of the days that are over."""
 import argparse
 import csv
 import datetime
-import os
 import re
-import sqlite3
 import sys
 import tempfile
 from pathlib import Path
 
 from acd_service import archives, chain, command, sheets
-from acd_service.book import Book, Fault, opened
-from acd_service.command import report
+from acd_service.book import Book, opened
+from acd_service.command import Fault, report
 from acd_service.leaving.quarters import Quarters
 from acd_service.leaving.records import Records
 from acd_service.office import FILE, counting
@@ -105,7 +103,7 @@ def guarded(column, field):
 # The copy
 
 def newest(folder):
-    """The newest sound copy in a folder of acd-copy, and when it was made."""
+    """The newest sound copy in a folder of copies, and when it was made."""
     found = []
     for place in folder.iterdir() if folder.is_dir() else ():
         try:
@@ -256,29 +254,34 @@ def add_files(parser):
     """The options that say of what the records are."""
     of = parser.add_mutually_exclusive_group(required=True)
     of.add_argument("--file", type=Path, metavar="FILE", help="a copy of the desk's file, with its log beside it where it has one")
-    of.add_argument("--copies", type=Path, metavar="FOLDER", help="a folder of acd-copy: the newest good copy there")
+    of.add_argument("--copies", type=Path, metavar="FOLDER", help="a folder of copies: the newest good one there")
     parser.add_argument("--archive", action="append", default=[], type=Path, metavar="A",
                         help="an archive that the file was carried over from, in place of those that its note names; as often as there are some, from the oldest on")
 
 
-def asked(words):
-    parser = argparse.ArgumentParser(prog=command.name, allow_abbrev=False, description="Prints CSV lines of the calls of a desk, out of a copy of its file.")
-    add_files(parser)
-    parser.add_argument("--live", action="store_true", help="of a file that a desk has open: what it has at this moment")
-    table = parser.add_mutually_exclusive_group()
+def parser():
+    found = command.Parser("Prints CSV lines of the calls of a desk, out of a copy of its file.", printed_usage=True)
+    add_files(found)
+    found.add_argument("--live", action="store_true", help="of a file that a desk has open: what it has at this moment")
+    table = found.add_mutually_exclusive_group()
     for name, about in (("legs", "each leg of a call: its wait in a group, its ring and talk at a station"), ("agents", "each day and agent"), ("groups", "each quarter of an hour and group")):
         table.add_argument(f"--{name}", dest="table", action="store_const", const=name, help=f"a line for {about}")
     table.add_argument("--days", type=Path, metavar="FOLDER", help="writes records/DAY.csv, agents/DAY.csv and groups/DAY.csv there for the days that are over")
-    parser.add_argument("--since", type=day, metavar="DAY", help="from this day on, 2026-11-26 say")
-    parser.add_argument("--until", type=day, metavar="DAY", help="up to this day, and with it")
-    parser.add_argument("--names", action="store_true", help="names beside numbers")
-    parser.add_argument("--excel", action="store_true", help="' before what a spreadsheet would change")
-    parser.add_argument("--office", type=Path, metavar="FILE", help=f"names, limits and zone; {FILE} as it comes, where that is there")
-    options = parser.parse_args(words)
+    found.add_argument("--since", type=day, metavar="DAY", help="from this day on, 2026-11-26 say")
+    found.add_argument("--until", type=day, metavar="DAY", help="up to this day, and with it")
+    found.add_argument("--names", action="store_true", help="names beside numbers")
+    found.add_argument("--excel", action="store_true", help="' before what a spreadsheet would change")
+    found.add_argument("--office", type=Path, metavar="FILE", help=f"names, limits and zone; {FILE} as it comes, where that is there")
+    return found
+
+
+def asked(words):
+    found = parser()
+    options = found.parse_args(words)
     if options.days and (options.since or options.until or options.live):
-        parser.error("--days writes all days that are over, out of a copy")
+        found.error("--days writes all days that are over, out of a copy")
     if options.live and options.copies:
-        parser.error("--live is of the desk's file")
+        found.error("--live is of the desk's file")
     return options
 
 
@@ -305,16 +308,12 @@ def do(options, folder):
 
 
 def run(options):
+    """Its status."""
     # names are of any script, whatever the machine's language
     sys.stdout.reconfigure(encoding="utf-8")
-    try:
-        with tempfile.TemporaryDirectory() as folder:
-            sys.exit(0 if do(options, folder) else MISSING)
-    except BrokenPipeError:
-        os.dup2(os.open(os.devnull, os.O_WRONLY), sys.stdout.fileno())
-    except (Fault, chain.Broken, OSError, sqlite3.Error) as fault:
-        sys.exit(f"{command.name}: {fault}")
+    with command.while_somebody_reads(), tempfile.TemporaryDirectory() as folder:
+        return 0 if do(options, folder) else MISSING
 
 
 def main(words):
-    run(asked(words))
+    command.run(asked, run, words)

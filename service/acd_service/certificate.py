@@ -1,22 +1,17 @@
 """Tells when the certificate ends that nginx shows at its port: from two weeks before its end on, and after it, with the status 1.
 
 It asks the port by TLS, since a new file helps nobody until nginx has read it. It is tested, not proved."""
-import argparse
 import datetime
 import socket
 import ssl
-import sys
 
 from acd_service import command
+from acd_service.command import INFO, Fault
 
 WAIT = 10
 SEQUENCE, VERSION, UTC_TIME, GENERALIZED_TIME = 0x30, 0xA0, 0x17, 0x18
 FORMS = {UTC_TIME: "%y%m%d%H%M%SZ", GENERALIZED_TIME: "%Y%m%d%H%M%SZ"}
 HELP = "OPERATING, 'Certificates', says how"
-
-
-class Fault(Exception):
-    """Why no certificate was looked at."""
 
 
 # A certificate in DER (RFC 5280): a sequence of the part that is signed, the algorithm and the signature
@@ -75,7 +70,7 @@ def report(host, port, days, now):
     end = end_of(certificate)
     left, when = (end - now) / datetime.timedelta(days=1), end.strftime("%Y-%m-%d %H:%M UTC")
     if left > days:
-        command.report(f"the certificate at {host}:{port} ends on {when}")
+        command.report(f"the certificate at {host}:{port} ends on {when}", INFO)
         return True
     if left > 0:
         command.report(f"the certificate at {host}:{port} ends in {int(left)} days, on {when}: renew it, and reload nginx; {HELP}")
@@ -84,20 +79,22 @@ def report(host, port, days, now):
     return False
 
 
-def number(text):
-    if not text.isascii() or not text.isdigit() or not 0 < int(text) < 65536:
-        raise argparse.ArgumentTypeError(f"'{text}' is no number from 1 to 65535")
-    return int(text)
+def parser():
+    found = command.Parser("Tells when the certificate ends that a port shows by TLS.", printed_usage=True)
+    number = command.whole_number(1, 65535)
+    found.add_argument("--host", default="127.0.0.1", metavar="HOST", help="the host of the port; 127.0.0.1 unless given")
+    found.add_argument("--port", type=number, default=8443, metavar="PORT", help="the port; 8443 unless given")
+    found.add_argument("--days", type=number, default=14, metavar="N", help="so many days before its end the status is 1; 14 unless given")
+    return found
+
+
+def do(options):
+    """Its status."""
+    try:
+        return 0 if report(options.host, options.port, options.days, datetime.datetime.now(datetime.timezone.utc)) else command.FAILED
+    except Fault as fault:
+        raise Fault(f"{options.host}:{options.port}: {fault}") from None
 
 
 def main(words):
-    parser = argparse.ArgumentParser(prog=command.name, allow_abbrev=False, description="Tells when the certificate ends that a port shows by TLS.")
-    parser.add_argument("--host", default="127.0.0.1", metavar="HOST", help="the host of the port; 127.0.0.1 unless given")
-    parser.add_argument("--port", type=number, default=8443, metavar="PORT", help="the port; 8443 unless given")
-    parser.add_argument("--days", type=number, default=14, metavar="N", help="so many days before its end the status is 1; 14 unless given")
-    options = parser.parse_args(words)
-    try:
-        sys.exit(0 if report(options.host, options.port, options.days, datetime.datetime.now(datetime.timezone.utc)) else 1)
-    except Fault as fault:
-        command.report(f"{options.host}:{options.port}: {fault}")
-        sys.exit(1)
+    command.run(lambda given: parser().parse_args(given), do, words)

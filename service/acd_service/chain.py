@@ -21,6 +21,7 @@ from dataclasses import dataclass
 from pathlib import Path
 
 from acd_service import pair, put
+from acd_service.command import Fault
 
 NOTE, DIGEST = ".archive", ".sha256"
 # beside a copy that isn't wholly sound: which request was sent again after a cut
@@ -34,7 +35,7 @@ LIMITS = "max_requests, max_calls, max_groups, max_stations, max_agents, max_mon
 REFUSED = 2
 
 
-class Broken(Exception):
+class Broken(Fault):
     """An archive isn't there, or isn't the one that the note names."""
 
 
@@ -99,7 +100,7 @@ def exchanged(file):
 
 def unfinished(file):
     """The text for an exchange that was broken off."""
-    return f"acd-carry of {file} was broken off: acd-carry --file {file} ends it" if exchanged(file) else None
+    return f"acdctl carry of {file} was broken off: acdctl carry --file {file} ends it" if exchanged(file) else None
 
 
 # The archive

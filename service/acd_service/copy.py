@@ -9,25 +9,19 @@ import contextlib
 import os
 import re
 import shutil
-import signal
 import subprocess
-import sys
 import tempfile
 import time
 from pathlib import Path
 
-from acd_service import audit, chain, command, held, put, restoring
-from acd_service.command import report
+from acd_service import audit, chain, command, held, put, restoring, settings
+from acd_service.command import Fault, report, say
 from acd_service.halt import Missed, desks_over, halted
 from acd_service.pair import identity, log_of
-from acd_service.restoring import Fault, name_of, sync
+from acd_service.restoring import name_of, sync
 
-USAGE = """usage: acd-copy [--file F] [--folder COPIES] [--keep DAYS] [--halt SECONDS]
-       acd-copy [--file F] [--folder COPIES] --restore MOMENT     puts a copy back, beside no program that has F open
-       acd-copy [--file F] --undo                                 takes the last restore back
-       acd-copy [--file F] --continue                             lets a halted desk go on, and copies nothing
-       (F, COPIES, DAYS and SECONDS are those of /etc/acd/acd.env, else /var/lib/acd/desk.db, its folder copies, 7 days, 20 seconds)"""
-SETTINGS, NGINX = Path("/etc/acd/acd.env"), Path("/etc/nginx")
+ABOUT = "Copies the desk's file while the desk runs, audits the copy, and clears old copies away."
+NGINX = Path("/etc/nginx")
 DATE, MOMENT = "YYYY-MM-DD", "%Y-%m-%dT%H%M%SZ"
 NAMED = r"\d{4}-\d\d-\d\dT\d{6}Z"
 DAY = 86400
@@ -40,10 +34,6 @@ MOST = 20
 # seconds from which on a copy takes long, and how many bytes are compared at once
 SLOW, BLOCK = 1, 1 << 20
 CHANGED, LONGER = "its file was written, or moved, while it was copied", "the desk was halted, and its copy takes longer"
-
-
-def say(text):
-    print(text, flush=True)
 
 
 # A copy
@@ -203,7 +193,7 @@ def kept_aside(new, folder, name, why):
     """Keeps what isn't a good copy, and ends. Of those whose name has no moment the last is kept."""
     if (folder / name).exists():
         shutil.rmtree(folder / name)
-    raise Fault(f"{why}; it lies in {kept(new, folder, name)}, and the older copies are all kept")
+    raise Fault(f"{why}; it is in {kept(new, folder, name)}, and all older copies are kept")
 
 
 def archived(new, folder, file):
@@ -222,7 +212,7 @@ def judged(new, folder, file, desk):
         archive = archived(new, folder, file)
         found = audit.audited(new / file.name, archive)
     except chain.Broken as fault:
-        kept_aside(new, folder, "{}.unaudited", f"the copy can't be looked at behind its archive: {fault}")
+        kept_aside(new, folder, "{}.unaudited", f"the copy can't be audited with its archive: {fault}")
     if found.verdict == audit.UNAUDITED:
         kept_aside(new, folder, "{}.unaudited", f"the copy's audit wasn't ended: {found.said}")
     if found.verdict == audit.EARLY:
@@ -308,7 +298,7 @@ def looked_for(file, found):
     owner = os.stat(at).st_uid
     if os.geteuid() != owner:
         name = name_of(owner)
-        raise Fault(f"only the user {name} makes copies of {file}: runuser -u {name} -- acd-copy")
+        raise Fault(f"only the user {name} makes copies of {file}: runuser -u {name} -- acdctl copy")
 
 
 def old_proxies():
@@ -347,11 +337,6 @@ def copy(file, folder, keep, halt):
 
 # The command
 
-class Parser(argparse.ArgumentParser):
-    def error(self, message):
-        raise Fault(message, 2)
-
-
 def number(text):
     if not re.fullmatch("[1-9][0-9]{0,2}", text):
         raise argparse.ArgumentTypeError(f"to keep copies of '{text}' days: that isn't a whole number from 1 to 999")
@@ -364,45 +349,46 @@ def halt_seconds(text):
     return int(text)
 
 
-def settings():
-    """The settings that the administrator wrote for the units; quotes around a value don't belong to it, as with systemd."""
-    try:
-        lines = SETTINGS.read_text().splitlines()
-    except OSError:
-        return {}
-    found = (line.split("=", 1) for line in lines if "=" in line and not line.startswith("#"))
-    return {name: re.sub(r"""^(["'])(.*)\1$""", r"\2", value.strip()) for name, value in found}
+def parser():
+    found = command.Parser(ABOUT)
+    add_places(found)
+    found.add_argument("--keep", type=number, metavar="DAYS", help="of how many days to keep the last good copy; ACD_COPIES, else 7")
+    found.add_argument("--halt", type=halt_seconds, metavar="SECONDS", help="for how many seconds at most the desk may be halted; ACD_HALT, else 20")
+    does = found.add_mutually_exclusive_group()
+    if command.is_old:
+        does.add_argument("--restore", metavar="MOMENT", help="put the copy of this moment back")
+        does.add_argument("--undo", action="store_true", help="take the last restore back")
+    does.add_argument("--continue", dest="continues", action="store_true", help="let a halted desk continue, and copy nothing")
+    found.set_defaults(restore=None, undo=False)
+    return found
+
+
+def add_places(found):
+    """Where the file and its copies are, for copies and restores. The settings are those of the desk's own file: another file has its copies beside it."""
+    found.add_argument("--file", metavar="F", help=f"the desk's file; that of ACD_FILE, else {settings.DEFAULTS['ACD_FILE']}")
+    found.add_argument("--folder", metavar="COPIES", help="the folder of the copies; that of ACD_COPY_FOLDER, else copies beside the file")
 
 
 def read(words):
-    parser = Parser(add_help=False, allow_abbrev=False)
-    parser.add_argument("-h", "--help", action="store_true")
-    for name in ("--file", "--folder"):
-        parser.add_argument(name)
-    parser.add_argument("--keep", type=number)
-    parser.add_argument("--halt", type=halt_seconds)
-    does = parser.add_mutually_exclusive_group()
-    does.add_argument("--restore", metavar="MOMENT")
-    does.add_argument("--undo", action="store_true")
-    does.add_argument("--continue", dest="continues", action="store_true")
-    return with_settings(parser.parse_args(words))
+    return with_settings(parser().parse_args(words))
 
 
 def with_settings(options):
     """The options, with what the settings give where they don't."""
-    has = settings() if not options.file else {}
-    options.file = held.place(options.file or has.get("ACD_FILE") or "/var/lib/acd/desk.db")
+    has = settings.current() if not options.file else settings.DEFAULTS
+    options.file = held.place(options.file or has["ACD_FILE"])
     options.folder = Path(os.path.abspath(options.folder or has.get("ACD_COPY_FOLDER") or options.file.parent / "copies"))
     try:
-        options.keep = options.keep or number(has.get("ACD_COPIES") or "7")
-        options.halt = halt_seconds(has.get("ACD_HALT") or "20") if options.halt is None else options.halt
+        options.keep = options.keep or number(has["ACD_COPIES"])
+        options.halt = halt_seconds(has["ACD_HALT"]) if options.halt is None else options.halt
     except argparse.ArgumentTypeError as fault:
-        raise Fault(f"{SETTINGS}: {fault}", 2) from None
+        raise Fault(f"{settings.FILE}: {fault}", status=command.REFUSED) from None
     return options
 
 
 def do(options):
-    """Does what was asked for; whether all is as it should be."""
+    """Does what was asked for; the status, 0 where all is as it should be."""
+    command.end_on_signals()
     os.umask(0o077)
     if options.continues:
         for desk in desks_over(options.file):
@@ -411,33 +397,10 @@ def do(options):
         restoring.restore(options.file, options.folder, options.restore, say)
     elif options.undo:
         restoring.undo(options.file, say)
-    else:
-        return copy(options.file, options.folder, options.keep, options.halt)
-    return True
-
-
-def end(*_):
-    """A signal ends it as a fault does: the desk continues, and no half copy stays."""
-    sys.exit(1)
-
-
-def run(read, usage, words):
-    for one in (signal.SIGHUP, signal.SIGINT, signal.SIGTERM):
-        signal.signal(one, end)
-    options = None
-    try:
-        options = read(words)
-        if options.help:
-            print(command.called(usage))
-        else:
-            sys.exit(0 if do(options) else 1)
-    except (Fault, chain.Broken) as fault:
-        report(fault)
-        sys.exit(getattr(fault, "status", 1))
-    except OSError as fault:
-        report(f"{fault.filename or options and options.file}: {fault.strerror}")
-        sys.exit(1)
+    elif not copy(options.file, options.folder, options.keep, options.halt):
+        return command.FAILED
+    return 0
 
 
 def main(words):
-    run(read, USAGE, words)
+    command.run(read, do, words)

@@ -2,21 +2,19 @@
 
 It feeds the next one once it has compared the copy's reply with the desk's. Each time it asks for the copy's last request once more: if the desk has
 another one there, or fewer requests, the two have different histories, and it feeds nothing more. It is tested, not proved."""
-import argparse
 import contextlib
 import json
 import os
 import re
 import signal
 import subprocess
-import sys
 import time
 from pathlib import Path
 from typing import NamedTuple
 
 from acd_client import Unanswered
-from acd_service import command, pair, put, reach
-from acd_service.command import report
+from acd_service import command, pair, put, reach, settings
+from acd_service.command import NOTICE, Fault, report, say
 
 # seconds between two looks at a desk that has nothing new; between two attempts; and for how long a file may be open elsewhere, as by the desk that a
 # killed one left, and what doesn't answer is asked again where an end is wanted
@@ -27,20 +25,10 @@ NOTE, NOTED = ".followed", 10
 BEYOND = 999_999_999_999_999
 # what the desk's program ends with where its file is open elsewhere
 OPEN_ELSEWHERE = 4
-ENDING = (signal.SIGHUP, signal.SIGINT, signal.SIGTERM)
 DIFFERS, LACKS = 3, 4
-DESK_FILE = "/var/lib/acd/desk.db"
 DECODER = json.JSONDecoder()
 # there is something in it once a signal came
 ending = []
-
-
-class Fault(Exception):
-    """Why it ends: a line or several."""
-
-    def __init__(self, *lines, status=1):
-        super().__init__(*lines)
-        self.status = status
 
 
 class Again(Exception):
@@ -49,10 +37,6 @@ class Again(Exception):
 
 class Ended(Exception):
     """A signal wants it to end."""
-
-
-def say(text):
-    print(text, flush=True)
 
 
 def moment_text(moment):
@@ -250,11 +234,11 @@ class Copy:
 @contextlib.contextmanager
 def undisturbed():
     """No signal ends it meanwhile."""
-    signal.pthread_sigmask(signal.SIG_BLOCK, ENDING)
+    signal.pthread_sigmask(signal.SIG_BLOCK, command.ENDING)
     try:
         yield
     finally:
-        signal.pthread_sigmask(signal.SIG_UNBLOCK, ENDING)
+        signal.pthread_sigmask(signal.SIG_UNBLOCK, command.ENDING)
 
 
 # The follower
@@ -276,7 +260,7 @@ class Trouble:
     def is_over(self, text):
         if self.since is not None:
             self.since = None
-            report(text)
+            report(text, NOTICE)
 
 
 class Follower:
@@ -399,33 +383,35 @@ class Follower:
 
 # The command
 
-def options_of(words):
-    about = "Keeps a copy of a desk that runs elsewhere, by the requests that it has executed."
-    parser = argparse.ArgumentParser(prog=command.name, description=about, allow_abbrev=False)
-    parser.add_argument("address", nargs="?", type=reach.address, metavar="URL", help="the desk's address, as http://127.0.0.1:8080 or https://desk.example:8443")
-    parser.add_argument("--file", metavar="G", help="the file that the copy is kept in; it is made where it isn't there")
-    parser.add_argument("--once", action="store_true", help="end as soon as the copy has what the desk told of")
-    parser.add_argument("--last", action="store_true", help=f"print what it said last of the copy G ({DESK_FILE} unless given), and end; it takes no URL")
-    parser.add_argument("--desk", default="acd", metavar="PROGRAM", help="the desk's program that keeps the copy; acd unless given")
-    reach.add_login_options(parser)
-    options = parser.parse_args(words)
+def parser():
+    found = command.Parser("Keeps a copy of a desk that runs elsewhere, by the requests that it has executed.", printed_usage=True)
+    found.add_argument("address", nargs="?", type=reach.address, metavar="URL", help="the desk's address, as http://127.0.0.1:8080 or https://desk.example:8443")
+    found.add_argument("--file", metavar="G", help="the file of the copy, which is made if it isn't there; with --last that of ACD_FILE unless given")
+    found.add_argument("--once", action="store_true", help="end as soon as the copy has all that the desk told")
+    found.add_argument("--last", action="store_true", help="print what was last said of the copy, and end; it takes no URL")
+    found.add_argument("--desk", default="acd", metavar="PROGRAM", help="the desk's program that keeps the copy; acd unless given")
+    reach.add_login_options(found)
+    return found
+
+
+def read(words):
+    found = parser()
+    options = found.parse_args(words)
     if options.last and options.address:
-        parser.error("--last asks no desk: it takes no URL")
+        found.error("--last asks no desk: it takes no URL")
     if not options.last:
         if not options.address or not options.file:
-            parser.error("URL and --file have to be given, or --last")
-        reach.check(parser, options)
+            found.error("URL and --file have to be given, or --last")
+        reach.check(found, options)
     return options
 
 
 def last(file):
-    """What acd-follow said of the copy when it ended, or some seconds ago; the status."""
+    """Prints what it said of the copy as it ended, or some seconds ago."""
     try:
         say(note_of(file).read_text().strip())
-        return 0
     except OSError as fault:
-        report(f"{note_of(file)}: {fault.strerror}: acd-follow hasn't caught up yet there")
-        return 1
+        raise Fault(f"{note_of(file)}: {fault.strerror}: acdctl follow hasn't caught up yet there") from None
 
 
 def end(*_):
@@ -435,12 +421,10 @@ def end(*_):
         raise Ended
 
 
-def main(words):
-    options = options_of(words)
-    if options.last:
-        sys.exit(last(options.file or DESK_FILE))
+def follow(options):
+    """Follows until it is ended, or has caught up where that is wanted; the status."""
     os.umask(0o077)
-    for one in ENDING:
+    for one in command.ENDING:
         signal.signal(one, end)
     copy, follower, status = Copy(options.desk, options.file), None, 0
     try:
@@ -448,13 +432,21 @@ def main(words):
         follower.follow()
     except Ended:
         pass
-    except (Fault, reach.Fault) as fault:
+    except Fault as fault:
         for text in fault.args:
-            report(text)
-        status = getattr(fault, "status", 1)
-    signal.pthread_sigmask(signal.SIG_BLOCK, ENDING)
+            report(text, command.ERROR)
+        status = fault.status
+    signal.pthread_sigmask(signal.SIG_BLOCK, command.ENDING)
     copy.close()
     if copy.last is not None:
         follower.note()
         say(follower.state())
-    sys.exit(status)
+    return status
+
+
+def do(options):
+    return last(options.file or settings.desk_file()) if options.last else follow(options)
+
+
+def main(words):
+    command.run(read, do, words)

@@ -15,17 +15,16 @@ import secrets
 import shutil
 import sqlite3
 import subprocess
-import sys
 import tempfile
 from pathlib import Path
 
-from acd_service import chain, command, held, restoring
+from acd_service import chain, command, held, restoring, settings
 from acd_service.archives import HISTORY, opened
 from acd_service.audit import sent_again
-from acd_service.book import Fault as BookFault, connected, copied_live, is_open
-from acd_service.command import report
+from acd_service.book import connected, copied_live, is_open
+from acd_service.command import Fault, say
 from acd_service.pair import holds_something, log_of
-from acd_service.restoring import HALF, Fault, sync
+from acd_service.restoring import HALF, sync
 
 LEAST, MOST = 6, 15
 # the columns and the members that have a device's number
@@ -38,10 +37,6 @@ STATE = "forget.json"
 # files that nobody needs after a start, and that the next start clears away
 SCRATCH = ".forget."
 KEPT_BESIDE = ("put-away-*", "taken-back-*", "damaged-*")
-
-
-def say(text):
-    print(text, flush=True)
 
 
 def number_of(device):
@@ -108,7 +103,7 @@ def holds(file, scratch, device):
     try:
         with read(file, scratch) as rows:
             return bool(tables_with(rows, device))
-    except (BookFault, sqlite3.Error):
+    except (Fault, sqlite3.Error):
         return any(is_in_bytes(part, device) for part in (file, log_of(file)) if part.is_file())
 
 
@@ -136,7 +131,7 @@ def chained(file, copies, named):
         raise Fault(f"{file} continues {', '.join(wanted) or 'no archive'}: name these, each by --archive; nothing was changed")
     for path in named:
         if path.is_file() and path.stat().st_dev != file.parent.stat().st_dev:
-            raise Fault(f"{path} lies on another disk than {file}: put it beside that; nothing was changed")
+            raise Fault(f"{path} is on another disk than {file}: put it beside that; nothing was changed")
         if holds_something(log_of(path)) or chain.digest(path) != wanted[path.name]:
             raise Fault(f"{path} isn't the archive that was noted: its digest is another one, or it has a log; nothing was changed")
     return {path: wanted[path.name] for path in sorted(named, key=lambda path: list(wanted).index(path.name))}
@@ -379,7 +374,7 @@ def forget(file, copies, named, device, program, scratch):
     if any(found.values()):
         done = prepared(file, archives, device, program, scratch)
         done.go(file, copies)
-        say(f"Removed {device} from all archives. The old ones are in {done.folder}; delete them with acd-forget --confirm")
+        say(f"Removed {device} from all archives. The old ones are in {done.folder}; delete them with acdctl forget --confirm")
     else:
         say(f"{device} is in no archive")
     for place in others_with(file, archives, copies.parent, scratch, device):
@@ -389,7 +384,7 @@ def forget(file, copies, named, device, program, scratch):
 def confirm(file):
     for left in forgettings(file):
         if not left.is_ended():
-            raise Fault(f"{left.folder} isn't ended: the same acd-forget --caller once more ends it")
+            raise Fault(f"{left.folder} isn't ended: the same acdctl forget --caller once more ends it")
         gone = Path(tempfile.mkdtemp(prefix=HALF, dir=file.parent))
         restoring.move(left.folder, gone)
         shutil.rmtree(gone)
@@ -398,46 +393,44 @@ def confirm(file):
 
 # The command
 
-class Parser(argparse.ArgumentParser):
-    def error(self, message):
-        raise Fault(message, 2)
-
-
 def caller(text):
     if not re.fullmatch(f"[0-9]{{{LEAST},{MOST}}}", text):
         raise argparse.ArgumentTypeError(f"'{text}' isn't a number of {LEAST} to {MOST} digits")
     return text
 
 
-def read_words(words):
-    parser = Parser(prog=command.name, allow_abbrev=False, description="Makes a caller's number unknown in the archives that a desk's file continues.")
-    does = parser.add_mutually_exclusive_group(required=True)
+def parser():
+    found = command.Parser("Makes a caller's number unknown in the archives that a desk's file continues.")
+    does = found.add_mutually_exclusive_group(required=True)
     does.add_argument("--caller", type=caller, metavar="N", help=f"the number, of {LEAST} digits or more")
-    does.add_argument("--confirm", action="store_true", help="removes the archives that were put away")
-    parser.add_argument("--archive", action="append", default=[], type=Path, metavar="A",
-                        help="an archive that the file continues; all of them have to be named")
-    parser.add_argument("--file", default="/var/lib/acd/desk.db", type=Path, metavar="F", help="the desk's file; /var/lib/acd/desk.db unless given")
-    parser.add_argument("--folder", type=Path, metavar="COPIES", help="where acd-copy's copies lie; the folder copies beside the file unless given")
-    parser.add_argument("--desk", default="acd", metavar="PROGRAM", help="the desk's program; acd unless given")
-    options = parser.parse_args(words)
+    does.add_argument("--confirm", action="store_true", help="remove the archives that were put away")
+    found.add_argument("--archive", action="append", default=[], type=Path, metavar="A",
+                       help="an archive that the file continues; all of them must be named")
+    settings.add_file(found)
+    found.add_argument("--folder", type=Path, metavar="COPIES", help="the folder of the copies; copies beside the file unless given")
+    found.add_argument("--desk", default="acd", metavar="PROGRAM", help="the desk's program; acd unless given")
+    return found
+
+
+def read_words(words):
+    options = parser().parse_args(words)
     options.file = held.place(options.file)
     options.archive = [held.place(archive) for archive in options.archive]
     options.folder = chain.copies_of(Path(os.path.abspath(options.folder or options.file.parent / "copies")))
     return options
 
 
-def main(words):
+def do(options):
     os.umask(0o077)
     try:
-        options = read_words(words)
         with alone(options.file), tempfile.TemporaryDirectory(prefix=SCRATCH, dir=options.file.parent) as scratch:
             if options.confirm:
                 confirm(options.file)
             else:
                 forget(options.file, options.folder, options.archive, options.caller, shutil.which(options.desk) or options.desk, Path(scratch))
-    except (Fault, chain.Broken, BookFault) as fault:
-        report(fault)
-        sys.exit(getattr(fault, "status", 1))
-    except (OSError, sqlite3.Error, ValueError) as fault:
-        report(fault)
-        sys.exit(1)
+    except ValueError as fault:
+        raise Fault(fault) from None
+
+
+def main(words):
+    command.run(read_words, do, words)

@@ -160,7 +160,7 @@ def moved(process, path):
     what, name = found
     under = f"the {what} {path}{'-wal' if what == 'log' else ''} was %s the desk, process {process}"
     if name.endswith(" (deleted)"):
-        return under % "removed from under" + ": what it answered is lost where it is stopped before acd-copy made a copy"
+        return under % "removed from under" + ": what it answered is lost where it is stopped before acdctl copy made a copy"
     return under % f"moved to {name} under" + ": what it answers goes there"
 
 

@@ -9,7 +9,18 @@ from acd_service import command
 SCRIPT = Path(__file__).with_name("local.sh")
 
 
+def parser() -> command.Parser:
+    found = command.Parser("Keeps this machine's other users from the ports of the desk, by a table of nftables. Without --remove and --find it loads the table, or loads it anew.")
+    found.add_argument("--ports", metavar="P,P..", help="the ports; 8080,8081,2379,2380 unless given")
+    found.add_argument("--watch", action="store_true", help="load it again if the accounts change or the table is gone, and end if acd.env changes")
+    found.add_argument("--remove", action="store_true", help="take the table away")
+    found.add_argument("--find", action="store_true", help="tell by the status whether there is nft, which loads it")
+    return found
+
+
 def main(words: list[str]) -> NoReturn:
+    if words in (["-h"], ["--help"], ["--version"]):
+        parser().parse_args(words)
     # Python ignores it, and a script that inherits that couldn't change it
     signal.signal(signal.SIGPIPE, signal.SIG_DFL)
     os.execv("/bin/sh", ["sh", str(SCRIPT), command.name, *words])

@@ -9,10 +9,6 @@ set -u
 name=$1
 shift
 
-usage="usage: $name [--ports P,P..]            loads the table inet acd, or loads it anew (default: 8080,8081,2379,2380)
-       $name [--ports P,P..] --watch    does so where the accounts change or the table is gone, and ends where /etc/acd/acd.env changes
-       $name --remove                   takes the table away
-       $name --find                     tells by its status whether there is nft, which loads it"
 users='root acd acd-gate acd-exchange www-data etcd'
 group=acd-local
 accounts='/etc/passwd /etc/group'
@@ -95,10 +91,6 @@ ports=8080,8081,2379,2380
 act=load
 while [ $# -gt 0 ]; do
     case $1 in
-        --help)
-            echo "$usage"
-            exit 0
-            ;;
         --watch | --remove | --find) act=${1#--} ;;
         --ports)
             [ $# -ge 2 ] || fail 2 "$1 needs a value"

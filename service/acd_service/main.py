@@ -22,8 +22,9 @@ class Command(NamedTuple):
 
 COMMANDS = {
     "calls": Command("calls", "print each call, leg of a call, agent's day or group's quarter of an hour as CSV"),
-    "carry": Command("leaving.carry", "make a new file that goes on from the desk's, and leave the old one as an archive"),
+    "carry": Command("leaving.carry", "make a new file that continues the desk's, and leave the old one as an archive"),
     "certificate": Command("certificate", "tell when the certificate ends that a port shows"),
+    "check": Command("check", "judge settings, roles, logins, names, and nginx's ports and certificate"),
     "copy": Command("copy", "copy the desk's file, audit the copy, and clear old copies away"),
     "export": Command("leaving.export", "print all events of a file and its archives as CSV"),
     "follow": Command("follow", "keep a copy of a desk that runs elsewhere"),
@@ -35,11 +36,12 @@ COMMANDS = {
     "ready": Command("ready", "look whether the desk can be served, and serve it"),
     "records": Command("records", "write files of the days that are over: calls, agents and groups"),
     "restore": Command("restore", "put a copy of the desk's file back, or take that back"),
+    "status": Command("status", "print how the desk is, and what runs beside it"),
     "tick": Command("tick", "send the desk its ticks"),
     "trail": Command("trail", "print who asked the desk for what, when, and with which result"),
 }
 # commands of before 1.15
-OLD = {f"acd-{name}": name for name in COMMANDS if name not in ("records", "restore")}
+OLD = {f"acd-{name}": name for name in COMMANDS if name not in ("check", "records", "restore", "status")}
 
 
 def usage() -> str:
@@ -50,7 +52,7 @@ def usage() -> str:
 
 
 def run(name: str, called: str, words: list[str]) -> NoReturn:
-    command.call_it(called, f"acd-{name}")
+    command.call_it(called, called in OLD)
     sys.exit(importlib.import_module(f"acd_service.{COMMANDS[name].module}").main(words))
 
 

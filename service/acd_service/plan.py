@@ -1,6 +1,5 @@
 """Prints the plan of a desk as `acd import` reads it, out of the desk's snapshot: its JSON, or the line that `acd lines --reads` answers.
 Or prints the requests that make it another plan, and sends them."""
-import argparse
 import csv
 import io
 import json
@@ -9,7 +8,7 @@ import sys
 from pathlib import Path
 
 from acd_service import command, reach
-from acd_service.command import report
+from acd_service.command import Fault, report
 
 HEADER = ["kind", "number", "name", "ring", "wrap"]
 LONGEST, MOST_SECONDS = 1048576, 3600
@@ -19,10 +18,6 @@ DEVICE, AGENT, NAME, SECONDS, NOTHING = "[0-9]{1,15}", "[0-9]{1,9}", "[ -~]{1,40
 FORMS = {"group": (DEVICE, NAME, SECONDS, SECONDS), "station": (DEVICE, NOTHING, NOTHING, NOTHING), "agent": (AGENT, NAME, NOTHING, NOTHING)}
 # the same in words
 WORDS = {DEVICE: "1 to 15 digits", AGENT: "1 to 9 digits", NAME: "1 to 40 characters of ASCII, from the blank to ~ (Mueller for Müller)", SECONDS: f"0 to {MOST_SECONDS} seconds", NOTHING: "empty"}
-
-
-class Fault(Exception):
-    """Why there is nothing to print or to send: a line or several."""
 
 
 # The plan of a desk
@@ -193,17 +188,22 @@ def count(done):
 
 # The command
 
-def options_of(words):
-    parser = argparse.ArgumentParser(prog=command.name, description="Prints the plan of a desk, for acd import, out of its snapshot on standard input; or what makes it another one.")
-    reach.add_options(parser)
-    instead = parser.add_mutually_exclusive_group()
+def parser():
+    found = command.Parser("Prints the plan of a desk, for acd import, out of its snapshot on standard input; or what makes it another one.", printed_usage=True, took_beginnings=True)
+    reach.add_options(found)
+    instead = found.add_mutually_exclusive_group()
     instead.add_argument("--priorities", action="store_true", help="the groups' priorities instead, as lines for acd lines: a plan has none")
     instead.add_argument("--changes", metavar="PLAN", help="the requests instead that make the desk's plan that of this file, as lines for acd lines")
-    parser.add_argument("--send", action="store_true", help="send the changes to the desk too, and tell each answer that isn't 200, and how many there were of each")
-    options = parser.parse_args(words)
-    reach.check(parser, options)
+    found.add_argument("--send", action="store_true", help="send the changes to the desk too; print each answer that isn't 200, and how many there were of each")
+    return found
+
+
+def options_of(words):
+    found = parser()
+    options = found.parse_args(words)
+    reach.check(found, options)
     if options.send and (options.changes is None or options.address is None):
-        parser.error("--send is for --changes of a desk --from an address")
+        found.error("--send is for --changes of a desk --from an address")
     return options
 
 
@@ -215,7 +215,7 @@ def print_plan(desk, options):
         return
     csv.writer(sys.stdout, lineterminator="\n").writerows([HEADER, *rows])
     if requests:
-        report(f"{len(requests)} groups have a priority, which a plan can't give: acd-plan --priorities prints them")
+        report(f"{len(requests)} groups have a priority, which a plan can't give: acdctl plan --priorities prints them")
 
 
 def change(wanted, desk, client, options):
@@ -231,21 +231,19 @@ def change(wanted, desk, client, options):
     return True
 
 
-def main(words):
-    options = options_of(words)
+def do(options):
+    """Its status."""
     try:
         wanted = by_key(planned(options.changes)) if options.changes is not None else None
         client = reach.desk_at(options) if options.address is not None else None
         desk = reach.read(client, "/snapshot") if client is not None else snapshot(sys.stdin.buffer.read())
         if wanted is None:
             print_plan(desk, options)
-        elif not change(wanted, desk, client, options):
-            sys.exit(1)
-    except (Fault, reach.Fault) as fault:
-        for text in fault.args:
-            report(text)
-        sys.exit(1)
-    except OSError as fault:
-        sys.exit(f"{command.name}: {fault}")
+            return 0
+        return 0 if change(wanted, desk, client, options) else command.FAILED
     except (ValueError, KeyError, TypeError, AttributeError) as fault:
-        sys.exit(f"{command.name}: there is no snapshot: {fault!r}")
+        raise Fault(f"there is no snapshot: {fault!r}") from None
+
+
+def main(words):
+    command.run(options_of, do, words)

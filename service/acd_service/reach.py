@@ -13,15 +13,13 @@ from urllib.parse import quote, urlsplit
 
 from acd_client import Client, Unanswered
 
+from acd_service.command import Fault
+
 # seconds: of one attempt, between two, and of all attempts where nothing was asked of the desk yet, and where something was
 WAIT, PAUSE, SOON, PATIENCE = 10, 1, 5, 60
 THIS_MACHINE = ("127.0.0.1", "::1", "localhost")
 # who reaches the desk's own port, as acd-local has it: a group, and users besides root
 GROUP, USERS = "acd-local", ("root", "acd", "acd-gate", "acd-exchange", "www-data", "etcd")
-
-
-class Fault(Exception):
-    """Why the desk isn't asked, or gave no answer."""
 
 
 def address(text):

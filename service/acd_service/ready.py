@@ -15,7 +15,6 @@ import shutil
 import socket
 import stat
 import subprocess
-import sys
 import tempfile
 import time
 from pathlib import Path
@@ -23,17 +22,17 @@ from pathlib import Path
 from acd_notify import ready
 
 from acd_service import command, held, pair, put, restoring, settings
-from acd_service.command import report
+from acd_service.command import Fault, report
 from acd_service.log import Damaged, Sound, Unreadable, look
 from acd_service.restoring import name_of
 
-SETTINGS = "/etc/acd/acd.env"
+SETTINGS = settings.FILE
 OURS = Path("/var/lib/acd")
 # what no unit sees, ProtectHome=yes
 HOMES = [Path(one) for one in ("/home", "/root", "/run/user")]
 PAGE = "'What a start looks at' in OPERATING.md"
-# the status of what has to be mended first, so that systemd starts nothing again, that of what may be otherwise the next time, and that of a bad command line
-MEND, AGAIN, WORDS = 64, 1, 2
+# the status of what has to be mended first, so that systemd starts nothing again, and that of what may be otherwise the next time
+MEND, AGAIN = 64, 1
 # seconds between two looks at a log that seems damaged
 PAUSE = 0.1
 # as many seconds has the program to write the log into the file behind a stop: systemd gives it 90
@@ -43,12 +42,9 @@ GOOD = r"\d{4}-\d\d-\d\dT\d{6}Z"
 WEEK = 7 * 86400
 
 
-class Fault(Exception):
-    """Why the desk doesn't start: the fault, and what to do."""
-
-    def __init__(self, text, status=MEND):
-        super().__init__(text)
-        self.status = status
+def to_mend(text):
+    """Why the desk doesn't start, and what to do before it can."""
+    return Fault(text, status=MEND)
 
 
 def is_there(path):
@@ -65,10 +61,10 @@ def clear_away(folder, prefix):
 
 def look_at_names(names):
     for name in settings.others(names):
-        raise Fault(f"no setting is called {name}: {settings.nearest(name)} is the nearest that there is; mend it in {SETTINGS}, "
-                    "or in the unit's own file of settings")
+        raise to_mend(f"no setting is called {name}: {settings.nearest(name)} is the nearest that there is; mend it in {SETTINGS}, "
+                      "or in the unit's own file of settings")
     for name in settings.earlier(names):
-        report(f"{name} is a setting of an earlier version, and is passed over: remove it from {SETTINGS}")
+        report(f"{name} is a setting of an earlier version, and is ignored: remove it from {SETTINGS}")
 
 
 # The file and its folder
@@ -92,22 +88,22 @@ def look_into(folder):
     try:
         is_folder = folder.is_dir()
     except PermissionError:
-        raise Fault(f"the user {user} may not look into what is above {folder}: {advice(folder)}") from None
+        raise to_mend(f"the user {user} may not look into what is above {folder}: {advice(folder)}") from None
     if not is_folder:
-        raise Fault(f"the folder {folder} isn't there for the user {user}: is ACD_FILE in {SETTINGS} spelt right? Else mount its disk")
+        raise to_mend(f"the folder {folder} isn't there for the user {user}: is ACD_FILE in {SETTINGS} spelt right? Else mount its disk")
     if not os.access(folder, os.X_OK, effective_ids=True):
-        raise Fault(f"the user {user} may not look into {folder}: {advice(folder)}")
+        raise to_mend(f"the user {user} may not look into {folder}: {advice(folder)}")
 
 
 def place(path):
     """The file's path with links followed. Until a broken-off restore is finished, the file's name is a link that leads nowhere."""
     if not path:
-        raise Fault("the file has no name", WORDS)
+        raise Fault("the file has no name", status=command.REFUSED)
     named = held.place(path)
     look_into(named.parent)
     unfinished = restoring.unfinished(named)
     if unfinished:
-        raise Fault(unfinished)
+        raise to_mend(unfinished)
     file = Path(os.path.realpath(path))
     look_into(file.parent)
     return file
@@ -116,25 +112,25 @@ def place(path):
 def look_at_writing(folder):
     user = name_of(os.geteuid())
     if os.statvfs(folder).f_flag & os.ST_RDONLY:
-        raise Fault(f"{folder} is read-only: its disk is, or the unit isn't told of it (systemctl edit acd, and ReadWritePaths={folder} under [Service])")
+        raise to_mend(f"{folder} is read-only: its disk is, or the unit isn't told of it (systemctl edit acd, and ReadWritePaths={folder} under [Service])")
     if not os.access(folder, os.W_OK, effective_ids=True):
-        raise Fault(f"the user {user} may not write in {folder}: {advice(folder)}")
+        raise to_mend(f"the user {user} may not write in {folder}: {advice(folder)}")
 
 
 def look_at_kind(path):
     """A file, with one name, and this user's."""
     found, user = os.lstat(path), name_of(os.geteuid())
     if not stat.S_ISREG(found.st_mode):
-        raise Fault(f"{path} is no file: move it away, or name another file, ACD_FILE in {SETTINGS}")
+        raise to_mend(f"{path} is no file: move it away, or name another file, ACD_FILE in {SETTINGS}")
     if found.st_nlink != 1:
-        raise Fault(f"{path} has {found.st_nlink} names: remove all but this one (find / -xdev -samefile {shlex.quote(str(path))})")
+        raise to_mend(f"{path} has {found.st_nlink} names: remove all but this one (find / -xdev -samefile {shlex.quote(str(path))})")
     if found.st_uid != os.geteuid():
-        raise Fault(f"{path} is the user {name_of(found.st_uid)}'s and not {user}'s: chown {user} {shlex.quote(str(path))}")
+        raise to_mend(f"{path} is the user {name_of(found.st_uid)}'s and not {user}'s: chown {user} {shlex.quote(str(path))}")
 
 
 def lone_log(file, what):
-    return Fault(f"{file} {what}, but its log {pair.log_of(file)} is there: put {file.name} or a copy back (acd-copy --restore MOMENT), or move the log away, "
-                 "but don't remove it: it may hold answered requests")
+    return to_mend(f"{file} {what}, but its log {pair.log_of(file)} is there: put {file.name} or a copy back (acdctl restore MOMENT), or move the log away, "
+                   "but don't remove it: it may hold answered requests")
 
 
 def look_at_files(file):
@@ -144,17 +140,17 @@ def look_at_files(file):
     if is_there(file) and not os.path.getsize(file) and pair.holds_something(log):
         raise lone_log(file, "has no bytes")
     if not is_there(file):
-        raise Fault(f"{file} isn't there: is ACD_FILE in {SETTINGS} spelt right? Else put a copy back (acd-copy --restore MOMENT), "
-                    f"or begin a new desk (acd-ready --make --file {shlex.quote(str(file))})")
+        raise to_mend(f"{file} isn't there: is ACD_FILE in {SETTINGS} spelt right? Else put a copy back (acdctl restore MOMENT), "
+                      f"or begin a new desk (acdctl ready --make --file {shlex.quote(str(file))})")
     both = [path for path in (file, log) if is_there(path)]
     for path in both:
         look_at_kind(path)
     look_at_writing(file.parent)
     for path in both:
         if not os.access(path, os.R_OK | os.W_OK, effective_ids=True):
-            raise Fault(f"the user {name_of(os.geteuid())} may not read and write {path}: chmod 600 {shlex.quote(str(path))}")
+            raise to_mend(f"the user {name_of(os.geteuid())} may not read and write {path}: chmod 600 {shlex.quote(str(path))}")
     if pair.is_split(file):
-        raise Fault(f"{file} and its log {log} weren't here together: put both of one copy back (acd-copy --restore MOMENT), or remove {pair.note_of(file)} where they are of one desk and one time")
+        raise to_mend(f"{file} and its log {log} weren't here together: put both of one copy back (acdctl restore MOMENT), or remove {pair.note_of(file)} where they are of one desk and one time")
     if pair.lost(file):
         raise lost_log(file)
 
@@ -170,10 +166,10 @@ def good_copies(file):
 def lost_log(file):
     copies, folder = good_copies(file)
     until = time.strftime("%Y-%m-%dT%H%M%SZ", time.gmtime(os.stat(file).st_mtime))
-    copy = f"the newest good copy is {copies[-1]} (acd-copy --restore {copies[-1]})" if copies else f"there is no good copy in {folder}"
-    return Fault(f"the log {pair.log_of(file)} is gone, which had {pair.lost(file)} bytes as the desk ended, and nobody wrote it into {file}: "
-                 f"answered requests are lost. Put the log back; where it can't be had, {copy}, and {file} has what was written into it until {until}: "
-                 f"to start with that, remove {pair.note_of(file)}")
+    copy = f"the newest good copy is {copies[-1]} (acdctl restore {copies[-1]})" if copies else f"there is no good copy in {folder}"
+    return to_mend(f"the log {pair.log_of(file)} is gone, which had {pair.lost(file)} bytes as the desk ended, and nobody wrote it into {file}: "
+                   f"answered requests are lost. Put the log back; where it can't be had, {copy}, and {file} has what was written into it until {until}: "
+                   f"to start with that, remove {pair.note_of(file)}")
 
 
 def look_for_log(file):
@@ -191,10 +187,10 @@ def look_at_port(port):
             tried.bind(("127.0.0.1", port))
         except OSError as fault:
             if fault.errno == errno.EADDRINUSE:
-                raise Fault(f"port {port} is taken: end who listens there (ss -ltnp sport = :{port}), or name another port, ACD_PORT in {SETTINGS}") from None
+                raise to_mend(f"port {port} is taken: end who listens there (ss -ltnp sport = :{port}), or name another port, ACD_PORT in {SETTINGS}") from None
             if fault.errno == errno.EACCES:
-                raise Fault(f"the user {name_of(os.geteuid())} may not use port {port}: choose 1024 or higher, ACD_PORT in {SETTINGS}") from None
-            raise Fault(f"port {port}: {fault.strerror}", AGAIN) from None
+                raise to_mend(f"the user {name_of(os.geteuid())} may not use port {port}: choose 1024 or higher, ACD_PORT in {SETTINGS}") from None
+            raise Fault(f"port {port}: {fault.strerror}", status=AGAIN) from None
 
 
 # A log that is damaged
@@ -233,7 +229,7 @@ def keep(file, log):
         for step in (words, ["sync", *(new / one.name for one in (file, log)), new]):
             done = subprocess.run(step, stdin=subprocess.DEVNULL, stdout=subprocess.PIPE, stderr=subprocess.STDOUT, text=True)
             if done.returncode:
-                raise Fault(f"the log {log} is damaged, and can't be kept as it is before the desk opens it: {' '.join(done.stdout.split())}", AGAIN)
+                raise Fault(f"the log {log} is damaged, and can't be kept as it is before the desk opens it: {' '.join(done.stdout.split())}", status=AGAIN)
         made = file.parent / Path(scratch).name.lstrip(".")
         os.rename(new, made)
     put.sync_folder(file.parent)
@@ -348,7 +344,7 @@ def serve(options):
     try:
         os.execvp("acd", ["acd", "serve", "--file", options.file, "--port", str(options.port), "--endless"])
     except FileNotFoundError:
-        raise Fault("there is no program acd in the PATH: install it") from None
+        raise to_mend("there is no program acd in the PATH: install it") from None
 
 
 def stopped(options):
@@ -398,16 +394,10 @@ def make(options):
         new = Path(scratch, file.name)
         done = subprocess.run(["acd", "lines", "--file", new], stdin=subprocess.DEVNULL, stdout=subprocess.DEVNULL, stderr=subprocess.PIPE, text=True)
         if done.returncode:
-            raise Fault(f"{file} isn't made: {' '.join(done.stderr.split())}", AGAIN)
+            raise Fault(f"{file} isn't made: {' '.join(done.stderr.split())}", status=AGAIN)
         os.rename(new, file)
     put.sync_folder(file.parent)
     return print(f"made {file}")
-
-
-class Words(argparse.ArgumentParser):
-    def error(self, message):
-        report(message)
-        sys.exit(WORDS)
 
 
 def port_of(text):
@@ -416,23 +406,20 @@ def port_of(text):
     return int(text)
 
 
-def main(words):
-    parser = Words(usage=f"{command.name} --serve [--file F] [--port P]    looks, and becomes acd serve --endless\n"
-                         f"       {command.name} --stopped [--file F]             notes how a desk that has ended left its file and its log\n"
-                         f"       {command.name} --make [--file F]                makes the file of a new desk, where neither it nor its log is",
-                   epilog="the file is /var/lib/acd/desk.db and the port 8080, unless they are given")
-    act = parser.add_mutually_exclusive_group(required=True)
-    act.add_argument("--serve", action="store_const", const=serve, dest="act", help="serve the desk on a port of the loopback address")
-    act.add_argument("--stopped", action="store_const", const=stopped, dest="act", help="write the log into the file behind a clean stop, and note what is left")
+def parser():
+    found = command.Parser("Looks whether the desk can be served, and serves it; notes how it ended; or makes the file of a new desk.")
+    act = found.add_mutually_exclusive_group(required=True)
+    act.add_argument("--serve", action="store_const", const=serve, dest="act", help="look, and become acd serve --endless on a port of the loopback address")
+    act.add_argument("--stopped", action="store_const", const=stopped, dest="act", help="after a clean stop write the log into the file; note what is left")
     act.add_argument("--make", action="store_const", const=make, dest="act", help="make the file of a new desk; root makes it for the folder's owner")
-    parser.add_argument("--file", metavar="F", default="/var/lib/acd/desk.db", help="the desk's file")
-    parser.add_argument("--port", metavar="P", type=port_of, default=8080, help="the port of the loopback address")
-    options = parser.parse_args(words)
-    try:
-        options.act(options)
-    except Fault as fault:
-        report(fault)
-        sys.exit(fault.status)
-    except OSError as fault:
-        report(f"{fault.filename or options.file}: {fault.strerror or fault}")
-        sys.exit(AGAIN)
+    settings.add_file(found)
+    found.add_argument("--port", metavar="P", type=port_of, default=8080, help="the port of the loopback address; 8080 unless given")
+    return found
+
+
+def read(words):
+    return parser().parse_args(words)
+
+
+def main(words):
+    command.run(read, lambda options: options.act(options), words)

@@ -1,24 +1,22 @@
 """Puts a copy of a desk's file back, or takes the last restore back."""
-from acd_service import copy
+from acd_service import command, copy
 
-USAGE = """usage: acdctl restore [--file F] [--folder COPIES] MOMENT     puts a copy back, beside no program that has F open
-       acdctl restore [--file F] --undo                       takes the last restore back
-       (F and COPIES are those of /etc/acd/acd.env, else /var/lib/acd/desk.db and its folder copies)"""
+ABOUT = "Puts a copy in the place of the desk's file, or takes the last restore back. No program may have the file open."
+
+
+def parser():
+    found = command.Parser(ABOUT)
+    copy.add_places(found)
+    does = found.add_mutually_exclusive_group(required=True)
+    does.add_argument("restore", nargs="?", metavar="MOMENT", help="the name of the copy to put back, 2026-11-26T031500Z say")
+    does.add_argument("--undo", action="store_true", help="take the last restore back")
+    found.set_defaults(continues=False, keep=None, halt=None)
+    return found
 
 
 def read(words):
-    parser = copy.Parser(add_help=False, allow_abbrev=False)
-    parser.add_argument("-h", "--help", action="store_true")
-    for name in ("--file", "--folder"):
-        parser.add_argument(name)
-    parser.add_argument("restore", nargs="?", metavar="MOMENT")
-    parser.add_argument("--undo", action="store_true")
-    parser.set_defaults(continues=False, keep=None, halt=None)
-    options = parser.parse_args(words)
-    if not options.help and options.undo == (options.restore is not None):
-        parser.error("either the moment of a copy is needed, or --undo")
-    return copy.with_settings(options)
+    return copy.with_settings(parser().parse_args(words))
 
 
 def main(words):
-    copy.run(read, USAGE, words)
+    command.run(read, copy.do, words)

@@ -19,6 +19,7 @@ from dataclasses import dataclass, field
 from pathlib import Path
 
 from acd_service import audit, chain, held, pair, put
+from acd_service.command import Fault, spoken
 from acd_service.pair import log_of
 
 NOWHERE = "/dev/null/"
@@ -29,14 +30,6 @@ IN, BACK = "restore", "undo"
 PARTS = ("", "-wal", "-journal", "-shm", chain.NOTE)
 # the folders that nobody knows of yet, or any more
 HALF = ".put-away."
-
-
-class Fault(Exception):
-    """Why it wasn't done, in one line, and the status."""
-
-    def __init__(self, text, status=1):
-        super().__init__(text)
-        self.status = status
 
 
 # Files
@@ -198,8 +191,8 @@ class PutAway:
 
     def advice(self):
         """How to finish a restore that isn't finished."""
-        back = "" if self.way == BACK else f"acd-copy --restore {self.moment} ends it, "
-        return f"the {self.way} of {self.moment} isn't ended: {back}acd-copy --undo {'ends it' if self.way == BACK else 'takes it back'}"
+        back = "" if self.way == BACK else f"acdctl restore {self.moment} ends it, "
+        return f"the {self.way} of {self.moment} isn't ended: {back}acdctl restore --undo {'ends it' if self.way == BACK else 'takes it back'}"
 
     def turn(self):
         """Turns the direction back, from wherever it was broken off, or from its end, since when there may be other files in place."""
@@ -218,7 +211,7 @@ class PutAway:
         if self.way == BACK:
             self.new.home.mkdir(exist_ok=True)
         leaving, coming = (self.old, self.new) if self.way == IN else (self.new, self.old)
-        exchange(self.file, leaving, coming, NOWHERE + self.advice())
+        exchange(self.file, leaving, coming, NOWHERE + spoken(self.advice()))
         if self.file.exists():
             write_note(self.file)
 
@@ -408,7 +401,7 @@ def restore(file, copies, moment, say):
             raise Fault(begun.advice())
         one = begun or prepared(file, copy, 1 + max((one.number for one in known), default=0), say)
         one.go()
-        say(f"Restored {moment} into {file}. The previous files are in {one.folder}; acd-copy --undo brings them back")
+        say(f"Restored {moment} into {file}. The previous files are in {one.folder}; acdctl restore --undo brings them back")
         one.new.home.rmdir()
         sync(one.folder)
 
@@ -419,7 +412,7 @@ def undo(file, say):
         known = put_away(file)
         one = next((one for one in known if not one.is_ended()), known[-1] if known else None)
         if not one:
-            raise Fault(f"there is no restore to take back: beside {file} lies no folder put-away-DATE-RANDOM of it")
+            raise Fault(f"there is no restore to take back: beside {file} is no folder put-away-DATE-RANDOM of it")
         if one.way == IN:
             one.turn()
         one.go()

@@ -3,7 +3,6 @@
 The desk's snapshot shows when. It passes over a desk that isn't there: systemd may be about to start it again, and the next step finds it. Each minute it
 looks whether the file or its log were removed or moved from under the desk. Somebody who foresaw the ticks' keys could use them up. So it draws their
 requester at random, and passes it on in the environment, never on a command line. It is tested, not proved."""
-import argparse
 import contextlib
 import http.client
 import json
@@ -12,21 +11,16 @@ import re
 import secrets
 import signal
 import string
-import sys
 import time
 
 import acd_due
-from acd_service import command, held
+from acd_service import command, held, settings
+from acd_service.command import Fault
 
-USAGE = "usage: acd-tick [--port P] [--step SECONDS] [--file F]    (default: port 8080, step 10, the file /var/lib/acd/desk.db)"
 REQUESTER = "clock-[a-z]{12}"
 MINUTE, HOUR = 60, 3600
 # the greatest invoke and the last moment that a desk accepts; and more bytes than any answer of a desk has
 GREATEST, LAST, MOST = 999_999_999, 4294967295, 1 << 24
-
-
-class Fault(Exception):
-    """Why it doesn't run."""
 
 
 # Lines on standard error
@@ -120,7 +114,7 @@ class Ticker:
         if self.silent_since is None or now < self.silent_since:
             self.silent_since = now - self.step
         if now - self.silent_since >= MINUTE:
-            self.journal.report(f"the desk at port {self.desk.port} has answered nothing for a minute, and is there: it is halted (acd-copy --continue), "
+            self.journal.report(f"the desk at port {self.desk.port} has answered nothing for a minute, and is there: it is halted (acdctl copy --continue), "
                                 "or its disk hangs; until it answers no ring and no after-call work ends by a tick")
 
     def is_due(self):
@@ -172,48 +166,36 @@ class Ticker:
 
 # The command
 
-class Parser(argparse.ArgumentParser):
-    def error(self, message):
-        raise Fault(message)
-
-
-def between(least, greatest):
-    """A whole number, of at most five digits, from the least to the greatest."""
-    def number(text):
-        if not re.fullmatch("[1-9][0-9]{0,4}", text) or not least <= int(text) <= greatest:
-            raise argparse.ArgumentTypeError(f"'{text}' isn't a whole number from {least} to {greatest}")
-        return int(text)
-    return number
-
-
 def drawn():
     """A requester as the package draws one: twelve letters, which are more than anybody tries."""
     return "clock-" + "".join(secrets.choice(string.ascii_lowercase) for _ in range(12))
 
 
+def parser():
+    found = command.Parser("Sends the desk a tick in each step in which one ends something: an offer that has rung, or after-call work that has lasted, long enough.")
+    found.add_argument("--port", type=command.whole_number(1, 65535), default=8080, metavar="P", help="the desk's port of the loopback address; 8080 unless given")
+    found.add_argument("--step", type=command.whole_number(2, 3600), default=10, metavar="SECONDS", help="seconds between two looks; 10 unless given")
+    settings.add_file(found, "the desk's file, to see whether it was moved")
+    return found
+
+
 def read(words):
-    parser = Parser(add_help=False, allow_abbrev=False)
-    parser.add_argument("--help", action="store_true")
-    parser.add_argument("--port", type=between(1, 65535), default=8080)
-    parser.add_argument("--step", type=between(2, 3600), default=10)
-    parser.add_argument("--file", default="/var/lib/acd/desk.db")
-    options = parser.parse_args(words)
+    options = parser().parse_args(words)
     options.requester = os.environ.get("ACD_CLOCK") or drawn()
     if not re.fullmatch(REQUESTER, options.requester):
-        raise Fault("ACD_CLOCK, which /etc/acd/clock.env gives, isn't 'clock-' and 12 letters of a-z")
+        raise Fault("ACD_CLOCK, which /etc/acd/clock.env gives, isn't 'clock-' and 12 letters of a-z", status=command.REFUSED)
     return options
 
 
-def main(words):
+def do(options):
     signal.signal(signal.SIGALRM, too_late)
     for one in (signal.SIGTERM, signal.SIGINT):
         signal.signal(one, signal.SIG_DFL)
     try:
-        options = read(words)
-        if options.help:
-            print(command.called(USAGE))
-        else:
-            Ticker(options.port, options.step, options.requester, options.file).run()
+        Ticker(options.port, options.step, options.requester, options.file).run()
     except Fault as fault:
-        command.report(fault)
-        sys.exit(2)
+        raise Fault(fault, status=command.REFUSED) from None
+
+
+def main(words):
+    command.run(read, do, words)

@@ -6,9 +6,7 @@ import argparse
 import csv
 import datetime
 import json
-import os
 import re
-import sqlite3
 import sys
 import tempfile
 import time
@@ -17,8 +15,8 @@ from typing import NamedTuple
 
 from acd_service import command, reach, sheets
 from acd_service.archives import opened
-from acd_service.book import Book, Fault as BookFault
-from acd_service.command import report
+from acd_service.book import Book
+from acd_service.command import Fault, report
 from acd_service.office import FILE, counting
 
 # the status if other files have some of the requests that the user asked for
@@ -39,10 +37,6 @@ KEPT = "stamp, moment, request, status, body"
 KEY = (("requester", str), ("invoke", int), ("service", str))
 # before and after all moments
 NEVER, EVER = -1, 1 << 40
-
-
-class Fault(Exception):
-    """Why nothing is printed."""
 
 
 class Record(NamedTuple):
@@ -220,36 +214,41 @@ def digits(text):
     return text
 
 
-def asked(words):
-    parser = argparse.ArgumentParser(prog=command.name, allow_abbrev=False, description="Tells who asked a desk for what, when, and what came of it.")
-    parser.add_argument("address", nargs="?", type=reach.address, metavar="URL",
-                        help="the desk's address, as http://127.0.0.1:8080 or https://desk.example:8443")
-    parser.add_argument("--file", metavar="FILE", help="a copy of the desk's file, with its log beside it where it has one")
-    parser.add_argument("--live", action="store_true", help="of a file that a desk has open: what it has at this moment")
-    parser.add_argument("--archive", action="append", default=[], metavar="A",
-                        help="an archive that the file was carried over from; as often as there are some, from the oldest on")
-    reach.add_login_options(parser)
-    parser.add_argument("--since", type=when, metavar="WHEN", help="from then on: 2026-11-28, 14:32 of today, or 2026-11-28T14:32")
-    parser.add_argument("--until", type=when, metavar="WHEN", help="up to then, and with that day, minute or second")
-    parser.add_argument("--at", type=when, metavar="WHEN", help="of that day, minute or second")
+def parser():
+    found = command.Parser("Prints who asked a desk for what, when, and with which result.", printed_usage=True)
+    found.add_argument("address", nargs="?", type=reach.address, metavar="URL",
+                       help="the desk's address, as http://127.0.0.1:8080 or https://desk.example:8443")
+    found.add_argument("--file", metavar="FILE", help="a copy of the desk's file, with its log beside it where it has one")
+    found.add_argument("--live", action="store_true", help="of a file that a desk has open: what it has at this moment")
+    found.add_argument("--archive", action="append", default=[], metavar="A",
+                       help="an archive that the file was carried over from; as often as there are some, from the oldest on")
+    reach.add_login_options(found)
+    found.add_argument("--since", type=when, metavar="WHEN", help="from then on: 2026-11-28, 14:32 of today, or 2026-11-28T14:32")
+    found.add_argument("--until", type=when, metavar="WHEN", help="up to then, and with that day, minute or second")
+    found.add_argument("--at", type=when, metavar="WHEN", help="of that day, minute or second")
     for name, kind, about in (("requester", str, "by this requester, or one that begins with it and a hyphen"), ("service", str, "for this service"),
                               ("agent", digits, "of this agent"), ("device", digits, "of this group, station or caller's number"),
                               ("call", number, "of this call"), ("invoke", number, "with this number of the key"), ("stamp", number, "with this stamp")):
-        parser.add_argument(f"--{name}", action="append", type=kind, metavar=name[0].upper(), help=f"{about}; as often as there are some")
-    parser.add_argument("--names", action="store_true", help="names beside numbers")
-    parser.add_argument("--csv", action="store_true", help="CSV in place of lines to read")
-    parser.add_argument("--excel", action="store_true", help="CSV with ' before what a spreadsheet would change")
-    parser.add_argument("--office", type=Path, metavar="FILE", help=f"names and zone; {FILE} as it comes, where that is there")
-    options = parser.parse_args(words)
+        found.add_argument(f"--{name}", action="append", type=kind, metavar=name[0].upper(), help=f"{about}; as often as there are some")
+    found.add_argument("--names", action="store_true", help="names beside numbers")
+    found.add_argument("--csv", action="store_true", help="CSV in place of lines to read")
+    found.add_argument("--excel", action="store_true", help="CSV with ' before what a spreadsheet would change")
+    found.add_argument("--office", type=Path, metavar="FILE", help=f"names and zone; {FILE} as it comes, where that is there")
+    return found
+
+
+def asked(words):
+    found = parser()
+    options = found.parse_args(words)
     if bool(options.file) == bool(options.address):
-        parser.error("one of URL and --file is needed")
+        found.error("one of URL and --file is needed")
     if options.at and (options.since or options.until):
-        parser.error("--at stands for both --since and --until")
+        found.error("--at is in place of --since and --until")
     if options.live and not options.file:
-        parser.error("--live is of a file")
+        found.error("--live is of a file")
     if options.file and (options.login or options.ca):
-        parser.error("--login and --ca are for a desk that serves")
-    reach.check(parser, options)
+        found.error("--login and --ca are for a desk that serves")
+    reach.check(found, options)
     return options
 
 
@@ -362,14 +361,13 @@ def do(options, folder):
     return not are_missing(found, since, options)
 
 
-def main(words):
-    options = asked(words)
+def run(options):
+    """Its status."""
     # names are of any script, whatever the machine's language
     sys.stdout.reconfigure(encoding="utf-8")
-    try:
-        with tempfile.TemporaryDirectory() as folder:
-            sys.exit(0 if do(options, folder) else MISSING)
-    except BrokenPipeError:
-        os.dup2(os.open(os.devnull, os.O_WRONLY), sys.stdout.fileno())
-    except (Fault, BookFault, reach.Fault, OSError, sqlite3.Error) as fault:
-        sys.exit(f"{command.name}: {fault}")
+    with command.while_somebody_reads(), tempfile.TemporaryDirectory() as folder:
+        return 0 if do(options, folder) else MISSING
+
+
+def main(words):
+    command.run(asked, run, words)

@@ -7,7 +7,7 @@ import subprocess
 import time
 from pathlib import Path
 
-from acd_service.restoring import Fault
+from acd_service.command import Fault
 
 UNIT = "acd.service"
 FOLDER = Path("/run/acd-carry")

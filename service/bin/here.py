@@ -1,5 +1,7 @@
-"""Runs acdctl out of the repository, by the name of the program that imports this. The toolchain allows no links there: the package has links to acdctl in
-place of this folder's programs, and the client's modules beside it."""
+"""Runs acdctl out of the repository, by the name of the program that imports this.
+
+The toolchain allows no links there: the package has links to acdctl in place of these programs, and the client's
+modules beside it."""
 import sys
 from pathlib import Path
 from typing import NoReturn

@@ -15,7 +15,7 @@ UNIT = "tests/unit"
 PLAIN = TOP / "tests/runner/plain.py"
 # what unit tests need: a folder of them can't be left out by .ci/run
 UNIT_PACKAGES = {"client": ("openssl",), "exchange": (), "gate": ("apache2-utils", "openssl", "python3-bcrypt", "python3-passlib"), "node": ("openssl",), "runner": (),
-                 "service": ("openssl",)}
+                 "service": ("openssl", "python3-bcrypt", "python3-passlib")}
 HELPERS = ("python3-pytest", "python3-pytest-timeout")      # unittest takes their place where they are missing
 NGINX = ("nginx-light", "openssl", "python3-bcrypt", "python3-passlib")
 SPACES = ("iproute2", "openssl", "strace", "util-linux")

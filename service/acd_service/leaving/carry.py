@@ -13,7 +13,6 @@ import fcntl
 import os
 import re
 import shutil
-import signal
 import sqlite3
 import struct
 import subprocess
@@ -22,17 +21,11 @@ import tempfile
 from pathlib import Path
 
 from acd_service import chain, command, held, log, pair, restoring, unit
-from acd_service.book import Fault as BookFault, connected
+from acd_service.book import connected
+from acd_service.command import Fault, say
 from acd_service.pair import log_of
-from acd_service.restoring import LOCKS, LOCKS_AT, PARTS, Fault, name_of, sync
+from acd_service.restoring import LOCKS, LOCKS_AT, PARTS, name_of, sync
 
-USAGE = """usage: acd-carry --from OLD --to NEW [--days N | --keep N] [--desk PROGRAM]
-       acd-carry --file F [--days N | --keep N] [--desk PROGRAM]     puts the new file in F's place, and leaves F-DAY-STAMP beside it
-       acd-carry --look --file F [--days N | --keep N]               looks beside the desk, for acd-carry.service
-       acd-carry --stop                                              stops acd.service and keeps it down; by root, for acd-carry.service
-       acd-carry --start                                             lets it start, and starts it where --stop stopped it
-       (the new file keeps the requests of the last 2 days, of N, or the last N requests, 1000 at least and all of the last hour;
-        PROGRAM is acd unless given)"""
 VERSION = 2
 # in an order that keeps the references
 WORKING = ("meta", "acd_groups", "stations", "agents", "calls", "connections", "monitors", "agent_groups", "group_priority")
@@ -43,10 +36,6 @@ READS = "0 GET /snapshot\n0 GET /reports/queues\n"
 NOTHING, PASS_OVER, MEND = 3, 1, 255
 # of renameat2
 AT_HERE, NO_REPLACE, EXCHANGE = -100, 1, 2
-
-
-def say(text):
-    print(text, flush=True)
 
 
 # The desk's program
@@ -75,7 +64,7 @@ def audited(program, new, old):
         return None
     status, said = audit[0], "; ".join(audit[1].splitlines()) if audit[0] >= 0 else f"ended by signal {-audit[0]}"
     if status or said.partition("; ")[0] != "sound":
-        raise Fault(f"{new} isn't sound behind {old}: the audit says '{said}'; nothing was changed")
+        raise Fault(f"{new} isn't sound with {old}: the audit says '{said}'; nothing was changed")
     return said
 
 
@@ -115,7 +104,7 @@ class Cut:
         refuse_gaps(book, "events", "number", self.last_event)
         least, = book.execute("SELECT min(stamp) FROM kept").fetchone()
         if least is None:
-            raise Fault(nothing(days, keep), NOTHING)
+            raise Fault(nothing(days, keep), status=NOTHING)
         self.moment = moment - (HOUR if keep else days * DAY)
         if keep:
             wanted, = book.execute("SELECT moment FROM kept WHERE stamp = ?", (max(least, self.last - keep + 1),)).fetchone()
@@ -125,7 +114,7 @@ class Cut:
         self.moment, = book.execute("SELECT moment FROM kept WHERE stamp = ?", (self.stamp,)).fetchone()
         self.event = first_of(book, "events", "number", self.moment) or self.last_event + 1
         if self.stamp == least:
-            raise Fault(nothing(days, keep), NOTHING)
+            raise Fault(nothing(days, keep), status=NOTHING)
 
 
 # The old file
@@ -159,7 +148,7 @@ def refuse_another_ones(old):
         raise Fault(f"there is no file {old}")
     owner = old.stat().st_uid
     if owner != os.geteuid():
-        raise Fault(f"only the user {name_of(owner)} carries {old} over: runuser -u {name_of(owner)} -- acd-carry")
+        raise Fault(f"only the user {name_of(owner)} carries {old} over: runuser -u {name_of(owner)} -- acdctl carry")
 
 
 def look_at(old):
@@ -168,7 +157,7 @@ def look_at(old):
     restoring.refuse_beside(old)
     damage = log.look(log_of(old))
     if isinstance(damage, (log.Damaged, log.Unreadable)) or pair.is_split(old):
-        raise Fault(f"{log_of(old)} is damaged, or isn't this file's: acd-ready says what to do; nothing was changed")
+        raise Fault(f"{log_of(old)} is damaged, or isn't this file's: acdctl ready says what to do; nothing was changed")
     found = meta_of(old).get("version")
     if found != VERSION:
         raise Fault(f"wrong version {found}: {old} is none of version {VERSION}")
@@ -260,7 +249,7 @@ def beside(new):
             raise Fault(f"{folder} has something else in it: look at it; nothing was changed")
         yield folder
     except BlockingIOError:
-        raise Fault(f"another acd-carry makes {new}") from None
+        raise Fault(f"another acdctl carry makes {new}") from None
     finally:
         # another start's lock, or other files in it
         with contextlib.suppress(OSError):
@@ -303,7 +292,7 @@ def make_new(old, made, days, keep, program):
 def print_made(new, old, cut, found, program):
     left = f"{cut.stamp - 1} is the last request that {old} keeps alone"
     say(f"{new} continues {old}: {left}, {cut.last - cut.stamp + 1} kept requests and {cut.last_event - cut.event + 1} events are in both")
-    say(found or f"this {program} can't look whether {new} is sound behind {old} (audit --archive); all tables were compared")
+    say(found or f"this {program} can't look whether {new} is sound with {old} (audit --archive); all tables were compared")
 
 
 def carry(old, new, days, keep, program):
@@ -354,7 +343,7 @@ def carry_in_place(file, days, keep, program):
             except OSError as fault:
                 if not chain.exchanged(file):
                     raise
-                raise Fault(f"{fault}; the new file is in its place, and acd-carry --file {file} ends what is left to do") from None
+                raise Fault(f"{fault}; the new file is in its place, and acdctl carry --file {file} ends what is left to do") from None
     print_made(file, archive, cut, found, program)
 
 
@@ -422,7 +411,7 @@ def look(file, days, keep):
         try:
             with rows_beside(file) as book:
                 Cut(book, days, keep)
-        except (sqlite3.Error, TypeError, BookFault):
+        except (sqlite3.Error, TypeError):
             # the desk writes it just now: the rest is looked at once it is stopped
             pass
         except Fault as fault:
@@ -432,11 +421,6 @@ def look(file, days, keep):
 
 # The command
 
-class Parser(argparse.ArgumentParser):
-    def error(self, message):
-        raise Fault(message, 2)
-
-
 def number(least):
     def read_number(text):
         if not re.fullmatch("[1-9][0-9]{0,8}", text) or int(text) < least:
@@ -445,37 +429,34 @@ def number(least):
     return read_number
 
 
+def parser():
+    found = command.Parser("Makes a new file that continues the desk's, and leaves the old one as an archive.")
+    found.add_argument("--from", dest="old", metavar="OLD", help="the file to carry over, which stays as it is; with --to")
+    found.add_argument("--to", dest="new", metavar="NEW", help="the new file")
+    found.add_argument("--file", metavar="F", help="the file in whose place the new one comes; the old one stays beside it as F-DAY-STAMP")
+    does = found.add_mutually_exclusive_group()
+    does.add_argument("--look", action="store_true", help="look beside the desk, for acd-carry.service; with --file")
+    does.add_argument("--stop", action="store_true", help="stop acd.service and keep it down; by root, for acd-carry.service")
+    does.add_argument("--start", action="store_true", help="let acd.service start, and start it if --stop stopped it; by root, for acd-carry.service")
+    much = found.add_mutually_exclusive_group()
+    much.add_argument("--days", type=number(1), default=2, metavar="N", help="the new file keeps the requests of the last N days; 2 unless given")
+    much.add_argument("--keep", type=number(LEAST), metavar="N", help=f"the new file keeps the last N requests, {LEAST} or more, and those of the last hour")
+    found.add_argument("--desk", default="acd", metavar="PROGRAM", help="the desk's program; acd unless given")
+    return found
+
+
 def read(words):
-    parser = Parser(add_help=False, allow_abbrev=False)
-    parser.add_argument("-h", "--help", action="store_true")
-    parser.add_argument("--from", dest="old")
-    parser.add_argument("--to", dest="new")
-    parser.add_argument("--file")
-    does = parser.add_mutually_exclusive_group()
-    for name in ("--look", "--stop", "--start"):
-        does.add_argument(name, action="store_true")
-    much = parser.add_mutually_exclusive_group()
-    much.add_argument("--days", type=number(1), default=2)
-    much.add_argument("--keep", type=number(LEAST))
-    parser.add_argument("--desk", default="acd")
-    options = parser.parse_args(words)
+    options = parser().parse_args(words)
     files = [bool(options.old), bool(options.new), bool(options.file)]
     if options.stop or options.start:
         if any(files):
-            raise Fault("--stop and --start are of the unit acd.service, and take no file", 2)
-    elif not options.help and files not in ([[False, False, True]] if options.look else ([True, True, False], [False, False, True])):
-        raise Fault("--look takes --file alone" if options.look else "--from and --to have to be given, or --file alone", 2)
+            raise Fault("--stop and --start are of the unit acd.service, and take no file", status=command.REFUSED)
+    elif files not in ([[False, False, True]] if options.look else ([True, True, False], [False, False, True])):
+        raise Fault("--look takes --file alone" if options.look else "--from and --to have to be given, or --file alone", status=command.REFUSED)
     return options
 
 
-def end(*_):
-    """A signal ends it as a fault does: nothing half made stays."""
-    sys.exit(1)
-
-
 def do(options):
-    if options.help:
-        return print(command.called(USAGE))
     if options.stop or options.start:
         if os.geteuid():
             raise Fault("only root stops and starts the desk's unit: systemctl start acd-carry")
@@ -490,21 +471,20 @@ def do(options):
 
 
 def main(words):
-    for one in (signal.SIGHUP, signal.SIGINT, signal.SIGTERM):
-        signal.signal(one, end)
+    command.end_on_signals()
     os.umask(0o077)
     is_look = "--look" in words
     try:
         return do(read(words))
-    except (Fault, chain.Broken) as fault:
-        line, status = str(fault), getattr(fault, "status", 1)
+    except Fault as fault:
+        line, status = str(fault), fault.status
     except (OSError, sqlite3.Error) as fault:
         line, status = f"{fault}; nothing was changed", 1
     except Exception as fault:
         if not is_look:
             raise
         line, status = f"{type(fault).__name__}: {fault}; nothing was changed", 1
-    command.report(line)
+    command.report(line, command.ERROR)
     if is_look:
         status = PASS_OVER if status == NOTHING else MEND
     sys.exit(status)

@@ -1,27 +1,17 @@
 """Prints all event reports of a desk as CSV, those of its file and of the archives that it was carried over from: each once, by number.
 
 The desk's program prints those of each file. It is tested, not proved."""
-import argparse
-import contextlib
 import heapq
-import os
 import subprocess
 import sys
 import tempfile
 from pathlib import Path
 
 from acd_service import command
+from acd_service.command import Fault
 
 # the status where the reports aren't whole, or aren't of one desk
 BROKEN = 3
-
-
-class Fault(Exception):
-    """Why nothing is printed, and the status: that of the program, if the program says why."""
-
-    def __init__(self, text, status=1):
-        super().__init__(text)
-        self.status = status
 
 
 def exported(program, file, text):
@@ -29,7 +19,7 @@ def exported(program, file, text):
     with open(text, "wb") as out:
         done = subprocess.run([program, "export", "--file", file], stdin=subprocess.DEVNULL, stdout=out, stderr=subprocess.PIPE, text=True)
     if done.returncode:
-        raise Fault(done.stderr.strip(), done.returncode)
+        raise Fault(done.stderr.strip(), status=done.returncode)
     with open(text) as lines:
         return lines.readline()
 
@@ -82,22 +72,19 @@ def export(program, files, folder):
     return printed.is_whole
 
 
+def parser():
+    found = command.Parser("Prints all event reports of a desk as CSV, each once, by number; with the status 3 where some are missing.", printed_usage=True)
+    found.add_argument("--file", required=True, metavar="F", help="the desk's file, or a copy")
+    found.add_argument("--archive", action="append", default=[], metavar="A", help="an archive that the file was carried over from; as often as there are some")
+    found.add_argument("--desk", default="acd", metavar="PROGRAM", help="the desk's program; acd unless given")
+    return found
+
+
+def do(options):
+    """Its status."""
+    with command.while_somebody_reads(), tempfile.TemporaryDirectory() as folder:
+        return 0 if export(options.desk, [*options.archive, options.file], folder) else BROKEN
+
+
 def main(words):
-    parser = argparse.ArgumentParser(prog=command.name, allow_abbrev=False,
-                                     description="Prints all event reports of a desk as CSV, each once, by number; with the status 3 where some are missing.")
-    parser.add_argument("--file", required=True, metavar="F", help="the desk's file, or a copy")
-    parser.add_argument("--archive", action="append", default=[], metavar="A", help="an archive that the file was carried over from; as often as there are some")
-    parser.add_argument("--desk", default="acd", metavar="PROGRAM", help="the desk's program; acd unless given")
-    options = parser.parse_args(words)
-    try:
-        with tempfile.TemporaryDirectory() as folder:
-            sys.exit(0 if export(options.desk, [*options.archive, options.file], folder) else BROKEN)
-    except BrokenPipeError:
-        os.dup2(os.open(os.devnull, os.O_WRONLY), sys.stdout.fileno())
-    except Fault as fault:
-        with contextlib.suppress(OSError):
-            command.report(fault)
-        sys.exit(fault.status)
-    except OSError as fault:
-        command.report(fault)
-        sys.exit(1)
+    command.run(lambda given: parser().parse_args(given), do, words)

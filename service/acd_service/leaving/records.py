@@ -157,7 +157,7 @@ class Records:
         """The call of a number; those that came before its first event are known then."""
         while number not in self.calls:
             if self.meet() is None:
-                raise Fault(f"no kept request tells of call {number}: the beginning of this file lies elsewhere")
+                raise Fault(f"no kept request tells of call {number}: the beginning of this file is elsewhere")
         return self.calls[number]
 
     def meet(self):

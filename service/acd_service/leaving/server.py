@@ -1,8 +1,5 @@
 """The gate of a desk: judges passwords for the proxy, and lets a login ask for no more than its role may.
 
-usage: acd-gate [--port P] [--desk PORT] [--roles FILE] [--users FILE] [--sessions FILE] [--records FOLDER] [--secret FILE]
-       (default: 8081, 8080, /etc/acd/roles, /etc/acd/users, sessions in memory alone, /var/lib/acd-records, /etc/acd/nginx-secret.conf)
-
 It listens on the loopback address, for a proxy. GET /auth judges the session's cookie, or where there is none the password in the field
 Authorization for the address in X-Address: 204 with X-Login, the login, 401 for nobody and 403 for a login that gets nothing; GET /auth/reads
 besides 403 for a login that doesn't read all of the desk. After ten wrong passwords in a minute of one address and login it is 401 with
@@ -35,7 +32,6 @@ A login without a line gets nothing, and so does one whose line can't be read, o
 requester is a login's where it is the login, or begins with the login and a hyphen and isn't so a longer login's; `clock`, `plan`
 and what begins with `clock-` or `plan-` is no login's. So a login that isn't 1 to 15 of a-z, 0-9 and hyphen, or has such a name, reads
 alone. A page of another site may ask for nothing (Origin, Sec-Fetch-Site)."""
-import argparse
 import base64
 import contextlib
 import http.client
@@ -53,7 +49,7 @@ from http.server import BaseHTTPRequestHandler, ThreadingHTTPServer
 import acd_notify
 
 from acd_service import command
-from acd_service.command import report
+from acd_service.command import Fault, report
 from acd_service.gate import files
 from acd_service.gate.passwords import RIGHT, TOO_MANY, WRONG, Passwords, network, text
 from acd_service.gate.roles import MEMBERS, NO_KEYS, NOTHING, Twice, Watched, has_keys, hashes_of, may, once, roles_of
@@ -479,23 +475,29 @@ class Gate(ThreadingHTTPServer):
             super().handle_error(*where)
 
 
-def main(words):
-    usage = "%(prog)s [--port P] [--desk PORT] [--roles FILE] [--users FILE] [--sessions FILE] [--records FOLDER] [--secret FILE]"
-    parser = argparse.ArgumentParser(prog=command.name, description=command.called(__doc__), formatter_class=argparse.RawDescriptionHelpFormatter, usage=usage)
-    parser.add_argument("--port", type=int, default=8081)
-    parser.add_argument("--desk", type=int, default=8080)
-    parser.add_argument("--roles", default="/etc/acd/roles")
-    parser.add_argument("--users", default="/etc/acd/users")
-    parser.add_argument("--sessions")
-    parser.add_argument("--records", default="/var/lib/acd-records")
-    parser.add_argument("--secret", default="/etc/acd/nginx-secret.conf")
-    options = parser.parse_args(words)
+def parser():
+    found = command.Parser("Judges logins for the proxy, and lets each ask for no more than its role may.", printed_usage=True, took_beginnings=True)
+    found.add_argument("--port", type=int, default=8081, metavar="P", help="the port of the loopback address to listen on; 8081 unless given")
+    found.add_argument("--desk", type=int, default=8080, metavar="PORT", help="the desk's port; 8080 unless given")
+    found.add_argument("--roles", default="/etc/acd/roles", metavar="FILE", help="the roles; /etc/acd/roles unless given")
+    found.add_argument("--users", default="/etc/acd/users", metavar="FILE", help="the logins with their passwords, as htpasswd makes them; /etc/acd/users unless given")
+    found.add_argument("--sessions", metavar="FILE", help="where sessions are kept; in memory alone unless given")
+    found.add_argument("--records", default="/var/lib/acd-records", metavar="FOLDER", help="the files of records; /var/lib/acd-records unless given")
+    found.add_argument("--secret", default="/etc/acd/nginx-secret.conf", metavar="FILE", help="nginx's file of the secret; /etc/acd/nginx-secret.conf unless given")
+    return found
+
+
+def do(options):
     try:
         gate = Gate(options.port, options.desk, options.roles, options.users, options.sessions, options.records, secret_of(options.secret))
     except (OSError, OverflowError):
-        sys.exit(f"{command.name}: cannot listen on port {options.port}")
+        raise Fault(f"cannot listen on port {options.port}") from None
     acd_notify.ready()
     try:
         gate.serve_forever()
     except KeyboardInterrupt:
         pass
+
+
+def main(words):
+    command.run(lambda given: parser().parse_args(given), do, words)

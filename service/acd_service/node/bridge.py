@@ -62,7 +62,7 @@ class Bridge:
     def pass_over(self, place):
         """Counts an entry without the form of one, and reports it once an hour at most."""
         self.passed += 1
-        self.journal.report(f"what stands at place {place} of the log is no entry, and is passed over ({self.passed} such since the start): who puts it there?", "passed", 3600)
+        self.journal.report(f"place {place} of the log has no entry; ignored ({self.passed} such since the start): who puts it there?", "passed", 3600)
 
     def take(self, place, entry):
         """Feeds the desk one entry; whether it answered."""
@@ -122,7 +122,7 @@ class Bridge:
             self.journal.report(f"{fault}. Until that is done all requests and reads get 503", f"lacks {self.reached.place}", HOUR)
             before = self.folder.look()
             time.sleep(self.pause)
-        self.journal.report(f"the log has what comes after place {self.reached.place}, where this folder goes on")
+        self.journal.report(f"the log has what comes after place {self.reached.place}, where this folder continues")
         self.lacks = False
 
     def has_entries(self):

@@ -20,5 +20,5 @@ class Journal:
                 if now < self.quiet_until.get(kind, now):
                     return False
                 self.quiet_until[kind] = now + every
-            print(f"{command.name}: {text}", file=self.out, flush=True)
+            command.report(text, out=self.out)
             return True

@@ -220,7 +220,7 @@ class Log:
             if kvs is None:
                 raise Compacted(known)                     # and further meanwhile
             if not kvs or int(kvs[0]["mod_revision"]) != place:
-                raise Forgotten(f"the log begins behind this machine's place {place}: copy the folder of another machine")
+                raise Forgotten(f"the log begins after this machine's place {place}: copy the folder of another machine")
         if kvs and int(kvs[0]["mod_revision"]) != place:
             raise Forgotten(f"the log has no entry at this machine's place {place}: it isn't the log that this folder was fed from")
         return known + 1, int(kvs[0]["version"]) if kvs else 0

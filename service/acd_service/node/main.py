@@ -1,10 +1,5 @@
 """One of several machines with a desk each, fed from one log in etcd: a front that takes requests, and a bridge that feeds this machine's desk.
 
-usage: acd-node --name N --folder F --etcd HOST:PORT,.. [--machines N,N,N] [--gone HOURS] [--port P] [--bind A] [--line KEY] [--desk PROGRAM]
-                [--etcd-ca C --etcd-cert C --etcd-key K] [--etcd-user U --etcd-password FILE] [--cert C --key K] [--client-ca C]
-       acd-node --upkeep now|turn --name N --machines N,N,N --etcd HOST:PORT,.. [--line KEY] [--etcd-ca C --etcd-cert C --etcd-key K]
-                [--etcd-user U --etcd-password FILE]
-
 Not verified: what is proved of the desk is said in docs/PROVED.md, what this has to do for it in docs/OPERATING.md. Clients send requests as to
 `acd serve`, by POST to /csta, to any machine, and send one again, with its key, until its answer isn't 503. A read, by GET or HEAD, is answered by this
 machine's own desk (`acd lines --reads`), behind all that this machine has answered; it goes into no log, no count and no digest. F/desk.db is the desk,
@@ -48,7 +43,7 @@ def name(word):
 def names(words):
     found = [name(word) for word in words.split(",")]
     if len(set(found)) != len(found):
-        raise argparse.ArgumentTypeError(f"a machine stands twice in '{words}'")
+        raise argparse.ArgumentTypeError(f"a machine appears twice in '{words}'")
     return found
 
 
@@ -72,32 +67,45 @@ def is_loopback(address):
         return address == "localhost"
 
 
+def parser():
+    found = command.Parser("Feeds this machine's desk from a log in etcd that several machines share, and answers for it.", printed_usage=True, took_beginnings=True)
+    for word, kind, metavar, about in (
+            ("--name", name, "N", "this machine's name"), ("--etcd", ends, "HOST:PORT,..", "the members of etcd")):
+        found.add_argument(word, type=kind, required=True, metavar=metavar, help=about)
+    found.add_argument("--machines", type=names, default=[], metavar="N,N,N", help="the names of all machines; without them the log is never shortened")
+    found.add_argument("--gone", type=hours, default=72.0, metavar="HOURS", help="for how many hours the log is kept for a machine that tells nothing; 72 unless given")
+    found.add_argument("--upkeep", choices=["now", "turn"], help="look after etcd once, now or if it is this machine's turn, and end")
+    for word, usual, metavar, about in (
+            ("--port", 8080, "P", "the port to listen on"), ("--bind", "127.0.0.1", "A", "the address to listen at"),
+            ("--line", "desk/line", "KEY", "the log's key in etcd"), ("--desk", "acd", "PROGRAM", "the desk's program")):
+        found.add_argument(word, type=type(usual), default=usual, metavar=metavar, help=f"{about}; {usual} unless given")
+    for word, metavar, about in (
+            ("--folder", "F", "the folder of the files desk.db and at"), ("--etcd-ca", "C", "the certificate of etcd's authority"),
+            ("--etcd-cert", "C", "this machine's certificate for etcd"), ("--etcd-key", "K", "its key"),
+            ("--etcd-user", "U", "the user of etcd"), ("--etcd-password", "FILE", "the file of this user's password"),
+            ("--cert", "C", "the certificate for clients"), ("--key", "K", "its key"),
+            ("--client-ca", "C", "the authority of the clients' certificates, which each client must have then")):
+        found.add_argument(word, metavar=metavar, help=about)
+    return found
+
+
 def options_of(words):
-    parser = argparse.ArgumentParser(prog=command.name, description=command.called(__doc__), formatter_class=argparse.RawDescriptionHelpFormatter, usage=argparse.SUPPRESS)
-    parser.add_argument("--name", type=name, required=True)
-    parser.add_argument("--etcd", type=ends, required=True)
-    parser.add_argument("--machines", type=names, default=[])
-    parser.add_argument("--gone", type=hours, default=72.0)
-    parser.add_argument("--upkeep", choices=["now", "turn"])
-    for word, usual in [("--port", 8080), ("--bind", "127.0.0.1"), ("--line", "desk/line"), ("--desk", "acd")]:
-        parser.add_argument(word, type=type(usual), default=usual)
-    for word in ["--folder", "--etcd-ca", "--etcd-cert", "--etcd-key", "--etcd-user", "--etcd-password", "--cert", "--key", "--client-ca"]:
-        parser.add_argument(word)
-    options = parser.parse_args(words)
+    found = parser()
+    options = found.parse_args(words)
     if options.machines and options.name not in options.machines:
-        parser.error(f"--machines doesn't name {options.name}")
+        found.error(f"--machines doesn't name {options.name}")
     if options.upkeep and not options.machines:
-        parser.error("--upkeep needs --machines")
+        found.error("--upkeep needs --machines")
     if not options.upkeep and not options.folder:
-        parser.error("--folder is needed")
+        found.error("--folder is needed")
     if bool(options.cert) != bool(options.key) or options.client_ca and not options.cert:
-        parser.error("--cert and --key go together, and with --client-ca")
+        found.error("--cert and --key go together, and with --client-ca")
     if bool(options.etcd_cert) != bool(options.etcd_key) or options.etcd_cert and not options.etcd_ca:
-        parser.error("--etcd-cert and --etcd-key go together, with --etcd-ca")
+        found.error("--etcd-cert and --etcd-key go together, with --etcd-ca")
     if options.etcd_user:
-        check_password(parser, options.etcd_password)
+        check_password(found, options.etcd_password)
     if not is_loopback(options.bind) and not options.client_ca:
-        parser.error(f"at {options.bind} strangers would ask for everything: bind it to 127.0.0.1, behind a proxy and a gate, or ask for certificates by --client-ca")
+        found.error(f"at {options.bind} strangers would ask for everything: bind it to 127.0.0.1, behind a proxy and a gate, or ask for certificates by --client-ca")
     return options
 
 
@@ -150,12 +158,18 @@ def run(options, log, journal):
     front.serve_forever()
 
 
-def main(words):
-    options, journal = options_of(words), Journal()
+def do(options):
+    """Its status, if it ends."""
+    journal = Journal()
     sys.excepthook, threading.excepthook = end_process, lambda fault: end_process(*fault[:3])
     user = (options.etcd_user, options.etcd_password) if options.etcd_user else None
     log = Log(options.etcd, options.line.encode(), etcd_context(options), journal, user)
     if not options.upkeep:
         return run(options, log, journal)
     if options.upkeep == "now" or upkeep.has_turn(options.name, options.machines, time.time()):
-        sys.exit(upkeep.once(log, options.machines, journal))
+        return upkeep.once(log, options.machines, journal)
+    return 0
+
+
+def main(words):
+    command.run(options_of, do, words)

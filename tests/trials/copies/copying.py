@@ -50,9 +50,9 @@ class Copying(Part):
     def try_settings(self):
         """Without a word it goes by the units' settings."""
         office = self.office()
-        script, module = self.copied_script()
+        script, modules = self.copied_script()
         (office.folder / "acd.env").write_text(f"# a note\nACD_FILE={office.file}\nACD_COPY_FOLDER={office.folder}/others\nACD_COPIES=1\n")
-        module.write_text(module.read_text().replace("/etc/acd/acd.env", f"{office.folder}/acd.env"))
+        (modules / "settings.py").write_text((modules / "settings.py").read_text().replace("/etc/acd/acd.env", f"{office.folder}/acd.env"))
         done = office.run(PYTHON, script)
         self.expect(f"by the settings: {done}", (done[0], done[2], len(list((office.folder / "others").glob("*Z")))), (0, "", 1))
         # as another system's editor and somebody's quotes leave them, which systemd takes

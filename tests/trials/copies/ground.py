@@ -191,11 +191,11 @@ class Part(Trial):
         cls.folder.chmod(0o755)
 
     def copied_script(self):
-        """A copy of the script that is tried, in a folder of its own, and of the module that may get another text there."""
+        """A copy of the script that is tried, in a folder of its own, and the folder of its modules, which may get another text there."""
         folder = Path(tempfile.mkdtemp(dir=self.folder))
         folder.chmod(0o755)
         script = shipped(folder / "operating", of=self.script.parents[1]) / "acd-copy"
-        return script, folder / "operating/acd_service/copy.py"
+        return script, folder / "operating/acd_service"
 
     def office(self, owner=None, folder=None):
         """A desk with a plan and two callers."""

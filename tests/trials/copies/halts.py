@@ -67,7 +67,8 @@ class Halts(Part):
 
     def hurried(self, office, patience=4):
         """This office's acd-copy has so many seconds in place of ten minutes."""
-        office.script, module = self.copied_script()
+        office.script, modules = self.copied_script()
+        module = modules / "copy.py"
         module.write_text(re.sub(r"^BRIEF, PATIENCE, PAUSE, LONGEST = .*$", f"BRIEF, PATIENCE, PAUSE, LONGEST = 2, {patience}, 0.1, 1", module.read_text(), flags=re.MULTILINE))
 
     @contextlib.contextmanager
@@ -212,9 +213,9 @@ class Halts(Part):
         for word in ("-1", "x", "1000", "1.5"):
             status, said, faults = office.copy("--halt", word)
             self.expect(f"--halt {word}: {faults}", (status, said, faults.count("\n")), (2, "", 1))
-        script, module = self.copied_script()
+        script, modules = self.copied_script()
         (office.folder / "acd.env").write_text(f"ACD_FILE={office.file}\nACD_HALT=many\n")
-        module.write_text(module.read_text().replace("/etc/acd/acd.env", f"{office.folder}/acd.env"))
+        (modules / "settings.py").write_text((modules / "settings.py").read_text().replace("/etc/acd/acd.env", f"{office.folder}/acd.env"))
         status, said, faults = office.run(PYTHON, script)
         self.expect(f"ACD_HALT=many: {faults}", (status, said, "acd.env: to halt the desk for 'many' seconds" in faults), (2, "", True))
         self.expect("a log", log_of(office.file).exists())

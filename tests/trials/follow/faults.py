@@ -34,7 +34,7 @@ FAULTS = [
     ("a file that has no desk yet", "                self.begin(new)\n", "                pass\n", "made"),
     ("what a killed one left stays", "            # what a killed one left\n            remove(new)\n", "", "made"),
     ("a new file beside a log", " and not pair.holds_something(pair.log_of(self.file)):", ":", "made"),
-    ("a signal amid a line", "    signal.pthread_sigmask(signal.SIG_BLOCK, ENDING)\n    try:", "    try:", "signals"),
+    ("a signal amid a line", "    signal.pthread_sigmask(signal.SIG_BLOCK, command.ENDING)\n    try:", "    try:", "signals"),
     ("a signal of the terminal is its desk's too", "stdout=subprocess.PIPE, process_group=0)", "stdout=subprocess.PIPE)", "terminal"),
     ("the ticks' requester is told", """r'"clock-[a-z]+"'""", """r'"clock-[a-z]+!"'""", "clocks"),
     ("one try at a file that is open elsewhere", "LOOK, PAUSE, SOON = 0.1, 1, 5", "LOOK, PAUSE, SOON = 0.1, 1, 0", "soon"),

@@ -25,6 +25,6 @@ class ByHand(Office):
         self.restarts("again")
         self.done("rm", f"{FILE}-wal")
         self.done("mv", FILE, f"{HOME}/x")
-        self.fails("a file that was moved away", f"{FILE} isn't there", f"acd-ready --make --file {FILE}")
+        self.fails("a file that was moved away", f"{FILE} isn't there", f"acdctl ready --make --file {FILE}")
         self.expect("a new one, as the line says", self.ran("acd-ready", "--make", "--file", FILE), (0, f"made {FILE}\n"))
         self.restarts("over a new one")

@@ -12,7 +12,12 @@ BACK = "Copies"
 CALLS = ("rename", "link", "symlink", "unlink", "unlinkat", "rmdir", "mkdir")
 BEFORE = "/srv/before"
 # how a restore is ended that was broken off
-UNENDED = r"^acdctl ready: the (restore|undo) of \S+ isn't ended: (acd-copy --restore \S+ ends it, )?acd-copy --undo (takes it back|ends it)$"
+UNENDED = r"^acdctl ready: the (restore|undo) of \S+ isn't ended: (acdctl restore \S+ ends it, )?acdctl restore --undo (takes it back|ends it)$"
+
+
+def restoring(words):
+    """The words of acdctl for these of acd-copy: what is broken off says by which of both it was begun."""
+    return "acdctl", "restore", *(words[1:] or words)
 
 
 class Copies(Planned):
@@ -92,11 +97,11 @@ class Copies(Planned):
         self.sent("late", 2)
         self.done("systemctl", "stop", "acd")
         for words in (("--restore", moment), ("--undo",)):
-            self.ran("strace", "-f", "-qq", "-o", "/dev/null", "-e", "inject=rename:signal=KILL:when=5", "acd-copy", "--restore", moment)
-            says = f"the restore of {moment} isn't ended: acd-copy --restore {moment} ends it, acd-copy --undo takes it back"
+            self.ran("strace", "-f", "-qq", "-o", "/dev/null", "-e", "inject=rename:signal=KILL:when=5", "acdctl", "restore", moment)
+            says = f"the restore of {moment} isn't ended: acdctl restore {moment} ends it, acdctl restore --undo takes it back"
             self.expect("it is broken off", self.ran("readlink", FILE), (0, f"/dev/null/{says}\n"))
             self.fails(f"a start before acd-copy {words[0]}", says)
-            self.expect("a copy before it", self.ran("acd-copy", user="acd"), (1, f"acd-copy: {says}\n"))
+            self.expect("a copy before it", self.ran("acdctl", "copy", user="acd"), (1, f"acdctl copy: {says}\n"))
             self.done("acd-copy", *words)
             self.restarts(f"behind acd-copy {words[0]}")
             self.expect("what it has", self.kept("late"), [] if words[0] == "--restore" else [1, 2])
@@ -120,7 +125,7 @@ class Copies(Planned):
                 for end in ends:
                     what = f"{words[0]} killed at {call} {number}"
                     self.laid_out(moment, words)
-                    status, _ = self.ran("strace", "-qq", "-o", "/tmp/steps", "-e", f"trace={','.join(CALLS)}", "-e", f"inject={call}:signal=KILL:when={number}", "acd-copy", *words)
+                    status, _ = self.ran("strace", "-qq", "-o", "/tmp/steps", "-e", f"trace={','.join(CALLS)}", "-e", f"inject={call}:signal=KILL:when={number}", *restoring(words))
                     self.expect(f"{what}: it is killed", status not in (0, 1))
                     seen.add(self.start_of_one(what))
                     self.end_by(what, end)
@@ -138,7 +143,7 @@ class Copies(Planned):
     def steps(self, moment, words):
         """Each call by which this changes a name, and which one of its kind it is."""
         self.laid_out(moment, words)
-        self.done("strace", "-qq", "-o", "/tmp/steps", "-e", f"trace={','.join(CALLS)}", "acd-copy", *words)
+        self.done("strace", "-qq", "-o", "/tmp/steps", "-e", f"trace={','.join(CALLS)}", *restoring(words))
         made = re.findall(r"^(\w+)\(", self.done("cat", "/tmp/steps"), re.MULTILINE)
         return [(call, number) for call in CALLS for number in range(1, made.count(call) + 1)]
 
@@ -169,8 +174,8 @@ class Copies(Planned):
         """The file is moved, then removed, and then the log, under load: told each minute and by the copy, and nothing that was answered is lost."""
         self.restarts("before the file is moved")
         for what, wrong, line in (("moved", ("mv", FILE, f"{STATE}/elsewhere"), f"the file {FILE} was moved to {STATE}/elsewhere under the desk, process %s: what it answers goes there"),
-                                  ("removed", ("rm", FILE), f"the file {FILE} was removed from under the desk, process %s: what it answered is lost where it is stopped before acd-copy made a copy"),
-                                  ("log-removed", ("rm", LOG), f"the log {LOG} was removed from under the desk, process %s: what it answered is lost where it is stopped before acd-copy made a copy")):
+                                  ("removed", ("rm", FILE), f"the file {FILE} was removed from under the desk, process %s: what it answered is lost where it is stopped before acdctl copy made a copy"),
+                                  ("log-removed", ("rm", LOG), f"the log {LOG} was removed from under the desk, process %s: what it answered is lost where it is stopped before acdctl copy made a copy")):
             process, = self.show("MainPID")
             with self.loaded(what):
                 mark = self.mark()

@@ -55,7 +55,7 @@ class Damage(Planned):
         self.killed("lost", 5)
         self.done("mv", LOG, f"{HOME}/away")
         for _ in range(2):
-            self.fails("a log that was removed behind a kill", f"the log {LOG} is gone", "answered requests are lost", f"acd-copy --restore {copy}", f"remove {NOTE}", before=(FILE,))
+            self.fails("a log that was removed behind a kill", f"the log {LOG} is gone", "answered requests are lost", f"acdctl restore {copy}", f"remove {NOTE}", before=(FILE,))
         self.done("mv", f"{HOME}/away", LOG)
         self.restarts("with the log back")
         self.expect("nothing is lost", (self.kept("removed"), self.kept("lost")), ([1, 2, 3, 4, 5], [1, 2, 3, 4, 5]))

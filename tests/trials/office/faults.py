@@ -37,7 +37,7 @@ FAULTS = [
     Fault("a full disk leaves the desk down", (DESK, "Restart=always", "Restart=no"), "starting", ("plan", "try_full_disk")),
     Fault("systemd gives up", (DESK, AGAIN, ""), "starting", ("try_installed",)),
     Fault("ticks with a step that is refused are started again and again", (TICKS, "RestartPreventExitStatus=2\n", ""), "starting", ("try_settings",)),
-    Fault("quotes are taken for a part of a file's name", (f"{MODULES}/copy.py", r"""^(["'])(.*)\1$""", r"""^(["'])(.*)\1\1$"""), "starting", ("try_settings",)),
+    Fault("quotes are taken for a part of a file's name", (f"{MODULES}/settings.py", r"""^(["'])(.*)\1$""", r"""^(["'])(.*)\1\1$"""), "starting", ("try_settings",)),
     Fault("a log isn't looked at", (f"{MODULES}/ready.py", "    look_at_port(options.port)\n    look_at_log(file)\n", "    look_at_port(options.port)\n"), "damage", ("plan", "try_middle")),
     Fault("nor whether one was removed", (DESK, "ExecStopPost=-/usr/bin/acdctl ready --stopped --file ${ACD_FILE}\n", ""), "damage", ("plan", "try_removed_log")),
     Fault("a start returns before the desk answers", (DESK, "Type=notify\n", "Type=exec\n"), "starting", ("try_slow_opening",)),

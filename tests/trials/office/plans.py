@@ -8,13 +8,13 @@ HEADER = PLAN.partition("\n")[0] + "\n"
 DESK = "http://127.0.0.1:8080"
 SECOND = HEADER + "group,100,Bills,3,2\nstation,201,,,\nstation,202,,,\nagent,7,Ana,,\nagent,8,Ben,,\n"
 NOON = "The next agent, at noon"
-LINE = "acd-plan --changes plan.csv --from http://127.0.0.1:8080 --send"
+LINE = "acdctl plan --changes plan.csv --from http://127.0.0.1:8080 --send"
 
 
 class Plans(Office):
     def plan_now(self):
         """The plan of the desk that serves, as a file has it."""
-        return self.done("acd-plan", "--from", DESK)
+        return self.done("acdctl", "plan", "--from", DESK)
 
     def at_noon(self, plan):
         """The status of the page's line over this plan, in root's home, and what it prints."""
@@ -58,16 +58,16 @@ class Plans(Office):
         self.expect("Ben alone has come", self.plan_now(), PLAN + "agent,8,Ben,,\n")
         process = self.show("MainPID")
         status, said = self.at_noon(SECOND)
-        self.expect(f"by the page's line ({said})", (status, said.count("\n"), "changeGroup" in said, "addStation" in said, said.endswith("acd-plan: 1 added, 1 changed, 0 refused\n")), (0, 3, True, True, True))
+        self.expect(f"by the page's line ({said})", (status, said.count("\n"), "changeGroup" in said, "addStation" in said, said.endswith("acdctl plan: 1 added, 1 changed, 0 refused\n")), (0, 3, True, True, True))
         self.expect("all of it is there", self.plan_now(), SECOND)
         self.expect("the desk wasn't stopped", self.show("MainPID"), process)
-        self.expect("the same once more sends nothing", self.at_noon(SECOND), (0, "acd-plan: 0 added, 0 changed, 0 refused\n"))
+        self.expect("the same once more sends nothing", self.at_noon(SECOND), (0, "acdctl plan: 0 added, 0 changed, 0 refused\n"))
 
     def try_later_ones(self):
         """An agent's name, a ring, and one row less, which is told and stays."""
         third = SECOND.replace("Ben", "Benjamin").replace("Bills,3,2", "Bills,4,2").replace("station,202,,,\n", "")
         status, said = self.at_noon(third)
-        self.expect(f"another name, another ring ({said})", (status, "acd-plan: the desk has more than the plan: station 202\n" in said, said.count("\n")), (0, True, 4))
+        self.expect(f"another name, another ring ({said})", (status, "acdctl plan: the desk has more than the plan: station 202\n" in said, said.count("\n")), (0, True, 4))
         self.expect("they are there, and the station too", self.plan_now(), third.replace("station,201,,,\n", "station,201,,,\nstation,202,,,\n"))
 
     def try_stopped(self):
@@ -85,8 +85,8 @@ class Plans(Office):
         """A name that isn't ASCII: refused, with nothing of it taken; the page says what to write."""
         before = self.plan_now()
         status, said = self.at_noon(SECOND + "agent,9,Jos\u00e9 M\u00fcller,,\n")
-        self.expect_in("it is refused", said, "^acd-plan: plan row 6: name\n")
-        self.expect_in("and why", said, r"(?m)^acd-plan: that is line 7: an agent's name must be .* of ASCII, .* \(Mueller for Müller\)$")
+        self.expect_in("it is refused", said, "^acdctl plan: plan row 6: name\n")
+        self.expect_in("and why", said, r"(?m)^acdctl plan: that is line 7: an agent's name must be .* of ASCII, .* \(Mueller for Müller\)$")
         self.expect("nothing is taken", (status, self.plan_now()), (1, before))
         self.expect_in("the page says what to write", self.page(NOON), "a name is of ASCII, `Mueller` for Müller")
         written = self.at_noon(SECOND + "agent,9,Jose Mueller,,\n")[0]
@@ -145,8 +145,8 @@ class Plans(Office):
             status, said = self.ran("acd", "import", "--file", f"{STATE}/other-{number}.db", "--plan", f"{STATE}/plan.csv", user="acd")
             self.expect(f"{what}, by an import", (status, said.splitlines()[-1][:3]), (0, wanted))
         self.restarts("with its own plan")
-        self.expect("twice, by the page's line", self.at_noon(twice), (1, "acd-plan: plan row 6: number 8 appears twice\n"))
+        self.expect("twice, by the page's line", self.at_noon(twice), (1, "acdctl plan: plan row 6: number 8 appears twice\n"))
         self.expect("nothing is taken", self.plan_now(), before)
         status, said = self.at_noon(many)
-        lines = [line for line in said.splitlines() if line.startswith("acd-plan: addGroup")]
-        self.expect(f"too many, by the page's line: {lines}", (status, lines), (1, [f"acd-plan: addGroup {300 + number}: 409 planFull" for number in (63, 64)]))
+        lines = [line for line in said.splitlines() if line.startswith("acdctl plan: addGroup")]
+        self.expect(f"too many, by the page's line: {lines}", (status, lines), (1, [f"acdctl plan: addGroup {300 + number}: 409 planFull" for number in (63, 64)]))

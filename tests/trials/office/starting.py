@@ -35,7 +35,7 @@ class Starting(Office):
         """The making of a new desk is killed again and again: there is a whole one or none, and the same command makes it. Over none no start makes one."""
         self.done("systemctl", "stop", "acd")
         self.done("sh", "-c", f"mkdir {HOME}/first && mv {FILE}* {HOME}/first")
-        self.fails("before a desk is made", f"{FILE} isn't there", f"acd-ready --make --file {FILE}")
+        self.fails("before a desk is made", f"{FILE} isn't there", f"acdctl ready --make --file {FILE}")
         for number in range(KILLS):
             self.ran("timeout", "--signal=KILL", f"{0.02 + 0.01 * number:.2f}", "acd-ready", "--make", "--file", FILE)
             said = self.ran("acd-ready", "--make", "--file", FILE)
@@ -82,7 +82,7 @@ class Starting(Office):
     def try_mistyped_file(self):
         """A typing mistake in acd.env makes no new desk; nor does a folder's name."""
         self.set("ACD_FILE", f"{STATE}/dsek.db")
-        self.fails("a mistyped file", f"{STATE}/dsek.db isn't there: is ACD_FILE in {SETTINGS} spelt right?", f"acd-ready --make --file {STATE}/dsek.db")
+        self.fails("a mistyped file", f"{STATE}/dsek.db isn't there: is ACD_FILE in {SETTINGS} spelt right?", f"acdctl ready --make --file {STATE}/dsek.db")
         self.set("ACD_FILE", STATE)
         self.fails("a folder", f"{STATE} is no file")
         self.set("ACD_FILE", "")
@@ -156,7 +156,7 @@ class Starting(Office):
         self.expect("nor is a new desk made there by its user", (status, said.count("\n"), f"may not write in {place}" in said), (64, 1, True))
         self.done("mount", "-t", "tmpfs", "none", place)
         self.done("chown", "acd:acd", place)
-        self.fails("a disk with no desk", f"{place}/desk.db isn't there", "acd-ready --make")
+        self.fails("a disk with no desk", f"{place}/desk.db isn't there", "acdctl ready --make")
         self.expect("made as the line says", self.ran("acd-ready", "--make", "--file", f"{place}/desk.db"), (0, f"made {place}/desk.db\n"))
         self.expect("by root, for the folder's owner", self.done("stat", "-c", "%U:%G %a", f"{place}/desk.db"), "acd:acd 600\n")
         self.restarts("on its own disk")

@@ -18,6 +18,7 @@ import time
 import types
 import zoneinfo
 from pathlib import Path
+from unittest import mock
 
 from trial import TOP, Desk, Plan, Requests, ran
 
@@ -154,10 +155,15 @@ class Calls(Records):
 
     @staticmethod
     def module(file):
-        spec = importlib.util.spec_from_file_location(file.stem, file)
-        module = importlib.util.module_from_spec(spec)
-        spec.loader.exec_module(module)
-        return module
+        """A module of the scripts, loaded anew with what it stands on, which nobody else gets."""
+        top = next(folder.parent for folder in file.parents if folder.name == "acd_service")
+        with mock.patch.dict(sys.modules), mock.patch.object(sys, "path", [str(top), *sys.path]):
+            for each in [each for each in sys.modules if each.partition(".")[0] == "acd_service"]:
+                del sys.modules[each]
+            spec = importlib.util.spec_from_file_location(file.stem, file)
+            module = importlib.util.module_from_spec(spec)
+            spec.loader.exec_module(module)
+            return module
 
     def written(self, text):
         file = self.folder / "office.json"

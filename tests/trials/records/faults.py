@@ -10,7 +10,7 @@ CALLS = [
     ("names of the desk alone", "            names[kind] |= office.names[kind]", "            pass"),
     ("the oldest copy", "made, place = max(found)", "made, place = min(found)"),
     ("archives that are named alone", "earlier = [] if is_whole(book, since) else archives_of(file, since)", "earlier = []"),
-    ("what is missing has the status 0", "sys.exit(0 if do(options, folder) else MISSING)", "sys.exit(0 * do(options, folder))"),
+    ("what is missing has the status 0", "return 0 if do(options, folder) else MISSING", "return 0 * do(options, folder)"),
     ("what is missing isn't told", "        has_all = is_whole(book, since)\n", "        has_all = True\n"),
     ("the day of the file's begin is whole", "since > datetime.date.fromtimestamp(begins)", "since >= datetime.date.fromtimestamp(begins)"),
     ("each archive is opened", "[] if is_whole(book, since) else archives_of(file, since)", "archives_of(file, None)"),
@@ -96,7 +96,6 @@ PLAN = [
     ("no stations", 'for station in desk["stations"]', 'for station in []'),
     ("names without quotes", 'csv.writer(sys.stdout, lineterminator="\\n").writerows([HEADER, *rows])',
      'sys.stdout.writelines(",".join(map(str, row)) + "\\n" for row in [HEADER, *rows])'),
-    ("a fault's second line isn't told", "        for text in fault.args:\n            report(text)\n        sys.exit(1)", "        report(fault.args[0])\n        sys.exit(1)"),
     ("what is refused counts as done", 'if answer.status == 200:', "if True:"),
     ("changes count as additions", '"add" if one["service"].startswith("add") else "change"', '"add"'),
     ("a row is told by its last line", "            yield line, fields", "            yield reader.line_num, fields"),
@@ -129,5 +128,6 @@ REACH = [
 ]
 
 # of which script, in which file
+COMMAND = [("a fault's second line isn't told", "for line in fault.args:", "for line in fault.args[:1]:")]
 ALL = [("calls", "calls.py", CALLS), ("calls", "book.py", BOOK), ("calls", "leaving/records.py", RECORDS), ("calls", "leaving/quarters.py", QUARTERS), ("calls", "record_days.py", DAYS),
-       ("calls", "sheets.py", SHEETS), ("calls", "office.py", OFFICE), ("plan", "plan.py", PLAN), ("plan", "reach.py", REACH)]
+       ("calls", "sheets.py", SHEETS), ("calls", "office.py", OFFICE), ("plan", "plan.py", PLAN), ("plan", "reach.py", REACH), ("plan", "command.py", COMMAND)]

@@ -15,7 +15,7 @@ from acd_service import command  # noqa: E402
 from acd_service.leaving import server as gate  # noqa: E402
 from trial import Connection, bytes_back  # noqa: E402
 
-command.call_it("acd-gate", "acd-gate")
+command.call_it("acd-gate", by_old_name=True)
 
 ROLES = """# who may what
 pbx exchange

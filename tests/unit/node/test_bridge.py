@@ -76,10 +76,10 @@ class Feeding(Bridging):
         wanted = Reached(15, 14, digest_of(replies))
         self.until(lambda: first.reached == second.reached == wanted)
         self.assertEqual(self.fed(), [f"5 line {number}" for number in range(1, 8)])
-        self.assertEqual((first.passed, self.said.getvalue().count("is no entry")), (7, 1))  # one line, of both machines' one journal
+        self.assertEqual((first.passed, self.said.getvalue().count("has no entry")), (7, 1))  # one line, of both machines' one journal
         self.now += 3601
         self.store.put(LINE, b"again")
-        self.until(lambda: self.said.getvalue().count("is no entry") == 2)
+        self.until(lambda: self.said.getvalue().count("has no entry") == 2)
         self.assertIn("(8 such since the start)", self.said.getvalue())
 
     def test_a_moment_that_is_none_of_the_desk_is_fed(self):

@@ -132,7 +132,7 @@ class Following(Bench):
         log.compact(5)
         self.entries(1, 4)
         for place in (0, 2, 3):
-            with self.assertRaisesRegex(Forgotten, "begins behind this machine's place"):
+            with self.assertRaisesRegex(Forgotten, "begins after this machine's place"):
                 log.begin(place)
         self.assertEqual(log.begin(4), (6, 3))
         self.store.delete(LINE)

@@ -113,15 +113,15 @@ def as_before():
         time.tzset()
 
 
-def said(*words, stdin=b""):
-    """A command of acdctl, run in this process, so that its branches are counted."""
+def said(*words, stdin=b"", by="acdctl"):
+    """A command of acdctl, or what is called by an old name, run in this process, so that its branches are counted."""
     out, faults = io.TextIOWrapper(io.BytesIO(), encoding="utf-8"), io.StringIO()
     given, status = io.TextIOWrapper(io.BytesIO(stdin)), 0
     with as_before(), warnings.catch_warnings(), contextlib.redirect_stdout(out), contextlib.redirect_stderr(faults), mock.patch("sys.stdin", given):
         # of what an earlier test left to be collected
         warnings.simplefilter("ignore", ResourceWarning)
         try:
-            main.main(["acdctl", *map(str, words)])
+            main.main([by, *map(str, words)])
         except SystemExit as end:
             status = end.code or 0
     if isinstance(status, str):

@@ -120,7 +120,7 @@ class WithAnArchive(ground.Case):
         archive = self.carried(ground.arrives(2, "0305678", 300100), 5)
         self.program("acd", f'[ "$1" = audit ] && exit 2; exec {ground.ACD} "$@"')
         found = audit.audited(self.file, archive)
-        self.assertEqual((found.verdict, found.executed, found.said), (audit.SOUND, 6, f"this acd can't look behind an archive (audit --archive): by SQL the copy continues {archive.name}"))
+        self.assertEqual((found.verdict, found.executed, found.said), (audit.SOUND, 6, f"this acd can't audit with an archive (audit --archive): by SQL the copy continues {archive.name}"))
         other = Path(shutil.copy(archive, self.folder / "other"))
         ground.changed(other, "UPDATE meta SET max_calls = max_calls - 1")
         found = audit.audited(self.file, other)

@@ -69,7 +69,7 @@ class Notes(ground.Case):
         beside.mkdir()
         self.assertIsNone(chain.unfinished(self.file))
         chain.put_note(beside / "desk.db", Note("a", 1, "", "131 1.5"))
-        self.assertEqual(chain.unfinished(self.file), f"acd-carry of {self.file} was broken off: acd-carry --file {self.file} ends it")
+        self.assertEqual(chain.unfinished(self.file), f"acdctl carry of {self.file} was broken off: acdctl carry --file {self.file} ends it")
         born = subprocess.run(["stat", "--format=%i %.9W", self.file], capture_output=True, text=True, env={**os.environ, "LC_ALL": "C"}).stdout.strip()
         chain.put_note(beside / "desk.db", Note("a", 1, "", born))
         self.assertIsNone(chain.unfinished(self.file))

@@ -13,7 +13,7 @@ from pathlib import Path
 from unittest import mock
 
 import service_ground as ground
-from acd_service import audit, chain, copy, halt, held, pair
+from acd_service import audit, chain, copy, halt, held, pair, settings
 from service_ground import moments_out, rows, said
 
 NOW = (ground.SERVICE / "nginx/nginx.conf").read_text()
@@ -49,7 +49,8 @@ class Copies(ground.Case):
         super().setUp()
         self.copies = self.folder / "copies"
         self.words = ("copy", "--file", self.file, "--folder", self.copies)
-        self.enterContext(mock.patch.multiple(copy, NGINX=self.folder / "nginx", SETTINGS=self.folder / "acd.env"))
+        self.enterContext(mock.patch.object(copy, "NGINX", self.folder / "nginx"))
+        self.enterContext(mock.patch.object(settings, "FILE", self.folder / "acd.env"))
 
     def good(self, *more):
         """A good copy, of which alone something is said; its folder."""
@@ -62,7 +63,7 @@ class Copies(ground.Case):
         done = said(*self.words, *more)
         self.assertEqual((done.status, done.faults.count("\n")), (1, 1), done)
         self.assertNotIn("sound: ", done.out)
-        found = re.search(rf"\Aacdctl copy: {pattern}; it lies in (\S+), and the older copies are all kept\n\Z", done.faults)
+        found = re.search(rf"\Aacdctl copy: {pattern}; it is in (\S+), and all older copies are kept\n\Z", done.faults)
         self.assertTrue(found, done.faults)
         self.assertEqual(list(self.copies.glob(".new.*")), [])
         return Path(found[1])
@@ -111,7 +112,7 @@ class Copying(Copies):
         self.assertEqual(done.status, 1)
         first, second = done.faults.splitlines()
         self.assertIn(f"the file {self.file} was removed from under the desk, process {desk.pid}", first)
-        self.assertIn(f"this copy is of what the desk has open; it lies in {self.copies}/moved-X", moments_out(second))
+        self.assertIn(f"this copy is of what the desk has open; it is in {self.copies}/moved-X", moments_out(second))
         made, = self.copies.glob("moved-*")
         self.assertEqual(rows(made / "desk.db", "SELECT count(*) FROM kept"), [(4,)])
 
@@ -217,7 +218,7 @@ class WithAnArchive(Copies):
 
     def test_one_that_is_not_there(self):
         self.archive.unlink()
-        made = self.bad(f"the copy can't be looked at behind its archive: the archive {self.archive.name} isn't in {self.copies}/archives")
+        made = self.bad(f"the copy can't be audited with its archive: the archive {self.archive.name} isn't in {self.copies}/archives")
         self.assertTrue(made.name.endswith(".unaudited"))
 
     def test_of_the_file_that_it_goes_on_from(self):
@@ -241,7 +242,7 @@ class Refusals(Copies):
         self.desk()
         if os.geteuid() == 0:
             os.chown(self.file, 1, 1)
-            self.refused(self.words, 1, f"only the user daemon makes copies of {self.file}: runuser -u daemon -- acd-copy")
+            self.refused(self.words, 1, f"only the user daemon makes copies of {self.file}: runuser -u daemon -- acdctl copy")
             os.chown(self.file, 0, 0)
         self.file.rename(self.home / "other")
         os.symlink("/dev/null/the restore of M isn't ended: so", self.file)
@@ -251,8 +252,11 @@ class Refusals(Copies):
     def test_help(self):
         done = said("copy", "--help")
         self.assertEqual((done.status, done.faults), (0, ""))
-        for word in ("--file", "--folder", "--keep", "--halt", "--restore", "--undo", "--continue"):
+        for word in ("--file", "--folder", "--keep", "--halt", "--continue"):
             self.assertIn(word, done.out)
+        self.assertNotIn("--restore", done.out)
+        for word in ("--restore", "--undo"):
+            self.assertIn(word, said("--help", by="acd-copy").out)
 
 
 class Settings(Copies):
@@ -266,7 +270,7 @@ class Settings(Copies):
 
     def test_of_the_units(self):
         """As systemd takes them: with quotes around a value, and as another system's editor ends its lines."""
-        copy.SETTINGS.write_bytes(f"# ACD_COPIES=3\nACD_FILE=\"{self.file}\"\r\nACD_COPY_FOLDER='{self.folder}/others'\nACD_COPIES=2\nACD_HALT=0\nnone\n".encode())
+        settings.FILE.write_bytes(f"# ACD_COPIES=3\nACD_FILE=\"{self.file}\"\r\nACD_COPY_FOLDER='{self.folder}/others'\nACD_COPIES=2\nACD_HALT=0\nnone\n".encode())
         self.assertEqual(self.read(), (str(self.file), f"{self.folder}/others", 2, 0))
         self.assertEqual(self.read("--keep", "9", "--halt", "0", "--folder", "/x"), (str(self.file), "/x", 9, 0))
         # another file has its own folder
@@ -274,8 +278,8 @@ class Settings(Copies):
 
     def test_that_are_none(self):
         for text, what in (("ACD_COPIES=0", "days: that isn't a whole number from 1 to 999"), ("ACD_HALT=x", "seconds: that isn't a whole number from 0 to 999")):
-            copy.SETTINGS.write_text(f"{text}\n")
-            self.refused(("copy",), 2, f"{copy.SETTINGS}: .*{what}")
+            settings.FILE.write_text(f"{text}\n")
+            self.refused(("copy",), 2, f"{settings.FILE}: .*{what}")
 
 
 class Meanwhile(Copies):

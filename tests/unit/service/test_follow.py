@@ -88,7 +88,7 @@ class Copies(Follows):
         self.assertEqual([path.rpartition("=")[2] for _, path, _ in got], ["0", "1", "2"])
 
     def test_what_was_said_last(self):
-        self.assertEqual(said("follow", "--last", "--file", self.copy), (1, "", f"acdctl follow: {self.copy}.followed: No such file or directory: acd-follow hasn't caught up yet there\n"))
+        self.assertEqual(said("follow", "--last", "--file", self.copy), (1, "", f"acdctl follow: {self.copy}.followed: No such file or directory: acdctl follow hasn't caught up yet there\n"))
 
     def test_what_a_killed_one_left(self):
         self.desk()

@@ -57,7 +57,7 @@ class Forgotten(Archives):
         done = self.forget()
         self.assertEqual((done.status, done.faults), (0, ""))
         self.assertEqual(moments_out(done.out), f"the audit says 'sound, sound' of the new archives with {self.file}, as before\n"
-                                                f"Removed {CALLER} from all archives. The old ones are in {self.home}/put-away-X; delete them with acd-forget --confirm\n")
+                                                f"Removed {CALLER} from all archives. The old ones are in {self.home}/put-away-X; delete them with acdctl forget --confirm\n")
         alias, = {request["caller"] for text, in rows(self.archive, "SELECT request FROM kept WHERE stamp = 4") for request in [json.loads(text)]}
         self.assertRegex(alias, r"\A\d{15}\Z")
         for file in (self.archive, self.copied):
@@ -150,7 +150,7 @@ class BrokenOff(Archives):
                 break
             away, = self.home.glob("put-away-*")
             if (away / "new").exists():
-                self.refused((*self.words, "--confirm"), 1, f"{away} isn't ended: the same acd-forget --caller once more ends it")
+                self.refused((*self.words, "--confirm"), 1, f"{away} isn't ended: the same acdctl forget --caller once more ends it")
             done = self.forget()
             self.assertEqual((done.status, done.faults), (0, ""), step)
             self.assertEqual(done.out.splitlines()[-1], f"{CALLER} is in no archive")
@@ -243,7 +243,7 @@ class Refused(Archives):
             found = stat(path, **more)
             return types.SimpleNamespace(st_mode=found.st_mode, st_size=found.st_size, st_dev=found.st_dev + (path == self.archive))
 
-        with mock.patch.object(Path, "stat", elsewhere), self.assertRaisesRegex(forget.Fault, f"{self.archive} lies on another disk than {self.file}: put it beside that; nothing was changed"):
+        with mock.patch.object(Path, "stat", elsewhere), self.assertRaisesRegex(forget.Fault, f"{self.archive} is on another disk than {self.file}: put it beside that; nothing was changed"):
             forget.chained(self.file, self.copies, [self.archive])
 
     def test_beside_another_one(self):

@@ -70,7 +70,7 @@ class Printed(Plans):
     def test_priorities(self):
         ground.lines(self.file, '0 {"requester":"x","invoke":1,"service":"setGroupPriority","device":"110","priority":5}\n')
         done = said("plan", stdin=self.snapshot())
-        self.assertEqual((done.status, done.out.count("\n"), done.faults), (0, 8, "acdctl plan: 1 groups have a priority, which a plan can't give: acd-plan --priorities prints them\n"))
+        self.assertEqual((done.status, done.out.count("\n"), done.faults), (0, 8, "acdctl plan: 1 groups have a priority, which a plan can't give: acdctl plan --priorities prints them\n"))
         done = said("plan", "--priorities", stdin=self.snapshot())
         self.assertEqual(done, (0, '0 {"requester":"plan","invoke":8,"service":"setGroupPriority","device":"110","priority":5}\n', ""))
         other = self.folder / "other.db"

@@ -115,7 +115,7 @@ class Settings(Starts):
     def test_one_of_an_earlier_version(self):
         self.desk()
         os.environ["ACD_CONNECTIONS"] = "9"
-        self.starts("acdctl ready: ACD_CONNECTIONS is a setting of an earlier version, and is passed over: remove it from /etc/acd/acd.env\n")
+        self.starts("acdctl ready: ACD_CONNECTIONS is a setting of an earlier version, and is ignored: remove it from /etc/acd/acd.env\n")
 
     def test_names(self):
         """Those of the settings' file that ships are settings, and of others only what looks like one."""

@@ -89,8 +89,10 @@ class Printed(ground.Case):
         read, write = os.pipe()
         os.close(read)
         with mock.patch.object(calls, "do", side_effect=BrokenPipeError), open(write, "w") as out, contextlib.redirect_stdout(out):
-            calls.main(["--file", str(self.file)])
+            with self.assertRaises(SystemExit) as end:
+                calls.main(["--file", str(self.file)])
             self.assertTrue(os.path.samestat(os.fstat(write), os.stat(os.devnull)))
+        self.assertEqual(end.exception.code, 0)
 
 
 class Copies(ground.Case):

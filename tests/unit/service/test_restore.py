@@ -9,7 +9,7 @@ from pathlib import Path
 from unittest import mock
 
 import service_ground as ground
-from acd_service import audit, chain, copy, pair, restoring
+from acd_service import audit, chain, pair, restoring, settings
 from service_ground import moments_out, rows, said
 
 MOMENT = "2026-11-28T100000Z"
@@ -50,7 +50,7 @@ class Restores(ground.Case):
     def setUp(self):
         super().setUp()
         self.copies = self.folder / "copies"
-        self.enterContext(mock.patch.object(copy, "SETTINGS", self.folder / "acd.env"))
+        self.enterContext(mock.patch.object(settings, "FILE", self.folder / "acd.env"))
         self.words = ("restore", "--file", self.file, "--folder", self.copies)
 
     def lay(self, text=ground.PLAN, moment=MOMENT):
@@ -96,9 +96,9 @@ class BothWays(Restores):
         self.assertEqual(list(self.home.glob("put-away-*")), [])
 
     def test_the_old_words(self):
-        self.assertEqual(said("copy", "--file", self.file, "--folder", self.copies, "--restore", MOMENT).status, 0)
+        self.assertEqual(said("--file", self.file, "--folder", self.copies, "--restore", MOMENT, by="acd-copy").status, 0)
         self.assertEqual(self.count(), 3)
-        self.assertEqual(said("copy", "--file", self.file, "--undo").status, 0)
+        self.assertEqual(said("--file", self.file, "--undo", by="acd-copy").status, 0)
         self.assertEqual(self.count(), 5)
 
     def test_the_last_of_several(self):

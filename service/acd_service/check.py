@@ -1,0 +1,246 @@
+"""Judges what the administrator writes: settings, roles, logins, names, and nginx's ports and certificate. Tested, not proved.
+
+It starts nothing and changes nothing. It reads each file as the program reads it that the file is for, and what that program would report is a fault here."""
+import argparse
+import contextlib
+import datetime
+import json
+import re
+import ssl
+from collections.abc import Callable, Iterator
+from pathlib import Path
+from typing import Any
+
+from acd_service import certificate, command, office, settings
+from acd_service.command import Fault
+
+# least and greatest value of a setting
+NUMBERS = {"ACD_PORT": (1024, 65535), "ACD_GATE_PORT": (1024, 65535), "ACD_TLS_PORT": (1, 65535), "ACD_STEP": (2, 3600), "ACD_COPIES": (1, 999),
+           "ACD_HALT": (0, 999), "ACD_CARRY_DAYS": (1, 999_999_999)}
+PATHS = ("ACD_FILE", "ACD_COPY_FOLDER")
+# days before the end of a certificate from which on it is a fault
+SOON = 14
+MEMBERS = {"title": str, "language": str, "zone": str, "names": dict, "limits": dict}
+NAMED = ("groups", "agents", "stations")
+# the settings of pages that are numbers, each with its greatest value, those of one group among them, and those that are texts
+DAY = 86400
+MOST = {"limit": DAY, "goal": 100, "lost": 100, "long": DAY, "bad": DAY, "ringing": DAY, "busy": DAY, "hold": DAY, "own": DAY, "workingAfterCall": DAY, "notReady": DAY}
+OF_GROUP = r"(limit|goal|lost|long|bad)\.[0-9]{1,15}"
+TEXTS = ("title", "lang", "since", "theme", "groups", "level", "tone", "notify")
+SECRET = "nginx-secret.conf"
+
+
+def why(fault: OSError) -> str:
+    return f"can't be read: {fault.strerror or fault}"
+
+
+def lines_of(file: Path) -> list[str]:
+    """The lines of a file, as the gate reads them."""
+    return file.read_bytes().removeprefix(b"\xef\xbb\xbf").decode("utf-8", "replace").split("\n")
+
+
+# Settings
+
+def of_settings(file: Path) -> Iterator[str]:
+    found: dict[str, str] = {}
+    for number, line in enumerate(lines_of(file), 1):
+        name, equals, value = (part.strip() for part in line.partition("="))
+        if not line.strip() or line.startswith(("#", ";")):
+            continue
+        if not equals or not re.fullmatch("[A-Za-z_][A-Za-z0-9_]*", name):
+            yield f"{file}, line {number}: must be NAME=VALUE"
+            continue
+        if name in found:
+            yield f"{file}, line {number}: {name} appears twice; the last one counts"
+        found[name] = value
+    for name in settings.others(found):
+        yield f"{file}: no setting is called {name}; the nearest is {settings.nearest(name)}"
+    for name in settings.earlier(found):
+        yield f"{file}: {name} is a setting of an earlier version; remove it"
+    yield from of_values(file)
+
+
+def of_values(file: Path) -> Iterator[str]:
+    has = {**settings.DEFAULTS, **{name: value for name, value in settings.written(file).items() if value}}
+    for name, (least, most) in NUMBERS.items():
+        try:
+            command.whole_number(least, most)(has[name])
+        except argparse.ArgumentTypeError:
+            yield f"{file}: {name} must be a whole number from {least} to {most}, and not '{has[name]}'"
+    for port in has["ACD_LOCAL_PORTS"].split(","):
+        if not re.fullmatch("[1-9][0-9]{0,4}", port) or int(port) > 65535:
+            yield f"{file}: ACD_LOCAL_PORTS must be ports with commas between them, and not '{has['ACD_LOCAL_PORTS']}'"
+            break
+    if len({has[name] for name in ("ACD_PORT", "ACD_GATE_PORT", "ACD_TLS_PORT")}) < 3:
+        yield f"{file}: ACD_PORT, ACD_GATE_PORT and ACD_TLS_PORT must be three ports"
+    for name in PATHS:
+        if name in has and not has[name].startswith("/"):
+            yield f"{file}: {name} must begin with /, and not be '{has[name]}'"
+    with contextlib.suppress(PermissionError):
+        if has["ACD_FILE"].startswith("/") and not Path(has["ACD_FILE"]).is_file():
+            yield f"{file}: there is no file {has['ACD_FILE']} (ACD_FILE)"
+
+
+# Roles and logins
+
+def of_logins(roles: Path, users: Path) -> Iterator[str]:
+    # of the gate's modules only this needs more than Python has
+    from acd_service.gate.roles import hashes_of, roles_of
+    found: list[dict[str, Any] | None] = []
+    for file, read in ((roles, roles_of), (users, hashes_of)):
+        with command.reports_into() as reports:
+            try:
+                found.append(read(file, lines_of(file)))
+            except OSError as fault:
+                found.append(None)
+                reports.append(f"{file} {why(fault)}")
+        yield from reports
+    has_role, has_password = found
+    if has_role is None or has_password is None:
+        return
+    for login in sorted(has_password.keys() - has_role.keys()):
+        yield f"{users}: {login} has no line in {roles}, and gets nothing"
+    for login in sorted(has_role.keys() - has_password.keys()):
+        yield f"{roles}: {login} has no line in {users}, and can't log in"
+
+
+# Names
+
+def of_board(file: Path) -> Iterator[str]:
+    """An office may have none."""
+    if not file.exists():
+        return
+    try:
+        said = json.loads(file.read_bytes())
+    except ValueError as fault:
+        yield f"{file} is not JSON: {fault}"
+        return
+    if not isinstance(said, dict):
+        yield f"{file} is not a JSON object"
+        return
+    wrong = set()
+    for name, value in said.items():
+        if name not in MEMBERS:
+            yield f"{file}: no member is called {name}"
+        elif not isinstance(value, MEMBERS[name]):
+            wrong.add(name)
+            yield f"{file}: {name} must be {'a text' if MEMBERS[name] is str else 'an object'}"
+    for name, judge in (("zone", of_zone), ("names", of_names), ("limits", of_limits)):
+        if name in said and name not in wrong:
+            yield from judge(file, said[name])
+
+
+def of_zone(file: Path, zone: str) -> Iterator[str]:
+    if not office.is_zone(zone):
+        yield f"{file}: there is no zone {zone}"
+
+
+def of_names(file: Path, names: dict[str, Any]) -> Iterator[str]:
+    for kind, named in names.items():
+        if kind not in NAMED or not isinstance(named, dict):
+            yield f"{file}: names has {', '.join(NAMED)}, each an object, and not {kind}"
+            continue
+        for number, name in named.items():
+            if not re.fullmatch("[0-9]{1,15}", number) or not isinstance(name, str) or len(name) > office.LONGEST:
+                yield f"{file}: names.{kind}: {number} must be a number, and its name a text of {office.LONGEST} letters at most"
+
+
+def of_limits(file: Path, limits: dict[str, Any]) -> Iterator[str]:
+    for name, value in limits.items():
+        plain = re.sub(rf"^{OF_GROUP}$", r"\1", name)
+        if plain in MOST:
+            number = office.seconds(value)
+            if isinstance(value, bool) or number is None or number > MOST[plain]:
+                yield f"{file}: limits.{name} must be a number above 0, up to {MOST[plain]}"
+        elif name not in TEXTS:
+            yield f"{file}: no limit is called {name}"
+
+
+# nginx
+
+def of_nginx(folder: Path, env: Path) -> Iterator[str]:
+    """A machine may have none. Its configurations that concern the desk are those that name the gate's secret, or pass requests to the gate."""
+    if not folder.exists():
+        return
+    has = {**settings.DEFAULTS, **settings.written(env)}
+    ports = {name: has[name] for name in ("ACD_PORT", "ACD_GATE_PORT", "ACD_TLS_PORT")}
+    texts = {file: re.sub(r"(^|\s)#.*", "", file.read_text(errors="replace")) for file in sorted((*folder.glob("conf.d/*.conf"), *folder.glob("sites-enabled/*")))}
+    ours = {file: text for file, text in texts.items() if SECRET in text or "/auth/any" in text}
+    if not ours:
+        yield f"{folder}: no configuration asks the gate; /usr/share/doc/acd/examples/nginx.conf is one"
+        return
+    whole = "\n".join(ours.values())
+    passed_to, shown_at = r"server\s+127\.0\.0\.1:{}\b", r"listen\s+(\S+:)?{}\b[^;]*\bssl\b"
+    for name, pattern in (("ACD_PORT", passed_to), ("ACD_GATE_PORT", passed_to), ("ACD_TLS_PORT", shown_at)):
+        if not re.search(pattern.format(re.escape(ports[name])), whole):
+            yield f"{', '.join(map(str, ours))}: the port {ports[name]} of {name} isn't there; change it here or in {env}"
+    for file, text in ours.items():
+        if SECRET not in text:
+            yield f"{file} is of before 1.15: nginx asks the gate for every stranger"
+        yield from of_certificates(file, text)
+
+
+def of_certificates(file: Path, text: str) -> Iterator[str]:
+    shown, keys = (re.findall(rf"^\s*{name}\s+([^;\s]+)\s*;", text, re.MULTILINE) for name in ("ssl_certificate", "ssl_certificate_key"))
+    if len(shown) != len(keys) or not shown:
+        yield f"{file}: needs as many ssl_certificate_key as ssl_certificate, and one at least"
+    for place, key in zip(shown, keys):
+        yield from of_certificate(Path(place), Path(key), datetime.datetime.now(datetime.timezone.utc))
+
+
+def of_certificate(place: Path, key: Path, now: datetime.datetime) -> Iterator[str]:
+    try:
+        first = re.search(r"-----BEGIN CERTIFICATE-----.*?-----END CERTIFICATE-----", place.read_text(errors="replace"), re.DOTALL)
+        end = certificate.end_of(ssl.PEM_cert_to_DER_cert(first[0])) if first else None
+    except OSError as fault:
+        yield f"{place} {why(fault)}"
+        return
+    except (Fault, ValueError):
+        end = None
+    if end is None:
+        yield f"{place} has no certificate that can be read"
+        return
+    if end <= now + datetime.timedelta(days=SOON):
+        yield f"the certificate {place} {'ended' if end <= now else 'ends'} on {end:%Y-%m-%d}; renew it, and reload nginx"
+    try:
+        key.read_bytes()
+        ssl.SSLContext(ssl.PROTOCOL_TLS_SERVER).load_cert_chain(place, key, password="")
+    except ssl.SSLError:
+        yield f"{key} is not the key of {place}"
+    except OSError as fault:
+        yield f"{key} {why(fault)}"
+
+
+# The command
+
+def faults(folder: Path, nginx: Path) -> Iterator[str]:
+    env = folder / "acd.env"
+    judges: tuple[tuple[Path, Callable[[], Iterator[str]]], ...] = (
+        (env, lambda: of_settings(env)), (folder / "roles", lambda: of_logins(folder / "roles", folder / "users")),
+        (folder / "board.json", lambda: of_board(folder / "board.json")), (nginx, lambda: of_nginx(nginx, env)))
+    for file, judge in judges:
+        try:
+            yield from judge()
+        except OSError as fault:
+            yield f"{fault.filename or file} {why(fault)}"
+
+
+def parser() -> command.Parser:
+    found = command.Parser("Judges acd.env, roles, users, board.json, and nginx's ports and certificate. It starts nothing, and prints a line for each fault.")
+    found.add_argument("--folder", type=Path, default=settings.FILE.parent, metavar="FOLDER", help=f"where the first four are; {settings.FILE.parent} unless given")
+    found.add_argument("--nginx", type=Path, default=Path("/etc/nginx"), metavar="FOLDER", help="where nginx's configuration is; /etc/nginx unless given")
+    return found
+
+
+def do(options: argparse.Namespace) -> int:
+    """Its status."""
+    found = list(faults(options.folder, options.nginx))
+    for line in found:
+        command.say(line)
+    if not found:
+        command.say("no fault was found in acd.env, roles, users, board.json and nginx's configuration")
+    return command.FAILED if found else 0
+
+
+def main(words: list[str]) -> None:
+    command.run(lambda given: parser().parse_args(given), do, words)

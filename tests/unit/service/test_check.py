@@ -1,0 +1,213 @@
+"""Tests of acdctl check: each fault of acd.env, roles, users, board.json and nginx's configuration has its line, and nothing else has one."""
+import contextlib
+import datetime
+import io
+import json
+import subprocess
+import sys
+import tempfile
+import unittest
+from pathlib import Path
+from unittest import mock
+
+TOP = Path(__file__).resolve().parents[3]
+SERVICE = TOP / "service"
+sys.path.append(str(SERVICE))
+from acd_service import check, command  # noqa: E402
+from acd_service.gate import roles  # noqa: E402,F401  (what it uses warns as it is loaded)
+
+ENV, NGINX = (SERVICE / "settings/acd.env").read_text(), (SERVICE / "nginx/nginx.conf").read_text()
+# of "secret" by SHA-1, as `htpasswd -s` makes it
+HASHED = "{SHA}5en6G6MezRroT3XKqkdPOmY/BfQ="
+BOARD = {"title": "Hotline Nord", "language": "de", "zone": "Europe/Berlin", "limits": {"limit": 30, "long.100": 45, "title": "North"},
+         "names": {"groups": {"100": "Störung"}, "agents": {"7": "Jürgen Müller"}, "stations": {"201": "Empfang"}}}
+
+
+class Office(unittest.TestCase):
+    """A folder of settings in which nothing is wrong, of which a test changes something."""
+
+    @classmethod
+    def setUpClass(cls):
+        held = tempfile.TemporaryDirectory()
+        cls.addClassCleanup(held.cleanup)
+        cls.keys = Path(held.name)
+        for name in ("desk", "other"):
+            subprocess.run(["openssl", "req", "-x509", "-newkey", "ec", "-pkeyopt", "ec_paramgen_curve:P-256", "-nodes", "-days", "90", "-subj", "/CN=desk",
+                            "-keyout", cls.keys / f"{name}.key", "-out", cls.keys / f"{name}.crt"], check=True, capture_output=True)
+
+    def setUp(self):
+        held = tempfile.TemporaryDirectory()
+        self.addCleanup(held.cleanup)
+        self.folder, self.nginx = Path(held.name), Path(held.name) / "nginx"
+        (self.folder / "desk.db").touch()
+        self.put("acd.env", ENV.replace("/var/lib/acd/desk.db", f"{self.folder}/desk.db"))
+        self.put("roles", "ana agent agent=7\npbx exchange\n")
+        self.put("users", f"ana:{HASHED}\npbx:{HASHED}\n")
+        self.put("board.json", json.dumps(BOARD))
+        (self.nginx / "conf.d").mkdir(parents=True)
+        (self.nginx / "sites-enabled").mkdir()
+        self.proxy = NGINX.replace("/etc/acd/desk", f"{self.keys}/desk")
+        self.put("nginx/conf.d/desk.conf", self.proxy)
+        self.put("nginx/sites-enabled/default", "server { listen 80; }\n")
+
+    def put(self, name, text):
+        (self.folder / name).write_bytes(text.encode() if isinstance(text, str) else text)
+
+    def said(self):
+        """The status, and the lines."""
+        with contextlib.redirect_stdout(io.StringIO()) as out, contextlib.redirect_stderr(io.StringIO()) as faults, self.assertRaises(SystemExit) as end:
+            check.main(["--folder", str(self.folder), "--nginx", str(self.nginx)])
+        self.assertEqual(faults.getvalue(), "")
+        return end.exception.code, out.getvalue().splitlines()
+
+    def finds(self, *wanted):
+        """These lines alone, each by its end behind the name of its file."""
+        status, lines = self.said()
+        self.assertEqual((status, len(lines)), (1, len(wanted)), lines)
+        for line, end in zip(lines, wanted):
+            self.assertTrue(line.endswith(end), f"{line!r} doesn't end with {end!r}")
+
+
+class Good(Office):
+    def test_nothing_is_wrong(self):
+        self.assertEqual(self.said(), (0, ["no fault was found in acd.env, roles, users, board.json and nginx's configuration"]))
+
+    def test_what_may_be_missing(self):
+        (self.folder / "board.json").unlink()
+        self.nginx.rename(self.folder / "elsewhere")
+        self.assertEqual(self.said()[0], 0)
+
+    def test_what_is_shipped(self):
+        """The examples, beside logins and a certificate."""
+        self.put("roles", (SERVICE / "settings/roles").read_text())
+        self.put("users", "")
+        self.assertEqual(self.said()[0], 0)
+
+
+class Settings(Office):
+    def with_lines(self, *lines):
+        self.put("acd.env", (self.folder / "acd.env").read_text() + "".join(f"{line}\n" for line in lines))
+
+    def test_names(self):
+        self.with_lines("ACD_FLIE=/srv/desk.db", "ACD_CONNECTIONS=5", "ACD-PORT=8080", "a note", "ACD_PURGE_DESK = yes\r")
+        number = len(ENV.splitlines())
+        self.finds(f"acd.env, line {number + 3}: must be NAME=VALUE", f"acd.env, line {number + 4}: must be NAME=VALUE",
+                   "no setting is called ACD_FLIE; the nearest is ACD_FILE", "ACD_CONNECTIONS is a setting of an earlier version; remove it")
+
+    def test_a_name_that_appears_twice(self):
+        self.with_lines("ACD_STEP=5")
+        self.finds(f"acd.env, line {len(ENV.splitlines()) + 1}: ACD_STEP appears twice; the last one counts")
+
+    def test_values(self):
+        for name, value, bounds in (("ACD_PORT", "81", "1024 to 65535"), ("ACD_GATE_PORT", "x", "1024 to 65535"), ("ACD_STEP", "5s", "2 to 3600"), ("ACD_STEP", "1", "2 to 3600"),
+                                    ("ACD_COPIES", "0", "1 to 999"), ("ACD_HALT", "1000", "0 to 999"), ("ACD_CARRY_DAYS", "0", "1 to 999999999"), ("ACD_TLS_PORT", "65536", "1 to 65535")):
+            with self.subTest(name=name, value=value):
+                self.put("acd.env", f"ACD_FILE={self.folder}/desk.db\n{name}={value}\n")
+                wanted = [f"{name} must be a whole number from {bounds}, and not '{value}'"]
+                status, lines = self.said()
+                self.assertEqual((status, lines[0].partition(": ")[2]), (1, wanted[0]))
+
+    def test_ports_and_places(self):
+        self.put("acd.env", f"ACD_FILE={self.folder}/desk.db\nACD_LOCAL_PORTS=2379;2380\nACD_COPY_FOLDER=copies\n")
+        self.finds("ACD_LOCAL_PORTS must be ports with commas between them, and not '2379;2380'", "ACD_COPY_FOLDER must begin with /, and not be 'copies'")
+        self.put("acd.env", "ACD_FILE=/none/desk.db\nACD_GATE_PORT=8080\n")
+        self.put("nginx/conf.d/desk.conf", self.proxy.replace("8081", "8080"))
+        self.finds("ACD_PORT, ACD_GATE_PORT and ACD_TLS_PORT must be three ports", "there is no file /none/desk.db (ACD_FILE)")
+
+    def test_without_the_file(self):
+        (self.folder / "acd.env").unlink()
+        self.finds("acd.env can't be read: No such file or directory")
+
+
+class Logins(Office):
+    def test_roles_that_the_gate_refuses(self):
+        self.put("roles", "ana agent agent=7\npbx exchnge\nuwe lead groups=100;110\n")
+        self.put("users", f"ana:{HASHED}\npbx:{HASHED}\nuwe:{HASHED}\n")
+        self.finds("roles, line 2: pbx is refused: its role is exchnge", 'roles, line 3: uwe is refused: cannot read "groups=100;110" (separate groups by commas)')
+
+    def test_passwords_that_are_none(self):
+        self.put("users", f"ana:{HASHED}\npbx:secret\n")
+        self.finds("users, line 2: pbx has no hash of htpasswd, by bcrypt, say", "roles: pbx has no line in {}, and can't log in".format(self.folder / "users"))
+
+    def test_one_file_without_the_other(self):
+        self.put("users", f"ana:{HASHED}\nben:{HASHED}\npbx:{HASHED}\n")
+        self.finds(f"users: ben has no line in {self.folder}/roles, and gets nothing")
+
+    def test_a_file_that_cannot_be_read(self):
+        (self.folder / "users").unlink()
+        self.finds("users can't be read: No such file or directory")
+        (self.folder / "roles").unlink()
+        self.finds("roles can't be read: No such file or directory", "users can't be read: No such file or directory")
+
+    def test_nothing_is_collected_afterwards(self):
+        self.said()
+        with contextlib.redirect_stderr(io.StringIO()) as faults:
+            command.report("here")
+        self.assertTrue(faults.getvalue().endswith(": here\n"))
+
+
+class Names(Office):
+    def test_members(self):
+        for changed, end in (({"titel": "x"}, "no member is called titel"), ({"zone": "Europe/Berln"}, "there is no zone Europe/Berln"), ({"zone": 3}, "zone must be a text"),
+                             ({"names": []}, "names must be an object"), ({"names": {"group": {}}}, "names has groups, agents, stations, each an object, and not group"),
+                             ({"names": {"agents": {"ana": "Ana"}}}, "names.agents: ana must be a number, and its name a text of 80 letters at most"),
+                             ({"names": {"agents": {"7": "x" * 81}}}, "names.agents: 7 must be a number, and its name a text of 80 letters at most"),
+                             ({"limits": {"limits": 3}}, "no limit is called limits"), ({"limits": {"title.100": "x"}}, "no limit is called title.100"),
+                             ({"limits": {"limit": 0}}, "limits.limit must be a number above 0, up to 86400"), ({"limits": {"long.100": "x"}}, "limits.long.100 must be a number above 0, up to 86400"),
+                             ({"limits": {"goal": 101}}, "limits.goal must be a number above 0, up to 100"), ({"limits": {"busy": True}}, "limits.busy must be a number above 0, up to 86400")):
+            with self.subTest(changed):
+                self.put("board.json", json.dumps({**BOARD, **changed}))
+                self.finds(f"board.json: {end}")
+
+    def test_no_object(self):
+        self.put("board.json", "[]")
+        self.finds("board.json is not a JSON object")
+        self.put("board.json", "{'title': 1}")
+        self.assertIn("board.json is not JSON: ", self.said()[1][0])
+
+
+class Proxy(Office):
+    def test_ports(self):
+        for old, new, name, port in (("127.0.0.1:8080", "127.0.0.1:8090", "ACD_PORT", 8080), ("127.0.0.1:8081", "127.0.0.1:8091", "ACD_GATE_PORT", 8081),
+                                     ("listen 8443 ssl", "listen 443 ssl", "ACD_TLS_PORT", 8443), ("listen 8443 ssl", "listen 8443", "ACD_TLS_PORT", 8443)):
+            with self.subTest(new):
+                self.put("nginx/conf.d/desk.conf", self.proxy.replace(old, new))
+                self.finds(f"desk.conf: the port {port} of {name} isn't there; change it here or in {self.folder}/acd.env")
+
+    def test_a_port_in_a_note_is_none(self):
+        self.put("nginx/conf.d/desk.conf", self.proxy.replace("    listen 8443 ssl", "    # listen 8443 ssl;\n    listen 443 ssl"))
+        self.finds(f"desk.conf: the port 8443 of ACD_TLS_PORT isn't there; change it here or in {self.folder}/acd.env")
+
+    def test_a_second_line_has_other_ports(self):
+        self.put("nginx/conf.d/north.conf", self.proxy.replace("8080", "8090").replace("8081", "8091").replace("8443", "9443"))
+        self.assertEqual(self.said()[0], 0)
+
+    def test_without_a_configuration_of_ours(self):
+        (self.nginx / "conf.d/desk.conf").unlink()
+        self.finds("nginx: no configuration asks the gate; /usr/share/doc/acd/examples/nginx.conf is one")
+
+    def test_of_an_older_version(self):
+        self.put("nginx/conf.d/desk.conf", self.proxy.replace("nginx-secret.conf", "other.conf"))
+        self.finds("desk.conf is of before 1.15: nginx asks the gate for every stranger")
+
+    def test_certificates(self):
+        for old, new, wanted in ((".crt", ".crte", f"{self.keys}/desk.crte can't be read: No such file or directory"), (".key", ".keys", f"{self.keys}/desk.keys can't be read: No such file or directory"),
+                                 ("desk.key", "other.key", f"{self.keys}/other.key is not the key of {self.keys}/desk.crt"),
+                                 ("desk.crt", "desk.key", f"{self.keys}/desk.key has no certificate that can be read"),
+                                 ("    ssl_certificate_key ", "    # ", "desk.conf: needs as many ssl_certificate_key as ssl_certificate, and one at least")):
+            with self.subTest(new):
+                self.put("nginx/conf.d/desk.conf", self.proxy.replace(f"{self.keys}/{old}" if old.startswith("desk") else old, f"{self.keys}/{new}" if old.startswith("desk") else new))
+                self.finds(wanted)
+
+    def test_a_certificate_that_ends(self):
+        end = datetime.datetime.now(datetime.timezone.utc)
+        for days, word in ((13.9, "ends"), (-0.1, "ended")):
+            moment = end + datetime.timedelta(days=days)
+            with self.subTest(days), mock.patch.object(check.certificate, "end_of", return_value=moment):
+                self.finds(f"the certificate {self.keys}/desk.crt {word} on {moment:%Y-%m-%d}; renew it, and reload nginx")
+        with mock.patch.object(check.certificate, "end_of", return_value=end + datetime.timedelta(days=14.1)):
+            self.assertEqual(self.said()[0], 0)
+
+
+if __name__ == "__main__":
+    unittest.main()
