@@ -1,5 +1,5 @@
-"""The program's verdict on a copy of a desk's file: it is sound, a request was sent again after a cut, its log ends early, or something else is wrong. Tested,
-not proved."""
+"""The program's verdict on a copy of a desk's file: it is sound, a request was sent again after a cut, its log ends
+early, or something else is wrong. Tested, not proved."""
 import contextlib
 import os
 import re
@@ -8,6 +8,7 @@ import signal
 import sqlite3
 import subprocess
 from dataclasses import dataclass
+from pathlib import Path
 
 from acd_service import chain
 from acd_service.log import Damaged, Unreadable, look
@@ -27,17 +28,18 @@ class Finding:
     said: str
     executed: int = 0
 
-    def is_good(self):
+    def is_good(self) -> bool:
         return self.verdict in (SOUND, AGAIN)
 
 
-def run(*words):
+def run(*words: str | Path) -> tuple[int, list[str]]:
     """The status, and the lines that it printed."""
-    done = subprocess.run([*QUIETLY, *words], stdin=subprocess.DEVNULL, stdout=subprocess.PIPE, stderr=subprocess.STDOUT, text=True)
+    done = subprocess.run([*QUIETLY, *words], stdin=subprocess.DEVNULL, stdout=subprocess.PIPE,
+                          stderr=subprocess.STDOUT, text=True)
     return done.returncode, done.stdout.splitlines()
 
 
-def finding(status, lines):
+def finding(status: int, lines: list[str]) -> Finding:
     if status == -signal.SIGKILL or NO_MEMORY in lines:
         return Finding(UNAUDITED, "it was ended, since it wanted more memory than it may have")
     if status == ENDS_EARLY:
@@ -48,33 +50,38 @@ def finding(status, lines):
     return Finding(UNSOUND, said)
 
 
-def last_stamp(file):
+def last_stamp(file: Path) -> int:
     with contextlib.closing(sqlite3.connect(chain.immutable(file), uri=True)) as book:
-        return book.execute("SELECT last_stamp FROM meta").fetchone()[0]
+        stamp: int = book.execute("SELECT last_stamp FROM meta").fetchone()[0]
+    return stamp
 
 
-def sent_again(said, file, archive):
-    """The line where the audit with the archive says that the file differs at a request, and that one has the key of one that the archive alone has: the desk
-    can't know it any more, and did once more what it asks for. Else None. Nobody learns by it who the ticks' requester is."""
+def sent_again(said: str, file: Path, archive: Path) -> str | None:
+    """The line where the audit with the archive says that the file differs at a request, and that one has the key of
+    one that the archive alone has: the desk can't know it any more, and did once more what it asks for. Else None.
+    Nobody learns by it who the ticks' requester is."""
     differs, found = re.fullmatch(r"differs at request (\d+)", said), None
     if not differs:
         return None
-    with contextlib.suppress(sqlite3.Error), contextlib.closing(sqlite3.connect(chain.immutable(file), uri=True)) as book:
+    with (contextlib.suppress(sqlite3.Error),
+          contextlib.closing(sqlite3.connect(chain.immutable(file), uri=True)) as book):
         book.execute("ATTACH ? AS old", (chain.immutable(archive),))
         found = book.execute("""SELECT requester, invoke, json_extract(new.request, '$.service'), old.kept.stamp
                                 FROM main.kept AS new JOIN old.kept USING (requester, invoke)
                                 WHERE new.stamp = ? AND new.stamp > (SELECT last_stamp FROM old.meta)
-                                    AND old.kept.stamp < (SELECT min(stamp) FROM main.kept)""", (differs[1],)).fetchone()
+                                    AND old.kept.stamp < (SELECT min(stamp) FROM main.kept)""",
+                             (differs[1],)).fetchone()
     if not found:
         return None
     requester, invoke, service, earlier = found
     key = f"{service}, requester {re.sub('^clock-[a-z]+$', 'clock-..', requester)}, invoke {invoke}"
-    return (f"sound up to request {int(differs[1]) - 1}; request {differs[1]} ({key}) was sent again after the cut (request {earlier} of {archive.name} has its "
-            "key), and the requests after it weren't looked at")
+    return (f"sound up to request {int(differs[1]) - 1}; request {differs[1]} ({key}) was sent again after the cut "
+            f"(request {earlier} of {archive.name} has its key), and the requests after it weren't looked at")
 
 
-def carried(file, archive):
-    """The verdict on a file that was carried over. A program that can't audit it with its archive opens it, and SQL compares the rows of both."""
+def carried(file: Path, archive: Path) -> Finding:
+    """The verdict on a file that was carried over. A program that can't audit it with its archive opens it, and SQL
+    compares the rows of both."""
     log_existed = log_of(archive).exists()
     audit = chain.audited(QUIETLY, file, archive, "--whole", "--count")
     # the audit makes one beside an archive, too, and leaves nothing in it
@@ -91,15 +98,17 @@ def carried(file, archive):
     status, lines = run("lines", "--file", file)
     if status:
         return finding(status, lines)
-    found = chain.differences(file, archive)
-    if found:
-        return Finding(UNSOUND, f"{found}, and not as in {archive}")
-    return Finding(SOUND, f"this acd can't audit with an archive (audit --archive): by SQL the copy continues {archive.name}", last_stamp(file))
+    difference = chain.differences(file, archive)
+    if difference:
+        return Finding(UNSOUND, f"{difference}, and not as in {archive}")
+    said = f"this acd can't audit with an archive (audit --archive): by SQL the copy continues {archive.name}"
+    return Finding(SOUND, said, last_stamp(file))
 
 
-def audited(file, archive=None):
-    """The finding of the audit, with the archive if there is one. The audit empties the log; if the file isn't sound, the old log is put back."""
-    log, aside = log_of(file), f"{log_of(file)}.aside"
+def audited(file: Path, archive: Path | None = None) -> Finding:
+    """The finding of the audit, with the archive if there is one. The audit empties the log; if the file isn't sound,
+    the old log is put back."""
+    log, aside = log_of(file), Path(f"{log_of(file)}.aside")
     if log.exists():
         shutil.copy2(log, aside)
     found = carried(file, archive) if archive else finding(*run("audit", "--whole", "--count", "--file", file))

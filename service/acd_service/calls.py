@@ -6,15 +6,17 @@ import datetime
 import re
 import sys
 import tempfile
+from collections.abc import Callable, Iterator
 from pathlib import Path
+from typing import Any, NoReturn, TextIO
 
 from acd_service import archives, chain, command, sheets
 from acd_service.book import Book, opened
 from acd_service.command import Fault, report
 from acd_service.leaving.quarters import Quarters
-from acd_service.leaving.records import Records
-from acd_service.office import FILE, counting
-from acd_service.record_days import KINDS, Days, wanted_from
+from acd_service.leaving.records import Call, Records
+from acd_service.office import FILE, Office, counting
+from acd_service.record_days import KINDS, Days, Writer, wanted_from
 
 CALLS = ["number", "caller", "called", "entered", "groups", "rings", "agent", "station", "waited", "talked", "held", "wrapped_up", "ended", "rung", "answered_at", "ended_at"]
 LEGS = ["call", "leg", "device", "agent", "group", "begun", "answered_at", "ended_at", "waited", "rang", "talked", "held", "wrapped_up", "ended", "to"]
@@ -35,13 +37,18 @@ MISSING = 3
 BEFORE = datetime.timedelta(days=2)
 
 
+Row = list[Any]
+# of groups and agents, by their numbers
+Names = dict[str, dict[str, str]]
+
+
 # Rows
 
-def when(moment):
+def when(moment: float | None) -> str:
     return "" if moment is None else datetime.datetime.fromtimestamp(moment).strftime("%Y-%m-%d %H:%M:%S")
 
 
-def call_row(call):
+def call_row(call: Call) -> Row:
     rung = [leg for leg in call.legs if leg.rings]
     answered = [leg for leg in call.legs if leg.answered is not None]
     missed = [leg.agent for leg in rung if leg.answered is None and leg.ended_at is not None]
@@ -50,13 +57,13 @@ def call_row(call):
             when(min((leg.answered for leg in answered), default=None)), when(call.ended_at)]
 
 
-def leg_rows(call):
+def leg_rows(call: Call) -> Iterator[Row]:
     for number, leg in enumerate(call.legs, 1):
         yield [call.number, number, leg.device, leg.agent, leg.group, when(leg.begun), when(leg.answered), when(leg.ended_at), leg.waited, leg.rang, leg.talked, leg.held,
                leg.wrapped_up, leg.ended, leg.to]
 
 
-def agent_rows(records, names):
+def agent_rows(records: Records, names: Names) -> Iterator[tuple[datetime.date, Row]]:
     """Day and row, in the order of days and agents."""
     for day, agent in sorted(records.days, key=lambda key: (key[0], int("1" + key[1]))):
         has = records.days[day, agent]
@@ -64,7 +71,7 @@ def agent_rows(records, names):
         yield day, [day, agent, names["agents"].get(agent, ""), *(has.counts[column] for column in AGENTS[3:14]), when(has.first), when(has.last), groups]
 
 
-def group_rows(quarters):
+def group_rows(quarters: Quarters) -> Iterator[tuple[int, Row]]:
     for begin, group, has in quarters.lines():
         yield begin, [when(begin), group, has.entered, has.answered, has.abandoned, has.moved, f"{quarters.limit_of(group):g}", has.in_time, has.late,
                       "" if has.level is None else has.level, has.waited, "" if has.longest is None else has.longest, has.most, has.handled, has.handling]
@@ -73,17 +80,17 @@ def group_rows(quarters):
 class Form:
     """How rows are written: with names beside numbers, and so that a spreadsheet changes none."""
 
-    def __init__(self, names, is_named, is_guarded):
+    def __init__(self, names: Names, is_named: bool, is_guarded: bool) -> None:
         self.names, self.is_named, self.is_guarded = names, is_named, is_guarded
 
-    def head(self, columns):
+    def head(self, columns: list[str]) -> list[str]:
         return columns + ([NAMES[column][0] for column in self.to_name(columns)] if self.is_named else [])
 
     @staticmethod
-    def to_name(columns):
+    def to_name(columns: list[str]) -> list[str]:
         return [column for column in columns if column in NAMES and not (column == "agent" and "name" in columns)]
 
-    def row(self, columns, row):
+    def row(self, columns: list[str], row: Row) -> Row:
         if self.is_named:
             for column in self.to_name(columns):
                 names = self.names[NAMES[column][1]]
@@ -93,7 +100,7 @@ class Form:
         return row
 
 
-def guarded(column, field):
+def guarded(column: str, field: Any) -> Any:
     """With ' before it, where a spreadsheet would change it."""
     if column not in NUMBERED and column not in NAMED or field == "-":
         return field
@@ -102,7 +109,7 @@ def guarded(column, field):
 
 # The copy
 
-def newest(folder):
+def newest(folder: Path) -> tuple[Path, int]:
     """The newest sound copy in a folder of copies, and when it was made."""
     found = []
     for place in folder.iterdir() if folder.is_dir() else ():
@@ -121,10 +128,11 @@ def newest(folder):
     return files[0], int(made)
 
 
-def archives_of(file, since):
+def archives_of(file: Path, since: datetime.date | None) -> list[Path]:
     """The archives that a file goes on from, by the notes beside them, from the oldest on: those that have requests of the days from one on. Where one isn't
     there it returns those after it."""
-    file, found = file.absolute(), []
+    found: list[Path] = []
+    file = file.absolute()
     folders = [file.parent, chain.copies_of(file.parent.parent)]
     for note in chain.chain(file, folders):
         last_day = re.search(r"-([0-9]{4}-[0-9]{2}-[0-9]{2})-[0-9]+$", note.name)
@@ -137,7 +145,7 @@ def archives_of(file, since):
     return found
 
 
-def follow(book, records, quarters, write_call, made=0):
+def follow(book: Book, records: Records | None, quarters: Quarters | None, write_call: Callable[[Call], object], made: int = 0) -> None:
     """Goes through all events; a call is handed on as soon as it and those before it are finished."""
     if quarters and book.begins() is not None:
         quarters.begin(book.begins(), book.waited_before())
@@ -164,26 +172,27 @@ def follow(book, records, quarters, write_call, made=0):
 class Printed:
     """One table, of the days that are asked for."""
 
-    def __init__(self, options, office, form, names):
+    def __init__(self, options: argparse.Namespace, office: Office, form: Form, names: Names) -> None:
         self.options, self.office, self.form, self.names = options, office, form, names
         self.writer = csv.writer(sys.stdout, lineterminator="\n")
 
-    def is_asked_for(self, day):
-        return (self.options.since is None or self.options.since <= day) and (self.options.until is None or day <= self.options.until)
+    def is_asked_for(self, day: datetime.date) -> bool:
+        since, until = self.options.since, self.options.until
+        return bool((since is None or since <= day) and (until is None or day <= until))
 
-    def put(self, columns, moment, row):
+    def put(self, columns: list[str], moment: datetime.date | float, row: Row) -> None:
         day = moment if isinstance(moment, datetime.date) else datetime.date.fromtimestamp(moment)
         if self.is_asked_for(day):
             self.writer.writerow(self.form.row(columns, row))
 
-    def print(self, book):
+    def print(self, book: Book) -> None:
         columns = {"legs": LEGS, "agents": AGENTS, "groups": GROUPS}.get(self.options.table, CALLS)
         if self.options.excel:
             sys.stdout.write(sheets.MARK)
         self.writer.writerow(self.form.head(columns))
         if self.options.table == "groups":
             quarters = Quarters(self.office.limit_of)
-            follow(book, None, quarters, None)
+            follow(book, None, quarters, lambda call: None)
             for begin, row in group_rows(quarters):
                 self.put(columns, begin, row)
             return
@@ -193,21 +202,21 @@ class Printed:
             for day, row in agent_rows(records, self.names):
                 self.put(columns, day, row)
 
-    def put_call(self, call):
+    def put_call(self, call: Call) -> None:
         self.put(CALLS, call.entered, call_row(call))
 
-    def put_legs(self, call):
+    def put_legs(self, call: Call) -> None:
         for row in leg_rows(call):
             self.put(LEGS, call.entered, row)
 
 
-def is_whole(book, since):
+def is_whole(book: Book, since: datetime.date | None) -> bool:
     """Whether it has all requests of the days from this one on."""
     begins = book.begins()
     return begins is None or since is not None and since > datetime.date.fromtimestamp(begins)
 
 
-def book_of(file, options, folder, since):
+def book_of(file: Path, options: argparse.Namespace, folder: Path, since: datetime.date | None) -> Book:
     """A file, with its archives if it hasn't all of the days from this one on."""
     earlier = options.archive
     if not earlier:
@@ -219,7 +228,7 @@ def book_of(file, options, folder, since):
     return Book(archives.opened(file, earlier, folder, options.live))
 
 
-def write_days(folder, book, office, form, names, made):
+def write_days(folder: Path, book: Book, office: Office, form: Form, names: Names, made: int) -> bool:
     """The files of the days that are over. Returns whether none is missing."""
     heads = {kind: form.head(columns) for kind, columns in zip(KINDS, (CALLS, AGENTS, GROUPS))}
     records, quarters = Records(book), Quarters(office.limit_of)
@@ -227,7 +236,7 @@ def write_days(folder, book, office, form, names, made):
     # an older archive has the beginning of the first request's day
     first = datetime.date.min if begins is None else datetime.date.fromtimestamp(begins) + datetime.timedelta(days=1)
 
-    def marked(stream):
+    def marked(stream: TextIO) -> Writer:
         stream.write(sheets.MARK)
         return csv.writer(stream, lineterminator="\n")
 
@@ -244,13 +253,13 @@ def write_days(folder, book, office, form, names, made):
     return not lacks
 
 
-def day(text):
+def day(text: str) -> datetime.date:
     if not re.fullmatch(r"[0-9]{4}-[0-9]{2}-[0-9]{2}", text):
         raise argparse.ArgumentTypeError(f"'{text}' is no day like 2026-11-26")
     return datetime.date.fromisoformat(text)
 
 
-def add_files(parser):
+def add_files(parser: argparse.ArgumentParser) -> None:
     """The options that say of what the records are."""
     of = parser.add_mutually_exclusive_group(required=True)
     of.add_argument("--file", type=Path, metavar="FILE", help="a copy of the desk's file, with its log beside it where it has one")
@@ -259,7 +268,7 @@ def add_files(parser):
                         help="an archive that the file was carried over from, in place of those that its note names; as often as there are some, from the oldest on")
 
 
-def parser():
+def parser() -> command.Parser:
     found = command.Parser("Prints CSV lines of the calls of a desk, out of a copy of its file.", printed_usage=True)
     add_files(found)
     found.add_argument("--live", action="store_true", help="of a file that a desk has open: what it has at this moment")
@@ -275,7 +284,7 @@ def parser():
     return found
 
 
-def asked(words):
+def asked(words: list[str]) -> argparse.Namespace:
     found = parser()
     options = found.parse_args(words)
     if options.days and (options.since or options.until or options.live):
@@ -285,7 +294,7 @@ def asked(words):
     return options
 
 
-def do(options, folder):
+def do(options: argparse.Namespace, folder: Path) -> bool:
     """Whether all is there that was asked for."""
     office = counting(options.office, report)
     file, made = newest(options.copies) if options.copies else (options.file, 0)
@@ -307,13 +316,12 @@ def do(options, folder):
     return has_all
 
 
-def run(options):
+def run(options: argparse.Namespace) -> int:
     """Its status."""
-    # names are of any script, whatever the machine's language
-    sys.stdout.reconfigure(encoding="utf-8")
+    command.print_utf_8()
     with command.while_somebody_reads(), tempfile.TemporaryDirectory() as folder:
-        return 0 if do(options, folder) else MISSING
+        return 0 if do(options, Path(folder)) else MISSING
 
 
-def main(words):
+def main(words: list[str]) -> NoReturn:
     command.run(asked, run, words)

@@ -1,9 +1,11 @@
 """Tells when the certificate ends that nginx shows at its port: from two weeks before its end on, and after it, with the status 1.
 
 It asks the port by TLS, since a new file helps nobody until nginx has read it. It is tested, not proved."""
+import argparse
 import datetime
 import socket
 import ssl
+from typing import NoReturn
 
 from acd_service import command
 from acd_service.command import INFO, Fault
@@ -16,7 +18,7 @@ HELP = "OPERATING, 'Certificates', says how"
 
 # A certificate in DER (RFC 5280): a sequence of the part that is signed, the algorithm and the signature
 
-def value(data, at, *tags):
+def value(data: bytes, at: int, *tags: int) -> tuple[int, bytes, int]:
     """The content of the element at a place, which has one of these tags, and the place after it."""
     tag, length, at = data[at], data[at + 1], at + 2
     if tags and tag not in tags:
@@ -29,7 +31,7 @@ def value(data, at, *tags):
     return tag, data[at:at + length], at + length
 
 
-def end_of(certificate):
+def end_of(certificate: bytes) -> datetime.datetime:
     """When a certificate ends."""
     try:
         _, whole, _ = value(certificate, 0, SEQUENCE)
@@ -46,7 +48,7 @@ def end_of(certificate):
         raise Fault(f"it shows no certificate that can be read ({fault})") from None
 
 
-def shown_at(host, port):
+def shown_at(host: str, port: int) -> bytes | None:
     """The certificate that a port shows, trusted or not; None where nobody listens."""
     context = ssl.SSLContext(ssl.PROTOCOL_TLS_CLIENT)
     context.check_hostname, context.verify_mode = False, ssl.CERT_NONE
@@ -61,7 +63,7 @@ def shown_at(host, port):
         raise Fault(fault) from None
 
 
-def report(host, port, days, now):
+def report(host: str, port: int, days: float, now: datetime.datetime) -> bool:
     """Whether the certificate lasts longer than so many days."""
     certificate = shown_at(host, port)
     if certificate is None:
@@ -79,7 +81,7 @@ def report(host, port, days, now):
     return False
 
 
-def parser():
+def parser() -> command.Parser:
     found = command.Parser("Tells when the certificate ends that a port shows by TLS.", printed_usage=True)
     number = command.whole_number(1, 65535)
     found.add_argument("--host", default="127.0.0.1", metavar="HOST", help="the host of the port; 127.0.0.1 unless given")
@@ -88,7 +90,7 @@ def parser():
     return found
 
 
-def do(options):
+def do(options: argparse.Namespace) -> int:
     """Its status."""
     try:
         return 0 if report(options.host, options.port, options.days, datetime.datetime.now(datetime.timezone.utc)) else command.FAILED
@@ -96,5 +98,5 @@ def do(options):
         raise Fault(f"{options.host}:{options.port}: {fault}") from None
 
 
-def main(words):
+def main(words: list[str]) -> NoReturn:
     command.run(lambda given: parser().parse_args(given), do, words)

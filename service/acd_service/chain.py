@@ -1,15 +1,16 @@
 """The archives that a desk's file goes on from. Tested, not proved.
 
-Beside a file F that was carried over is F.archive, the note of the file from which it was carried over, which is its archive:
+Beside a file F that was carried over is F.archive, the note of the file from which it was carried over, which is its
+archive:
 
     archive desk.db-2026-11-28-81234
     last 81234
     digest 5e88...
     was 131 1800000000.5
 
-The archive's name, in F's folder; its last stamp; its SHA-256; and its inode, with the moment when that was made, as F had it until then. An archive that was
-itself carried over has such a note too, so archives are a chain. A folder of copies has each archive once, in the folder `archives`, with its note and its
-digest at the time of the copy."""
+The archive's name, in F's folder; its last stamp; its SHA-256; and its inode, with the moment when that was made, as F
+had it until then. An archive that was itself carried over has such a note too, so archives are a chain. A folder of
+copies has each archive once, in the folder `archives`, with its note and its digest at the time of the copy."""
 import contextlib
 import hashlib
 import os
@@ -17,6 +18,7 @@ import re
 import sqlite3
 import subprocess
 import time
+from collections.abc import Iterator, Sequence
 from dataclasses import dataclass
 from pathlib import Path
 
@@ -48,15 +50,15 @@ class Note:
     digest: str
     was: str
 
-    def text(self):
+    def text(self) -> str:
         return f"archive {self.name}\nlast {self.last}\ndigest {self.digest}\nwas {self.was}\n"
 
 
-def note_of(file):
+def note_of(file: Path) -> Path:
     return Path(f"{file}{NOTE}")
 
 
-def read_note(file):
+def read_note(file: Path) -> Note | None:
     """The note beside a file; None if the file wasn't carried over."""
     try:
         said = dict(line.partition(" ")[::2] for line in note_of(file).read_text().splitlines())
@@ -67,12 +69,13 @@ def read_note(file):
         raise Broken(f"{note_of(file)} is no note of an archive") from None
 
 
-def put_note(file, note):
+def put_note(file: Path, note: Note) -> None:
     put.put(note_of(file), note.text())
 
 
-def change_digest(note, name, old, new):
-    """Replaces this digest of this archive in a note by the new one: in place, since a restore knows the note by its inode, and within one sector."""
+def change_digest(note: Path, name: str, old: str, new: str) -> None:
+    """Replaces this digest of this archive in a note by the new one: in place, since a restore knows the note by its
+    inode, and within one sector."""
     data = note.read_bytes() if note.is_file() else b""
     if {f"archive {name}".encode(), f"digest {old}".encode()} <= set(data.splitlines()):
         with open(note, "rb+") as out:
@@ -82,9 +85,11 @@ def change_digest(note, name, old, new):
             os.fsync(out.fileno())
 
 
-def chain(file, folders=()):
-    """The notes of the archives, from the last one back to the oldest that is there. It looks for an archive's note beside the file, then in these folders."""
-    found, note = [], read_note(file)
+def chain(file: Path, folders: Sequence[Path] = ()) -> list[Note]:
+    """The notes of the archives, from the last one back to the oldest that is there. It looks for an archive's note
+    beside the file, then in these folders."""
+    found: list[Note] = []
+    note = read_note(file)
     while note and note.name not in [one.name for one in found]:
         found.append(note)
         places = [folder / note.name for folder in (file.parent, *folders)]
@@ -92,35 +97,36 @@ def chain(file, folders=()):
     return found
 
 
-def exchanged(file):
-    """The note of an exchange that has put the new file in place and isn't finished: the note is in the folder where the new file was made. Else None."""
+def exchanged(file: Path) -> Note | None:
+    """The note of an exchange that has put the new file in place and isn't finished: the note is in the folder where
+    the new file was made. Else None."""
     note = read_note(Path(f"{file}{BESIDE}") / file.name)
     return note if note and pair.identity(file) != note.was else None
 
 
-def unfinished(file):
+def unfinished(file: Path) -> str | None:
     """The text for an exchange that was broken off."""
     return f"acdctl carry of {file} was broken off: acdctl carry --file {file} ends it" if exchanged(file) else None
 
 
 # The archive
 
-def digest(file):
+def digest(file: Path) -> str:
     """The SHA-256 of a file's bytes."""
     with open(file, "rb") as has:
         return hashlib.file_digest(has, "sha256").hexdigest()
 
 
-def name_for(file, last, moment):
+def name_for(file: Path, last: int, moment: float) -> str:
     """The file's name as an archive: with the day of its last request, in Universal Time, and its stamp."""
     return f"{file.name}-{time.strftime('%Y-%m-%d', time.gmtime(moment))}-{last}"
 
 
-def is_name(file, name):
+def is_name(file: Path, name: str) -> bool:
     return re.fullmatch(rf"{re.escape(file.name)}-\d{{4,}}-\d\d-\d\d-\d+", name) is not None
 
 
-def place(note, *folders):
+def place(note: Note, *folders: Path) -> Path:
     """The path of an archive, in one of these folders."""
     found = next((folder / note.name for folder in folders if (folder / note.name).is_file()), None)
     if not found:
@@ -130,21 +136,22 @@ def place(note, *folders):
 
 # Copies of archives
 
-def copies_of(folder):
+def copies_of(folder: Path) -> Path:
     return folder / FOLDER
 
 
-def read_digest(copy):
+def read_digest(copy: Path) -> str:
     return Path(f"{copy}{DIGEST}").read_text().partition(" ")[0]
 
 
-def put_digest(copy, found):
+def put_digest(copy: Path, found: str) -> None:
     """Writes the digest as sha256sum --check reads it."""
     put.put(Path(f"{copy}{DIGEST}"), f"{found}  {copy.name}\n")
 
 
-def keep(archive, note, copies):
-    """Copies an archive into a folder of copies, if it isn't there; the copy gets its name once it is whole, and has its digest."""
+def keep(archive: Path, note: Note, copies: Path) -> None:
+    """Copies an archive into a folder of copies, if it isn't there; the copy gets its name once it is whole, and has
+    its digest."""
     copies.mkdir(mode=0o700, exist_ok=True)
     copy = copies / note.name
     if copy.exists() and Path(f"{copy}{DIGEST}").exists():
@@ -167,11 +174,12 @@ def keep(archive, note, copies):
     put.sync_folder(copies)
 
 
-def look(copies):
+def look(copies: Path) -> Iterator[str]:
     """The faults of the archives in a folder of copies, a line each."""
     for copy in sorted(copies.iterdir()) if copies.is_dir() else ():
         # an audit by hand leaves a log beside an archive that holds nothing
-        if copy.name.startswith(".") or copy.name.endswith((NOTE, DIGEST)) or copy.name.endswith("-wal") and not pair.holds_something(copy):
+        is_empty_log = copy.name.endswith("-wal") and not pair.holds_something(copy)
+        if copy.name.startswith(".") or copy.name.endswith((NOTE, DIGEST)) or is_empty_log:
             continue
         try:
             if digest(copy) != read_digest(copy):
@@ -182,17 +190,18 @@ def look(copies):
 
 # Whether a file continues its archive
 
-def immutable(file):
+def immutable(file: Path) -> str:
     """The file's name for SQLite, which then takes no lock, and makes no file beside it."""
     return f"{file.absolute().as_uri()}?immutable=1"
 
 
-def differences(file, archive):
-    """Why a file doesn't continue its archive, as far as SQL shows it: limits, and the rows that both have; None if it does. It doesn't check what its newer
-    requests make of the archive's tables."""
+def differences(file: Path, archive: Path) -> str | None:
+    """Why a file doesn't continue its archive, as far as SQL shows it: limits, and the rows that both have; None if it
+    does. It doesn't check what its newer requests make of the archive's tables."""
     with contextlib.closing(sqlite3.connect(immutable(file), uri=True)) as book:
         book.execute("ATTACH ? AS old", (immutable(archive),))
-        ours, theirs = (book.execute(f"SELECT version, {LIMITS} FROM {base}.meta").fetchone() for base in ("main", "old"))
+        ours, theirs = (book.execute(f"SELECT version, {LIMITS} FROM {base}.meta").fetchone()
+                        for base in ("main", "old"))
         if ours != theirs:
             return "the limits are others"
         for table, key, last in (("kept", "stamp", "last_stamp"), ("events", "number", "last_event")):
@@ -202,11 +211,13 @@ def differences(file, archive):
     return None
 
 
-def differs(book, table, key, last):
+def differs(book: sqlite3.Connection, table: str, key: str, last: str) -> str | None:
     """The first difference between the rows of a table of both, or a missing row."""
     end, = book.execute(f"SELECT {last} FROM old.meta").fetchone()
     newest, = book.execute(f"SELECT {last} FROM main.meta").fetchone()
-    first, most, count = book.execute(f"SELECT coalesce(min({key}), ? + 1), coalesce(max({key}), ?), count(*) FROM main.{table}", (newest, newest)).fetchone()
+    first, most, count = book.execute(
+        f"SELECT coalesce(min({key}), ? + 1), coalesce(max({key}), ?), count(*) FROM main.{table}",
+        (newest, newest)).fetchone()
     if first > end + 1 or most != newest or count != newest - first + 1:
         return f"its {table} aren't whole"
     both = [f"SELECT * FROM {base}.{table} WHERE {key} BETWEEN {first} AND {end}" for base in ("main", "old")]
@@ -217,7 +228,7 @@ def differs(book, table, key, last):
     return None
 
 
-def audited(program, file, archive, *more):
+def audited(program: Sequence[str], file: Path, archive: Path, *more: str) -> tuple[int, str] | None:
     """Status and output of the program's audit of a file with its archive, or None if the program has no such audit."""
     done = subprocess.run([*program, "audit", *more, "--file", file, "--archive", archive],
                           stdin=subprocess.DEVNULL, stdout=subprocess.PIPE, stderr=subprocess.STDOUT, text=True)

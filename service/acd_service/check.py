@@ -87,7 +87,8 @@ def of_logins(roles: Path, users: Path) -> Iterator[str]:
     # of the gate's modules only this needs more than Python has
     from acd_service.gate.roles import hashes_of, roles_of
     found: list[dict[str, Any] | None] = []
-    for file, read in ((roles, roles_of), (users, hashes_of)):
+    readers: list[tuple[Path, Callable[[Path, list[str]], dict[str, Any]]]] = [(roles, roles_of), (users, hashes_of)]
+    for file, read in readers:
         with command.reports_into() as reports:
             try:
                 found.append(read(file, lines_of(file)))
@@ -125,7 +126,8 @@ def of_board(file: Path) -> Iterator[str]:
         elif not isinstance(value, MEMBERS[name]):
             wrong.add(name)
             yield f"{file}: {name} must be {'a text' if MEMBERS[name] is str else 'an object'}"
-    for name, judge in (("zone", of_zone), ("names", of_names), ("limits", of_limits)):
+    judges: dict[str, Callable[[Path, Any], Iterator[str]]] = {"zone": of_zone, "names": of_names, "limits": of_limits}
+    for name, judge in judges.items():
         if name in said and name not in wrong:
             yield from judge(file, said[name])
 

@@ -1,6 +1,7 @@
 """What the commands share: how one reads its words, says a line, and ends. Tested, not proved."""
 import argparse
 import contextlib
+import io
 import os
 import re
 import signal
@@ -84,6 +85,12 @@ def reports_into() -> Iterator[list[str]]:
         yield collected
     finally:
         collected = None
+
+
+def print_utf_8() -> None:
+    """From now on it prints UTF-8, whatever the machine's language: names are of any script."""
+    if isinstance(sys.stdout, io.TextIOWrapper):
+        sys.stdout.reconfigure(encoding="utf-8")
 
 
 def say(text: object) -> None:

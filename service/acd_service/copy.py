@@ -12,11 +12,13 @@ import shutil
 import subprocess
 import tempfile
 import time
+from collections.abc import Iterator
 from pathlib import Path
+from typing import NoReturn
 
 from acd_service import audit, chain, command, held, put, restoring, settings
 from acd_service.command import Fault, report, say
-from acd_service.halt import Missed, desks_over, halted
+from acd_service.halt import Desk, Missed, desks_over, halted
 from acd_service.pair import identity, log_of
 from acd_service.restoring import name_of, sync
 
@@ -36,20 +38,24 @@ SLOW, BLOCK = 1, 1 << 20
 CHANGED, LONGER = "its file was written, or moved, while it was copied", "the desk was halted, and its copy takes longer"
 
 
+# of a file its device and inode, its size, and when it was written
+State = tuple[int, int, int, int]
+
+
 # A copy
 
-def sources(file, desk):
+def sources(file: Path, desk: Desk | None) -> dict[str, Path]:
     """The file and its log, each with its name in the copy: by their paths or, if one was removed or moved from under the desk, as the desk has them open."""
-    found = file, log_of(file)
+    found: tuple[Path | None, Path | None] = file, log_of(file)
     if desk and desk.moved:
         has = held.opened(desk.process)
         found = next((one.at for one in has if one.is_database()), None), next((one.at for one in has if not one.is_database()), None)
-    if not found[0]:
-        raise Fault(f"the desk, process {desk.process}, has no file open that could be copied")
+        if not found[0]:
+            raise Fault(f"the desk, process {desk.process}, has no file open that could be copied")
     return {name: part for name, part in zip((file.name, log_of(file).name), found) if part}
 
 
-def state(part):
+def state(part: Path) -> State | None:
     """Which file it is, its size, and when it was written; None if there is none."""
     try:
         found = os.stat(part)
@@ -58,7 +64,7 @@ def state(part):
     return found.st_dev, found.st_ino, found.st_size, found.st_mtime_ns
 
 
-def settled(part):
+def settled(part: Path) -> State | None:
     """The same, of a file that was written so long ago that a later write has another time."""
     found = state(part)
     written = found[-1] if found else 0
@@ -71,7 +77,7 @@ def settled(part):
 
 
 @contextlib.contextmanager
-def unchanged(parts):
+def unchanged(parts: dict[str, Path]) -> Iterator[None]:
     """Nothing writes to them as long as this lasts."""
     before = [state(part) for part in parts.values()]
     yield
@@ -79,7 +85,7 @@ def unchanged(parts):
         raise Missed(CHANGED)
 
 
-def refresh(part, made, end):
+def refresh(part: Path, made: Path, end: float | None) -> None:
     """Makes an earlier copy of a part what that is now: it writes only what differs."""
     with open(part, "rb") as source, open(made, "rb+") as copy:
         while block := source.read(BLOCK):
@@ -92,7 +98,7 @@ def refresh(part, made, end):
         copy.truncate()
 
 
-def take(part, made, end=None):
+def take(part: Path, made: Path, end: float | None = None) -> None:
     """Copies a part, if it is there, by this moment."""
     if not os.path.exists(part):
         return
@@ -106,7 +112,11 @@ def take(part, made, end=None):
         raise Fault("the copy wasn't made whole; no copy is kept")
 
 
-def copied(parts, desk, new, seconds, running):
+def halting(desk: Desk | None, seconds: float) -> contextlib.AbstractContextManager[float | None]:
+    return halted(desk, seconds) if desk else contextlib.nullcontext()
+
+
+def copied(parts: dict[str, Path], desk: Desk | None, new: Path, seconds: float, running: int) -> int:
     """Copies so many of the parts while the desk runs, of which none may have changed by the end, and the others while it is halted, for so many seconds at
     most: they are what a power cut would have left. Returns for how many milliseconds the desk was halted."""
     early, late = list(parts.items())[:running], list(parts.items())[running:]
@@ -114,7 +124,7 @@ def copied(parts, desk, new, seconds, running):
     for name, part in early:
         take(part, new / name)
     begin = time.monotonic()
-    with halted(desk, seconds) if desk else contextlib.nullcontext() as end, unchanged(parts):
+    with halting(desk, seconds) as end, unchanged(parts):
         if [state(part) for _, part in early] != before:
             raise Missed(CHANGED)
         for name, part in late:
@@ -124,20 +134,21 @@ def copied(parts, desk, new, seconds, running):
     return round((time.monotonic() - begin) * 1000)
 
 
-def tried(file, desk, new, seconds):
+def tried(file: Path, desk: Desk | None, new: Path, seconds: float | None) -> int:
     """Copies the file with its log, and with the note of the archive that the file continues. Returns for how long the desk was halted: for so many seconds at
     most or, where this says none, for no more than its log needs."""
     parts, note = sources(file, desk), chain.note_of(file)
     take(note, new / note.name)
     if not desk:
-        return copied(parts, None, new, None, len(parts))
+        return copied(parts, None, new, 0, len(parts))
     return copied(parts, desk, new, seconds, 0) if seconds else copied(parts, desk, new, BRIEF, 1)
 
 
-def taken(file, new, seconds):
+def taken(file: Path, new: Path, seconds: int) -> Desk | None:
     """Tries it until nothing writes to the file meanwhile, and at last with a desk that is halted for all of it. Returns the desk that runs over the file, if
     one does."""
-    last, pause, tries, why, is_slow = time.monotonic() + PATIENCE, PAUSE, 0, None, False
+    last, pause, tries, is_slow = time.monotonic() + PATIENCE, PAUSE, 0, False
+    why: Missed | None = None
     while True:
         desk, begin = next(iter(desks_over(file)), None), time.monotonic()
         is_last = tries > 0 and begin >= last
@@ -161,11 +172,12 @@ def taken(file, new, seconds):
         pause = min(2 * pause, LONGEST)
 
 
-def counted(folder, file, executed):
+def counted(folder: Path, file: Path, executed: int) -> str | None:
     """Looks how many requests the last sound copy had of the same file, or of one that it goes on from. Returns a line if this one has fewer; else
     writes down its number."""
     note, same = folder / "executed", {"device": str(os.stat(file).st_dev), "inode": identity(file)}
     earlier = [{**same, "inode": archive.was} for archive in chain.chain(file, [chain.copies_of(folder)])]
+    then: dict[str, str] | None
     try:
         then = dict(line.partition(" ")[::2] for line in note.read_text().splitlines())
         before = int(then.pop("executed"))
@@ -175,11 +187,11 @@ def counted(folder, file, executed):
         return f"the copy has {executed} executed requests, and the last one of the same file had {before}"
     if then not in (None, same, *earlier):
         say(f"this is another file than that of the last copy, which had {before} executed requests: counted anew, from {executed}")
-    put.put(note, "".join(f"{name} {value}\n" for name, value in {"executed": executed, **same}.items()))
+    put.put(note, "".join(f"{name} {value}\n" for name, value in {"executed": str(executed), **same}.items()))
     return None
 
 
-def kept(new, folder, name):
+def kept(new: Path, folder: Path, name: str) -> Path:
     """The copy's folder under its name; of two that are made in one second the later one waits."""
     while (folder / name.format(time.strftime(MOMENT, time.gmtime()))).exists():
         time.sleep(0.1)
@@ -189,24 +201,24 @@ def kept(new, folder, name):
     return made
 
 
-def kept_aside(new, folder, name, why):
+def kept_aside(new: Path, folder: Path, name: str, why: str) -> NoReturn:
     """Keeps what isn't a good copy, and ends. Of those whose name has no moment the last is kept."""
     if (folder / name).exists():
         shutil.rmtree(folder / name)
     raise Fault(f"{why}; it is in {kept(new, folder, name)}, and all older copies are kept")
 
 
-def archived(new, folder, file):
+def archived(new: Path, folder: Path, file: Path) -> Path | None:
     """The copied archive that a copy goes on from, if there is one. It copies each archive once, and checks the copies each time."""
     copies = chain.copies_of(folder)
     for note in chain.chain(new / file.name, [file.parent, copies]):
         if (file.parent / note.name).is_file():
             chain.keep(file.parent / note.name, note, copies)
-    note = chain.read_note(new / file.name)
-    return chain.place(note, copies) if note else None
+    last = chain.read_note(new / file.name)
+    return chain.place(last, copies) if last else None
 
 
-def judged(new, folder, file, desk):
+def judged(new: Path, folder: Path, file: Path, desk: Desk | None) -> Path:
     """Keeps the copy under the name that is its due where it is a good one, says so, and returns its folder."""
     try:
         archive = archived(new, folder, file)
@@ -233,26 +245,26 @@ def judged(new, folder, file, desk):
     return made
 
 
-def is_sound(copy):
+def is_sound(copy: Path) -> bool:
     """Whether a good copy is wholly sound, by what was noted as it was made."""
     return not any(copy.glob(f"*{chain.AGAIN}"))
 
 
-def superfluous(copies, days):
+def superfluous(copies: list[Path], days: int) -> list[Path]:
     """Those of good copies that nobody needs: all but the last copy of each of the last days that have one, and but the last twenty of today."""
-    by_day = {}
+    by_day: dict[str, list[Path]] = {}
     for copy in copies:
         by_day.setdefault(copy.name[:len(DATE)], []).append(copy)
     needed = {of_day[-1] for _, of_day in sorted(by_day.items())[-days:]} | set(by_day.get(today(), [])[-MOST:])
     return [copy for copy in copies if copy not in needed]
 
 
-def has_room(made):
+def has_room(made: Path) -> bool:
     """Whether the disk has room for two more copies like this one."""
     return shutil.disk_usage(made).free >= 2 * sum(part.stat().st_size for part in made.iterdir())
 
 
-def clear_away(folder, days, made):
+def clear_away(folder: Path, days: int, made: Path) -> None:
     """Clears away good copies that nobody needs, and then the older ones of today, until the disk has room for two more. Beside one that isn't wholly sound, all
     that are stay."""
     # the names sort by their moments
@@ -267,27 +279,27 @@ def clear_away(folder, days, made):
             remove(copy)
 
 
-def today():
+def today() -> str:
     return time.strftime("%Y-%m-%d", time.gmtime())
 
 
-def remove(copy):
+def remove(copy: Path) -> None:
     shutil.rmtree(copy)
     say(f"cleared away: {copy}")
 
 
-def clear_half_copies(folder):
+def clear_half_copies(folder: Path) -> None:
     for left in folder.glob(".new.*"):
         if time.time() - left.stat().st_mtime > DAY:
             shutil.rmtree(left, ignore_errors=True)
 
 
-def damaged(file):
+def damaged(file: Path) -> list[Path]:
     """The folders in which acd-ready kept the file and its log as they were, where the log was damaged."""
     return sorted(folder for folder in file.parent.glob("damaged-*") if folder.is_dir() and any(folder.glob(f"{file.name}*")))
 
 
-def looked_for(file, found):
+def looked_for(file: Path, found: list[Desk]) -> None:
     """Refuses a file that isn't there, or that this user may not copy."""
     unfinished = restoring.unfinished(file) or chain.unfinished(file)
     if unfinished:
@@ -301,7 +313,7 @@ def looked_for(file, found):
         raise Fault(f"only the user {name} makes copies of {file}: runuser -u {name} -- acdctl copy")
 
 
-def old_proxies():
+def old_proxies() -> Iterator[Path]:
     """Configurations of nginx that have it ask the gate for strangers too: those of before 1.15."""
     for file in sorted((*NGINX.glob("conf.d/*.conf"), *NGINX.glob("sites-enabled/*"))):
         with contextlib.suppress(OSError):
@@ -310,7 +322,7 @@ def old_proxies():
                 yield file
 
 
-def copy(file, folder, keep, halt):
+def copy(file: Path, folder: Path, keep: int, halt: int) -> bool:
     """Whether all is as it should be."""
     found = desks_over(file)
     looked_for(file, found)
@@ -337,19 +349,19 @@ def copy(file, folder, keep, halt):
 
 # The command
 
-def number(text):
+def number(text: str) -> int:
     if not re.fullmatch("[1-9][0-9]{0,2}", text):
         raise argparse.ArgumentTypeError(f"to keep copies of '{text}' days: that isn't a whole number from 1 to 999")
     return int(text)
 
 
-def halt_seconds(text):
+def halt_seconds(text: str) -> int:
     if not re.fullmatch("0|[1-9][0-9]{0,2}", text):
         raise argparse.ArgumentTypeError(f"to halt the desk for '{text}' seconds: that isn't a whole number from 0 to 999")
     return int(text)
 
 
-def parser():
+def parser() -> command.Parser:
     found = command.Parser(ABOUT)
     add_places(found)
     found.add_argument("--keep", type=number, metavar="DAYS", help="of how many days to keep the last good copy; ACD_COPIES, else 7")
@@ -363,17 +375,17 @@ def parser():
     return found
 
 
-def add_places(found):
+def add_places(found: argparse.ArgumentParser) -> None:
     """Where the file and its copies are, for copies and restores. The settings are those of the desk's own file: another file has its copies beside it."""
     found.add_argument("--file", metavar="F", help=f"the desk's file; that of ACD_FILE, else {settings.DEFAULTS['ACD_FILE']}")
     found.add_argument("--folder", metavar="COPIES", help="the folder of the copies; that of ACD_COPY_FOLDER, else copies beside the file")
 
 
-def read(words):
+def read(words: list[str]) -> argparse.Namespace:
     return with_settings(parser().parse_args(words))
 
 
-def with_settings(options):
+def with_settings(options: argparse.Namespace) -> argparse.Namespace:
     """The options, with what the settings give where they don't."""
     has = settings.current() if not options.file else settings.DEFAULTS
     options.file = held.place(options.file or has["ACD_FILE"])
@@ -386,7 +398,7 @@ def with_settings(options):
     return options
 
 
-def do(options):
+def do(options: argparse.Namespace) -> int:
     """Does what was asked for; the status, 0 where all is as it should be."""
     command.end_on_signals()
     os.umask(0o077)
@@ -402,5 +414,5 @@ def do(options):
     return 0
 
 
-def main(words):
+def main(words: list[str]) -> NoReturn:
     command.run(read, do, words)

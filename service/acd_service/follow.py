@@ -2,6 +2,7 @@
 
 It feeds the next one once it has compared the copy's reply with the desk's. Each time it asks for the copy's last request once more: if the desk has
 another one there, or fewer requests, the two have different histories, and it feeds nothing more. It is tested, not proved."""
+import argparse
 import contextlib
 import json
 import os
@@ -9,10 +10,11 @@ import re
 import signal
 import subprocess
 import time
+from collections.abc import Iterator
 from pathlib import Path
-from typing import NamedTuple
+from typing import NamedTuple, NoReturn
 
-from acd_client import Unanswered
+from acd_client import Client, Unanswered
 from acd_service import command, pair, put, reach, settings
 from acd_service.command import NOTICE, Fault, report, say
 
@@ -28,7 +30,7 @@ OPEN_ELSEWHERE = 4
 DIFFERS, LACKS = 3, 4
 DECODER = json.JSONDecoder()
 # there is something in it once a signal came
-ending = []
+ending: list[bool] = []
 
 
 class Again(Exception):
@@ -39,7 +41,7 @@ class Ended(Exception):
     """A signal wants it to end."""
 
 
-def moment_text(moment):
+def moment_text(moment: float) -> str:
     return time.strftime("%Y-%m-%d %H:%M:%S UTC", time.gmtime(moment))
 
 
@@ -53,7 +55,7 @@ class Record(NamedTuple):
     status: int
     reply: str
 
-    def text(self):
+    def text(self) -> str:
         """For people to read; nobody learns by it who the ticks' requester is."""
         shown = re.sub(r'"clock-[a-z]+"', '"clock-.."', f"request {self.request}, answered {self.status} {self.reply}")
         return f"request number {self.stamp}, at {self.moment}: {shown}"
@@ -61,12 +63,13 @@ class Record(NamedTuple):
 
 class Page(NamedTuple):
     last: int
-    records: list
+    records: list[Record]
 
 
-def object_at(text, at):
+def object_at(text: str, at: int) -> tuple[dict[str, str], int]:
     """The members of the object that begins there, each as it is spelt, and where it ends; a desk writes no blanks between them."""
-    found, between = {}, "{"
+    found: dict[str, str] = {}
+    between = "{"
     while between != "}":
         if between not in ("{", ",") or text[at] != between:
             raise ValueError("no object")
@@ -79,13 +82,13 @@ def object_at(text, at):
     return found, at + 1
 
 
-def number(text):
+def number(text: str) -> int:
     if not re.fullmatch("0|[1-9][0-9]{0,14}", text):
         raise ValueError("no number")
     return int(text)
 
 
-def records_in(text):
+def records_in(text: str) -> Iterator[Record]:
     """The records of a list."""
     at = 1
     while text != "[]" and at < len(text):
@@ -96,7 +99,7 @@ def records_in(text):
         at += 1
 
 
-def page_of(data):
+def page_of(data: bytes) -> Page:
     """A page, whose texts keep their bytes: each is a character of Latin-1."""
     try:
         members, _ = object_at(data.decode("latin-1"), 0)
@@ -111,11 +114,11 @@ def page_of(data):
 
 # The copy
 
-def note_of(file):
+def note_of(file: Path | str) -> Path:
     return Path(f"{file}{NOTE}")
 
 
-def remove(file):
+def remove(file: Path) -> None:
     """It and its log, where they are there."""
     for part in (file, pair.log_of(file)):
         part.unlink(missing_ok=True)
@@ -124,12 +127,14 @@ def remove(file):
 class Copy:
     """A desk's file, kept by the desk's program, which is fed by lines."""
 
-    def __init__(self, program, file):
-        self.program, self.file, self.desk = program, file, None
+    def __init__(self, program: str, file: str) -> None:
+        self.program, self.file = program, file
+        self.desk: subprocess.Popen[bytes] | None = None
         # the last request that it has, by number and whole; before it is opened nobody knows
-        self.last, self.record = None, None
+        self.last, self.is_known = 0, False
+        self.record: Record | None = None
 
-    def open(self):
+    def open(self) -> None:
         """Opens the file, and looks what the last request in it is."""
         end = time.monotonic() + SOON
         while True:
@@ -144,14 +149,14 @@ class Copy:
                     raise Fault(f"{self.file} can't be opened: {fault}, with status {status}") from None
             time.sleep(PAUSE)
 
-    def make(self):
+    def make(self) -> None:
         """If there is no file, makes one of a desk without requests, which gets its name once it is whole: a start that is killed meanwhile leaves no file that can't be opened."""
         folder, name = os.path.split(self.file)
         new = Path(folder, f".{name}.acd-follow")
         try:
             # what a killed one left
             remove(new)
-            if not os.path.lexists(self.file) and not pair.holds_something(pair.log_of(self.file)):
+            if not os.path.lexists(self.file) and not pair.holds_something(pair.log_of(Path(self.file))):
                 self.begin(new)
         except OSError as fault:
             raise Fault(f"{self.file} can't be made: {fault.strerror}") from None
@@ -159,7 +164,7 @@ class Copy:
             with contextlib.suppress(OSError):
                 remove(new)
 
-    def begin(self, new):
+    def begin(self, new: Path) -> None:
         """Nobody else knows the name at which it is made."""
         self.start(new)
         self.page(BEYOND)
@@ -172,7 +177,7 @@ class Copy:
         with contextlib.suppress(FileExistsError):
             os.link(new, self.file)
 
-    def start(self, file):
+    def start(self, file: Path | str) -> None:
         try:
             # a signal of the terminal isn't for it
             words = [self.program, "lines", "--file", file, "--reads"]
@@ -180,12 +185,12 @@ class Copy:
         except OSError as fault:
             raise Fault(f"{self.program}: {fault.strerror}") from None
 
-    def look(self):
+    def look(self) -> None:
         """The requests that it has by its own account."""
-        self.last = self.page(BEYOND).last
+        self.last, self.is_known = self.page(BEYOND).last, True
         self.record = next(iter(self.page(self.last - 1).records), None) if self.last else None
 
-    def page(self, after):
+    def page(self, after: int) -> Page:
         status, body = self.answer(f"0 GET /requests?after={after}")
         if status != 200:
             raise Fault(f"{self.program} tells no requests, so no copy can be kept by it: it is of an older version")
@@ -194,8 +199,9 @@ class Copy:
         except Unanswered as fault:
             raise Fault(f"{self.file} isn't a copy of a desk: {fault}") from None
 
-    def answer(self, line):
+    def answer(self, line: str) -> tuple[int, bytes]:
         """The status and the body of the answer to a line."""
+        assert self.desk and self.desk.stdin and self.desk.stdout
         try:
             self.desk.stdin.write(f"{line}\n".encode("latin-1"))
             self.desk.stdin.flush()
@@ -208,7 +214,7 @@ class Copy:
             raise Again(f"its desk answered 503 {body.decode('latin-1').strip()}")
         return int(status), body[:-1]
 
-    def fed(self, record):
+    def fed(self, record: Record) -> Record:
         """Feeds a request; it, with the answer that it gets here."""
         status, body = self.answer(f"{record.moment} {record.request}")
         answer = record._replace(status=status, reply=body.decode("latin-1"))
@@ -218,11 +224,12 @@ class Copy:
             self.look()
         return answer
 
-    def close(self):
+    def close(self) -> int:
         """Has its desk end, and close the file; the status that it ends with."""
         if self.desk is None:
             return 0
         desk, self.desk = self.desk, None
+        assert desk.stdin and desk.stdout
         # where it has ended by itself there is a line left that nobody read
         with contextlib.suppress(OSError):
             desk.stdin.close()
@@ -232,7 +239,7 @@ class Copy:
 
 
 @contextlib.contextmanager
-def undisturbed():
+def undisturbed() -> Iterator[None]:
     """No signal ends it meanwhile."""
     signal.pthread_sigmask(signal.SIG_BLOCK, command.ENDING)
     try:
@@ -246,10 +253,11 @@ def undisturbed():
 class Trouble:
     """A fault that keeps it from going on: it reports the fault once, and waits for its end for ever, or for some seconds only."""
 
-    def __init__(self, is_brief):
-        self.is_brief, self.since = is_brief, None
+    def __init__(self, is_brief: bool) -> None:
+        self.is_brief = is_brief
+        self.since: float | None = None
 
-    def wait(self, text):
+    def wait(self, text: str) -> None:
         if self.since is None:
             self.since = time.monotonic()
             report(text)
@@ -257,32 +265,33 @@ class Trouble:
             raise Fault(text)
         time.sleep(PAUSE)
 
-    def is_over(self, text):
+    def is_over(self, text: str) -> None:
         if self.since is not None:
             self.since = None
             report(text, NOTICE)
 
 
 class Follower:
-    def __init__(self, desk, copy, once):
+    def __init__(self, desk: Client, copy: Copy, once: bool) -> None:
         self.desk, self.copy, self.once = desk, copy, once
         self.silence, self.failure = Trouble(once), Trouble(once)
         # the last request that the desk reported, and when
-        self.reported, self.when = None, None
-        self.has_caught_up, self.noted = False, -NOTED
+        self.reported: int | None = None
+        self.when = 0.0
+        self.has_caught_up, self.noted = False, float(-NOTED)
 
-    def state(self):
+    def state(self) -> str:
         """The last requests of the copy, and of the desk by its last report."""
         reported = "the desk hasn't answered yet" if self.reported is None else f"the last that the desk told of is {self.reported}, at {moment_text(self.when)}"
         return f"{self.copy.file} has the requests up to {self.copy.last}; {reported}"
 
-    def note(self):
+    def note(self) -> None:
         """Writes the same beside the copy, for --last; a disk without room for it is the copy's own trouble."""
         self.noted = time.monotonic()
         with contextlib.suppress(OSError):
             put.put(note_of(self.copy.file), f"{self.state()}\n")
 
-    def asked(self):
+    def asked(self) -> tuple[Page, float]:
         """The page after the copy's last request but one, and how many seconds it took."""
         begin = time.monotonic()
         status, data = self.desk.exchange("GET", f"/requests?after={max(self.copy.last - 1, 0)}")
@@ -293,7 +302,7 @@ class Follower:
         self.reported, self.when = page.last, time.time()
         return page, time.monotonic() - begin
 
-    def insisted(self):
+    def insisted(self) -> tuple[Page, float]:
         """The same, until there is one."""
         while True:
             try:
@@ -305,7 +314,7 @@ class Follower:
                 self.silence.is_over("the desk answers again")
                 return found
 
-    def compare(self, page):
+    def compare(self, page: Page) -> None:
         """Refuses a copy that isn't a beginning of the desk's requests."""
         copy = self.copy
         if page.last < copy.last:
@@ -322,10 +331,10 @@ class Follower:
             raise Fault(f"{copy.file} has another request {copy.last} than the desk: it isn't its copy, and nothing was fed",
                         *self.both(page.records[0], copy.record), status=DIFFERS)
 
-    def both(self, of_desk, of_copy):
-        return f"the desk: {of_desk.text()}", f"{self.copy.file}: {of_copy.text()}"
+    def both(self, of_desk: Record, of_copy: Record | None) -> tuple[str, str]:
+        return f"the desk: {of_desk.text()}", f"{self.copy.file}: {of_copy.text() if of_copy else 'none'}"
 
-    def take(self, page):
+    def take(self, page: Page) -> None:
         """Feeds what is new in a page."""
         for record in page.records:
             before = self.copy.record
@@ -338,13 +347,13 @@ class Follower:
             with undisturbed():
                 self.feed(record)
 
-    def feed(self, record):
+    def feed(self, record: Record) -> None:
         """Feeds one request; the copy's answer has to be the one that the desk reported."""
         answer = self.copy.fed(record)
         if answer != record:
             raise Fault(f"{self.copy.file} answers a request otherwise than the desk did, and isn't its copy", *self.both(record, answer), status=DIFFERS)
 
-    def round(self):
+    def round(self) -> float | None:
         """Asks once, and feeds what there is; how many seconds to wait before the next time, nothing where it has caught up and is to end."""
         page, took = self.insisted()
         self.compare(page)
@@ -365,10 +374,10 @@ class Follower:
             self.note()
         return None if self.once else LOOK
 
-    def follow(self):
+    def follow(self) -> None:
         """Until it has caught up, or without an end."""
         self.copy.open()
-        rest = 0
+        rest: float | None = 0
         while rest is not None:
             time.sleep(rest)
             try:
@@ -383,7 +392,7 @@ class Follower:
 
 # The command
 
-def parser():
+def parser() -> command.Parser:
     found = command.Parser("Keeps a copy of a desk that runs elsewhere, by the requests that it has executed.", printed_usage=True)
     found.add_argument("address", nargs="?", type=reach.address, metavar="URL", help="the desk's address, as http://127.0.0.1:8080 or https://desk.example:8443")
     found.add_argument("--file", metavar="G", help="the file of the copy, which is made if it isn't there; with --last that of ACD_FILE unless given")
@@ -394,7 +403,7 @@ def parser():
     return found
 
 
-def read(words):
+def read(words: list[str]) -> argparse.Namespace:
     found = parser()
     options = found.parse_args(words)
     if options.last and options.address:
@@ -406,7 +415,7 @@ def read(words):
     return options
 
 
-def last(file):
+def last(file: str) -> None:
     """Prints what it said of the copy as it ended, or some seconds ago."""
     try:
         say(note_of(file).read_text().strip())
@@ -414,19 +423,20 @@ def last(file):
         raise Fault(f"{note_of(file)}: {fault.strerror}: acdctl follow hasn't caught up yet there") from None
 
 
-def end(*_):
+def end(*_: object) -> None:
     """The first signal ends it, and a second one doesn't disturb that."""
     if not ending:
         ending.append(True)
         raise Ended
 
 
-def follow(options):
+def follow(options: argparse.Namespace) -> int:
     """Follows until it is ended, or has caught up where that is wanted; the status."""
     os.umask(0o077)
     for one in command.ENDING:
         signal.signal(one, end)
-    copy, follower, status = Copy(options.desk, options.file), None, 0
+    copy, status = Copy(options.desk, options.file), 0
+    follower: Follower | None = None
     try:
         follower = Follower(reach.desk_at(options), copy, options.once)
         follower.follow()
@@ -438,15 +448,18 @@ def follow(options):
         status = fault.status
     signal.pthread_sigmask(signal.SIG_BLOCK, command.ENDING)
     copy.close()
-    if copy.last is not None:
+    if follower and copy.is_known:
         follower.note()
         say(follower.state())
     return status
 
 
-def do(options):
-    return last(options.file or settings.desk_file()) if options.last else follow(options)
+def do(options: argparse.Namespace) -> int:
+    if not options.last:
+        return follow(options)
+    last(options.file or settings.desk_file())
+    return 0
 
 
-def main(words):
+def main(words: list[str]) -> NoReturn:
     command.run(read, do, words)

@@ -16,7 +16,9 @@ import shutil
 import sqlite3
 import subprocess
 import tempfile
+from collections.abc import Iterable, Iterator
 from pathlib import Path
+from typing import NoReturn, TypedDict
 
 from acd_service import chain, command, held, restoring, settings
 from acd_service.archives import HISTORY, opened
@@ -39,14 +41,14 @@ SCRATCH = ".forget."
 KEPT_BESIDE = ("put-away-*", "taken-back-*", "damaged-*")
 
 
-def number_of(device):
+def number_of(device: str) -> int:
     """The number as a column has it."""
     return int(f"1{device}")
 
 
 # Finding a number
 
-def changed(text, old, new):
+def changed(text: str, old: str, new: str) -> str:
     """The text of a request with another number in place of this one; the same text if it doesn't have the number."""
     request = json.loads(text)
     for member in MEMBERS:
@@ -57,19 +59,19 @@ def changed(text, old, new):
     return json.dumps(request, separators=(",", ":"), sort_keys=True)
 
 
-def requests_with(rows, device):
+def requests_with(rows: sqlite3.Connection, device: str) -> sqlite3.Cursor:
     """Stamp and text of each kept request that has the number, as a value of any member."""
     return rows.execute("SELECT stamp, request FROM kept WHERE instr(request, ?) ORDER BY stamp", (f'"{device}"',))
 
 
-def tables_with(rows, device):
+def tables_with(rows: sqlite3.Connection, device: str) -> list[str]:
     """The tables that have the number."""
     found = [table for table, columns in COLUMNS.items()
              if rows.execute(f"SELECT 1 FROM {table} WHERE ? IN ({', '.join(columns)}) LIMIT 1", (number_of(device),)).fetchone()]
     return found + ["kept"] * (next(requests_with(rows, device), None) is not None)
 
 
-def refuse_others(rows, file, device):
+def refuse_others(rows: sqlite3.Connection, file: Path | str, device: str) -> None:
     """Refuses a number that isn't an outside caller's alone: as an agent's, or in a name, it would stay."""
     for table, column in PLANNED.items():
         if rows.execute(f"SELECT 1 FROM {table} WHERE {column} = ? LIMIT 1", (number_of(device),)).fetchone():
@@ -83,13 +85,13 @@ def refuse_others(rows, file, device):
 
 
 @contextlib.contextmanager
-def read(file, scratch, is_live=False):
+def read(file: Path, scratch: Path, is_live: bool = False) -> Iterator[sqlite3.Connection]:
     """The rows of a file, which stays as it is."""
     with contextlib.closing(connected(file, scratch, is_live)) as rows:
         yield rows
 
 
-def is_in_bytes(path, device):
+def is_in_bytes(path: Path, device: str) -> bool:
     """Whether a file's bytes have the number anywhere, as a text of a request has it."""
     with open(path, "rb") as has:
         if not os.fstat(has.fileno()).st_size:
@@ -98,7 +100,7 @@ def is_in_bytes(path, device):
             return data.find(f'"{device}"'.encode()) >= 0
 
 
-def holds(file, scratch, device):
+def holds(file: Path, scratch: Path, device: str) -> bool:
     """Whether a file or its log has the number; it searches a file that isn't a desk's byte by byte."""
     try:
         with read(file, scratch) as rows:
@@ -107,7 +109,7 @@ def holds(file, scratch, device):
         return any(is_in_bytes(part, device) for part in (file, log_of(file)) if part.is_file())
 
 
-def others_with(file, archives, copies, scratch, device):
+def others_with(file: Path, archives: Iterable[Path], copies: Path, scratch: Path, device: str) -> Iterator[Path]:
     """The archives from which the file doesn't go on, and the folders of copies and of files that were put away, that still have the number."""
     names = {archive.name for archive in archives}
     for one in sorted((*file.parent.glob(f"{file.name}-*"), *chain.copies_of(copies).glob(f"{file.name}-*"))):
@@ -123,7 +125,7 @@ def others_with(file, archives, copies, scratch, device):
 
 # The archives
 
-def chained(file, copies, named):
+def chained(file: Path, copies: Path, named: list[Path]) -> dict[Path, str]:
     """The archives in their order, from the oldest on, with their digests: the named ones, which have to be all, with the digests that the notes have."""
     notes = chain.chain(file, [copies])[::-1]
     wanted = {note.name: note.digest for note in notes if any((folder / note.name).is_file() for folder in (file.parent, copies))}
@@ -137,7 +139,7 @@ def chained(file, copies, named):
     return {path: wanted[path.name] for path in sorted(named, key=lambda path: list(wanted).index(path.name))}
 
 
-def alias_for(links, scratch):
+def alias_for(links: list[tuple[Path, bool]], scratch: Path) -> str:
     """A number that none of the files has."""
     while True:
         alias = "".join(secrets.choice("0123456789") for _ in range(MOST))
@@ -150,7 +152,7 @@ def alias_for(links, scratch):
                     return alias
 
 
-def replace(new, device, alias):
+def replace(new: Path, device: str, alias: str) -> None:
     """Puts the alias in the number's place, in a file that is nobody's yet, and makes the file anew."""
     with open(new, "rb") as has:
         mode = {1: "DELETE", 2: "WAL"}[has.read(19)[18]]
@@ -168,7 +170,7 @@ def replace(new, device, alias):
     sync(new)
 
 
-def compare(new, archive, device, alias):
+def compare(new: Path, archive: Path, device: str, alias: str) -> None:
     """Refuses a new archive unless it has the archive's rows, with the alias in place of the number, and nothing of the number."""
     with contextlib.closing(sqlite3.connect(chain.immutable(new), uri=True)) as book:
         book.execute("ATTACH ? AS old", (chain.immutable(archive),))
@@ -189,7 +191,7 @@ def compare(new, archive, device, alias):
         raise Fault(f"the number is still in the bytes of {new}; nothing was changed")
 
 
-def wanted(table, column, device, alias):
+def wanted(table: str, column: str, device: str, alias: str) -> str:
     """The value that a column of the archive has to have in the new file, in SQL."""
     if column in COLUMNS.get(table, ()):
         return f"iif({column} = {number_of(device)}, {number_of(alias)}, {column})"
@@ -198,7 +200,7 @@ def wanted(table, column, device, alias):
 
 # Their audits
 
-def copy_of(file, scratch):
+def copy_of(file: Path, scratch: Path | str) -> Path:
     """A copy of the desk's file as it is at this moment."""
     folder = Path(tempfile.mkdtemp(dir=scratch))
     if is_open(file):
@@ -209,7 +211,7 @@ def copy_of(file, scratch):
     return folder / file.name
 
 
-def audits(program, links):
+def audits(program: str, links: list[Path]) -> str:
     """The program's audits of copies: of each file with the one before it as its archive. A program without such an audit audits all of them as one file."""
     with tempfile.TemporaryDirectory(dir=links[-1].parent) as scratch:
         links = [copy_of(link, scratch) for link in links]
@@ -222,14 +224,14 @@ def audits(program, links):
     return ", ".join(said)
 
 
-def audit(program, file):
+def audit(program: str, file: Path) -> str:
     done = subprocess.run([program, "audit", "--file", file], stdin=subprocess.DEVNULL, stdout=subprocess.PIPE, stderr=subprocess.STDOUT, text=True)
     if not holds_something(log_of(file)):
         log_of(file).unlink(missing_ok=True)
     return done.stdout.strip()
 
 
-def joined(links, scratch):
+def joined(links: list[Path], scratch: Path | str) -> Path:
     """One file of all: the last one with what only those before it have."""
     made = Path(tempfile.mkdtemp(dir=scratch)) / "joined"
     for source, target in ((links[-1], made), (log_of(links[-1]), log_of(made))):
@@ -248,17 +250,26 @@ def joined(links, scratch):
 
 # Their places
 
+class Replaced(TypedDict):
+    """An archive: its place, its name, and its digests."""
+    at: str
+    name: str
+    old: str
+    new: str
+
+
 class Forgetting:
     """A folder put-away-DATE-RANDOM with the new archives in its folder `new`, and with the old ones that were put away; and its state: the place of each
     archive, and its digests, old and new."""
 
-    def __init__(self, folder):
-        self.folder, self.state = folder, json.loads((folder / STATE).read_text())
+    def __init__(self, folder: Path) -> None:
+        self.folder = folder
+        self.state: list[Replaced] = json.loads((folder / STATE).read_text())
 
-    def is_ended(self):
+    def is_ended(self) -> bool:
         return not (self.folder / "new").exists()
 
-    def go(self, file, copies):
+    def go(self, file: Path, copies: Path) -> None:
         """Each step is on the disk before the next one, and the places of the files show the next step, whenever this was broken off."""
         for archive in self.state:
             at, new, copy = Path(archive["at"]), self.folder / "new" / archive["name"], copies / archive["name"]
@@ -278,7 +289,7 @@ class Forgetting:
         sync(self.folder)
 
     @staticmethod
-    def put_in_copies(new, copy, archive):
+    def put_in_copies(new: Path, copy: Path, archive: Replaced) -> None:
         if not copy.is_file() or not Path(f"{copy}{chain.DIGEST}").exists() or chain.read_digest(copy) != archive["old"]:
             return
         half = copy.with_name(f".{copy.name}.new")
@@ -290,17 +301,17 @@ class Forgetting:
         chain.put_digest(copy, archive["new"])
 
 
-def forgettings(file):
+def forgettings(file: Path) -> list[Forgetting]:
     """The folders of this file that are there."""
     for half in file.parent.glob(f"{HALF}*"):
         shutil.rmtree(half)
     return [Forgetting(folder) for folder in sorted(file.parent.glob("put-away-*")) if (folder / STATE).exists()]
 
 
-def made(file, archives, folder):
+def made(file: Path, archives: dict[Path, str], folder: Path) -> Forgetting:
     """The folder gets its state, and then its name: nobody knows of it before."""
-    state = [{"at": str(archive), "name": archive.name, "old": digest, "new": chain.digest(folder / "new" / archive.name)}
-             for archive, digest in archives.items()]
+    state: list[Replaced] = [{"at": str(archive), "name": archive.name, "old": digest, "new": chain.digest(folder / "new" / archive.name)}
+                             for archive, digest in archives.items()]
     (folder / STATE).write_text(json.dumps(state) + "\n")
     sync(folder / STATE, folder / "new", folder)
     named = restoring.unused_name(file, "put-away")
@@ -308,7 +319,7 @@ def made(file, archives, folder):
     return Forgetting(named)
 
 
-def prepared(file, archives, device, program, scratch):
+def prepared(file: Path, archives: dict[Path, str], device: str, program: str, scratch: Path) -> Forgetting:
     """The folder with the new archives, whole, compared and audited."""
     folder = Path(tempfile.mkdtemp(prefix=HALF, dir=file.parent))
     try:
@@ -335,7 +346,7 @@ def prepared(file, archives, device, program, scratch):
 
 
 @contextlib.contextmanager
-def alone(file):
+def alone(file: Path) -> Iterator[None]:
     """Nobody else puts files away in this folder, or carries the file over."""
     restoring.become(*restoring.owner_of(file))
     unfinished = restoring.unfinished(file) or chain.unfinished(file)
@@ -355,7 +366,7 @@ def alone(file):
         os.close(folder)
 
 
-def forget(file, copies, named, device, program, scratch):
+def forget(file: Path, copies: Path, named: list[Path], device: str, program: str, scratch: Path) -> None:
     for left in forgettings(file):
         if not left.is_ended():
             left.go(file, copies)
@@ -363,7 +374,7 @@ def forget(file, copies, named, device, program, scratch):
     archives = chained(file, copies, named)
     # that they go on from each other
     opened(file, archives, scratch, is_live=True).close()
-    found = {}
+    found: dict[Path, list[str]] = {}
     for link in (file, *archives):
         with read(link, scratch, is_live=link == file) as rows:
             refuse_others(rows, link, device)
@@ -381,7 +392,7 @@ def forget(file, copies, named, device, program, scratch):
         say(f"{device} is still in {place}")
 
 
-def confirm(file):
+def confirm(file: Path) -> None:
     for left in forgettings(file):
         if not left.is_ended():
             raise Fault(f"{left.folder} isn't ended: the same acdctl forget --caller once more ends it")
@@ -393,13 +404,13 @@ def confirm(file):
 
 # The command
 
-def caller(text):
+def caller(text: str) -> str:
     if not re.fullmatch(f"[0-9]{{{LEAST},{MOST}}}", text):
         raise argparse.ArgumentTypeError(f"'{text}' isn't a number of {LEAST} to {MOST} digits")
     return text
 
 
-def parser():
+def parser() -> command.Parser:
     found = command.Parser("Makes a caller's number unknown in the archives that a desk's file continues.")
     does = found.add_mutually_exclusive_group(required=True)
     does.add_argument("--caller", type=caller, metavar="N", help=f"the number, of {LEAST} digits or more")
@@ -412,7 +423,7 @@ def parser():
     return found
 
 
-def read_words(words):
+def read_words(words: list[str]) -> argparse.Namespace:
     options = parser().parse_args(words)
     options.file = held.place(options.file)
     options.archive = [held.place(archive) for archive in options.archive]
@@ -420,7 +431,7 @@ def read_words(words):
     return options
 
 
-def do(options):
+def do(options: argparse.Namespace) -> None:
     os.umask(0o077)
     try:
         with alone(options.file), tempfile.TemporaryDirectory(prefix=SCRATCH, dir=options.file.parent) as scratch:
@@ -432,5 +443,5 @@ def do(options):
         raise Fault(fault) from None
 
 
-def main(words):
+def main(words: list[str]) -> NoReturn:
     command.run(read_words, do, words)

@@ -1,12 +1,15 @@
-"""Halts a desk for a moment: a child lets it continue whatever becomes of who halted it, and after some seconds in any case. Tested, not proved."""
+"""Halts a desk for a moment: a child lets it continue whatever becomes of who halted it, and after some seconds in any
+case. Tested, not proved."""
 import contextlib
 import os
 import re
 import select
 import signal
 import time
+from collections.abc import Iterator
 from dataclasses import dataclass
 from pathlib import Path
+from typing import NoReturn
 
 from acd_service import held
 
@@ -21,19 +24,19 @@ class Missed(Exception):
 class Desk:
     """A desk that runs over the file, and what was removed or moved from under it, if anything."""
     process: int
-    moved: str
+    moved: str | None
 
-    def is_halted(self):
+    def is_halted(self) -> bool:
         try:
             return re.search(r"^State:\s*T", Path(f"/proc/{self.process}/status").read_text(), re.MULTILINE) is not None
         except OSError:
             return False
 
-    def go_on(self):
+    def go_on(self) -> None:
         with contextlib.suppress(ProcessLookupError):
             os.kill(self.process, signal.SIGCONT)
 
-    def halt(self, end):
+    def halt(self, end: float) -> None:
         """Waits until the process has halted: if it waits for the disk, it halts a while after the signal."""
         try:
             os.kill(self.process, signal.SIGSTOP)
@@ -45,16 +48,18 @@ class Desk:
             time.sleep(STEP)
 
 
-def desks_over(file):
-    """The desks that have the file open, and after them those whose command line names it, and that have another file open."""
+def desks_over(file: Path) -> list[Desk]:
+    """The desks that have the file open, and after them those whose command line names it, and that have another file
+    open."""
     holding = [process for process in held.holders(file) if held.is_desk(process)]
     naming = [process for process in held.desks(file) if process not in holding]
     found = [Desk(process, held.moved(process, file)) for process in holding + naming]
     return [desk for desk in found if desk.process in holding or desk.moved]
 
 
-def watch(desk, pipe, ready, seconds):
-    """In the child: waits until the other end of the pipe is closed. No signal that a terminal or systemd sends to all of them ends or suspends it."""
+def watch(desk: Desk, pipe: int, ready: int, seconds: float) -> NoReturn:
+    """In the child: waits until the other end of the pipe is closed. No signal that a terminal or systemd sends to all
+    of them ends or suspends it."""
     try:
         os.setsid()
         for one in (signal.SIGHUP, signal.SIGINT, signal.SIGTERM):
@@ -67,7 +72,7 @@ def watch(desk, pipe, ready, seconds):
 
 
 @contextlib.contextmanager
-def watched(desk, seconds):
+def watched(desk: Desk, seconds: float) -> Iterator[None]:
     """A child lets the desk continue as this ends, by a SIGKILL too, and after so many seconds in any case."""
     (theirs, ours), (is_ready, ready) = os.pipe(), os.pipe()
     child = os.fork()
@@ -88,8 +93,9 @@ def watched(desk, seconds):
 
 
 @contextlib.contextmanager
-def halted(desk, seconds):
-    """Halts the desk for as long as this lasts, and for so many seconds at most. Gives the moment by which all has to be done."""
+def halted(desk: Desk, seconds: float) -> Iterator[float]:
+    """Halts the desk for as long as this lasts, and for so many seconds at most. Gives the moment by which all has to
+    be done."""
     end = time.monotonic() + seconds
     with watched(desk, seconds):
         desk.halt(end)

@@ -1,8 +1,10 @@
-"""The settings of the office in /etc/acd/board.json, as far as records use them: names in any script, limits of the service level, the zone. Tested, not proved."""
+"""The settings of the office in /etc/acd/board.json, as far as records use them: names in any script, limits of the
+service level, the zone. Tested, not proved."""
 import json
 import os
 import time
 import zoneinfo
+from collections.abc import Callable
 from dataclasses import dataclass, field
 from pathlib import Path
 
@@ -11,32 +13,36 @@ FILE = Path("/etc/acd/board.json")
 LIMIT, MOST, LONGEST = 20, 86400, 80
 
 
-def texts(said):
+def texts(said: object) -> dict[str, str]:
     """The members that are texts or numbers."""
-    said = said if isinstance(said, dict) else {}
-    return {name: str(value)[:LONGEST] for name, value in said.items() if isinstance(value, (str, int, float)) and not isinstance(value, bool)}
+    members = said if isinstance(said, dict) else {}
+    return {
+        name: str(value)[:LONGEST]
+        for name, value in members.items()
+        if isinstance(value, (str, int, float)) and not isinstance(value, bool)
+    }
 
 
-def seconds(text):
+def seconds(text: str | None) -> float | None:
     try:
-        found = float(text)
-    except (TypeError, ValueError):
+        found = float(text or "")
+    except ValueError:
         return None
     return found if 0 < found <= MOST else None
 
 
 @dataclass(frozen=True)
 class Office:
-    names: dict = field(default_factory=lambda: {"groups": {}, "agents": {}})
-    limits: dict = field(default_factory=dict)
-    zone: str = None
+    names: dict[str, dict[str, str]] = field(default_factory=lambda: {"groups": {}, "agents": {}})
+    limits: dict[str, str] = field(default_factory=dict)
+    zone: str | None = None
 
-    def limit_of(self, group):
+    def limit_of(self, group: str) -> float:
         """Of the group, else of all."""
         return seconds(self.limits.get(f"limit.{group}")) or seconds(self.limits.get("limit")) or LIMIT
 
 
-def office(file, report):
+def office(file: Path, report: Callable[[str], object]) -> Office:
     """The content of the file. It ignores a part that can't be read, and reports it in a line."""
     try:
         said = json.loads(Path(file).read_bytes())
@@ -49,10 +55,11 @@ def office(file, report):
     if zone is not None and not is_zone(zone):
         report(f"{file}: there is no zone {zone}")
         zone = None
-    return Office({kind: texts(names.get(kind) if isinstance(names, dict) else None) for kind in ("groups", "agents")}, texts(said.get("limits")), zone)
+    return Office({kind: texts(names.get(kind) if isinstance(names, dict) else None) for kind in ("groups", "agents")},
+                  texts(said.get("limits")), zone)
 
 
-def counting(file, report):
+def counting(file: Path | None, report: Callable[[str], object]) -> Office:
     """The content of the named file, else of the machine's, if that is there. Its zone counts if TZ names none."""
     if file is None and not FILE.exists():
         return Office()
@@ -63,7 +70,7 @@ def counting(file, report):
     return found
 
 
-def is_zone(name):
+def is_zone(name: str) -> bool:
     try:
         return zoneinfo.ZoneInfo(name).key == name
     except (ValueError, OSError, zoneinfo.ZoneInfoNotFoundError):

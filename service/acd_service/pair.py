@@ -1,10 +1,12 @@
 """The note beside a desk's file that says which file and which log belong together: F-pair beside F and F-wal.
 
-A file and a log of which only one was exchanged make a mixture of two states. The note has the inode of each and when that was made, since a file
-system uses an inode's number again: 'file 131 1800000000.5' and 'log 132 1800000001.25', a line each. If there was no log, the note says 'log none'.
+A file and a log of which only one was exchanged make a mixture of two states. The note has the inode of each and when
+that was made, since a file system uses an inode's number again: 'file 131 1800000000.5' and 'log 132 1800000001.25', a
+line each. If there was no log, the note says 'log none'.
 
-A stop adds how the desk left them: 'left 20480 1800000002000000000 8416' are the file's size and time, in nanoseconds, and the log's size. The next start
-takes that line away. So a log that was removed in between is seen, unless somebody's program wrote it into the file before."""
+A stop adds how the desk left them: 'left 20480 1800000002000000000 8416' are the file's size and time, in nanoseconds,
+and the log's size. The next start takes that line away. So a log that was removed in between is seen, unless somebody's
+program wrote it into the file before."""
 import os
 import re
 import subprocess
@@ -18,44 +20,47 @@ NONE = "none"
 LEFT = "left"
 
 
-def log_of(file):
+def log_of(file: Path) -> Path:
     return Path(f"{file}-wal")
 
 
-def note_of(file):
+def note_of(file: Path) -> Path:
     return Path(f"{file}-pair")
 
 
-def holds_something(log):
+def holds_something(log: Path) -> bool:
     """Whether it is longer than one that was emptied."""
     return log.exists() and log.stat().st_size > EMPTY
 
 
-def identity(path):
+def identity(path: Path) -> str:
     """Which file it is: its inode's number, and when that was made, where the file system says so."""
-    done = subprocess.run(["stat", "--format=%i %.9W", "--", path], stdout=subprocess.PIPE, stderr=subprocess.DEVNULL, text=True, env={**os.environ, "LC_ALL": "C"})
+    done = subprocess.run(["stat", "--format=%i %.9W", "--", path], stdout=subprocess.PIPE, stderr=subprocess.DEVNULL,
+                          text=True, env={**os.environ, "LC_ALL": "C"})
     return done.stdout.strip() or NONE
 
 
-def pair(file):
+def pair(file: Path) -> dict[str, str]:
     return {"file": identity(file), "log": identity(log_of(file))}
 
 
-def left(file):
+def left(file: Path) -> tuple[int, int, int]:
     """The size and the time of the file, and the size of its log."""
     found, log = os.stat(file), log_of(file)
     return found.st_size, found.st_mtime_ns, log.stat().st_size if log.exists() else 0
 
 
-def remember(file, is_left=False):
-    """Writes the note of the file and the log that are there now, in place of the last one; it is the file's owner's, and on the disk before this returns."""
+def remember(file: Path, is_left: bool = False) -> None:
+    """Writes the note of the file and the log that are there now, in place of the last one; it is the file's owner's,
+    and on the disk before this returns."""
     owner, lines = os.stat(file), pair(file)
     if is_left:
         lines[LEFT] = " ".join(map(str, left(file)))
-    put.put(note_of(file), "".join(f"{what} {which}\n" for what, which in lines.items()), owner=(owner.st_uid, owner.st_gid) if os.geteuid() == 0 else None)
+    put.put(note_of(file), "".join(f"{what} {which}\n" for what, which in lines.items()),
+            owner=(owner.st_uid, owner.st_gid) if os.geteuid() == 0 else None)
 
 
-def read_note(file):
+def read_note(file: Path) -> dict[str, str]:
     """The content of the note; empty if there is none, or none that can be read."""
     try:
         lines = note_of(file).read_text().splitlines()
@@ -64,16 +69,19 @@ def read_note(file):
     return dict(line.partition(" ")[::2] for line in lines)
 
 
-def is_split(file):
-    """Whether the file and its log, which holds something, are of two pairs: the note names both, and exactly one of them is another one now."""
+def is_split(file: Path) -> bool:
+    """Whether the file and its log, which holds something, are of two pairs: the note names both, and exactly one of
+    them is another one now."""
     now, then = pair(file), read_note(file)
-    if not holds_something(log_of(file)) or now["file"] == NONE or NONE in (then.get("file", NONE), then.get("log", NONE)):
+    named = then.get("file", NONE), then.get("log", NONE)
+    if not holds_something(log_of(file)) or now["file"] == NONE or NONE in named:
         return False
     return (now["file"] == then["file"]) != (now["log"] == then["log"])
 
 
-def lost(file):
-    """The size of a log that held something as the desk was stopped, and is gone, while the file is as it was then: nobody wrote the log into it. Else 0."""
+def lost(file: Path) -> int:
+    """The size of a log that held something as the desk was stopped, and is gone, while the file is as it was then:
+    nobody wrote the log into it. Else 0."""
     then = read_note(file).get(LEFT, "")
     if holds_something(log_of(file)) or not re.fullmatch(r"\d+ \d+ \d+", then):
         return 0
@@ -81,7 +89,7 @@ def lost(file):
     return log_then if log_then > EMPTY and file_then == [*left(file)[:2]] else 0
 
 
-def is_gone(file):
+def is_gone(file: Path) -> bool:
     """Whether the log of the last start isn't there, and no stop has noted what it left, as after a power cut."""
     then = read_note(file)
     return LEFT not in then and then.get("log", NONE) != NONE and not log_of(file).exists()

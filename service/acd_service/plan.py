@@ -1,11 +1,16 @@
 """Prints the plan of a desk as `acd import` reads it, out of the desk's snapshot: its JSON, or the line that `acd lines --reads` answers.
 Or prints the requests that make it another plan, and sends them."""
+import argparse
 import csv
 import io
 import json
 import re
 import sys
+from collections.abc import Iterable, Iterator
 from pathlib import Path
+from typing import Any, NamedTuple, NoReturn
+
+from acd_client import Client, Request
 
 from acd_service import command, reach
 from acd_service.command import Fault, report
@@ -20,9 +25,22 @@ FORMS = {"group": (DEVICE, NAME, SECONDS, SECONDS), "station": (DEVICE, NOTHING,
 WORDS = {DEVICE: "1 to 15 digits", AGENT: "1 to 9 digits", NAME: "1 to 40 characters of ASCII, from the blank to ~ (Mueller for Müller)", SECONDS: f"0 to {MOST_SECONDS} seconds", NOTHING: "empty"}
 
 
+class Row(NamedTuple):
+    """Of a plan, with seconds as numbers, and "" where it has none."""
+    kind: str
+    number: str
+    name: str = ""
+    ring: int | str = ""
+    wrap: int | str = ""
+
+
+# a device or an agent, and its number
+Key = tuple[bool, str]
+
+
 # The plan of a desk
 
-def snapshot(text):
+def snapshot(text: bytes) -> Any:
     """The snapshot in an answer, which may begin with a status."""
     status, _, body = text.partition(b" ")
     if not status.isdigit():
@@ -32,25 +50,25 @@ def snapshot(text):
     return json.loads(body)
 
 
-def plan(desk):
+def plan(desk: dict[str, Any]) -> Iterator[Row]:
     """The rows of the plan; each becomes a request by `plan`, whose invoke is its place."""
-    yield from (["group", group["device"], group["name"], group["ring"], group["wrap"]] for group in desk["groups"])
-    yield from (["station", station["device"], "", "", ""] for station in desk["stations"])
-    yield from (["agent", agent["agent"], agent["name"], "", ""] for agent in desk["agents"])
+    yield from (Row("group", group["device"], group["name"], group["ring"], group["wrap"]) for group in desk["groups"])
+    yield from (Row("station", station["device"]) for station in desk["stations"])
+    yield from (Row("agent", agent["agent"], agent["name"]) for agent in desk["agents"])
 
 
-def line(request):
+def line(request: Request) -> str:
     """A request as `acd lines` reads it."""
     return f"0 {json.dumps(request, separators=(',', ':'))}"
 
 
-def requester_of(login):
+def requester_of(login: str | None) -> str:
     """The requester of a plan; with a login, one of the login's requesters."""
-    owner = reach.owner(login, None)
+    owner = reach.owner(login, "")
     return f"{owner}-plan" if owner else "plan"
 
 
-def priorities(desk, requester, invoke):
+def priorities(desk: dict[str, Any], requester: str, invoke: int) -> Iterator[Request]:
     """The requests that give the groups their priorities, with invoke numbers after those of the plan."""
     for group in desk["groups"]:
         if "priority" in group:
@@ -60,7 +78,7 @@ def priorities(desk, requester, invoke):
 
 # The plan of a file
 
-def is_text(field):
+def is_text(field: str) -> bool:
     try:
         field.encode("latin-1").decode()
     except UnicodeDecodeError:
@@ -68,7 +86,7 @@ def is_text(field):
     return True
 
 
-def faulty_member(fields):
+def faulty_member(fields: list[str]) -> str | None:
     """The first member of a row that `acd import` refuses."""
     if len(fields) != len(HEADER) or not all(map(is_text, fields)):
         return "fields"
@@ -81,7 +99,7 @@ def faulty_member(fields):
     return None
 
 
-def wanted_of(fields, member):
+def wanted_of(fields: list[str], member: str) -> str:
     """The rule for a faulty member of a row, in words."""
     if member == "fields":
         return f"a row has {len(HEADER)} fields, with commas between them; this one has {len(fields)}" if len(fields) != len(HEADER) else "it isn't UTF-8: save the file as UTF-8"
@@ -90,12 +108,12 @@ def wanted_of(fields, member):
     return f"{'an' if fields[0] == 'agent' else 'a'} {fields[0]}'s {member} must be {WORDS[FORMS[fields[0]][HEADER.index(member) - 1]]}"
 
 
-def shown(character):
+def shown(character: str) -> str:
     """One of Latin-1, which is a byte: as it is in ASCII, and else as its number."""
     return character if " " <= character <= "~" else f"\\x{ord(character):02X}"
 
 
-def records_of(text):
+def records_of(text: str) -> Iterator[tuple[int, list[str]]]:
     """The records of a text that aren't empty, each with the line in which it begins."""
     reader = csv.reader(io.StringIO(text, newline=""))
     while True:
@@ -107,7 +125,7 @@ def records_of(text):
             yield line, fields
 
 
-def planned(file):
+def planned(file: str) -> list[Row]:
     """The rows of a plan, in the form of `plan`; a fault is named as `acd import` names it."""
     try:
         data = Path(file).read_bytes()
@@ -122,25 +140,26 @@ def planned(file):
     if header != HEADER:
         has = f"it is {''.join(map(shown, ','.join(header)[:60]))}" if records else "the file is empty"
         raise Fault("plan header", f"line {at} must be {','.join(HEADER)}; {has}")
-    rows = []
+    rows: list[Row] = []
     for number, (at, fields) in enumerate(records[1:], 1):
         member = faulty_member(fields)
         if member:
             raise Fault(f"plan row {number}: {member}", f"that is line {at}: {wanted_of(fields, member)}")
-        rows.append([*fields[:3], *(int(seconds) if seconds else "" for seconds in fields[3:])])
+        seconds: list[int | str] = [int(field) if field else "" for field in fields[3:]]
+        rows.append(Row(fields[0], fields[1], fields[2], *seconds))
     return rows
 
 
 # The requests that make one plan into another
 
-def key(row):
+def key(row: Row) -> Key:
     """The subject of a row: a device or an agent, and its number."""
-    return row[0] == "agent", row[1]
+    return row.kind == "agent", row.number
 
 
-def by_key(rows):
+def by_key(rows: Iterable[Row]) -> dict[Key, Row]:
     """The rows of a plan by their subject, of which each may be there once."""
-    found = {}
+    found: dict[Key, Row] = {}
     for number, row in enumerate(rows, 1):
         if key(row) in found:
             raise Fault(f"plan row {number}: number {row[1]} appears twice")
@@ -148,13 +167,13 @@ def by_key(rows):
     return found
 
 
-def request(verb, row):
+def request(verb: str, row: Row) -> Request:
     kind, number, *members = row
     return {"service": verb + kind.capitalize(), "agent" if kind == "agent" else "device": number,
             **{name: member for name, member in zip(HEADER[2:], members) if member != ""}}
 
 
-def changes(wanted, present):
+def changes(wanted: dict[Key, Row], present: dict[Key, Row]) -> list[Request]:
     """The requests that make the plan `present` the one that is wanted, but for what it has beyond it."""
     crossed = [f"{row[1]} is a {wanted[what][0]} of the plan and a {row[0]} of the desk, which no request corrects"
                for what, row in present.items() if what in wanted and wanted[what][0] != row[0]]
@@ -163,7 +182,7 @@ def changes(wanted, present):
     return [request("change" if what in present else "add", row) for what, row in wanted.items() if present.get(what) != row]
 
 
-def send(desk, requests):
+def send(desk: Client, requests: Iterable[Request]) -> bool:
     """Sends them in their order, and reports each answer that isn't 200, and how many there were of each. Returns whether none was refused."""
     done = dict.fromkeys(("add", "change", "refused"), 0)
     for one in requests:
@@ -171,7 +190,7 @@ def send(desk, requests):
         print(line(one), flush=True)
         try:
             answer = reach.sent(desk, one)
-        except reach.Fault as fault:
+        except Fault as fault:
             raise Fault(f"{name}: {fault}", f"{count(done)} before that; run it again for the rest") from None
         if answer.status == 200:
             done["add" if one["service"].startswith("add") else "change"] += 1
@@ -182,13 +201,13 @@ def send(desk, requests):
     return not done["refused"]
 
 
-def count(done):
+def count(done: dict[str, int]) -> str:
     return f"{done['add']} added, {done['change']} changed, {done['refused']} refused"
 
 
 # The command
 
-def parser():
+def parser() -> command.Parser:
     found = command.Parser("Prints the plan of a desk, for acd import, out of its snapshot on standard input; or what makes it another one.", printed_usage=True, took_beginnings=True)
     reach.add_options(found)
     instead = found.add_mutually_exclusive_group()
@@ -198,7 +217,7 @@ def parser():
     return found
 
 
-def options_of(words):
+def options_of(words: list[str]) -> argparse.Namespace:
     found = parser()
     options = found.parse_args(words)
     reach.check(found, options)
@@ -207,7 +226,7 @@ def options_of(words):
     return options
 
 
-def print_plan(desk, options):
+def print_plan(desk: dict[str, Any], options: argparse.Namespace) -> None:
     rows = list(plan(desk))
     requests = list(priorities(desk, requester_of(options.login), len(rows)))
     if options.priorities:
@@ -218,20 +237,20 @@ def print_plan(desk, options):
         report(f"{len(requests)} groups have a priority, which a plan can't give: acdctl plan --priorities prints them")
 
 
-def change(wanted, desk, client, options):
+def change(wanted: dict[Key, Row], desk: dict[str, Any], client: Client | None, options: argparse.Namespace) -> bool:
     """Prints the changes, or sends them; whether none was refused."""
     present = {key(row): row for row in plan(desk)}
     requester = reach.new_requester(options.login, "plan")
     requests = [{"requester": requester, "invoke": invoke, **one} for invoke, one in enumerate(changes(wanted, present), 1)]
     for kind, number, name, *_ in (row for row in present.values() if key(row) not in wanted):
         report(f"the desk has more than the plan: {kind} {number} {name}".rstrip())
-    if options.send:
+    if options.send and client is not None:
         return send(client, requests)
     sys.stdout.writelines(f"{line(one)}\n" for one in requests)
     return True
 
 
-def do(options):
+def do(options: argparse.Namespace) -> int:
     """Its status."""
     try:
         wanted = by_key(planned(options.changes)) if options.changes is not None else None
@@ -245,5 +264,5 @@ def do(options):
         raise Fault(f"there is no snapshot: {fault!r}") from None
 
 
-def main(words):
+def main(words: list[str]) -> NoReturn:
     command.run(options_of, do, words)

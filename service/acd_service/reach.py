@@ -1,4 +1,5 @@
-"""How a person's command reaches a desk: by its address, over TLS, and with a login whose password is on no command line."""
+"""How a person's command reaches a desk: by its address, over TLS, and with a login whose password is on no command
+line."""
 import argparse
 import getpass
 import grp
@@ -9,42 +10,51 @@ import secrets
 import ssl
 import time
 import warnings
+from collections.abc import Callable
+from typing import Any, TypeVar
 from urllib.parse import quote, urlsplit
 
-from acd_client import Client, Unanswered
+from acd_client import Answer, Client, Request, Unanswered
 
 from acd_service.command import Fault
 
-# seconds: of one attempt, between two, and of all attempts where nothing was asked of the desk yet, and where something was
+# seconds: of one attempt, between two, and of all attempts where nothing was asked of the desk yet, and where something
+# was
 WAIT, PAUSE, SOON, PATIENCE = 10, 1, 5, 60
 THIS_MACHINE = ("127.0.0.1", "::1", "localhost")
 # who reaches the desk's own port, as acd-local has it: a group, and users besides root
 GROUP, USERS = "acd-local", ("root", "acd", "acd-gate", "acd-exchange", "www-data", "etcd")
 
+Found = TypeVar("Found")
 
-def address(text):
+
+def address(text: str) -> str:
     """An address of a desk, which names no login."""
     try:
         parts = urlsplit(text)
-        good = parts.scheme in ("http", "https") and parts.hostname and (parts.port is None or parts.port) and not (parts.query or parts.fragment)
+        good = bool(parts.scheme in ("http", "https") and parts.hostname and (parts.port is None or parts.port) and
+                    not (parts.query or parts.fragment))
     except ValueError:
         good = False
     if not good or "@" in parts.netloc:
-        raise argparse.ArgumentTypeError(f"{text.rpartition('@')[2]!r} is no address as https://desk.example:8443, without a login, which --login has")
+        raise argparse.ArgumentTypeError(f"{text.rpartition('@')[2]!r} is no address as https://desk.example:8443, "
+                                         "without a login, which --login has")
     return text
 
 
-def add_options(parser):
-    parser.add_argument("--from", dest="address", type=address, metavar="ADDRESS", help="ask the desk at this address, as http://127.0.0.1:8080 or https://desk.example:8443")
+def add_options(parser: argparse.ArgumentParser) -> None:
+    parser.add_argument("--from", dest="address", type=address, metavar="ADDRESS",
+                        help="ask the desk at this address, as http://127.0.0.1:8080 or https://desk.example:8443")
     add_login_options(parser)
 
 
-def add_login_options(parser):
-    parser.add_argument("--login", metavar="LOGIN", help="ask by this login; its password is asked for, or that of the variable ACD_PASSWORD")
+def add_login_options(parser: argparse.ArgumentParser) -> None:
+    parser.add_argument("--login", metavar="LOGIN",
+                        help="ask by this login; its password is asked for, or that of the variable ACD_PASSWORD")
     parser.add_argument("--ca", metavar="FILE", help="trust the certificates in this file, in place of this machine's")
 
 
-def check(parser, options):
+def check(parser: argparse.ArgumentParser, options: argparse.Namespace) -> None:
     """Refuses options that don't fit together."""
     parts = urlsplit(options.address or "")
     if options.ca and parts.scheme != "https":
@@ -55,17 +65,17 @@ def check(parser, options):
         parser.error("a password goes to another machine over https alone")
 
 
-def owner(login, otherwise):
+def owner(login: str | None, otherwise: str) -> str:
     """The beginning of requesters: the login, as the gate demands, if a requester may begin so."""
-    return login if re.fullmatch("[a-z0-9-]{1,15}", login or "") else otherwise
+    return login if login and re.fullmatch("[a-z0-9-]{1,15}", login) else otherwise
 
 
-def new_requester(login, otherwise):
+def new_requester(login: str | None, otherwise: str) -> str:
     """One that nobody has used."""
     return f"{owner(login, otherwise)}-{secrets.token_hex(8)}"
 
 
-def password(login):
+def password(login: str) -> str:
     if "ACD_PASSWORD" in os.environ:
         return os.environ["ACD_PASSWORD"]
     with warnings.catch_warnings():
@@ -76,9 +86,10 @@ def password(login):
             raise Fault("there is no terminal to ask for the password on, and no ACD_PASSWORD") from None
 
 
-def desk_at(options):
+def desk_at(options: argparse.Namespace) -> Client:
     """A client of the desk that the options name."""
-    parts, context = urlsplit(options.address), None
+    parts = urlsplit(str(options.address))
+    context = None
     if options.ca:
         try:
             context = ssl.create_default_context(cafile=options.ca)
@@ -89,8 +100,9 @@ def desk_at(options):
     return Client(parts.geturl(), wait=WAIT, context=context)
 
 
-def insisted(desk, attempt, patience):
-    """The answer to an attempt, which is made again while there is none, or one that says no more than that (429, 502, 503, 504)."""
+def insisted(desk: Client, attempt: Callable[[], Found], patience: float) -> Found:
+    """The answer to an attempt, which is made again while there is none, or one that says no more than that (429, 502,
+    503, 504)."""
     end = time.monotonic() + patience
     while True:
         try:
@@ -101,16 +113,18 @@ def insisted(desk, attempt, patience):
             time.sleep(PAUSE)
 
 
-def hint(desk, fault):
+def hint(desk: Client, fault: Unanswered) -> str:
     """What acd-local does to this user, if the desk's own port was asked: it resets the connection."""
     parts = desk.addresses[0]
-    if parts.scheme != "http" or parts.hostname not in THIS_MACHINE or not isinstance(fault.__cause__, ConnectionError) or is_let_in():
+    is_reset = isinstance(fault.__cause__, ConnectionError)
+    if parts.scheme != "http" or parts.hostname not in THIS_MACHINE or not is_reset or is_let_in():
         return ""
     return f"; only root and the group {GROUP} reach this port: be one of them, or use https://.. with --login"
 
 
-def is_let_in():
-    """Whether this user reaches the desk's own port, as far as accounts say. Without the group nobody is kept from it."""
+def is_let_in() -> bool:
+    """Whether this user reaches the desk's own port, as far as accounts say. Without the group nobody is kept from
+    it."""
     try:
         group = grp.getgrnam(GROUP).gr_gid
         return pwd.getpwuid(os.geteuid()).pw_name in USERS or group in (os.getegid(), *os.getgroups())
@@ -118,7 +132,7 @@ def is_let_in():
         return True
 
 
-def read(desk, path):
+def read(desk: Client, path: str) -> dict[str, Any]:
     """The desk's answer at a path."""
     answer = insisted(desk, lambda: desk.attempt("GET", path), SOON)
     if answer.status != 200:
@@ -126,6 +140,6 @@ def read(desk, path):
     return answer.body
 
 
-def sent(desk, request):
+def sent(desk: Client, request: Request) -> Answer:
     """The answer to a request, which acts once however often it is sent."""
     return insisted(desk, lambda: desk.send(request), PATIENCE)

@@ -17,13 +17,15 @@ import stat
 import subprocess
 import tempfile
 import time
+from collections.abc import Iterable
 from pathlib import Path
+from typing import NoReturn
 
 from acd_notify import ready
 
 from acd_service import command, held, pair, put, restoring, settings
 from acd_service.command import Fault, report
-from acd_service.log import Damaged, Sound, Unreadable, look
+from acd_service.log import Damaged, Sound, State, Unreadable, look
 from acd_service.restoring import name_of
 
 SETTINGS = settings.FILE
@@ -42,16 +44,16 @@ GOOD = r"\d{4}-\d\d-\d\dT\d{6}Z"
 WEEK = 7 * 86400
 
 
-def to_mend(text):
+def to_mend(text: str) -> Fault:
     """Why the desk doesn't start, and what to do before it can."""
     return Fault(text, status=MEND)
 
 
-def is_there(path):
+def is_there(path: Path) -> bool:
     return os.path.lexists(path)
 
 
-def clear_away(folder, prefix):
+def clear_away(folder: Path, prefix: str) -> None:
     """Removes the remains of an earlier try that was killed."""
     for old in folder.glob(f"{prefix}*"):
         shutil.rmtree(old, ignore_errors=True)
@@ -59,7 +61,7 @@ def clear_away(folder, prefix):
 
 # The settings
 
-def look_at_names(names):
+def look_at_names(names: Iterable[str]) -> None:
     for name in settings.others(names):
         raise to_mend(f"no setting is called {name}: {settings.nearest(name)} is the nearest that there is; mend it in {SETTINGS}, "
                       "or in the unit's own file of settings")
@@ -69,7 +71,7 @@ def look_at_names(names):
 
 # The file and its folder
 
-def advice(folder):
+def advice(folder: Path) -> str:
     """What to do about a folder that the desk's user can't use. Others may need one that has something in it, so that it must not become this user's."""
     user = name_of(os.geteuid())
     if any(home == folder or home in folder.parents for home in HOMES):
@@ -83,7 +85,7 @@ def advice(folder):
     return f"others may need it, so move the file under {OURS}, or into an empty folder, and name it there, ACD_FILE in {SETTINGS}"
 
 
-def look_into(folder):
+def look_into(folder: Path) -> None:
     user = name_of(os.geteuid())
     try:
         is_folder = folder.is_dir()
@@ -95,7 +97,7 @@ def look_into(folder):
         raise to_mend(f"the user {user} may not look into {folder}: {advice(folder)}")
 
 
-def place(path):
+def place(path: str) -> Path:
     """The file's path with links followed. Until a broken-off restore is finished, the file's name is a link that leads nowhere."""
     if not path:
         raise Fault("the file has no name", status=command.REFUSED)
@@ -109,7 +111,7 @@ def place(path):
     return file
 
 
-def look_at_writing(folder):
+def look_at_writing(folder: Path) -> None:
     user = name_of(os.geteuid())
     if os.statvfs(folder).f_flag & os.ST_RDONLY:
         raise to_mend(f"{folder} is read-only: its disk is, or the unit isn't told of it (systemctl edit acd, and ReadWritePaths={folder} under [Service])")
@@ -117,7 +119,7 @@ def look_at_writing(folder):
         raise to_mend(f"the user {user} may not write in {folder}: {advice(folder)}")
 
 
-def look_at_kind(path):
+def look_at_kind(path: Path) -> None:
     """A file, with one name, and this user's."""
     found, user = os.lstat(path), name_of(os.geteuid())
     if not stat.S_ISREG(found.st_mode):
@@ -128,12 +130,12 @@ def look_at_kind(path):
         raise to_mend(f"{path} is the user {name_of(found.st_uid)}'s and not {user}'s: chown {user} {shlex.quote(str(path))}")
 
 
-def lone_log(file, what):
+def lone_log(file: Path, what: str) -> Fault:
     return to_mend(f"{file} {what}, but its log {pair.log_of(file)} is there: put {file.name} or a copy back (acdctl restore MOMENT), or move the log away, "
                    "but don't remove it: it may hold answered requests")
 
 
-def look_at_files(file):
+def look_at_files(file: Path) -> None:
     log = pair.log_of(file)
     if not is_there(file) and is_there(log):
         raise lone_log(file, "isn't there")
@@ -157,13 +159,13 @@ def look_at_files(file):
 
 # A log that was removed
 
-def good_copies(file):
+def good_copies(file: Path) -> tuple[list[str], Path]:
     """The moments of the good copies of a file, the oldest first, and their folder."""
     folder = Path(os.environ.get("ACD_COPY_FOLDER") or file.parent / "copies")
     return sorted(one.name for one in folder.glob("*") if re.fullmatch(GOOD, one.name) and (one / file.name).is_file()), folder
 
 
-def lost_log(file):
+def lost_log(file: Path) -> Fault:
     copies, folder = good_copies(file)
     until = time.strftime("%Y-%m-%dT%H%M%SZ", time.gmtime(os.stat(file).st_mtime))
     copy = f"the newest good copy is {copies[-1]} (acdctl restore {copies[-1]})" if copies else f"there is no good copy in {folder}"
@@ -172,7 +174,7 @@ def lost_log(file):
                    f"to start with that, remove {pair.note_of(file)}")
 
 
-def look_for_log(file):
+def look_for_log(file: Path) -> None:
     if pair.is_gone(file):
         report(f"the log {pair.log_of(file)} of the last start is gone, and no stop noted what it left: unless sqlite3 or acd wrote it into {file}, "
                f"answered requests are lost ({PAGE})")
@@ -180,7 +182,7 @@ def look_for_log(file):
 
 # The port
 
-def look_at_port(port):
+def look_at_port(port: int) -> None:
     with socket.socket() as tried:
         tried.setsockopt(socket.SOL_SOCKET, socket.SO_REUSEADDR, 1)
         try:
@@ -195,12 +197,12 @@ def look_at_port(port):
 
 # A log that is damaged
 
-def written(path):
+def written(path: Path) -> tuple[int, int]:
     found = os.stat(path)
     return found.st_size, found.st_mtime_ns
 
 
-def settled(log):
+def settled(log: Path) -> State:
     """The state of the log, by two looks. If they differ, or the log was written in between, somebody is writing it: then it counts as sound, and the desk will
     say that its file is open elsewhere."""
     before, found = written(log), look(log)
@@ -210,7 +212,7 @@ def settled(log):
     return found if look(log) == found and written(log) == before else Sound()
 
 
-def kept_before(file, log):
+def kept_before(file: Path, log: Path) -> Path | None:
     """The folder in which the two are kept as they are now, where an earlier start ended before it could open them."""
     for folder in sorted(file.parent.glob("damaged-*")):
         if all((folder / one.name).is_file() and filecmp.cmp(one, folder / one.name) for one in (file, log)):
@@ -218,15 +220,16 @@ def kept_before(file, log):
     return None
 
 
-def keep(file, log):
+def keep(file: Path, log: Path) -> Path:
     """Copies the two, as they are, into a folder beside them that is there whole or not at all; its name."""
     clear_away(file.parent, ".damaged-")
     moment = time.strftime("%Y-%m-%dT%H%M%SZ", time.gmtime())
     with tempfile.TemporaryDirectory(prefix=f".damaged-{moment}-", dir=file.parent) as scratch:
         new = Path(scratch, "new")
         new.mkdir(mode=0o700)
-        words = ["cp", "--reflink=auto", "--preserve=mode,timestamps", "--", file, log, new]
-        for step in (words, ["sync", *(new / one.name for one in (file, log)), new]):
+        words: list[str | Path] = ["cp", "--reflink=auto", "--preserve=mode,timestamps", "--", file, log, new]
+        synced: list[str | Path] = ["sync", *(new / one.name for one in (file, log)), new]
+        for step in (words, synced):
             done = subprocess.run(step, stdin=subprocess.DEVNULL, stdout=subprocess.PIPE, stderr=subprocess.STDOUT, text=True)
             if done.returncode:
                 raise Fault(f"the log {log} is damaged, and can't be kept as it is before the desk opens it: {' '.join(done.stdout.split())}", status=AGAIN)
@@ -236,7 +239,7 @@ def keep(file, log):
     return made
 
 
-def report_damage(file, log, found):
+def report_damage(file: Path, log: Path, found: Damaged | Unreadable) -> None:
     folder = kept_before(file, log) or keep(file, log)
     if isinstance(found, Damaged):
         what = f"is damaged from its frame {found.frame} on (byte {found.offset}), and answered requests from there on are missing"
@@ -245,14 +248,14 @@ def report_damage(file, log, found):
     report(f"the log {log} {what}; both files, as they were, are in {folder} ({PAGE})")
 
 
-def empty(file, patience=None):
+def empty(file: Path, patience: float | None = None) -> None:
     """The program opens the file and closes it, which writes the log into the file and empties it. A start without this would write after the last good commit, and
     the old frames there would seem damage, once a commit before them is torn. If this fails, the start will say why. However early it is ended, nothing is lost."""
     with contextlib.suppress(subprocess.TimeoutExpired):
         subprocess.run(["acd", "lines", "--file", file], stdin=subprocess.DEVNULL, stdout=subprocess.DEVNULL, stderr=subprocess.DEVNULL, timeout=patience)
 
 
-def look_at_log(file):
+def look_at_log(file: Path) -> None:
     log = pair.log_of(file)
     if not is_there(log):
         return
@@ -265,19 +268,19 @@ def look_at_log(file):
 
 # Copies
 
-def timer():
+def timer() -> str:
     """The timer of the copies of the unit that this process is of: acd-copy-north.timer of acd-north.service."""
     return f"{(held.unit(os.getpid()) or 'acd').replace('acd', 'acd-copy', 1)}.timer"
 
 
-def is_active(unit):
+def is_active(unit: str) -> bool:
     try:
         return subprocess.run(["systemctl", "is-active", "--quiet", unit], stdin=subprocess.DEVNULL, stderr=subprocess.DEVNULL).returncode == 0
     except OSError:
         return False
 
 
-def look_at_copies(file):
+def look_at_copies(file: Path) -> None:
     """Nothing else tells of a timer that was turned off and forgotten. A desk whose folder is younger than a week may have none yet."""
     copies, folder = good_copies(file)
     since = time.time() - WEEK
@@ -290,7 +293,7 @@ def look_at_copies(file):
 
 # The work
 
-def write_note(file, is_left=False):
+def write_note(file: Path, is_left: bool = False) -> None:
     """Writes the note anew. A note that isn't true any more mustn't stay, and a full disk has no room for another."""
     if not is_left and pair.read_note(file) == pair.pair(file):
         return
@@ -300,7 +303,7 @@ def write_note(file, is_left=False):
         pair.note_of(file).unlink(missing_ok=True)
 
 
-def answers(port):
+def answers(port: int) -> bool:
     try:
         with socket.create_connection(("127.0.0.1", port), 5) as tried:
             tried.sendall(b"GET / HTTP/1.1\r\nHost: localhost\r\n\r\n")
@@ -309,7 +312,7 @@ def answers(port):
         return False
 
 
-def notify(port):
+def notify(port: int) -> None:
     """Where systemd waits for it, a process tells it that the desk answers at its port, and ends then, or with this process, which becomes the desk. It is no
     child of this one, since a desk waits for none."""
     if "NOTIFY_SOCKET" not in os.environ:
@@ -331,7 +334,7 @@ def notify(port):
         os._exit(0)
 
 
-def serve(options):
+def serve(options: argparse.Namespace) -> NoReturn:
     look_at_names(os.environ)
     file = place(options.file)
     look_at_files(file)
@@ -347,7 +350,7 @@ def serve(options):
         raise to_mend("there is no program acd in the PATH: install it") from None
 
 
-def stopped(options):
+def stopped(options: argparse.Namespace) -> None:
     """Behind a desk that has ended: what it left is noted, so that a start sees a log that was removed. Behind a clean stop there is nothing in the log by then.
     What keeps a desk from being served is told by its start alone."""
     is_clean = os.environ.get("SERVICE_RESULT") == "success"
@@ -366,7 +369,7 @@ def stopped(options):
     write_note(file, is_left=True)
 
 
-def become_owner(folder):
+def become_owner(folder: Path) -> None:
     """Root makes what is in a folder as the folder's owner."""
     owner = os.stat(folder).st_uid
     if os.geteuid() == 0 and owner:
@@ -376,7 +379,7 @@ def become_owner(folder):
         os.setuid(owner)
 
 
-def make(options):
+def make(options: argparse.Namespace) -> None:
     """The new file is there whole or not at all: it is made in another folder, and then moved to its name."""
     file = place(options.file)
     become_owner(file.parent)
@@ -400,13 +403,13 @@ def make(options):
     return print(f"made {file}")
 
 
-def port_of(text):
+def port_of(text: str) -> int:
     if not (text.isascii() and text.isdigit() and len(text) < 6 and 1 <= int(text) <= 65535):
         raise argparse.ArgumentTypeError(f"the port {text!r} isn't a whole number from 1 to 65535")
     return int(text)
 
 
-def parser():
+def parser() -> command.Parser:
     found = command.Parser("Looks whether the desk can be served, and serves it; notes how it ended; or makes the file of a new desk.")
     act = found.add_mutually_exclusive_group(required=True)
     act.add_argument("--serve", action="store_const", const=serve, dest="act", help="look, and become acd serve --endless on a port of the loopback address")
@@ -417,9 +420,13 @@ def parser():
     return found
 
 
-def read(words):
+def read(words: list[str]) -> argparse.Namespace:
     return parser().parse_args(words)
 
 
-def main(words):
-    command.run(read, lambda options: options.act(options), words)
+def do(options: argparse.Namespace) -> None:
+    options.act(options)
+
+
+def main(words: list[str]) -> NoReturn:
+    command.run(read, do, words)

@@ -1,11 +1,13 @@
 """Writes files of the days that are over, out of a copy of a desk's file: of its calls, its agents and its groups."""
+import argparse
 from pathlib import Path
+from typing import NoReturn
 
 from acd_service import calls, command
 from acd_service.office import FILE
 
 
-def parser():
+def parser() -> command.Parser:
     found = command.Parser("Writes records/DAY.csv, agents/DAY.csv and groups/DAY.csv for the days that are over, out of a copy of a desk's file.")
     calls.add_files(found)
     found.add_argument("--office", type=Path, metavar="FILE", help=f"names, limits and zone; {FILE} as it comes, where that is there")
@@ -14,9 +16,9 @@ def parser():
     return found
 
 
-def asked(words):
+def asked(words: list[str]) -> argparse.Namespace:
     return parser().parse_args(words)
 
 
-def main(words):
+def main(words: list[str]) -> NoReturn:
     command.run(asked, calls.run, words)

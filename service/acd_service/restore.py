@@ -1,10 +1,13 @@
 """Puts a copy of a desk's file back, or takes the last restore back."""
+import argparse
+from typing import NoReturn
+
 from acd_service import command, copy
 
 ABOUT = "Puts a copy in the place of the desk's file, or takes the last restore back. No program may have the file open."
 
 
-def parser():
+def parser() -> command.Parser:
     found = command.Parser(ABOUT)
     copy.add_places(found)
     does = found.add_mutually_exclusive_group(required=True)
@@ -14,9 +17,9 @@ def parser():
     return found
 
 
-def read(words):
+def read(words: list[str]) -> argparse.Namespace:
     return copy.with_settings(parser().parse_args(words))
 
 
-def main(words):
+def main(words: list[str]) -> NoReturn:
     command.run(read, copy.do, words)

@@ -3,6 +3,7 @@ import argparse
 import difflib
 import os
 import re
+from collections.abc import Iterable
 from pathlib import Path
 
 FILE = Path("/etc/acd/acd.env")
@@ -18,16 +19,16 @@ DEFAULTS = {"ACD_FILE": "/var/lib/acd/desk.db", "ACD_PORT": "8080", "ACD_GATE_PO
             "ACD_TLS_HOST": "127.0.0.1", "ACD_TLS_PORT": "8443", "ACD_LOCAL_PORTS": "2379,2380"}
 
 
-def others(names):
+def others(names: Iterable[str]) -> list[str]:
     """Of these names those that look like a setting's, and are none: no version had them."""
     return sorted(name for name in names if name.startswith(PREFIX) and name not in (*NAMES, *EARLIER))
 
 
-def earlier(names):
+def earlier(names: Iterable[str]) -> list[str]:
     return sorted(name for name in names if name in EARLIER)
 
 
-def nearest(name):
+def nearest(name: str) -> str:
     return difflib.get_close_matches(name, NAMES, 1, 0)[0]
 
 

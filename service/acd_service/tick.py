@@ -3,6 +3,7 @@
 The desk's snapshot shows when. It passes over a desk that isn't there: systemd may be about to start it again, and the next step finds it. Each minute it
 looks whether the file or its log were removed or moved from under the desk. Somebody who foresaw the ticks' keys could use them up. So it draws their
 requester at random, and passes it on in the environment, never on a command line. It is tested, not proved."""
+import argparse
 import contextlib
 import http.client
 import json
@@ -12,6 +13,8 @@ import secrets
 import signal
 import string
 import time
+from pathlib import Path
+from typing import Any, NoReturn
 
 import acd_due
 from acd_service import command, held, settings
@@ -28,10 +31,10 @@ GREATEST, LAST, MOST = 999_999_999, 4294967295, 1 << 24
 class Journal:
     """Says each line on standard error, the same one once an hour at most."""
 
-    def __init__(self):
-        self.reported_at = {}
+    def __init__(self) -> None:
+        self.reported_at: dict[str, float] = {}
 
-    def report(self, text):
+    def report(self, text: str) -> None:
         now = time.time()
         # a line from a time when the clock was ahead keeps no line back
         if not now - HOUR < self.reported_at.get(text, -HOUR) <= now:
@@ -41,13 +44,13 @@ class Journal:
 
 # The desk
 
-def is_error(body):
+def is_error(body: object) -> bool:
     """Whether it is what a desk answers where it refuses."""
     error = body.get("error") if isinstance(body, dict) else None
     return isinstance(error, dict) and type(error.get("code")) is int and isinstance(error.get("name"), str)
 
 
-def name_of(body):
+def name_of(body: Any) -> str:
     """The name of an error: the rest of its text has the requester, which isn't for the journal."""
     return f" {body['error']['name']}" if is_error(body) and re.fullmatch("[A-Za-z]{1,40}", body["error"]["name"]) else ""
 
@@ -55,10 +58,10 @@ def name_of(body):
 class Desk:
     """The program that listens at a port of the loopback address; its whole answer comes within so many seconds, or it counts as not there."""
 
-    def __init__(self, port, patience):
+    def __init__(self, port: int, patience: float) -> None:
         self.port, self.patience = port, patience
 
-    def ask(self, method, path, body=None):
+    def ask(self, method: str, path: str, body: str | None = None) -> tuple[int, Any]:
         """The status of an answer, and its JSON, None where it is none; OSError or HTTPException where no whole answer comes."""
         connection = http.client.HTTPConnection("127.0.0.1", self.port)
         # no limit of one read is one of all together
@@ -79,16 +82,17 @@ class Desk:
             return reply.status, None
 
 
-def too_late(*_):
+def too_late(*_: object) -> NoReturn:
     raise TimeoutError
 
 
 class Ticker:
-    def __init__(self, port, step, requester, file):
+    def __init__(self, port: int, step: int, requester: str, file: Path) -> None:
         self.desk, self.step, self.requester, self.file = Desk(port, step), step, requester, file
-        self.journal, self.looked, self.silent_since = Journal(), -MINUTE, None
+        self.journal, self.looked = Journal(), float(-MINUTE)
+        self.silent_since: float | None = None
 
-    def run(self):
+    def run(self) -> NoReturn:
         while True:
             # the number of steps since 1970 is new with each step
             invoke = int(time.time()) // self.step
@@ -97,7 +101,7 @@ class Ticker:
             self.turn(invoke)
             self.wait()
 
-    def turn(self, invoke):
+    def turn(self, invoke: int) -> None:
         try:
             if self.is_due():
                 self.send(invoke)
@@ -108,7 +112,7 @@ class Ticker:
             pass
         self.silent_since = None
 
-    def look_at_silence(self):
+    def look_at_silence(self) -> None:
         """A desk that takes connections and answers none is told once that has lasted a minute. A step has passed by then; a clock that was put back begins anew."""
         now = time.time()
         if self.silent_since is None or now < self.silent_since:
@@ -117,7 +121,7 @@ class Ticker:
             self.journal.report(f"the desk at port {self.desk.port} has answered nothing for a minute, and is there: it is halted (acdctl copy --continue), "
                                 "or its disk hangs; until it answers no ring and no after-call work ends by a tick")
 
-    def is_due(self):
+    def is_due(self) -> bool:
         """Whether a tick ends something. A desk that refuses to say (an older one has no snapshot) is sent a tick each step. Who answers otherwise than a desk does is
         sent nothing."""
         status, body = self.desk.ask("GET", "/snapshot")
@@ -126,26 +130,26 @@ class Ticker:
         # who isn't one may answer anything
         with contextlib.suppress(LookupError, TypeError, AttributeError):
             if status == 200 and type(body["moment"]) is int and body["moment"] <= LAST:
-                due = acd_due.is_due(body, time.time())
+                due: bool = acd_due.is_due(body, time.time())
                 self.look_at_clock(body["moment"])
                 return due
         self.journal.report(f"who listens at port {self.desk.port} is no desk, and is sent nothing")
         return False
 
-    def look_at_clock(self, moment):
+    def look_at_clock(self, moment: int) -> None:
         """The snapshot's moment is that of the last request; if it is ahead, the desk's time doesn't advance until the clock reaches it."""
         if moment > int(time.time()) + MINUTE:
             until = time.strftime("%Y-%m-%d %H:%M:%S UTC", time.gmtime(moment))
             self.journal.report(f"the desk's time is over a minute ahead of this machine's clock: until {until} no ring and no after-call work ends by a tick")
 
-    def send(self, invoke):
+    def send(self, invoke: int) -> None:
         """Sends the tick of a step; its answer has to be 200."""
         request = {"requester": self.requester, "invoke": invoke, "service": "tick"}
         status, body = self.desk.ask("POST", "/csta", json.dumps(request, separators=(",", ":")))
         if status != 200:
             self.journal.report(f"the desk answered a tick with {status}{name_of(body)}")
 
-    def look_at_files(self):
+    def look_at_files(self) -> None:
         """Reports each minute that the file or its log was removed or moved from under the desk: the desk's answers are lost with it."""
         now = time.time()
         if self.looked <= now < self.looked + MINUTE:
@@ -155,7 +159,7 @@ class Ticker:
             for line in filter(None, (held.moved(process, self.file) for process in held.desks(self.file))):
                 command.report(line)
 
-    def wait(self):
+    def wait(self) -> None:
         """Until the next step begins."""
         left = self.step - time.time() % self.step
         while left > 0:
@@ -166,12 +170,12 @@ class Ticker:
 
 # The command
 
-def drawn():
+def drawn() -> str:
     """A requester as the package draws one: twelve letters, which are more than anybody tries."""
     return "clock-" + "".join(secrets.choice(string.ascii_lowercase) for _ in range(12))
 
 
-def parser():
+def parser() -> command.Parser:
     found = command.Parser("Sends the desk a tick in each step in which one ends something: an offer that has rung, or after-call work that has lasted, long enough.")
     found.add_argument("--port", type=command.whole_number(1, 65535), default=8080, metavar="P", help="the desk's port of the loopback address; 8080 unless given")
     found.add_argument("--step", type=command.whole_number(2, 3600), default=10, metavar="SECONDS", help="seconds between two looks; 10 unless given")
@@ -179,7 +183,7 @@ def parser():
     return found
 
 
-def read(words):
+def read(words: list[str]) -> argparse.Namespace:
     options = parser().parse_args(words)
     options.requester = os.environ.get("ACD_CLOCK") or drawn()
     if not re.fullmatch(REQUESTER, options.requester):
@@ -187,15 +191,15 @@ def read(words):
     return options
 
 
-def do(options):
+def do(options: argparse.Namespace) -> NoReturn:
     signal.signal(signal.SIGALRM, too_late)
     for one in (signal.SIGTERM, signal.SIGINT):
         signal.signal(one, signal.SIG_DFL)
     try:
-        Ticker(options.port, options.step, options.requester, options.file).run()
+        Ticker(options.port, options.step, options.requester, Path(options.file)).run()
     except Fault as fault:
         raise Fault(fault, status=command.REFUSED) from None
 
 
-def main(words):
+def main(words: list[str]) -> NoReturn:
     command.run(read, do, words)

@@ -10,8 +10,11 @@ import re
 import sys
 import tempfile
 import time
+from collections.abc import Callable, Iterator, Sequence
 from pathlib import Path
-from typing import NamedTuple
+from typing import Any, NamedTuple, NoReturn
+
+from acd_client import Client
 
 from acd_service import command, reach, sheets
 from acd_service.archives import opened
@@ -37,36 +40,38 @@ KEPT = "stamp, moment, request, status, body"
 KEY = (("requester", str), ("invoke", int), ("service", str))
 # before and after all moments
 NEVER, EVER = -1, 1 << 40
+# of groups and agents, by their numbers
+Names = dict[str, dict[str, str]]
 
 
 class Record(NamedTuple):
     """An executed request: when it was, what it was, and how it was answered."""
     stamp: int
     moment: int
-    request: dict
+    request: dict[str, Any]
     status: int
-    reply: dict
+    reply: dict[str, Any]
 
-    def members(self):
+    def members(self) -> dict[str, Any]:
         """The request's members; one group is printed in the form of several."""
         found = self.request | ({"groups": [self.request["group"]]} if "group" in self.request else {})
         return {name: found[name] for name in MEMBERS if name in found}
 
-    def requester(self):
+    def requester(self) -> str:
         """The requester; that of the ticks without its random part: nobody is to foresee their keys."""
         return re.sub("^clock-.*", "clock-..", self.request["requester"])
 
-    def given(self):
+    def given(self) -> dict[str, Any]:
         """The numbers that the result gave."""
         return {name: value for name, value in self.reply.get("result", {}).items() if name in GIVEN}
 
-    def outcome(self):
+    def outcome(self) -> str:
         if self.status != 200:
             return f"refused, {self.reply['error']['name']}"
         return ", ".join(f"{name} {self.reply['result'][name]}" for name in (*GIVEN, *STATES) if name in self.reply["result"]) or "done"
 
 
-def record_of(stamp, moment, request, status, reply):
+def record_of(stamp: int, moment: int, request: Any, status: int, reply: Any) -> Record:
     """From the texts of request and reply, or what was read of them."""
     try:
         request, reply = (json.loads(text) if isinstance(text, str) else text for text in (request, reply))
@@ -84,19 +89,19 @@ def record_of(stamp, moment, request, status, reply):
 class FileRequests:
     """The requests of a file and of its archives."""
 
-    def __init__(self, file, archives, folder, is_live=False):
+    def __init__(self, file: str, archives: Sequence[str], folder: Path, is_live: bool = False) -> None:
         self.rows = opened(file, archives, folder, is_live)
-        first = next(iter(self.rows.execute("SELECT stamp, moment FROM kept ORDER BY stamp LIMIT 1")), None)
-        self.last = self.rows.execute("SELECT last_stamp FROM meta").fetchone()[0]
+        first: tuple[int, int] | None = next(self.rows.execute("SELECT stamp, moment FROM kept ORDER BY stamp LIMIT 1"), None)
+        self.last: int = next(self.rows.execute("SELECT last_stamp FROM meta"))[0]
         self.first, self.begins = first or (self.last + 1, EVER)
 
-    def names(self):
+    def names(self) -> Names:
         return Book(self.rows).names()
 
-    def record(self, stamp):
+    def record(self, stamp: int) -> Record:
         return next(record_of(*row) for row in self.rows.execute(f"SELECT {KEPT} FROM kept WHERE stamp = ?", (stamp,)))
 
-    def records(self, since, until):
+    def records(self, since: int, until: int) -> Iterator[Record]:
         for row in self.rows.execute(f"SELECT {KEPT} FROM kept WHERE moment BETWEEN ? AND ? ORDER BY stamp", (since, until)):
             yield record_of(*row)
 
@@ -104,12 +109,12 @@ class FileRequests:
 class DeskRequests:
     """The requests of a running desk after a stamp."""
 
-    def __init__(self, desk, after):
-        self.desk, self.after, self.took = desk, after, 0
+    def __init__(self, desk: Client, after: int) -> None:
+        self.desk, self.after, self.took = desk, after, 0.0
         page, self.last = self.page(after)
         self.first, self.begins = (page[0].stamp, page[0].moment) if page else (self.last + 1, EVER)
 
-    def page(self, after):
+    def page(self, after: int) -> tuple[list[Record], int]:
         """A page, and the stamp of the last request of all. The desk has as long for others as the page before took it."""
         time.sleep(self.took)
         begin = time.monotonic()
@@ -123,13 +128,13 @@ class DeskRequests:
         except (LookupError, TypeError):
             raise Fault("what the desk answered is no page of requests") from None
 
-    def names(self):
+    def names(self) -> Names:
         """The desk's names, where this login reads its snapshot; none else."""
         answer = reach.insisted(self.desk, lambda: self.desk.attempt("GET", "/snapshot"), reach.SOON)
         snapshot = answer.body if answer.status == 200 else {"groups": [], "agents": []}
         return {kind: {one[member]: one["name"] for one in snapshot[kind]} for kind, member in (("groups", "device"), ("agents", "agent"))}
 
-    def begin(self, since):
+    def begin(self, since: int) -> int:
         """A stamp after which all requests from this moment on are, and not many earlier ones, so that it doesn't ask for each page from the first on."""
         low, high = max(self.first - 1, self.after), self.last
         while since > NEVER and high - low > 1000:
@@ -141,7 +146,7 @@ class DeskRequests:
                 high = middle
         return low
 
-    def records(self, since, until):
+    def records(self, since: int, until: int) -> Iterator[Record]:
         after, last = self.begin(since), self.last
         while after < last:
             page, last = self.page(after)
@@ -163,33 +168,35 @@ class When(NamedTuple):
     clock: datetime.time
     lasts: datetime.timedelta
 
-    def begins(self):
+    def begins(self) -> datetime.datetime:
         return datetime.datetime.combine(self.day or datetime.date.today(), self.clock)
 
-    def first(self):
+    def first(self) -> int:
         return int(self.begins().timestamp())
 
-    def last(self):
+    def last(self) -> int:
         """In an hour that comes twice, the second time."""
         return int((self.begins() + self.lasts - datetime.timedelta(seconds=1)).replace(fold=1).timestamp())
 
 
-def when(text):
+def when(text: str) -> When:
     found = re.fullmatch(r"([0-9]{4}-[0-9]{2}-[0-9]{2})?(?:(?:^|[T ])([0-9]{2}:[0-9]{2})(:[0-9]{2})?)?", text)
     try:
+        if found is None:
+            raise ValueError
         day, clock, seconds = found.groups()
         lasts = datetime.timedelta(days=1) if not clock else datetime.timedelta(seconds=1 if seconds else 60)
-        return When(day and datetime.date.fromisoformat(day), datetime.time.fromisoformat((clock or ("00:00" if day else "")) + (seconds or "")), lasts)
-    except (AttributeError, ValueError):
+        return When(datetime.date.fromisoformat(day) if day else None, datetime.time.fromisoformat((clock or ("00:00" if day else "")) + (seconds or "")), lasts)
+    except ValueError:
         raise argparse.ArgumentTypeError(f"'{text}' is neither a day like 2026-11-28 nor a time like 14:32, 14:32:07 or 2026-11-28T14:32") from None
 
 
-def is_of(requester, one):
+def is_of(requester: str, one: str) -> bool:
     """Whether a requester is this one, or one of the login's."""
     return requester == one or requester.startswith(f"{one}-")
 
 
-def fits(record, options):
+def fits(record: Record, options: argparse.Namespace) -> bool:
     """Whether it is one of those that are asked for: of each option one of its values."""
     has = record.given() | record.members()
     devices = {device for name in DEVICES for device in field(has.get(name, "")).split()}
@@ -202,19 +209,19 @@ def fits(record, options):
                 not options.device or not devices.isdisjoint(options.device)))
 
 
-def number(text):
+def number(text: str) -> int:
     if not re.fullmatch("[1-9][0-9]{0,9}", text):
         raise argparse.ArgumentTypeError(f"'{text}' is no number from 1 on")
     return int(text)
 
 
-def digits(text):
+def digits(text: str) -> str:
     if not re.fullmatch("[0-9]{1,15}", text):
         raise argparse.ArgumentTypeError(f"'{text}' isn't 1 to 15 digits")
     return text
 
 
-def parser():
+def parser() -> command.Parser:
     found = command.Parser("Prints who asked a desk for what, when, and with which result.", printed_usage=True)
     found.add_argument("address", nargs="?", type=reach.address, metavar="URL",
                        help="the desk's address, as http://127.0.0.1:8080 or https://desk.example:8443")
@@ -226,9 +233,11 @@ def parser():
     found.add_argument("--since", type=when, metavar="WHEN", help="from then on: 2026-11-28, 14:32 of today, or 2026-11-28T14:32")
     found.add_argument("--until", type=when, metavar="WHEN", help="up to then, and with that day, minute or second")
     found.add_argument("--at", type=when, metavar="WHEN", help="of that day, minute or second")
-    for name, kind, about in (("requester", str, "by this requester, or one that begins with it and a hyphen"), ("service", str, "for this service"),
-                              ("agent", digits, "of this agent"), ("device", digits, "of this group, station or caller's number"),
-                              ("call", number, "of this call"), ("invoke", number, "with this number of the key"), ("stamp", number, "with this stamp")):
+    filters: list[tuple[str, Callable[[str], object], str]] = [
+        ("requester", str, "by this requester, or one that begins with it and a hyphen"), ("service", str, "for this service"),
+        ("agent", digits, "of this agent"), ("device", digits, "of this group, station or caller's number"),
+        ("call", number, "of this call"), ("invoke", number, "with this number of the key"), ("stamp", number, "with this stamp")]
+    for name, kind, about in filters:
         found.add_argument(f"--{name}", action="append", type=kind, metavar=name[0].upper(), help=f"{about}; as often as there are some")
     found.add_argument("--names", action="store_true", help="names beside numbers")
     found.add_argument("--csv", action="store_true", help="CSV in place of lines to read")
@@ -237,7 +246,7 @@ def parser():
     return found
 
 
-def asked(words):
+def asked(words: list[str]) -> argparse.Namespace:
     found = parser()
     options = found.parse_args(words)
     if bool(options.file) == bool(options.address):
@@ -254,18 +263,18 @@ def asked(words):
 
 # Their output
 
-def moment_text(moment):
+def moment_text(moment: int) -> str:
     """The requests of `acd import`, and of a desk without a clock, have the moment 0, which says nothing."""
     if moment == 0:
         return "-"
     return datetime.datetime.fromtimestamp(moment).strftime("%Y-%m-%d %H:%M:%S")
 
 
-def field(value):
+def field(value: object) -> str:
     return " ".join(map(str, value)) if isinstance(value, list) else str(value)
 
 
-def names_of(names, member, numbers):
+def names_of(names: Names, member: str, numbers: str) -> str:
     """The names, parted by semicolons, of those that have one; of what isn't named there are none."""
     known = names.get(NAMED[member][1], {}) if member in NAMED else {}
     return "; ".join(known[one] for one in numbers.split() if one in known)
@@ -274,19 +283,19 @@ def names_of(names, member, numbers):
 class Lines:
     """Lines to read: when, who, what was asked for, and what came of it."""
 
-    def __init__(self, names):
+    def __init__(self, names: Names) -> None:
         self.names = names
 
-    def begin(self):
+    def begin(self) -> None:
         pass
 
-    def put(self, record):
+    def put(self, record: Record) -> None:
         request = record.request
         words = ", ".join(self.words(name, value) for name, value in record.members().items())
         asked_for = f"{request['service']} {words}" if words else request["service"]
         print(f"{moment_text(record.moment)}  {record.requester()}  {asked_for}: {record.outcome()}  (#{record.stamp}, invoke {request['invoke']})")
 
-    def words(self, name, value):
+    def words(self, name: str, value: object) -> str:
         """A member, and the names of those whose numbers it has."""
         shown = json.dumps(value) if name == "name" else field(value)
         known = names_of(self.names, name, shown)
@@ -296,27 +305,27 @@ class Lines:
 class Sheet:
     """CSV, a column for each member."""
 
-    def __init__(self, names, is_guarded):
+    def __init__(self, names: Names, is_guarded: bool) -> None:
         self.names, self.is_guarded, self.writer = names, is_guarded, csv.writer(sys.stdout, lineterminator="\n")
         self.columns = COLUMNS + [column for column, _ in NAMED.values() if names]
 
-    def begin(self):
+    def begin(self) -> None:
         if self.is_guarded:
             sys.stdout.write(sheets.MARK)
         self.writer.writerow(self.columns)
 
-    def put(self, record):
-        has = {name: field(value) for name, value in (record.given() | record.members()).items()}
+    def put(self, record: Record) -> None:
+        has: dict[str, Any] = {name: field(value) for name, value in (record.given() | record.members()).items()}
         has |= {column: names_of(self.names, name, has.get(name, "")) for name, (column, _) in NAMED.items()}
         has |= {"stamp": record.stamp, "when": moment_text(record.moment), "requester": record.requester(), "invoke": record.request["invoke"],
                 "service": record.request["service"], "outcome": record.outcome()}
         self.writer.writerow([self.guarded(column, has.get(column, "")) for column in self.columns])
 
-    def guarded(self, column, text):
+    def guarded(self, column: str, text: Any) -> Any:
         return sheets.guarded(text, column in LIKE_NAMES) if self.is_guarded and column in LIKE_NAMES | NUMBERED else text
 
 
-def sources(options, folder):
+def sources(options: argparse.Namespace, folder: Path) -> list[FileRequests | DeskRequests]:
     """The sources of the requests, in their order: those of a running desk come after its archives, which are one source."""
     if options.file:
         return [FileRequests(options.file, options.archive, folder, options.live)]
@@ -331,7 +340,7 @@ def sources(options, folder):
     return [archive, DeskRequests(desk, archive.last)]
 
 
-def are_missing(found, since, options):
+def are_missing(found: Sequence[FileRequests | DeskRequests], since: int, options: argparse.Namespace) -> bool:
     """Reports requests that the user may have asked for and that other files have. Returns whether there are any: requests before the first one here aren't later than that."""
     last, missing = 0, False
     for source in found:
@@ -342,16 +351,16 @@ def are_missing(found, since, options):
     return missing
 
 
-def do(options, folder):
+def do(options: argparse.Namespace, folder: Path) -> bool:
     """Whether all is there that was asked for."""
     office = counting(options.office, report)
     since, until = options.at or options.since, options.at or options.until
     since, until = since.first() if since else NEVER, until.last() if until else EVER
     found = sources(options, folder)
-    names = found[-1].names() if options.names else {}
+    names: Names = found[-1].names() if options.names else {}
     for kind in names:
         names[kind] |= office.names[kind]
-    put = Sheet(names, options.excel) if options.csv or options.excel else Lines(names)
+    put: Sheet | Lines = Sheet(names, options.excel) if options.csv or options.excel else Lines(names)
     put.begin()
     for source in found:
         for record in source.records(since, until):
@@ -361,13 +370,12 @@ def do(options, folder):
     return not are_missing(found, since, options)
 
 
-def run(options):
+def run(options: argparse.Namespace) -> int:
     """Its status."""
-    # names are of any script, whatever the machine's language
-    sys.stdout.reconfigure(encoding="utf-8")
+    command.print_utf_8()
     with command.while_somebody_reads(), tempfile.TemporaryDirectory() as folder:
-        return 0 if do(options, folder) else MISSING
+        return 0 if do(options, Path(folder)) else MISSING
 
 
-def main(words):
+def main(words: list[str]) -> NoReturn:
     command.run(asked, run, words)

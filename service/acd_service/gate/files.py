@@ -1,21 +1,27 @@
-"""Files of records, a day each, for those who may read them: an office reads a whole file, a lead the lines of its groups. Unproved."""
+"""Files of records, a day each, for those who may read them: an office reads a whole file, a lead the lines of its
+groups. Unproved."""
 import csv
 import io
 import re
 from pathlib import Path
+from typing import Literal
 
 KINDS = ("records", "agents", "groups")
 NAME = r"(records|agents|groups)/([0-9]{4}-[0-9]{2}-[0-9]{2})\.csv"
 
 
-def days(folder):
+def days_of(folder: Path | str, kind: str) -> list[str]:
+    return sorted(file.stem for file in Path(folder, kind).glob("*.csv") if re.fullmatch(NAME, f"{kind}/{file.name}"))
+
+
+def days(folder: Path | str) -> dict[str, list[str]]:
     """The days of which there is a file, by kind."""
-    return {kind: sorted(file.stem for file in Path(folder, kind).glob("*.csv") if re.fullmatch(NAME, f"{kind}/{file.name}")) for kind in KINDS}
+    return {kind: days_of(folder, kind) for kind in KINDS}
 
 
-def content(folder, name, groups):
-    """A file's bytes; with groups the lines that have one of them in the column `group` or `groups`. None if there is no such file, and
-    False if a lead may read nothing of it, since it has no such column."""
+def content(folder: Path | str, name: str, groups: frozenset[str] | None) -> bytes | Literal[False] | None:
+    """A file's bytes; with groups the lines that have one of them in the column `group` or `groups`. None if there is
+    no such file, and False if a lead may read nothing of it, since it has no such column."""
     if not re.fullmatch(NAME, name):
         return None
     try:
@@ -25,9 +31,9 @@ def content(folder, name, groups):
     return data if groups is None else of_groups(data, groups)
 
 
-def of_groups(data, groups):
+def of_groups(data: bytes, groups: frozenset[str]) -> bytes | Literal[False]:
     lines = csv.reader(io.StringIO(data.decode("utf-8", "replace"), newline=""))
-    head = next(lines, [])
+    head: list[str] = next(lines, [])
     # files for a spreadsheet have a mark before all, and a quote before what it would change
     columns = [place for place, name in enumerate(head) if name.removeprefix("\ufeff") in ("group", "groups")]
     if not columns:
@@ -35,5 +41,8 @@ def of_groups(data, groups):
     out = io.StringIO()
     into = csv.writer(out, lineterminator="\r\n" if b"\r\n" in data else "\n")
     into.writerow(head)
-    into.writerows(line for line in lines if any(not groups.isdisjoint(line[column].removeprefix("'").split()) for column in columns if column < len(line)))
+    for line in lines:
+        named = [line[column].removeprefix("'").split() for column in columns if column < len(line)]
+        if any(not groups.isdisjoint(each) for each in named):
+            into.writerow(line)
     return out.getvalue().encode()

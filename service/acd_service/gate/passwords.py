@@ -1,4 +1,5 @@
-"""Judges passwords: remembers a right one, counts wrong ones, and lets what nobody has vouched for wait by turns of the addresses. Unproved."""
+"""Judges passwords: remembers a right one, counts wrong ones, and lets what nobody has vouched for wait by turns of the
+addresses. Unproved."""
 import contextlib
 import hashlib
 import hmac
@@ -9,38 +10,41 @@ import secrets
 import threading
 import time
 from collections import Counter, OrderedDict, deque
-from typing import NamedTuple
+from collections.abc import Callable, Iterator
+from typing import NamedTuple, Protocol
 
 from passlib.context import CryptContext
 
 from acd_service.command import report
 
 # what htpasswd makes, or has made: no plain text, so that a line which isn't a hash is nobody's password
-FORMS = CryptContext(schemes=["bcrypt", "sha512_crypt", "sha256_crypt", "apr_md5_crypt", "md5_crypt", "ldap_salted_sha1", "ldap_sha1"])
+FORMS = CryptContext(
+    schemes=["bcrypt", "sha512_crypt", "sha256_crypt", "apr_md5_crypt", "md5_crypt", "ldap_salted_sha1", "ldap_sha1"])
 MINUTE, HOUR = 60, 3600
 MOST_WRONG = 10
 MOST_PAIRS = 100_000
 # wrong passwords of a login within an hour of which the journal is told
 MOST_GUESSES = 100
-# passwords that wait to be checked, of an address and in all, and how many are checked at once: half of the processors, two at least
+# passwords that wait to be checked, of an address and in all, and how many are checked at once: half of the processors,
+# two at least
 MOST_OF_ADDRESS, MOST_WAITING, AT_ONCE = 20, 200, max(2, min(4, len(os.sched_getaffinity(0)) // 2))
 # addresses of which it knows when they had their last turn
 MOST_KNOWN = 4096
 RIGHT, WRONG, TOO_MANY = "right", "wrong", "too many"
 
 
-def text(login):
+def text(login: bytes) -> str:
     """A login of bytes as the files' text has it."""
     return login.decode("utf-8", "replace")
 
 
-def network(address):
+def network(address: bytes) -> bytes:
     """An address as it is counted: of IPv6 its network of 64 bits, since whoever has one address has all of these."""
     try:
         found = ipaddress.ip_address(address.decode("ascii"))
     except ValueError:
         return address
-    if found.version == 4:
+    if isinstance(found, ipaddress.IPv4Address):
         return address
     return str(found.ipv4_mapped).encode() if found.ipv4_mapped else found.packed[:8]
 
@@ -53,6 +57,12 @@ class Attempt(NamedTuple):
     given: bytes
 
 
+class Users(Protocol):
+    """The hash of each login's password, as the users' file has it."""
+
+    def now(self) -> dict[str, str]: ...
+
+
 class Left(ConnectionError):
     """Who asked has closed the connection, and waits for no answer."""
 
@@ -60,21 +70,23 @@ class Left(ConnectionError):
 class Place:
     """Of one who waits. `is_turn` says whether a turn came, or the place was given up."""
 
-    def __init__(self):
+    def __init__(self) -> None:
         self.called, self.is_turn = threading.Event(), False
 
 
 class Turns:
-    """Who waits for a turn: of an address in their order, of the addresses first the one whose last turn was the longest ago; a turn of a right password
-    doesn't count. So an address that comes anew, and one without guesses, waits for nobody but those who have their turn now. Where there are too many the
-    address with most waiting gives up its latest."""
+    """Who waits for a turn: of an address in their order, of the addresses first the one whose last turn was the
+    longest ago; a turn of a right password doesn't count. So an address that comes anew, and one without guesses, waits
+    for nobody but those who have their turn now. Where there are too many the address with most waiting gives up its
+    latest."""
 
-    def __init__(self, at_once=AT_ONCE):
+    def __init__(self, at_once: int = AT_ONCE) -> None:
         self.lock, self.free, self.count, self.numbers = threading.Lock(), at_once, 0, itertools.count(1)
-        self.waiting, self.last = {}, OrderedDict()
+        self.waiting: dict[bytes, deque[Place]] = {}
+        self.last: OrderedDict[bytes, int] = OrderedDict()
 
     @contextlib.contextmanager
-    def turn(self, address):
+    def turn(self, address: bytes) -> Iterator[bool]:
         """Waits for a turn; whether there was one."""
         place = Place()
         with self.lock:
@@ -89,12 +101,12 @@ class Turns:
                     self.free += 1
                     self.call()
 
-    def forget(self, address):
+    def forget(self, address: bytes) -> None:
         """The last turn of this address was for a right password."""
         with self.lock:
             self.last.pop(address, None)
 
-    def enter(self, address, place):
+    def enter(self, address: bytes, place: Place) -> None:
         self.waiting.setdefault(address, deque()).append(place)
         self.count += 1
         if len(self.waiting[address]) > MOST_OF_ADDRESS:
@@ -103,7 +115,7 @@ class Turns:
             fullest = max(reversed(self.waiting), key=lambda each: (len(self.waiting[each]), self.last.get(each, 0)))
             self.take(fullest, latest=True).called.set()
 
-    def take(self, address, latest=False):
+    def take(self, address: bytes, latest: bool = False) -> Place:
         places = self.waiting[address]
         place = places.pop() if latest else places.popleft()
         if not places:
@@ -111,7 +123,7 @@ class Turns:
         self.count -= 1
         return place
 
-    def call(self):
+    def call(self) -> None:
         """Gives turns to those who are next."""
         while self.free and self.waiting:
             address = min(self.waiting, key=lambda each: self.last.get(each, 0))
@@ -126,18 +138,26 @@ class Turns:
 
 
 class Passwords:
-    """Judges passwords by the users' hashes; remembers a right one until it wasn't used for a minute, and counts wrong ones by address and login."""
+    """Judges passwords by the users' hashes; remembers a right one until it wasn't used for a minute, and counts wrong
+    ones by address and login."""
 
-    def __init__(self, users, clock=time.monotonic):
-        self.users, self.clock, self.key, self.lock, self.turns = users, clock, secrets.token_bytes(32), threading.Lock(), Turns()
-        self.right, self.wrong, self.guesses = {}, {}, {}
+    def __init__(self, users: Users, clock: Callable[[], float] = time.monotonic) -> None:
+        self.users, self.clock, self.key = users, clock, secrets.token_bytes(32)
+        self.lock, self.turns = threading.Lock(), Turns()
+        # of a login the password that was right, the hash that it fitted, and until when it counts
+        self.right: dict[bytes, tuple[bytes, str, float]] = {}
+        # of a pair the moments of wrong passwords; of a login since when they were counted, and how many
+        self.wrong: dict[bytes, list[float]] = {}
+        self.guesses: dict[str, tuple[float, int]] = {}
         # of a pair those that are being checked, which may be wrong: no eleventh try slips by
-        self.checked = Counter()
+        self.checked: Counter[bytes] = Counter()
 
-    def judge(self, address, login, password, has_left=lambda: False):
-        """The verdict; a password that has to be checked waits for its turn, and is dropped where it has_left by then."""
+    def judge(self, address: bytes, login: bytes, password: bytes, has_left: Callable[[], bool] = lambda: False) -> str:
+        """The verdict; a password that has to be checked waits for its turn, and is dropped where it has_left by
+        then."""
         address = network(address)
-        attempt = Attempt(login, password, self.digest(b"pair", address + b"\0" + login), self.digest(b"given", login + b":" + password))
+        attempt = Attempt(login, password, self.digest(b"pair", address + b"\0" + login),
+                          self.digest(b"given", login + b":" + password))
         verdict = self.known(self.users.now(), attempt)
         if verdict is not None:
             return verdict
@@ -152,21 +172,22 @@ class Passwords:
             self.turns.forget(address)
         return verdict
 
-    def known(self, hashes, attempt, checks=False):
+    def known(self, hashes: dict[str, str], attempt: Attempt, checks: bool = False) -> str | None:
         """The verdict without a check of the password, or None; with `checks` it is checked then."""
         now = self.clock()
         with self.lock:
-            given, hashed, until = self.right.get(attempt.login, (b"", None, now))
+            given, hashed, until = self.right.get(attempt.login, (b"", "", now))
             if now < until and hashed == hashes.get(text(attempt.login)) and hmac.compare_digest(given, attempt.given):
                 self.right[attempt.login] = given, hashed, now + MINUTE
                 return RIGHT
-            if sum(now - moment < MINUTE for moment in self.wrong.get(attempt.pair, ())) + self.checked[attempt.pair] >= MOST_WRONG:
+            wrong = sum(now - moment < MINUTE for moment in self.wrong.get(attempt.pair, ()))
+            if wrong + self.checked[attempt.pair] >= MOST_WRONG:
                 return TOO_MANY
             if checks:
                 self.checked[attempt.pair] += 1
         return None
 
-    def looked_at(self, hashes, attempt):
+    def looked_at(self, hashes: dict[str, str], attempt: Attempt) -> str:
         try:
             good, now = self.fits(hashes, attempt), self.clock()
         finally:
@@ -177,7 +198,8 @@ class Passwords:
             if good:
                 self.right[attempt.login] = attempt.given, hashes[text(attempt.login)], now + MINUTE
                 return RIGHT
-            self.wrong[attempt.pair] = [moment for moment in self.wrong.pop(attempt.pair, ()) if now - moment < MINUTE] + [now]
+            earlier = [moment for moment in self.wrong.pop(attempt.pair, ()) if now - moment < MINUTE]
+            self.wrong[attempt.pair] = [*earlier, now]
             oldest = next(iter(self.wrong))
             if len(self.wrong) > MOST_PAIRS or now - self.wrong[oldest][-1] >= MINUTE:
                 del self.wrong[oldest]
@@ -185,7 +207,7 @@ class Passwords:
                 self.count_guess(text(attempt.login), now)
             return WRONG
 
-    def count_guess(self, login, now):
+    def count_guess(self, login: str, now: float) -> None:
         """A line of the journal, once an hour, for a login at which many guess."""
         since, count = self.guesses.get(login, (now, 0))
         if now - since >= HOUR:
@@ -194,14 +216,16 @@ class Passwords:
         if count == MOST_GUESSES:
             report(f"{login}: over {MOST_GUESSES} wrong passwords within an hour")
 
-    def fits(self, hashes, attempt):
-        """Checks the password. An unknown name takes as long as a known one: its check uses a hash of another login, and doesn't count."""
+    def fits(self, hashes: dict[str, str], attempt: Attempt) -> bool:
+        """Checks the password. An unknown name takes as long as a known one: its check uses a hash of another login,
+        and doesn't count."""
         known, others = hashes.get(text(attempt.login)), list(hashes.values())
-        hashed = known or (others[int.from_bytes(self.digest(b"name", attempt.login)) % len(others)] if others else None)
+        another = others[int.from_bytes(self.digest(b"name", attempt.login)) % len(others)] if others else None
+        hashed = known or another
         try:
             return bool(hashed) and FORMS.verify(attempt.password, hashed) and known is not None
         except ValueError:  # a NUL in a password, over 4096 bytes, or a hash that is cut off
             return False
 
-    def digest(self, purpose, data):
+    def digest(self, purpose: bytes, data: bytes) -> bytes:
         return hashlib.blake2b(data, digest_size=32, key=self.key, person=purpose).digest()

@@ -1,35 +1,54 @@
-"""What a login may ask for, by its role: the files of roles and users, whose a requester is, and the rules of each role. Unproved."""
+"""What a login may ask for, by its role: the files of roles and users, whose a requester is, and the rules of each
+role. Unproved."""
+from __future__ import annotations
+
 import json
 import re
 import threading
+from collections.abc import Callable, Collection, Iterable
 from pathlib import Path
-from typing import NamedTuple
+from typing import Any, Generic, NamedTuple, Protocol, TypeVar
 
 from acd_service.command import report
 from acd_service.gate.passwords import FORMS
 
 PLAN = {"addGroup", "addStation", "addAgent", "setGroupPriority", "changeGroup", "changeAgent"}
-CALLS = {"makeCall", "phoneOffHook", "answerCall", "rejectCall", "holdCall", "retrieveCall", "clearConnection", "deflectCall", "singleStepTransfer"}
+CALLS = {
+    "makeCall", "phoneOffHook", "answerCall", "rejectCall", "holdCall", "retrieveCall", "clearConnection",
+    "deflectCall", "singleStepTransfer"
+}
 ROLES = {"supervisor", "lead", "agent", "office", "exchange", "follow"}
-MEMBERS = {"agent": r"[0-9]{1,9}", "stations": r"[0-9]{1,15}(,[0-9]{1,15})*", "groups": r"[0-9]{1,15}(,[0-9]{1,15})*", "reads": "none|own|all"}
+MEMBERS = {
+    "agent": r"[0-9]{1,9}", "stations": r"[0-9]{1,15}(,[0-9]{1,15})*", "groups": r"[0-9]{1,15}(,[0-9]{1,15})*",
+    "reads": "none|own|all"
+}
 # what a line of a role has to have, and may have besides `reads`
-NEEDS, MAY_HAVE = {"agent": {"agent"}, "lead": {"groups"}}, {"agent": {"agent", "stations", "groups"}, "lead": {"groups"}}
+NEEDS = {"agent": {"agent"}, "lead": {"groups"}}
+MAY_HAVE = {"agent": {"agent", "stations", "groups"}, "lead": {"groups"}}
 LEADS_TO = ("ready", "notReady", "loggedOff")
 # the states that need neither a station nor a group
 OTHER_STATES = ("ready", "notReady", "workingAfterCall", "loggedOff")
 # requesters of acd-tick and acd-plan
 RESERVED = ("clock", "plan")
-NO_KEYS = "it only reads: to ask for services a login is 1 to 15 of a-z, 0-9 and hyphen, and neither clock nor plan, nor begins with clock- or plan-"
+NO_KEYS = ("it only reads: to ask for services a login is 1 to 15 of a-z, 0-9 and hyphen, and neither clock nor plan, "
+           "nor begins with clock- or plan-")
+Request = dict[str, Any]
+Member = TypeVar("Member")
+Content = TypeVar("Content")
 
 
-class Watched:
-    """The content of a file, read again when the file changes. A file that can't be read counts as empty, or, where it `keeps`, as what it was."""
+class Watched(Generic[Content]):
+    """The content of a file, read again when the file changes. A file that can't be read counts as empty, or, where it
+    `keeps`, as what it was."""
 
-    def __init__(self, file, read, keeps=False):
+    def __init__(self, file: Path | str, read: Callable[[Path, list[str]], dict[str, Content]],
+                 keeps: bool = False) -> None:
         self.file, self.read, self.keeps, self.lock = Path(file), read, keeps, threading.Lock()
-        self.stamp, self.said, self.fault = None, {}, None
+        self.stamp: tuple[int, int, int] | None = None
+        self.said: dict[str, Content] = {}
+        self.fault: str | None = None
 
-    def now(self):
+    def now(self) -> dict[str, Content]:
         with self.lock:
             try:
                 found = self.file.stat()
@@ -48,20 +67,22 @@ class Role(NamedTuple):
     """The rights of a login; None is no limit."""
     name: str | None = None
     agent: str | None = None
-    stations: frozenset | None = None
-    groups: frozenset | None = None
+    stations: frozenset[str] | None = None
+    groups: frozenset[str] | None = None
     reads: str | None = None
 
     @property
-    def reading(self):
-        return self.reads or {"agent": "own", "follow": "none"}.get(self.name, "all")
+    def reading(self) -> str:
+        if self.reads:
+            return self.reads
+        return {"agent": "own", "follow": "none"}.get(self.name or "", "all")
 
     @property
-    def reads_requests(self):
+    def reads_requests(self) -> bool:
         return self.name == "follow" or (self.name == "office" and self.reading == "all")
 
     @property
-    def asks(self):
+    def asks(self) -> bool:
         """Whether it may ask for any service."""
         return self.name in ("lead", "agent", "office", "exchange")
 
@@ -69,35 +90,66 @@ class Role(NamedTuple):
 NOTHING = Role("nothing")
 
 
-def role_of(words):
+# the parts of the desk at which a lead's rule looks
+
+class Agent(Protocol):
+    groups: list[str]
+
+
+class Connection(Protocol):
+    state: str
+    group: str | None
+
+
+class Call(Protocol):
+    connections: dict[str, Connection]
+
+
+class State(Protocol):
+    agents: dict[str, Agent]
+    groups: dict[str, object]
+    calls: dict[int, Call]
+
+    def agent_at(self, device: str) -> Agent | None: ...
+
+
+def numbers_of(value: str | None) -> frozenset[str] | None:
+    return None if value is None else frozenset(value.split(","))
+
+
+def role_of(words: Iterable[str]) -> Role:
     """The role by the words after a login; ValueError says why they give none."""
-    names, members = [], {}
+    names: list[str] = []
+    members: dict[str, str] = {}
     for word in re.sub(" agent (?=[0-9])", " agent agent=", " ".join(["", *words])).split():
         member, equals, value = word.partition("=")
         if not equals:
             names.append(word)
         elif member in members or not re.fullmatch(MEMBERS.get(member, "(?!)"), value):
-            raise ValueError(f'cannot read "{word}"' + (f" (separate {member} by commas)" if member in ("stations", "groups") else ""))
+            hint = f" (separate {member} by commas)" if member in ("stations", "groups") else ""
+            raise ValueError(f'cannot read "{word}"{hint}')
         else:
-            members[member] = value if member in ("agent", "reads") else frozenset(value.split(","))
+            members[member] = value
     if len(names) != 1 or names[0] not in ROLES:
         raise ValueError(f"its role is {' '.join(names) or 'missing'}")
     has, needs = members.keys() - {"reads"}, NEEDS.get(names[0], set())
     if not needs <= has or has - MAY_HAVE.get(names[0], set()):
-        raise ValueError("an agent has a number, and with it stations and groups, a lead has groups, and nobody else has any of these")
+        raise ValueError("an agent has a number, and with it stations and groups, a lead has groups, and nobody else "
+                         "has any of these")
     if members.get("reads") == "own" and names[0] != "agent":
         raise ValueError("an agent alone reads its own")
     if "reads" in members and names[0] == "follow":
         raise ValueError("a follow reads /requests, and nothing else of the desk")
-    return Role(names[0], **members)
+    return Role(names[0], members.get("agent"), numbers_of(members.get("stations")), numbers_of(members.get("groups")),
+                members.get("reads"))
 
 
-def roles_of(file, lines):
+def roles_of(file: Path, lines: list[str]) -> dict[str, Role]:
     """The role of each login that has a line."""
-    found = {}
+    found: dict[str, Role] = {}
     for number, line in enumerate(lines, 1):
-        login, *words = line.partition("#")[0].split() or [None]
-        if login is None:
+        login, *words = line.partition("#")[0].split() or [""]
+        if not login:
             continue
         try:
             role = role_of(words)
@@ -112,9 +164,9 @@ def roles_of(file, lines):
     return found
 
 
-def hashes_of(file, lines):
+def hashes_of(file: Path, lines: list[str]) -> dict[str, str]:
     """The hash of each login's password."""
-    found = {}
+    found: dict[str, str] = {}
     for number, line in enumerate(lines, 1):
         login, colon, rest = line.rstrip("\r").partition(":")
         hashed = rest.partition(":")[0]
@@ -133,28 +185,32 @@ class Twice(Exception):
     """A member is there twice: the desk decides which one counts, so the gate doesn't guess."""
 
 
-def once(members):
+def once(members: list[tuple[str, Member]]) -> dict[str, Member]:
     found = dict(members)
     if len(found) != len(members):
         raise Twice
     return found
 
 
-def has_keys(login):
+def has_keys(login: str) -> bool:
     """Whether the login can have requesters; those that begin with a name of RESERVED belong to nobody."""
-    return bool(re.fullmatch(r"[a-z0-9-]{1,15}", login)) and not any(login == name or login.startswith(f"{name}-") for name in RESERVED)
+    is_reserved = any(login == name or login.startswith(f"{name}-") for name in RESERVED)
+    return bool(re.fullmatch(r"[a-z0-9-]{1,15}", login)) and not is_reserved
 
 
-def owner(requester, logins):
+def owner(requester: str, logins: Iterable[str]) -> str | None:
     """The longest login that is the requester, or with which the requester begins, followed by a hyphen."""
-    return max((login for login in logins if requester == login or requester.startswith(f"{login}-")), key=len, default=None)
+    found = [login for login in logins if requester == login or requester.startswith(f"{login}-")]
+    return max(found, key=len) if found else None
 
 
-def are_within(allowed, numbers):
-    return allowed is None or (isinstance(numbers, list) and all(isinstance(one, str) and one in allowed for one in numbers))
+def are_within(allowed: frozenset[str] | None, numbers: object) -> bool:
+    if allowed is None:
+        return True
+    return isinstance(numbers, list) and all(isinstance(one, str) and one in allowed for one in numbers)
 
 
-def logs_on_within(role, request):
+def logs_on_within(role: Role, request: Request) -> bool:
     """Whether setAgentState of an agent keeps to the role's stations and groups."""
     if request.get("requested") in OTHER_STATES:
         return True
@@ -162,8 +218,10 @@ def logs_on_within(role, request):
     return are_within(role.stations, [request.get("device")]) and are_within(role.groups, groups)
 
 
-def may(role, login, logins, body, station_of, led=None):
-    """Whether the login may send this body; station_of returns where an agent is logged on, led lets a lead's rule look at the desk."""
+def may(role: Role, login: str, logins: Collection[str], body: bytes, station_of: Callable[[str], str | None],
+        led: Callable[[Callable[[State], bool]], bool]) -> bool:
+    """Whether the login may send this body; station_of returns where an agent is logged on, led lets a lead's rule look
+    at the desk."""
     if not role.asks or not has_keys(login):
         return False
     try:
@@ -181,7 +239,7 @@ def may(role, login, logins, body, station_of, led=None):
     return role.name == "exchange" or may_ask(role, request, station_of)
 
 
-def may_ask(role, request, station_of):
+def may_ask(role: Role, request: Request, station_of: Callable[[str], str | None]) -> bool:
     service, device = request.get("service"), request.get("device")
     if not isinstance(service, str):
         return False
@@ -189,32 +247,37 @@ def may_ask(role, request, station_of):
         return service in PLAN
     if service == "setAgentState":
         return request.get("agent") == role.agent and logs_on_within(role, request)
-    return service in CALLS and isinstance(device, str) and (role.stations is None or device in role.stations) and device == station_of(role.agent)
+    if service not in CALLS or not isinstance(device, str) or role.agent is None:
+        return False
+    return (role.stations is None or device in role.stations) and device == station_of(role.agent)
 
 
-def may_be_leads(role, request):
+def may_be_leads(role: Role, request: Request) -> bool:
     """The part of a lead's rule that needs no look at the desk."""
     service = request.get("service")
     if service == "setAgentState":
         return request.get("requested") in LEADS_TO and isinstance(request.get("agent"), str)
     if service in ("clearConnection", "deflectCall"):
-        return type(request.get("call")) is int and isinstance(request.get("device"), str) and (service == "clearConnection" or isinstance(request.get("to"), str))
+        has_target = service == "clearConnection" or isinstance(request.get("to"), str)
+        return type(request.get("call")) is int and isinstance(request.get("device"), str) and has_target
     return service == "setGroupPriority" and are_within(role.groups, [request.get("device")])
 
 
-def may_lead(role, request, state):
+def may_lead(role: Role, request: Request, state: State) -> bool:
     """Whether a lead may ask for this, as the desk is now."""
-    service = request["service"]
+    service, groups = request["service"], role.groups or frozenset()
     if service == "setAgentState":
         agent = state.agents.get(request["agent"])
-        return agent is not None and not role.groups.isdisjoint(agent.groups)
+        return agent is not None and not groups.isdisjoint(agent.groups)
     if service == "setGroupPriority":
         return request["device"] in state.groups
     call = state.calls.get(request["call"])
-    here = call and call.connections.get(request["device"])
-    if not here or here.group not in role.groups:
+    here = call.connections.get(request["device"]) if call else None
+    if not call or not here or here.group not in groups:
         return False
     if service == "clearConnection":
-        return here.state != "queued" and all(one.group is None or one.group in role.groups for one in call.connections.values())
+        others = [one.group for one in call.connections.values()]
+        return here.state != "queued" and all(group is None or group in groups for group in others)
     there = state.agent_at(request["to"])
-    return here.state == "queued" and (request["to"] in role.groups or (there is not None and not role.groups.isdisjoint(there.groups)))
+    is_within = request["to"] in groups or (there is not None and not groups.isdisjoint(there.groups))
+    return here.state == "queued" and is_within

@@ -1,4 +1,5 @@
-"""Sessions of people who logged in by a form: a cookie for the browser, and its digest in a file that outlives a start. Unproved."""
+"""Sessions of people who logged in by a form: a cookie for the browser, and its digest in a file that outlives a start.
+Unproved."""
 import base64
 import hashlib
 import json
@@ -6,11 +7,13 @@ import re
 import secrets
 import threading
 import time
+from collections.abc import Callable
 from dataclasses import dataclass
 from pathlib import Path
 
 from acd_service import put
 from acd_service.command import report
+from acd_service.gate.passwords import Users
 
 COOKIE = "__Host-acd"
 UNUSED, LONGEST = 12 * 3600, 24 * 3600
@@ -18,6 +21,7 @@ UNUSED, LONGEST = 12 * 3600, 24 * 3600
 USED_AGAIN = 60
 # sessions of one login; one more ends the oldest of this login, and nobody else's
 MOST = 100
+NO_SECRET = "it has no 64 signs"
 # 32 bytes that were drawn, and a signature by which nginx tells them from made-up ones
 TOKEN = r"[A-Za-z0-9_-]{43}\.[A-Za-z0-9_-]{22}"
 
@@ -31,55 +35,65 @@ class Session:
     used: int
 
     @property
-    def ends(self):
+    def ends(self) -> int:
         return min(self.used + UNUSED, self.begun + LONGEST)
 
 
-def digest(text):
+def digest(text: str) -> str:
     return hashlib.sha256(text.encode()).hexdigest()
 
 
-def secret_of(file):
-    """What the gate and nginx know: nginx reads it as a part of its configuration. Without it one that nginx can't have."""
+def secret_of(file: Path | str) -> str:
+    """What the gate and nginx know: nginx reads it as a part of its configuration. Without it one that nginx can't
+    have."""
     try:
-        return re.search(r'"([0-9a-f]{64})"', Path(file).read_text())[1]
-    except (OSError, TypeError, ValueError) as fault:
-        why = getattr(fault, "strerror", None) or "it has no 64 signs"
-        report(f"{file} has no secret, so that nginx takes no session for ours: {why}")
-        return secrets.token_hex(32)
+        found = re.search(r'"([0-9a-f]{64})"', Path(file).read_text())
+        why = NO_SECRET
+    except OSError as fault:
+        found, why = None, fault.strerror or NO_SECRET
+    except ValueError:
+        found, why = None, NO_SECRET
+    if found:
+        return found[1]
+    report(f"{file} has no secret, so that nginx takes no session for ours: {why}")
+    return secrets.token_hex(32)
 
 
-def signed(drawn, secret):
+def signed(drawn: str, secret: str) -> str:
     """The token, as nginx's secure_link_md5 makes its signature."""
-    return f"{drawn}." + base64.urlsafe_b64encode(hashlib.md5(f"{secret}{drawn}".encode(), usedforsecurity=False).digest()).decode().rstrip("=")
+    signature = hashlib.md5(f"{secret}{drawn}".encode(), usedforsecurity=False).digest()
+    return f"{drawn}." + base64.urlsafe_b64encode(signature).decode().rstrip("=")
 
 
-def cookie_of(field):
-    """The session's token in a field Cookie; None where it has none, "" where it has something else under that name, or two."""
+def cookie_of(field: str) -> str | None:
+    """The session's token in a field Cookie; None where it has none, "" where it has something else under that name, or
+    two."""
     given = [value for name, _, value in (part.strip().partition("=") for part in field.split(";")) if name == COOKIE]
     if not given:
         return None
     return given[0] if len(given) == 1 and re.fullmatch(TOKEN, given[0]) else ""
 
 
-def cookie_field(token):
+def cookie_field(token: str | None) -> tuple[str, str]:
     """The field Set-Cookie of a token; without one the browser forgets its cookie."""
-    return "Set-Cookie", f"{COOKIE}={token or ''}; Path=/; Max-Age={LONGEST if token else 0}; HttpOnly; Secure; SameSite=Strict"
+    age = LONGEST if token else 0
+    return "Set-Cookie", f"{COOKIE}={token or ''}; Path=/; Max-Age={age}; HttpOnly; Secure; SameSite=Strict"
 
 
 class Sessions:
-    """`users` has the hash of each login's password. Without a file sessions end with the gate. Each request takes `lock`, and who writes the file
-    `writing`."""
+    """`users` has the hash of each login's password. Without a file sessions end with the gate. Each request takes
+    `lock`, and who writes the file `writing`."""
 
-    def __init__(self, file, users, clock=time.time, secret=""):
-        self.file, self.users, self.clock, self.secret = file and Path(file), users, clock, secret
+    def __init__(self, file: Path | str | None, users: Users, clock: Callable[[], float] = time.time,
+                 secret: str = "") -> None:
+        self.file, self.users, self.clock, self.secret = Path(file) if file else None, users, clock, secret
         self.lock, self.writing = threading.Lock(), threading.Lock()
         self.changes = self.written = 0
         self.found = self.kept()
 
-    def kept(self):
+    def kept(self) -> dict[str, Session]:
         """The sessions of the file; it reports a line that can't be read, and passes over it."""
-        found = {}
+        found: dict[str, Session] = {}
         try:
             lines = self.file.read_text().splitlines() if self.file else []
         except OSError:
@@ -87,13 +101,15 @@ class Sessions:
         for line in lines:
             try:
                 members = json.loads(line)
-                found[members["digest"]] = Session(str(members["login"]), str(members["bound"]), int(members["begun"]), int(members["used"]))
+                found[members["digest"]] = Session(str(members["login"]), str(members["bound"]), int(members["begun"]),
+                                                   int(members["used"]))
             except (ValueError, KeyError, TypeError):
                 report(f"{self.file} has a line that is no session")
         return found
 
-    def keep(self):
-        """Writes all sessions down, whole or not at all, and not within the lock; those who come meanwhile are written at once."""
+    def keep(self) -> None:
+        """Writes all sessions down, whole or not at all, and not within the lock; those who come meanwhile are written
+        at once."""
         if self.file is None:
             return
         with self.lock:
@@ -103,56 +119,61 @@ class Sessions:
             if self.written >= wanted:
                 return
             with self.lock:
-                self.written, found = self.changes, [{"digest": name, **vars(session)} for name, session in self.found.items()]
+                self.written = self.changes
+                found = [{"digest": name, **vars(session)} for name, session in self.found.items()]
             self.write("".join(json.dumps(members) + "\n" for members in found))
 
-    def write(self, text):
+    def write(self, text: str) -> None:
+        if self.file is None:
+            return
         try:
             put.put(self.file, text)
         except OSError as fault:
             report(f"{self.file} can't be written: {fault.strerror}")
 
-    def bound(self, login):
+    def bound(self, login: str) -> str | None:
         """None for who has no password any more."""
         hashed = self.users.now().get(login)
         return hashed and digest(f"{login}:{hashed}")
 
-    def is_current(self, session):
+    def is_current(self, session: Session) -> bool:
         return session.begun - 60 <= self.clock() < session.ends
 
-    def is_good(self, session):
+    def is_good(self, session: Session | None) -> bool:
         return session is not None and self.is_current(session) and session.bound == self.bound(session.login)
 
-    def begin(self, login):
-        """The token of a new session. Others end by time alone: who isn't among the users now may be in a moment, when the file is written."""
+    def begin(self, login: str) -> str:
+        """The token of a new session. Others end by time alone: who isn't among the users now may be in a moment, when
+        the file is written."""
         token, now = signed(secrets.token_urlsafe(32), self.secret), int(self.clock())
         with self.lock:
             self.found = {name: session for name, session in self.found.items() if self.is_current(session)}
-            oldest_first = sorted((session.used, name) for name, session in self.found.items() if session.login == login)
+            oldest_first = sorted(
+                (session.used, name) for name, session in self.found.items() if session.login == login)
             for _, name in oldest_first[:max(0, len(oldest_first) + 1 - MOST)]:
                 del self.found[name]
             self.found[digest(token)] = Session(login, self.bound(login) or "", now, now)
         self.keep()
         return token
 
-    def of(self, token):
+    def of(self, token: str | None) -> Session | None:
         """The session of a token, where it is good."""
         with self.lock:
             session = self.found.get(digest(token)) if token else None
             return session if self.is_good(session) else None
 
-    def use(self, token):
+    def use(self, token: str | None) -> Session | None:
         """Somebody clicked."""
         session = self.of(token)
         with self.lock:
             is_used = session is not None and self.clock() - session.used >= USED_AGAIN
-            if is_used:
+            if session and is_used:
                 session.used = int(self.clock())
         if is_used:
             self.keep()
         return session
 
-    def end(self, token):
+    def end(self, token: str | None) -> None:
         with self.lock:
             session = self.found.pop(digest(token), None) if token else None
         if session:

@@ -6,21 +6,22 @@ LONGEST = 4096
 REQUEST = rb"(?!GET|HEAD)[^\r\n]{1,%d}" % LONGEST
 ENTRY = re.compile(rb"([0-9A-Fa-f]{32}) ([0-9]{1,10} %s)" % REQUEST)
 ONE_REQUEST = re.compile(REQUEST)
-# Outside of strings each is white space of JSON; within one the desk refuses a tab as it refuses these. So one line means the same as a body of several lines.
+# Outside of strings each is white space of JSON; within one the desk refuses a tab as it refuses these. So one line
+# means the same as a body of several lines.
 LINE_ENDS = bytes.maketrans(b"\r\n", b"\t\t")
 
 
-def request_of(body):
+def request_of(body: bytes) -> bytes | None:
     """A body as the request of an entry, or None if no entry may have it."""
     line = body.translate(LINE_ENDS)
     return line if ONE_REQUEST.fullmatch(line) else None
 
 
-def entry_of(token, moment, request):
+def entry_of(token: bytes, moment: int, request: bytes) -> bytes:
     return b"%s %d %s" % (token, moment, request)
 
 
-def parts(entry):
+def parts(entry: bytes) -> tuple[bytes, bytes] | None:
     """The token of an entry, and the line for the desk; None if it is no entry."""
     found = ENTRY.fullmatch(entry)
-    return found.groups() if found else None
+    return (found[1], found[2]) if found else None

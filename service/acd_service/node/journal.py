@@ -2,17 +2,21 @@
 import sys
 import threading
 import time
+from collections.abc import Callable
+from typing import TextIO
 
 from acd_service import command
 
 
 class Journal:
-    """Writes a line of a kind at once, and the next one of that kind not before its time is over: a lasting fault must not fill the disk."""
+    """Writes a line of a kind at once, and the next one of that kind not before its time is over: a lasting fault must
+    not fill the disk."""
 
-    def __init__(self, clock=time.monotonic, out=None):
-        self.clock, self.out, self.quiet_until, self.lock = clock, out or sys.stderr, {}, threading.Lock()
+    def __init__(self, clock: Callable[[], float] = time.monotonic, out: TextIO | None = None) -> None:
+        self.clock, self.out, self.lock = clock, out or sys.stderr, threading.Lock()
+        self.quiet_until: dict[object, float] = {}
 
-    def report(self, text, kind=None, every=0):
+    def report(self, text: str, kind: object = None, every: float = 0) -> bool:
         """Whether it wrote the line. It always writes a line without a kind."""
         with self.lock:
             now = self.clock()

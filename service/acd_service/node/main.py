@@ -24,6 +24,7 @@ import ssl
 import sys
 import threading
 import time
+from typing import NoReturn
 
 from acd_service import command
 from acd_service.node import upkeep
@@ -34,40 +35,40 @@ from acd_service.node.keeper import Keeper
 from acd_service.node.log import Log
 
 
-def name(word):
+def name(word: str) -> str:
     if not re.fullmatch(r"[A-Za-z0-9.-]{1,64}", word):
         raise argparse.ArgumentTypeError(f"a machine's name is 1 to 64 letters, digits, dots and hyphens, and not '{word}'")
     return word
 
 
-def names(words):
+def names(words: str) -> list[str]:
     found = [name(word) for word in words.split(",")]
     if len(set(found)) != len(found):
         raise argparse.ArgumentTypeError(f"a machine appears twice in '{words}'")
     return found
 
 
-def ends(words):
+def ends(words: str) -> list[str]:
     for end in words.split(","):
         if not re.fullmatch(r"[^:]+:[0-9]{1,5}", end):
             raise argparse.ArgumentTypeError(f"'{end}' isn't HOST:PORT")
     return words.split(",")
 
 
-def hours(word):
+def hours(word: str) -> float:
     if not float(word) > 0:
         raise argparse.ArgumentTypeError(f"'{word}' isn't a number of hours")
     return float(word)
 
 
-def is_loopback(address):
+def is_loopback(address: str) -> bool:
     try:
         return ipaddress.ip_address(address).is_loopback
     except ValueError:
         return address == "localhost"
 
 
-def parser():
+def parser() -> command.Parser:
     found = command.Parser("Feeds this machine's desk from a log in etcd that several machines share, and answers for it.", printed_usage=True, took_beginnings=True)
     for word, kind, metavar, about in (
             ("--name", name, "N", "this machine's name"), ("--etcd", ends, "HOST:PORT,..", "the members of etcd")):
@@ -89,7 +90,7 @@ def parser():
     return found
 
 
-def options_of(words):
+def options_of(words: list[str]) -> argparse.Namespace:
     found = parser()
     options = found.parse_args(words)
     if options.machines and options.name not in options.machines:
@@ -109,7 +110,7 @@ def options_of(words):
     return options
 
 
-def check_password(parser, file):
+def check_password(parser: argparse.ArgumentParser, file: str | None) -> None:
     """Refuses a file that isn't there, or that everybody may read."""
     try:
         with open(file or "") as words:
@@ -119,7 +120,7 @@ def check_password(parser, file):
         parser.error(f"--etcd-user needs the file of its password, --etcd-password FILE: {fault}")
 
 
-def etcd_context(options):
+def etcd_context(options: argparse.Namespace) -> ssl.SSLContext | None:
     """The context for TLS to etcd, or None without TLS."""
     if not options.etcd_ca:
         return None
@@ -129,7 +130,7 @@ def etcd_context(options):
     return context
 
 
-def front_context(options):
+def front_context(options: argparse.Namespace) -> ssl.SSLContext | None:
     """The context for TLS to clients, or None without TLS."""
     if not options.cert:
         return None
@@ -141,7 +142,7 @@ def front_context(options):
     return context
 
 
-def run(options, log, journal):
+def run(options: argparse.Namespace, log: Log, journal: Journal) -> None:
     os.makedirs(options.folder, exist_ok=True)
     if not options.machines:
         journal.report("without --machines the log is never shortened, and no digest is compared")
@@ -153,23 +154,23 @@ def run(options, log, journal):
     keeper = Keeper(options.name, options.machines, options.gone, log, bridge, journal)
     front = Front((options.bind, options.port), bridge, front_context(options))
     keeper.look()                                          # before the first answer: a folder that differed still does
-    for part in (bridge, keeper):
-        threading.Thread(target=part.run, daemon=True).start()
+    for work in (bridge.run, keeper.run):
+        threading.Thread(target=work, daemon=True).start()
     front.serve_forever()
 
 
-def do(options):
+def do(options: argparse.Namespace) -> int:
     """Its status, if it ends."""
     journal = Journal()
     sys.excepthook, threading.excepthook = end_process, lambda fault: end_process(*fault[:3])
     user = (options.etcd_user, options.etcd_password) if options.etcd_user else None
     log = Log(options.etcd, options.line.encode(), etcd_context(options), journal, user)
     if not options.upkeep:
-        return run(options, log, journal)
-    if options.upkeep == "now" or upkeep.has_turn(options.name, options.machines, time.time()):
+        run(options, log, journal)
+    elif options.upkeep == "now" or upkeep.has_turn(options.name, options.machines, time.time()):
         return upkeep.once(log, options.machines, journal)
     return 0
 
 
-def main(words):
+def main(words: list[str]) -> NoReturn:
     command.run(options_of, do, words)

@@ -72,7 +72,7 @@ RESTORE = [
     ("a request that was sent again isn't told", "    if found.verdict == audit.AGAIN:\n        say", "    if False:\n        say", "try_good"),
     ("half a copy is offered", 'copies.glob("[!.]*")', 'copies.glob("*")', "try_half"),
     ("half a copy is put back", ' or moment.startswith(".") or', " or", "try_half"),
-    ("a half copy", " and subprocess.run([\"cp\", \"--reflink=auto\", \"--preserve=timestamps\", \"--\", part, target]).returncode:", " and subprocess.run([\"cp\", \"--\", part, target]).returncode and False:", "try_room"),
+    ("a half copy", " and subprocess.run([*COPY, part, target]).returncode:", " and subprocess.run([\"cp\", \"--\", part, target]).returncode and False:", "try_room"),
     ("others may read it", "part.chmod(0o600)", "part.chmod(0o644)", "try_mask"),
     ("any name is a copy", '    if not moment or moment.startswith(".") or "/" in moment or not', "    if not", "try_names"),
     ("the note isn't written", "            write_note(self.file)\n", "            pass\n", "try_note"),

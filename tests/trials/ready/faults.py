@@ -43,9 +43,9 @@ STARTS = [
     (PAIR, "the file alone is looked at", '(now["file"] == then["file"]) != (now["log"] == then["log"])', 'now["file"] != then["file"]'),
     (PAIR, "the log alone is looked at", '(now["file"] == then["file"]) != (now["log"] == then["log"])', 'now["log"] != then["log"]'),
     (PAIR, "a log that holds nothing is another one", "if not holds_something(log_of(file)) or", "if"),
-    (PAIR, "a note without a log names one", "or NONE in (then", "or False and NONE in (then"),
+    (PAIR, "a note without a log names one", "or NONE in named", "or False and NONE in named"),
     (PAIR, "the inode's number is enough", "--format=%i %.9W", "--format=%i"),
-    (PUT, "anybody reads the note", "mode=0o600, owner", "mode=0o644, owner"),
+    (PUT, "anybody reads the note", "mode: int = 0o600, owner", "mode: int = 0o644, owner"),
     (PAIR, "the note has no log", '"log": identity(log_of(file))}', '"log": NONE}'),
 ]
 STOPS = [
@@ -93,8 +93,8 @@ NOTICES = [
     (NOTIFY, "an address without a name isn't known", 'if address.startswith("@")', "if False"),
 ]
 LOGS = [
-    (LOG, "a frame's checksum isn't looked at", 'return sums if sums == struct.unpack_from(">2I", data, 16) else None', "return struct.unpack_from(\">2I\", data, 16)"),
-    (LOG, "each frame's checksum begins anew", "            sums = self.sums_after(sums, data)\n", "            sums = self.sums_after(self.begin, data)\n"),
+    (LOG, "a frame's checksum isn't looked at", "return sums if sums == two_words(data, 16) else None", "return two_words(data, 16)"),
+    (LOG, "each frame's checksum begins anew", "            after = self.sums_after(sums, data)\n", "            after = self.sums_after(self.begin, data)\n"),
     (LOG, "the checksum passes over the number and the size", "summed(self.order, summed(self.order, sums, data[:8]), data[FRAME:])", "summed(self.order, sums, data[FRAME:])"),
     (LOG, "any salt will do", "or data[8:16] != self.salt or", "or"),
     (LOG, "half of the salt will do", "            if front[8:] == self.salt:", "            if front[8:12] == self.salt[:4]:"),

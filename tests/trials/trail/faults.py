@@ -24,7 +24,7 @@ FAULTS = [
     ("archives", "what is missing isn't told", "trail.py", "if source.first > last + 1 and", "if False and"),
     ("archives", "told though it isn't asked for", "trail.py", "since <= source.begins and", "True and"),
     ("archives", "stamps that are there are told as missing", "trail.py", "any(last < stamp < source.first for stamp in options.stamp)", "True"),
-    ("archives", "the status is 0", "trail.py", "return 0 if do(options, folder) else MISSING", "return 0 * do(options, folder)"),
+    ("archives", "the status is 0", "trail.py", "return 0 if do(options, Path(folder)) else MISSING", "return 0 * do(options, Path(folder))"),
     ("faults", "a bad reply is passed over", "trail.py", "    if not is_whole:\n", "    if False:\n"),
     ("faults", "a file that is open is read", "book.py", "fcntl.lockf(held, fcntl.LOCK_SH | fcntl.LOCK_NB, 512, LOCKED)", "pass"),
     ("faults", "a password goes anywhere", "trail.py", "    reach.check(found, options)\n", ""),

@@ -51,7 +51,7 @@ FAULTS = [
     ("leaving/carry.py", "an archive's name that is taken", "        refuse_taken(archive)\n", "", "chains.in_place"),
     ("chain.py", "an archive is copied each time", '    if copy.exists() and Path(f"{copy}{DIGEST}").exists():\n', "    if False:\n", "chains.copied"),
     ("chain.py", "digests aren't looked at", "            if digest(copy) != read_digest(copy):", "            if False:", "chains.copied"),
-    ("chain.py", "an empty log is taken for an archive", ' or copy.name.endswith("-wal") and not pair.holds_something(copy):', ":", "chains.copied"),
+    ("chain.py", "an empty log is taken for an archive", " or is_empty_log:", ":", "chains.copied"),
     ("audit.py", "the audit leaves a log beside an archive", "    if not log_existed and not holds_something(log_of(archive)):\n", "    if False:\n", "chains.copied"),
     ("chain.py", "another archive is copied", "    if digest(new) != note.digest:", "    if False:", "chains.copied"),
     ("chain.py", "limits aren't compared", "        if ours != theirs:", "        if False:", "chains.copied"),
