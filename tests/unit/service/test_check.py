@@ -3,7 +3,7 @@ import contextlib
 import datetime
 import io
 import json
-import subprocess
+import shutil
 import sys
 import tempfile
 import unittest
@@ -31,9 +31,9 @@ class Office(unittest.TestCase):
         held = tempfile.TemporaryDirectory()
         cls.addClassCleanup(held.cleanup)
         cls.keys = Path(held.name)
-        for name in ("desk", "other"):
-            subprocess.run(["openssl", "req", "-x509", "-newkey", "ec", "-pkeyopt", "ec_paramgen_curve:P-256", "-nodes", "-days", "90", "-subj", "/CN=desk",
-                            "-keyout", cls.keys / f"{name}.key", "-out", cls.keys / f"{name}.crt"], check=True, capture_output=True)
+        for name, folder in (("desk", "ours"), ("other", "theirs")):
+            for kind in ("key", "crt"):
+                shutil.copy(TOP / "tests/unit/certificates" / folder / f"desk.{kind}", cls.keys / f"{name}.{kind}")
 
     def setUp(self):
         held = tempfile.TemporaryDirectory()

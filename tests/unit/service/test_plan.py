@@ -3,6 +3,7 @@ import json
 import os
 import re
 import ssl
+import shutil
 import subprocess
 import unittest
 from unittest import mock
@@ -217,7 +218,7 @@ class Reached(ground.Case):
         (self.folder / "ca").write_text("x")
         done = said("plan", "--from", "https://127.0.0.1", "--ca", self.folder / "ca")
         self.assertEqual((done.status, done.faults.startswith(f"acdctl plan: {self.folder}/ca: ")), (1, True))
-        subprocess.run("openssl req -x509 -newkey rsa:2048 -nodes -days 2 -subj /CN=desk -keyout key -out ca".split(), cwd=self.folder, check=True, stderr=subprocess.DEVNULL)
+        shutil.copy(ground.TOP / "tests/unit/certificates/ours/ca.crt", self.folder / "ca")
         desk = reach.desk_at(reach.argparse.Namespace(address="https://127.0.0.1", ca=str(self.folder / "ca"), login=None))
         self.assertEqual((desk.context.verify_mode, len(desk.context.get_ca_certs())), (ssl.CERT_REQUIRED, 1))
 

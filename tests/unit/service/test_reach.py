@@ -2,9 +2,7 @@
 import argparse
 import socket
 import ssl
-import subprocess
 import sys
-import tempfile
 import threading
 import time
 import types
@@ -16,6 +14,7 @@ TOP = Path(__file__).resolve().parents[3]
 sys.path.insert(0, str(TOP / "service"))
 from acd_service import reach  # noqa: E402
 
+CERTIFICATES = TOP / "tests/unit/certificates/ours"
 HINT = "; only root and the group acd-local reach this port: be one of them, or use https://.. with --login"
 
 
@@ -57,10 +56,8 @@ class NoAnswer(unittest.TestCase):
 
     def test_what_no_further_attempt_mends(self):
         """A certificate that isn't trusted is told at once, not after the seconds that a desk may be away."""
-        with tempfile.TemporaryDirectory() as folder:
-            subprocess.run("openssl req -x509 -newkey rsa:2048 -nodes -days 2 -subj /CN=desk -keyout desk.key -out desk.crt".split(), cwd=folder, check=True, stderr=subprocess.DEVNULL)
-            context = ssl.SSLContext(ssl.PROTOCOL_TLS_SERVER)
-            context.load_cert_chain(Path(folder) / "desk.crt", Path(folder) / "desk.key")
+        context = ssl.SSLContext(ssl.PROTOCOL_TLS_SERVER)
+        context.load_cert_chain(CERTIFICATES / "self-signed.crt", CERTIFICATES / "desk.key")
         with socket.create_server(("127.0.0.1", 0)) as plain:
             def show():
                 try:
