@@ -74,6 +74,7 @@ def has_room_in_memory() -> bool:
 CONDITIONS: dict[str, Callable[[], bool]] = {
     "root": lambda: os.geteuid() == 0,
     "name spaces": lambda: does("unshare", "--mount", "--net", "--pid", "--fork", "--mount-proc", "mount", "-t", "tmpfs", "trial", "/mnt"),
+    "loop devices": lambda: Path("/dev/loop-control").exists(),
     "tracing": lambda: does("strace", "-f", "-qq", "-o", "/dev/null", "true"),
     "room in /dev/shm": has_room_in_memory,
     "packages in out/": lambda: any((TOP / "out").glob("acd_*.deb")),

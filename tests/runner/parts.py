@@ -41,6 +41,7 @@ MARKS = {
     "etcd": ("root", "etcd-client", "etcd-server", "curl", "openssl"),
     "root": ("root",),
     "alone": ("root", "name spaces", "tracing", "room in /dev/shm"),
+    "loop devices": ("loop devices",),
     "sip": ("root", "sip-tester", "kamailio", "kamailio-tls-modules", "nftables", "curl"),
 }
 # of the process itself; the greatest comes first, so that it ends with the others
@@ -66,6 +67,7 @@ BY_HAND = {
     "api": Part("try-api", (), ("try-api",), ("curl", "golang-go", "libjson-validator-perl", "node-typescript", "nodejs", "python3-jsonschema", "python3-yaml")),
     "board": Part("try-board", (), (), (*NGINX, "curl"), ("browser",)),
     "copies whole": Part("try-copies", (), ("copies/copying.py", "copies/again.py", "copies/halts.py", "copies/restores.py", "copies/kills.py"), ("strace", "util-linux"), ("root",)),
+    "cuts": Part("try-cuts", (), ("cuts/commands.py",), ("strace", "util-linux"), ("alone", "loop devices")),
     "edges": Part("try-edges", (), ("machine/users.py", "machine/units.py", "machine/second.py"), (), ("booted", "browser"), False),
     "exchange": Part("try-exchange", (), ("try-exchange",), NGINX, ("sip",)),
     "files": Part("try-files", (), ("try-files",)),
