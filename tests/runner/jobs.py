@@ -17,8 +17,9 @@ TOP = Path(__file__).resolve().parents[2]
 PYTHON = "/usr/bin/python3"
 LEASH = (PYTHON, str(TOP / "tests/trials/trial/leash.py"))
 AT_ONCE = 4
+LONGEST = 3600  # seconds that a job may take: only one that hangs takes an hour, on a slow machine too
 LOOK = 0.3      # seconds after which a signal is seen
-ENDING = 6      # seconds after which a job that was told to end is killed
+ENDING = 90     # seconds after which a job that was told to end, and ends what it started, is killed by itself
 
 
 class Stop:
@@ -57,7 +58,7 @@ class Job:
     count: Callable[[int, str, Path], Count]
     packages: tuple[str, ...] = ()
     cases: Callable[[], int] = lambda: 1    # how many are left out where it can't run
-    longest: int = 900
+    longest: int = LONGEST
     variables: dict[str, str] = field(default_factory=dict)
     is_shown: bool = False      # it prints as it goes on
 

@@ -19,8 +19,6 @@ UNIT_PACKAGES = {"client": (), "exchange": (), "gate": ("python3-bcrypt", "pytho
 HELPERS = ("python3-pytest", "python3-pytest-timeout")      # unittest takes their place where they are missing
 NGINX = ("nginx-light", "openssl", "python3-bcrypt", "python3-passlib")
 SPACES = ("iproute2", "openssl", "strace", "util-linux")
-
-
 LONGEST = 4 * 3600      # seconds that a trial may take
 
 
@@ -137,8 +135,8 @@ def has_pytest() -> bool:
 def unit_job(file: Path, program: Path, by_pytest: bool, needed: tuple[str, ...] = (), variables: dict[str, str] | None = None) -> Job:
     run = ("-m", "pytest", "-q", "-p", "no:cacheprovider", "--junit-xml={place}", str(file)) if by_pytest else (str(PLAIN), str(file), "{place}")
     name = str(file.relative_to(TOP)) if file.is_relative_to(TOP) else file.name
-    return Job(name, (PYTHON, *run), counts.of_pytest if by_pytest else counts.of_unittest, needed, functools.partial(cases_in, (str(file),)), 1800,
-               {"ACD": str(program), **(variables or {})})
+    return Job(name, (PYTHON, *run), counts.of_pytest if by_pytest else counts.of_unittest, needed, functools.partial(cases_in, (str(file),)),
+               variables={"ACD": str(program), **(variables or {})})
 
 
 def unit(program: Path, variables: dict[str, str] | None = None) -> list[Job]:

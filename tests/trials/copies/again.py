@@ -48,11 +48,9 @@ class Again(Part):
     def copied(self, what, office, *words):
         """The folder of a copy, which is kept as a good one, and the line of it."""
         status, said, faults = office.copy(*words)
-        found = re.search(rf"^{TOLD}(?:this is another file than that of the last copy, .*\n)?kept: (\S+)\n", said, re.MULTILINE)
+        found = re.search(rf"^{TOLD}(?:this is another file than that of the last copy, .*\n)?kept: (\S+/\d{{4}}-\d\d-\d\dT\d{{6}}Z)\n", said, re.MULTILINE)
         self.expect(f"{what}: {said}{faults}", (status, bool(found), faults), (0, True, ""))
-        made = Path(found[1]) if found else office.copies / "none"
-        self.expect(f"{what}: its name", bool(re.fullmatch(r"\d{4}-\d\d-\d\dT\d{6}Z", made.name)))
-        return made
+        return Path(found[1]) if found else office.copies / "none"
 
     def try_again(self):
         """It is kept under its moment, and of the copies that are wholly sound all stay, however old they are; of the others those of the last days."""

@@ -155,7 +155,7 @@ class Load:
 
     def until(self, count):
         """Waits for so many more answers."""
-        wanted, end = len(self.answered) + count, time.monotonic() + 20
+        wanted, end = len(self.answered) + count, time.monotonic() + 120
         while len(self.answered) < wanted and time.monotonic() < end:
             time.sleep(0.01)
         return len(self.answered) >= wanted

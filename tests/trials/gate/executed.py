@@ -33,7 +33,7 @@ class Executed(Place):
     def said(self, target, login):
         """Status and body, where the target goes to nginx as it stands."""
         word = f"Authorization: Basic {b64encode(f'{login}:secret'.encode()).decode()}\r\n" if login else ""
-        head, _, body = bytes_back(self.port, f"GET {target} HTTP/1.1\r\nHost: desk\r\n{word}Connection: close\r\n\r\n".encode("latin-1"), ANY, seconds=30).partition(b"\r\n\r\n")
+        head, _, body = bytes_back(self.port, f"GET {target} HTTP/1.1\r\nHost: desk\r\n{word}Connection: close\r\n\r\n".encode("latin-1"), ANY, seconds=120).partition(b"\r\n\r\n")
         return int(head.split()[1]), body
 
     def try_by_role(self):

@@ -6,6 +6,7 @@ import time
 import urllib.parse
 
 from place import Place, plan_of
+from trial.pace import slowness
 
 READS = ("/snapshot", "/history?after=0", "/events?after=0", "/agents/7", "/calls/1", "/devices/100", "/devices/201", "/queues/100", "/reports/queues", "/monitors/1/events")
 ALL = {"cleo", "sup", "lea", "planner", "pbx"}
@@ -106,14 +107,14 @@ class Page:
         return time.monotonic() - began
 
     def until(self, what, holds, seconds, more=""):
-        """Asks until it is told so; how long that took."""
+        """Asks until it is told so; how long that took. On a busy machine it asks for longer."""
         began = time.monotonic()
-        while time.monotonic() - began < seconds:
+        while time.monotonic() - began < seconds or time.monotonic() - began < seconds * slowness():
             if self.told and holds(self.told):
                 return time.monotonic() - began
             self.ask(more)
         self.place.see(what, False, self.told)
-        return seconds
+        return time.monotonic() - began
 
 
 class Mine(Readers):
@@ -135,14 +136,14 @@ class Mine(Readers):
 
     def try_held(self):
         took = self.page.ask()
-        self.see("without news it is held for 20 s", 19 < took < 22, took)
+        self.see("without news it is held for 20 s", 19 < took < 22 * slowness(), took)
         self.see("names come once", "names" not in self.page.told, self.page.told)
         took = self.page.ask("&hold=2")
-        self.see("a page may have it held for less", 1.5 < took < 3, took)
+        self.see("a page may have it held for less", 1.5 < took < 3 * slowness(), took)
         told = threading.Timer(1.0, lambda: self.service("try", "setAgentState", agent="7", requested="loggedOn", device="201", groups=["110", "100"]))
         told.start()
         took = self.page.until("the log-on is told", lambda mine: mine["agent"].get("device") == "201" and mine["agent"].get("groups") == ["100", "110"], 5)
-        self.see("soon", took < 2, took)
+        self.see("soon", took < 2 * slowness(), took)
         self.expect("its queues", [group["device"] for group in self.page.told["groups"]], ["100", "110"])
         self.page.until("where somebody is logged on is told", lambda _: {"agent": "7", "device": "201", "name": "Agent 7"} in self.page.known["agents"], 14)
 
@@ -204,20 +205,20 @@ class Mine(Readers):
         self.page.ask()
         self.desk.process.send_signal(signal.SIGSTOP)
         took = self.page.until("the desk hangs", lambda mine: mine["live"] is False, 12, "&hold=4")
-        self.see("told within 7 s", took < 7, took)
+        self.see("told within 7 s", took < 7 * slowness(), took)
         self.desk.process.send_signal(signal.SIGCONT)
         took = self.page.until("it goes on", lambda mine: mine["live"] is True, 12, "&hold=4")
-        self.see("told within 7 s again", took < 7, took)
+        self.see("told within 7 s again", took < 7 * slowness(), took)
 
     def try_away(self):
         self.page.ask()
         self.desk.stop()
         took = self.page.until("the desk is away", lambda mine: mine["live"] is False, 8)
-        self.see("told within 4 s", took < 4, took)
+        self.see("told within 4 s", took < 4 * slowness(), took)
         self.see("all else is as it was", self.page.told["agent"]["device"] == "201", self.page.told)
         self.start_desk()
         took = self.page.until("it is back", lambda mine: mine["live"] is True, 8)
-        self.see("told within 3 s", took < 3, took)
+        self.see("told within 3 s", took < 3 * slowness(), took)
         self.desk.stop()
         for name in ("desk.db", "desk.db-wal"):
             (self.folder / name).unlink(missing_ok=True)
@@ -227,4 +228,4 @@ class Mine(Readers):
         self.start_gate()
         began = time.monotonic()
         self.page.ask()
-        self.see("a gate that was started again answers at once", time.monotonic() - began < 3 and self.page.told["agent"] == {"agent": "7"}, self.page.told)
+        self.see("a gate that was started again answers at once", time.monotonic() - began < 3 * slowness() and self.page.told["agent"] == {"agent": "7"}, self.page.told)

@@ -10,6 +10,8 @@ from base64 import b64encode, urlsafe_b64encode
 
 from trial import ANY, TOP, Connection, Desk, Plan, Requests, Trial, compact, free_ports, lines, running, until
 
+# seconds for what comes at once, unless the machine is busy
+PATIENCE = 120
 # of "secret" by SHA-1, as `htpasswd -s` makes it
 SECRET = "{SHA}5en6G6MezRroT3XKqkdPOmY/BfQ="
 # what a page's own script sends, what a click on an address sends, and what another site's page sends
@@ -71,7 +73,7 @@ class Place(Trial):
     @classmethod
     def stop_gate(cls):
         cls.gate.terminate()
-        cls.gate.wait(10)
+        cls.gate.wait(PATIENCE)
 
     @classmethod
     def start_nginx(cls):
@@ -86,8 +88,8 @@ class Place(Trial):
         (here / "nginx.conf").write_text(f"daemon off; user root; pid {here}/pid; error_log {here}/errors; worker_processes {cls.WORKERS}; worker_rlimit_nofile 32768;\n"
                                          f"events {{ worker_connections 16384; }}\nhttp {{ include /etc/nginx/mime.types; access_log off; {temporary} {text} }}\n")
         cls.enterClassContext(running("nginx", "-c", here / "nginx.conf", stderr=subprocess.DEVNULL))
-        if not until(lambda: cls.ask("GET", "/who").status == 401, 20):
-            raise RuntimeError("nginx doesn't answer within 20 s")
+        if not until(lambda: cls.ask("GET", "/who").status == 401, PATIENCE):
+            raise RuntimeError(f"nginx doesn't answer within {PATIENCE} s")
 
     @classmethod
     def figure(cls, what, value, most):
@@ -100,7 +102,7 @@ class Place(Trial):
     @classmethod
     def direct(cls, method, path, body=None):
         """The desk itself, past the gate."""
-        with Connection(cls.desk_port, seconds=10) as connection:
+        with Connection(cls.desk_port, seconds=PATIENCE) as connection:
             return connection.ask(method, path, body)
 
     @classmethod
@@ -110,7 +112,7 @@ class Place(Trial):
             named["Authorization"] = f"Basic {b64encode(f'{login}:secret'.encode()).decode()}"
         if cookie is not None:
             named["Cookie"] = cookie if "=" in cookie else f"__Host-acd={cookie}"
-        with Connection(cls.port, ANY, 30) as connection:
+        with Connection(cls.port, ANY, PATIENCE) as connection:
             return connection.ask(method, path, "" if body is None and method == "POST" else body, named.items())
 
     @classmethod

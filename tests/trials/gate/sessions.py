@@ -14,11 +14,12 @@ class Sessions(Place):
     ROLES = {"sup": "supervisor", "ana": "agent agent=7", "eve": "office agent=7", "pbx": "exchange"}
 
     def try_log_in_and_out(self):
+        before = time.time()
         status, fields, told = self.log_in("ana", **PAGE)
         self.expect("log-in", (status, {name: value for name, value in json.loads(told).items() if name not in ("begun", "ends")}),
                     (200, {"agent": "7", "login": "ana", "reads": "own", "role": "agent"}))
         session = json.loads(told)
-        self.see("it ends in 12 hours, unless somebody clicks", session["ends"] - session["begun"] == 12 * 3600 and abs(session["begun"] - time.time()) < 5, session)
+        self.see("it ends in 12 hours, unless somebody clicks", session["ends"] - session["begun"] == 12 * 3600 and before - 1 <= session["begun"] <= time.time(), session)
         cookie = fields["set-cookie"].split("; ")
         self.expect("the cookie", sorted(cookie[1:]), ["HttpOnly", "Max-Age=86400", "Path=/", "SameSite=Strict", "Secure"])
         token = token_of(fields)
@@ -112,7 +113,7 @@ class Sessions(Place):
             self.ask("GET", "/snapshot", cookie=tokens["eleven hours unused"])
         self.expect("reading isn't use", self.ask("GET", "/session", cookie=tokens["eleven hours unused"]).value["ends"] - now, ends[1])
         used = self.ask("POST", "/session", cookie=tokens["eleven hours unused"]).value["ends"] - now
-        self.see("a click is", abs(used - 12 * hour) < 10, used)
+        self.see("a click is", 12 * hour - 1 <= used <= 12 * hour + time.time() - now, used)
         users = (self.folder / "users").read_text()
         (self.folder / "users").write_text(users.replace(f"sup:{line}", "sup:{SHA}QL0AFWMIX8NRZTKeof9cXsvbvu8="))
         self.expect("another password ends sessions", self.ask("GET", "/who", cookie=tokens["fresh"]).status, 401)

@@ -98,5 +98,5 @@ def until(holds, seconds=60, step=0.05):
         time.sleep(step)
 
 
-def until_listening(port, seconds=20):
+def until_listening(port, seconds=120):
     return until(lambda: not is_refused(port), seconds)

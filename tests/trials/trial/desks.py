@@ -12,6 +12,9 @@ from .connections import Connection, free_port, until_listening
 from .requests import compact
 
 
+LONGEST = 900   # seconds that a command may take: a busy machine gives little to one that is nice, and one that hangs is ended
+
+
 class Done(NamedTuple):
     """How a program ended. One that was ended since it went on for too long has no status."""
     status: int
@@ -19,12 +22,12 @@ class Done(NamedTuple):
     faults: str
 
 
-def ran(*words, given="", seconds=120, **how):
+def ran(*words, given="", seconds=LONGEST, **how):
     """Runs a program that ends by itself; what it is given and prints is UTF-8, and no line's end is changed."""
     try:
         done = subprocess.run([*map(str, words)], input=given if isinstance(given, bytes) else given.encode(), capture_output=True, timeout=seconds, **how)
     except subprocess.TimeoutExpired:
-        return Done(None, "", "it goes on")
+        return Done(None, "", f"it goes on for {seconds} s")
     return Done(done.returncode, done.stdout.decode(), done.stderr.decode())
 
 

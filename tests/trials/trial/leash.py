@@ -12,6 +12,7 @@ from pathlib import Path
 SET_DEATH_SIGNAL, SET_CHILD_SUBREAPER = 1, 36   # of prctl
 ENDING = (signal.SIGTERM, signal.SIGINT, signal.SIGHUP)
 GRACE = 3.0     # so many seconds a program has to clear up after a signal
+DYING = 60.0    # and so many what was killed has to be gone, which takes a busy machine some
 
 
 def control(option: int, value: int) -> None:
@@ -54,7 +55,7 @@ def ended(child: int) -> int | None:
 
 def kill_all() -> None:
     """Kills every descendant, and those that they start meanwhile."""
-    end = time.monotonic() + 2
+    end = time.monotonic() + DYING
     while left := descendants():
         for process in left:
             try:

@@ -142,12 +142,12 @@ class AgainstADesk(unittest.TestCase):
                 call = client.ask("arriveCall", caller="0301234", called="100").result["call"]
                 self.assertEqual(client.ask("clearConnection", call=call, device="0301234").status, 200)
                 calls.append(call)
-            deadline = time.monotonic() + 10
+            deadline = time.monotonic() + 120
             while len(seen) < 4 * len(calls) and time.monotonic() < deadline:
                 time.sleep(0.02)
         follower.stop()
         for thread in threads:
-            thread.join(10)
+            thread.join(120)
         self.assertEqual(calls, list(range(1, len(calls) + 1)))
         self.assertEqual([event["number"] for event in seen], list(range(1, 4 * len(calls) + 1)))
         kinds = ["queued", "connectionCleared", "connectionCleared", "callCleared"]
@@ -315,10 +315,10 @@ class AgainstADeskThatCannotAnswer(unittest.TestCase):
         return desk
 
     def client(self, *addresses: str, trusted: Path | None = None) -> Client:
-        """One that gives up after half a minute: it raises Stopped then."""
+        """One that gives up after five minutes: it raises Stopped then."""
         context = ssl.create_default_context(cafile=trusted) if trusted else None
-        client = Client(*addresses, requester="pbx", invoke=4, pause=0.01, wait=10, context=context)
-        timer = threading.Timer(30, client.stop)
+        client = Client(*addresses, requester="pbx", invoke=4, pause=0.01, wait=60, context=context)
+        timer = threading.Timer(300, client.stop)
         timer.start()
         self.addCleanup(timer.cancel)
         self.addCleanup(client.disconnect)

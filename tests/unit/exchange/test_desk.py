@@ -118,7 +118,7 @@ class Line(unittest.TestCase):
 
     def test_ticks(self) -> None:
         """None without the option; with it one a while, and no second one while one waits. A desk without snapshots is sent one each time."""
-        cases: list[tuple[int, list[str]]] = [(0, []), (1, ["/snapshot", "tick"])]
+        cases: list[tuple[int, list[str]]] = [(0, []), (60, ["/snapshot", "tick"])]
         for tick, wanted in cases:
             desk = Desk({})
             bench, line = self.line(desk, tick=tick)
@@ -203,24 +203,39 @@ class Line(unittest.TestCase):
                 raise Unanswered("planted")
 
             setattr(line, "start", once)
-            with mock.patch("acd_client.Client.exchange", answers), suppress(asyncio.TimeoutError):
-                asyncio.run(asyncio.wait_for(line.run(), 0.3))
+
+            async def run() -> None:
+                """Until it is said, and for as long as it might be said again."""
+                running, end = asyncio.create_task(line.run()), time.monotonic() + 120
+                while wanted and not said and time.monotonic() < end:
+                    await asyncio.sleep(0.01)
+                await asyncio.sleep(0.3)
+                running.cancel()
+
+            with mock.patch("acd_client.Client.exchange", answers), suppress(asyncio.CancelledError):
+                asyncio.run(run())
             self.assertEqual((len(said), [wanted in text for text in said]), (1, [True]) if wanted else (0, []), said)
 
     def test_a_desk_that_is_silent(self) -> None:
         """For 3 s it is slow, for 6 s the exchange is closed for new callers; it opens with the next answer."""
         bench, line = self.line(Desk({}))
-        closed = list[bool]()
+        closed, looks = list[bool](), list[float]()
+
+        def now() -> float:
+            looks.append(1000.0)
+            return looks[-1]
 
         async def run() -> None:
             task = asyncio.create_task(line.watch())
             for silent in (3, 6, 0):
-                line.heard = time.monotonic() - silent
-                await asyncio.sleep(0.4)
+                line.heard, before = 1000.0 - silent, len(looks)
+                while len(looks) < before + 2:
+                    await asyncio.sleep(0.05)
                 closed.append(bench.x.phones.desk_is_silent)
             task.cancel()
 
-        asyncio.run(run())
+        with mock.patch.object(desk, "time", mock.Mock(monotonic=now)):
+            asyncio.run(run())
         self.assertEqual(closed, [False, True, False])
 
 

@@ -31,6 +31,8 @@ Copy.2 follow
 blind office reads=none
 Jürgen supervisor
 """
+# seconds for what comes at once, unless the machine is busy
+PATIENCE = 120
 # of "secret" by SHA-1, as `htpasswd -s` makes it
 SECRET = "{SHA}5en6G6MezRroT3XKqkdPOmY/BfQ="
 USERS = "".join(f"{login}:{SECRET}\n" for login in ("pbx", "planner", "sup", "ana", "ana-b", "nobody", "Jürgen", "Copy.2"))
@@ -102,12 +104,12 @@ class GateTest(unittest.TestCase):
             server.server_close()
 
     def exchange(self, method, path, body, fields):
-        with Connection(self.gate.server_port, seconds=5) as connection:
+        with Connection(self.gate.server_port, seconds=PATIENCE) as connection:
             return connection.ask(method, path, body, fields.items())
 
     def begins(self, sent, answer):
         """What comes back for these bytes begins so."""
-        self.assertRegex(bytes_back(self.gate.server_port, sent, ends=True, seconds=5), answer)
+        self.assertRegex(bytes_back(self.gate.server_port, sent, ends=True, seconds=PATIENCE), answer)
 
     def ask(self, login, body, method="POST", path="/csta", **fields):
         named = {"X-Login": login.encode(), "X-Site": "https://desk:8443", **{name.replace("_", "-"): value for name, value in fields.items()}}

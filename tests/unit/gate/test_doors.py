@@ -15,7 +15,7 @@ from tempfile import TemporaryDirectory
 from unittest import mock
 
 import bcrypt
-from standing import FORBIDDEN, ROLES, SECRET, USERS, GateTest, gate
+from standing import FORBIDDEN, PATIENCE, ROLES, SECRET, USERS, GateTest, gate
 
 from acd_service.gate import passwords, sessions
 from trial import Connection, until
@@ -100,14 +100,15 @@ class SessionTest(unittest.TestCase):
 
     def test_a_disk_that_hangs_holds_no_request_up(self):
         token, writes, goes_on = self.sessions.begin("ana"), [], threading.Event()
-        with mock.patch.object(self.sessions, "write", side_effect=lambda text: writes.append(text) or goes_on.wait(10)):
+        self.addCleanup(goes_on.set)
+        with mock.patch.object(self.sessions, "write", side_effect=lambda text: writes.append(text) or goes_on.wait(10 * PATIENCE)):
             log_ins = [threading.Thread(target=self.sessions.begin, args=("ben",)) for _ in range(20)]
             for one in log_ins:
                 one.start()
             found = []
             asks = threading.Thread(target=lambda: found.append(self.sessions.of(token).login), daemon=True)
             asks.start()
-            asks.join(2)
+            asks.join(PATIENCE)
             self.assertEqual(found, ["ana"])
             goes_on.set()
             for one in log_ins:
@@ -326,7 +327,7 @@ class PasswordTest(GateTest):
 
     def waits(self, count):
         """Until so many passwords wait for a check."""
-        self.assertTrue(until(lambda: self.gate.passwords.turns.count == count, 10), self.gate.passwords.turns.count)
+        self.assertTrue(until(lambda: self.gate.passwords.turns.count == count, PATIENCE), self.gate.passwords.turns.count)
 
     def blocked(self):
         """A check that is under way ends where this is released; and the logins of those that were looked at, in their order."""
@@ -334,7 +335,7 @@ class PasswordTest(GateTest):
 
         def slow(hashes, attempt):
             looked.append(attempt.login)
-            ends.acquire(timeout=20)
+            ends.acquire(timeout=10 * PATIENCE)  # later than anybody waits for an answer
             return fits(hashes, attempt)
 
         self.gate.passwords.fits = slow
@@ -352,19 +353,19 @@ class PasswordTest(GateTest):
         self.gate.passwords.turns = passwords.Turns(1)
         ends, looked = self.blocked()
         self.meanwhile("first", address="192.0.2.100")
-        self.assertTrue(until(lambda: looked == [b"first"], 10))
+        self.assertTrue(until(lambda: looked == [b"first"], PATIENCE))
         many = [self.meanwhile(f"x{number}") for number in range(30)]
         self.waits(20)
-        self.assertTrue(until(lambda: sum(answers == [self.TOO_MANY] for answers in many) == 10, 10))
+        self.assertTrue(until(lambda: sum(answers == [self.TOO_MANY] for answers in many) == 10, PATIENCE))
         for address in range(2, 11):
             many += [self.meanwhile(f"y{number}", address=f"192.0.2.{address}") for number in range(20)]
             self.waits(20 * address)
         right = self.meanwhile("ana", "secret", "192.0.2.99")
-        self.assertTrue(until(lambda: sum(answers == [self.TOO_MANY] for answers in many) == 11, 10))
+        self.assertTrue(until(lambda: sum(answers == [self.TOO_MANY] for answers in many) == 11, PATIENCE))
         self.waits(200)
         self.assertEqual(right, [])
         ends.release(1000)
-        self.assertTrue(until(lambda: right == [self.RIGHT], 10), right)
+        self.assertTrue(until(lambda: right == [self.RIGHT], PATIENCE), right)
         # behind the first of each of the ten addresses
         self.assertEqual(looked.index(b"ana"), 11)
         self.waits(0)
@@ -373,19 +374,19 @@ class PasswordTest(GateTest):
         self.gate.passwords.turns = passwords.Turns(1)
         ends, looked = self.blocked()
         self.meanwhile("under-way", address="192.0.2.1")
-        self.assertTrue(until(lambda: looked == [b"under-way"], 10))
+        self.assertTrue(until(lambda: looked == [b"under-way"], PATIENCE))
         order = [("a1", "192.0.2.1"), ("a2", "192.0.2.1"), ("a3", "192.0.2.1"), ("b1", "192.0.2.2"), ("b2", "192.0.2.2"), ("c1", "2001:db8:0:1::1"), ("c2", "2001:db8:0:1:ffff::2"), ("d1", "2001:db8:0:2::1"),
                  ("b3", "::ffff:192.0.2.2")]
         for count, (login, address) in enumerate(order, 1):
             self.meanwhile(login, address=address)
             self.waits(count)
         ends.release(3)
-        self.assertTrue(until(lambda: len(looked) == 4, 10))
+        self.assertTrue(until(lambda: len(looked) == 4, PATIENCE))
         self.meanwhile("e1", address="192.0.2.5")
         self.waits(7)
         ends.release(1000)
         self.waits(0)
-        self.assertTrue(until(lambda: len(looked) == 11, 10))
+        self.assertTrue(until(lambda: len(looked) == 11, PATIENCE))
         # who comes anew waits for nobody but those who are under way
         self.assertEqual(looked[1:], [b"b1", b"c1", b"d1", b"e1", b"a1", b"b2", b"c2", b"a2", b"b3", b"a3"])
 
@@ -394,12 +395,12 @@ class PasswordTest(GateTest):
         self.assertEqual([self.auth(basic("x", "guess"), "192.0.2.2"), self.auth(basic("ana"), "192.0.2.1")], [self.WRONG, self.RIGHT])
         ends, looked = self.blocked()
         self.meanwhile("under-way", address="192.0.2.3")
-        self.assertTrue(until(lambda: looked == [b"under-way"], 10))
+        self.assertTrue(until(lambda: looked == [b"under-way"], PATIENCE))
         for count, (login, address) in enumerate([("b1", "192.0.2.2"), ("a1", "192.0.2.1")], 1):
             self.meanwhile(login, "secret", address)
             self.waits(count)
         ends.release(1000)
-        self.assertTrue(until(lambda: len(looked) == 3, 10))
+        self.assertTrue(until(lambda: len(looked) == 3, PATIENCE))
         self.assertEqual(looked[1:], [b"a1", b"b1"])
 
     def test_log_ins_have_a_rate(self):
@@ -424,19 +425,18 @@ class PasswordTest(GateTest):
         for number in range(20 + passwords.AT_ONCE):
             self.meanwhile(f"x{number}")
         self.waits(20)
-        began = time.monotonic()
         self.assertEqual(self.auth(basic("pbx")), (204, "pbx", None))
         self.assertEqual(self.auth(None, Cookie=token), self.RIGHT)
         self.assertEqual(self.auth(basic("sup")), self.TOO_MANY)
         self.assertEqual([self.log_in("sup", **fields)[0] for fields in ({}, {"Accept": "text/html"})], [429, 303])
         self.assertEqual(self.log_in("sup", Accept="text/html")[1]["location"], "/board/login/?wait")
-        self.assertLess(time.monotonic() - began, 5)
+        self.waits(20)  # still
 
     def test_who_has_left_is_not_judged(self):
         ends, looked = self.blocked()
         for number in range(passwords.AT_ONCE):
             self.meanwhile(f"first{number}", address=f"192.0.2.{number}")
-        self.assertTrue(until(lambda: len(looked) == passwords.AT_ONCE, 10))
+        self.assertTrue(until(lambda: len(looked) == passwords.AT_ONCE, PATIENCE))
         asked = [(b"GET /auth", b""), (b"POST /login", b"login=ana&password=guess")]
         for line, body in asked:
             with socket.create_connection(("127.0.0.1", self.gate.server_port)) as connection:
@@ -445,7 +445,7 @@ class PasswordTest(GateTest):
         stays = self.meanwhile("ana", "secret", "192.0.2.77")
         self.waits(3)
         ends.release(1000)
-        self.assertTrue(until(lambda: stays == [self.RIGHT], 10))
+        self.assertTrue(until(lambda: stays == [self.RIGHT], PATIENCE))
         self.assertEqual(looked[passwords.AT_ONCE:], [b"ana"])
         self.assertEqual(self.gate.passwords.wrong.keys() & {self.gate.passwords.digest(b"pair", b"192.0.2.77\0ana")}, set())
 
@@ -467,20 +467,20 @@ class PasswordTest(GateTest):
     def test_connections_are_bounded(self):
         with mock.patch.object(gate, "MOST_OPEN", 4), contextlib.ExitStack() as held:
             silent = [held.enter_context(socket.create_connection(("127.0.0.1", self.gate.server_port))) for _ in range(4)]
-            self.assertTrue(until(lambda: self.gate.open == 4, 10))
+            self.assertTrue(until(lambda: self.gate.open == 4, PATIENCE))
             fifth = self.meanwhile("ana", "secret")
             time.sleep(0.3)
             self.assertEqual((fifth, self.gate.open), ([], 4))
             silent[0].close()
-            self.assertTrue(until(lambda: fifth == [self.RIGHT], 10))
+            self.assertTrue(until(lambda: fifth == [self.RIGHT], PATIENCE))
 
     def test_none_stays_open_where_many_are(self):
         with mock.patch.object(gate, "MOST_OPEN", 4), contextlib.ExitStack() as held:
             for wanted in ("keep-alive", "close", "close"):
-                _, fields, _ = held.enter_context(Connection(self.gate.server_port, seconds=5)).ask("GET", "/auth", fields=[("X-Signed", "yes"), ("Authorization", basic("ana"))])
+                _, fields, _ = held.enter_context(Connection(self.gate.server_port, seconds=PATIENCE)).ask("GET", "/auth", fields=[("X-Signed", "yes"), ("Authorization", basic("ana"))])
                 self.assertEqual(fields["connection"], wanted)
                 held.enter_context(socket.create_connection(("127.0.0.1", self.gate.server_port)))
-                self.assertTrue(until(lambda: self.gate.open >= 1, 10))
+                self.assertTrue(until(lambda: self.gate.open >= 1, PATIENCE))
 
     def test_held_questions_are_bounded(self):
         with mock.patch.object(gate, "MOST_HELD", 2), contextlib.ExitStack() as held:
@@ -520,7 +520,7 @@ class PasswordTest(GateTest):
 
     def test_a_connection_stays(self):
         ports = set()
-        with Connection(self.gate.server_port, seconds=5) as one:
+        with Connection(self.gate.server_port, seconds=PATIENCE) as one:
             for authorization, wanted in ((basic("ana"), 204), (basic("ana", "x"), 401), (b"", 401), (basic("pbx"), 204)):
                 self.assertEqual(one.ask("GET", "/auth", fields=[("Authorization", authorization), ("X-Address", "192.0.2.1")]).status, wanted)
                 ports.add(one.connection.sock.getsockname())

@@ -16,6 +16,8 @@ from acd_service.node.log import Log  # noqa: E402
 from etcd import Member, Store  # noqa: E402
 
 LINE = b"desk/line"
+# seconds for what comes at once, unless the machine is busy
+PATIENCE = 120
 
 
 def token(number):
@@ -51,7 +53,7 @@ class Bench(unittest.TestCase):
         for number in range(first, first + many):
             self.store.put(LINE, b"%s 5 line %d" % (token(number), number))
 
-    def until(self, so, seconds=20):
+    def until(self, so, seconds=PATIENCE):
         end = time.monotonic() + seconds
         while not so():
             self.assertLess(time.monotonic(), end, self.said.getvalue())

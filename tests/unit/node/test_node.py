@@ -13,7 +13,7 @@ from pathlib import Path
 
 sys.path.insert(0, str(Path(__file__).resolve().parent))
 
-from bench import HERE, LINE, SERVICE, Bench, token  # noqa: E402
+from bench import HERE, LINE, PATIENCE, SERVICE, Bench, token  # noqa: E402
 
 NODE = str(SERVICE / "bin/acd-node")
 NEEDED = ["--name", "m1", "--folder", "/nonexistent/folder", "--etcd", "127.0.0.1:9"]
@@ -36,7 +36,7 @@ class Processes(Bench):
         return process
 
     def ask(self, body=None, target="/csta"):
-        connection = http.client.HTTPConnection("127.0.0.1", self.port, timeout=30)
+        connection = http.client.HTTPConnection("127.0.0.1", self.port, timeout=PATIENCE)
         try:
             connection.request("GET" if body is None else "POST", target, body)
             reply = connection.getresponse()
@@ -86,7 +86,7 @@ class Processes(Bench):
         process = self.start()
         self.answers(process)
         self.members[0].lines = lambda *_: iter([{"header": {}, "events": [{"kv": {"no": "revision"}}]}])
-        self.assertEqual(process.wait(30), 1)
+        self.assertEqual(process.wait(PATIENCE), 1)
         self.assertIn("KeyError", process.stderr.read())
 
     def test_and_a_thread_that_answers_with_the_process(self):
@@ -95,12 +95,12 @@ class Processes(Bench):
         self.answers(process)
         self.members[0].garbage = True
         self.ask(b"x")
-        self.assertEqual(process.wait(30), 1)
+        self.assertEqual(process.wait(PATIENCE), 1)
         self.assertIn("JSONDecodeError", process.stderr.read())
 
     def says(self, process, words):
         """Reads the lines of a node that goes on, until one has these words."""
-        found = threading.Timer(30, process.kill)
+        found = threading.Timer(PATIENCE, process.kill)
         found.start()
         self.assertIn(words, next((line for line in process.stderr if words in line), ""))
         found.cancel()
@@ -138,12 +138,12 @@ class Processes(Bench):
     def test_a_folder_that_takes_no_place(self):
         self.member()
         (self.folder / "m1/at").mkdir(parents=True)
-        self.assertEqual(self.start().wait(30), 1)
+        self.assertEqual(self.start().wait(PATIENCE), 1)
 
 
 class CommandLines(unittest.TestCase):
     def refused(self, *words):
-        done = subprocess.run([NODE, *words], stderr=subprocess.PIPE, stdout=subprocess.PIPE, text=True, timeout=20)
+        done = subprocess.run([NODE, *words], stderr=subprocess.PIPE, stdout=subprocess.PIPE, text=True, timeout=PATIENCE)
         self.assertEqual(done.returncode, 2, (words, done.stderr))
         return done.stderr
 
@@ -165,14 +165,14 @@ class CommandLines(unittest.TestCase):
             os.chmod(file.name, 0o644)
             self.assertIn(f"chmod o= {file.name}", self.refused(*words))
             os.chmod(file.name, 0o640)
-            self.assertEqual(subprocess.run([NODE, *words], stderr=subprocess.PIPE, timeout=20).returncode, 1)   # no etcd is there
+            self.assertEqual(subprocess.run([NODE, *words], stderr=subprocess.PIPE, timeout=PATIENCE).returncode, 1)   # no etcd is there
 
     def test_no_user(self):
-        done = subprocess.run([NODE, *NEEDED, "--upkeep", "now", "--machines", "m1", "--etcd-user", "", "--etcd-password", "/nonexistent"], stderr=subprocess.PIPE, timeout=20)
+        done = subprocess.run([NODE, *NEEDED, "--upkeep", "now", "--machines", "m1", "--etcd-user", "", "--etcd-password", "/nonexistent"], stderr=subprocess.PIPE, timeout=PATIENCE)
         self.assertEqual(done.returncode, 1)
 
     def test_upkeep_without_etcd(self):
-        done = subprocess.run([NODE, "--name", "m1", "--machines", "m1", "--etcd", "127.0.0.1:9", "--upkeep", "now"], stderr=subprocess.PIPE, text=True, timeout=20)
+        done = subprocess.run([NODE, "--name", "m1", "--machines", "m1", "--etcd", "127.0.0.1:9", "--upkeep", "now"], stderr=subprocess.PIPE, text=True, timeout=PATIENCE)
         self.assertEqual((done.returncode, done.stderr.count("\n")), (1, 1))
         self.assertIn("etcd isn't looked after", done.stderr)
 

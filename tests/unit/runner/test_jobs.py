@@ -16,6 +16,7 @@ from runner import __main__ as command
 from runner import counts, packages, parts
 from runner.jobs import LEASH, PYTHON, TOP, Job, Jobs
 from trial import leash
+from trial.pace import slowness
 
 # a program whose grandchild leaves its session and its parent, and notes who it is
 AWAY = """import os, pathlib, sys, time
@@ -61,7 +62,7 @@ class Ends(unittest.TestCase):
         return PYTHON, "-c", AWAY, str(self.note), str(seconds)
 
     def away(self) -> int:
-        end = time.monotonic() + 60
+        end = time.monotonic() + 600
         while not self.note.exists() or not self.note.read_text():
             self.assertLess(time.monotonic(), end)
             time.sleep(0.01)
@@ -82,9 +83,10 @@ class Ends(unittest.TestCase):
                 process = subprocess.Popen([*LEASH, *self.words(600)])
                 away, began = self.away(), time.monotonic()
                 process.send_signal(number)
-                process.wait(60)
+                process.wait(600)
+                took = time.monotonic() - began
                 self.assertFalse(is_alive(away))
-                self.assertLess(time.monotonic() - began, 5)
+                self.assertLess(took, 5 * slowness())
 
     def test_one_that_ignores_it(self) -> None:
         ready = self.folder / "ready"
@@ -92,7 +94,7 @@ class Ends(unittest.TestCase):
         while not ready.exists():
             time.sleep(0.01)
         process.terminate()
-        self.assertEqual(process.wait(60), 128 + signal.SIGTERM)
+        self.assertEqual(process.wait(600), 128 + signal.SIGTERM)
 
     def test_a_job_that_takes_too_long(self) -> None:
         ended = Jobs.ended
@@ -123,15 +125,16 @@ class Command(unittest.TestCase):
         """./test ends within five seconds, with what it has started."""
         for number in (signal.SIGTERM, signal.SIGINT):
             process = subprocess.Popen([TOP / "test", "--only", "python", "trial trail pages"], stdout=subprocess.DEVNULL, stderr=subprocess.PIPE, start_new_session=True, text=True)
-            end = time.monotonic() + 60
+            end = time.monotonic() + 600
             while not (started := descendants(process.pid)) or not any("try-trail" in words for words in started.values()):
                 self.assertLess(time.monotonic(), end)
                 time.sleep(0.05)
             began = time.monotonic()
             process.send_signal(number)
-            faults = process.communicate(timeout=60)[1]
+            faults = process.communicate(timeout=600)[1]
+            took = time.monotonic() - began
             with self.subTest(number=number):
-                self.assertLess(time.monotonic() - began, 5)
+                self.assertLess(took, 5 * slowness())
                 self.assertEqual((process.returncode, faults), (128 + number, ""))
                 self.assertEqual([words for each, words in started.items() if is_alive(each)], [])
 

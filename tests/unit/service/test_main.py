@@ -22,7 +22,7 @@ OLD = {"acd-calls", "acd-carry", "acd-copy", "acd-export", "acd-follow", "acd-fo
 
 def said(*words, **how):
     """The status, and what is printed on the two streams."""
-    done = subprocess.run([*map(str, words)], stdin=subprocess.DEVNULL, capture_output=True, text=True, timeout=60, **how)
+    done = subprocess.run([*map(str, words)], stdin=subprocess.DEVNULL, capture_output=True, text=True, timeout=600, **how)
     return done.returncode, done.stdout, done.stderr
 
 
