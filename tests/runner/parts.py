@@ -5,6 +5,7 @@ import ast
 import functools
 import importlib.util
 import subprocess
+from collections.abc import Iterator
 from pathlib import Path
 from typing import NamedTuple
 
@@ -30,6 +31,10 @@ class Part(NamedTuple):
     packages: tuple[str, ...] = ()
     marks: tuple[str, ...] = ()
     takes_program: bool = True
+
+    @property
+    def places(self) -> tuple[str, ...]:
+        return tuple(f"tests/trials/{place}" for place in self.cases)
 
 
 # what a trial needs of its machine, by the mark that it has
@@ -79,7 +84,7 @@ BY_HAND = {
     "ready": Part("try-ready", (), tuple(f"ready/{name}.py" for name in ("cuts", "logs", "notices", "settings", "starts", "stops")), (), ("root",)),
     "records": Part("try-records", (), ("try-records", "records/calls.py", "records/changes.py"), ("curl", "nodejs", "openssl")),
     "release": Part("try-release", (), ("try-release",), ("binutils",), (), False),
-    "standby": Part("try-standby", (), ("standby/costs.py", "standby/takeovers.py"), (*NGINX, *SPACES, "curl", "gcc"), ("root",)),
+    "standby": Part("try-standby", (), ("try-standby",), (*NGINX, *SPACES, "curl", "gcc"), ("root",)),
     "stops": Part("try-stops", (), ("try-stops",)),
     "ticks": Part("try-ticks", (), ("try-ticks",)),
     "trail day": Part("try-trail", ("--only", "day"), ("try-trail:Day",)),
@@ -112,16 +117,16 @@ def types() -> list[Job]:
     return [Job("types", (PYTHON, "-m", "mypy"), counts.of_status, ("mypy",))]
 
 
-def number_of_cases(text: str, of: str | None = None) -> int:
-    """How many cases a file has, or a class of it."""
-    tree = ast.parse(text)
-    places: list[ast.AST] = [tree] if of is None else [node for node in ast.walk(tree) if isinstance(node, ast.ClassDef) and node.name == of]
-    return sum(isinstance(node, ast.FunctionDef) and node.name.startswith(("test_", "try_")) for place in places for node in ast.walk(place))
+def case_names(place: str) -> Iterator[str]:
+    """The cases of a file, or with FILE:CLASS those of a class of it, as `Class.method`."""
+    file, _, of = place.partition(":")
+    for found in ast.walk(ast.parse((TOP / file).read_text())):
+        if isinstance(found, ast.ClassDef) and of in ("", found.name):
+            yield from (f"{found.name}.{each.name}" for each in found.body if isinstance(each, ast.FunctionDef) and each.name.startswith(("test_", "try_")))
 
 
 def cases_in(places: tuple[str, ...]) -> int:
-    found = [place.partition(":") for place in places]
-    return sum(number_of_cases((TOP / file).read_text(), of or None) for file, _, of in found)
+    return sum(1 for place in places for _ in case_names(place))
 
 
 def unit_files() -> list[Path]:
@@ -154,5 +159,4 @@ def trials(program: Path, of: dict[str, Part]) -> list[Job]:
 def trial(name: str, part: Part, program: Path, variables: dict[str, str]) -> Job:
     words = (PYTHON, f"tests/trials/{part.script}", *([str(program)] if part.takes_program else []), *part.words)
     needed = {package for mark in part.marks for package in MARKS[mark]} | set(part.packages)
-    places = tuple(f"tests/trials/{place}" for place in part.cases)
-    return Job(f"trial {name}", words, counts.of_trial, tuple(sorted(needed)), functools.partial(cases_in, places), LONGEST, variables)
+    return Job(f"trial {name}", words, counts.of_trial, tuple(sorted(needed)), functools.partial(cases_in, part.places), LONGEST, variables)
