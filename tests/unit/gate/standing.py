@@ -8,14 +8,13 @@ import threading
 import unittest
 from http.server import BaseHTTPRequestHandler, ThreadingHTTPServer
 from pathlib import Path
+from unittest import mock
 
 TOP = Path(__file__).resolve().parents[3]
 sys.path += [str(TOP / "service"), str(TOP / "tests/trials")]
 from acd_service import command  # noqa: E402
 from acd_service.leaving import server as gate  # noqa: E402
 from trial import Connection, bytes_back  # noqa: E402
-
-command.call_it("acd-gate", by_old_name=True)
 
 ROLES = """# who may what
 pbx exchange
@@ -86,8 +85,16 @@ class Desk(ThreadingHTTPServer):
     request_queue_size = 128
 
 
-class GateTest(unittest.TestCase):
+class Named(unittest.TestCase):
+    """What is told bears the gate's name, whichever command ran in this process before."""
+
     def setUp(self):
+        self.enterContext(mock.patch.multiple(command, name="acd-gate", is_old=True))
+
+
+class GateTest(Named):
+    def setUp(self):
+        super().setUp()
         folder = Path(self.enterContext(tempfile.TemporaryDirectory()))
         self.roles, self.users = folder / "roles", folder / "users"
         self.roles.write_text(ROLES)

@@ -15,7 +15,7 @@ from tempfile import TemporaryDirectory
 from unittest import mock
 
 import bcrypt
-from standing import FORBIDDEN, PATIENCE, ROLES, SECRET, USERS, GateTest, gate
+from standing import FORBIDDEN, PATIENCE, ROLES, SECRET, USERS, GateTest, Named, gate
 
 from acd_service.gate import passwords, sessions
 from trial import Connection, until
@@ -28,8 +28,9 @@ BY_HTPASSWD = {"-B": "$2y$05$zrfGueII0CbeBmJ0MjVHueZ7T2rD/ymt1KVyY0IQdhmT8CnuI.C
 OF_72 = "$2y$05$hQ6G4QCK3xt2fTB6R8GhEOvV6ZBPg.oE.U5MKy.nY0VS3BmurhGSG"
 
 
-class SessionTest(unittest.TestCase):
+class SessionTest(Named):
     def setUp(self):
+        super().setUp()
         self.file, self.hashes, self.now = Path(self.enterContext(TemporaryDirectory())) / "sessions", {"ana": "hash", "ben": "other"}, 1e9
         self.sessions = self.opened()
 
