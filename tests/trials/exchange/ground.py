@@ -20,7 +20,7 @@ HERE = Path(__file__).resolve().parent
 TOP = HERE.parents[2]
 EXCHANGE = TOP / "exchange"
 sys.path.insert(0, str(EXCHANGE))
-sys.path += [str(TOP / "tests/trials"), str(TOP / "tests/trials/gate")]
+sys.path += [str(TOP / "client"), str(TOP / "tests/trials"), str(TOP / "tests/trials/gate")]
 
 from acd_client import Answer, Client, Event  # noqa: E402
 from place import SECRET, Place  # noqa: E402

@@ -12,7 +12,7 @@ from cases import changed
 from ground import TOP, Ground, copied, firsts, held, joined, log_of
 from kills import PLAN, calls
 
-sys.path.append(str(TOP / "service"))
+sys.path += [str(TOP / "service"), str(TOP / "client")]
 import acd_client  # noqa: E402
 from acd_service.leaving import days, following  # noqa: E402
 from trial import Desk  # noqa: E402
