@@ -16,7 +16,7 @@ from typing import Any
 
 sys.path.insert(0, str(Path(__file__).resolve().parents[2] / "unit/exchange"))
 
-from bench import CALLER, OTHER, PHONE, Bench, body  # noqa: E402
+from exchange_bench import CALLER, OTHER, PHONE, Bench, body  # noqa: E402
 from acd_client import AnotherHistory, Answer, Client, Unanswered  # noqa: E402
 from bridge.store import Row  # noqa: E402
 from torture import TORTURES  # noqa: E402
