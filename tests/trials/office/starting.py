@@ -101,7 +101,7 @@ class Starting(Office):
         mark = self.mark()
         self.done("systemctl", "restart", "acd")
         self.serves("with a setting of an earlier version")
-        self.expect("which is told", [("ACD_CONNECTIONS" in line, "passed over" in line) for line in self.said_since(mark)], [(True, True)])
+        self.expect("which is told", [("ACD_CONNECTIONS" in line, "is ignored: remove it" in line) for line in self.said_since(mark)], [(True, True)])
         settings.write_text(before)
         self.restarts("with the settings as they were")
 
