@@ -1,6 +1,7 @@
 """Keeps this machine's other users from the ports of the desk; the script beside it does."""
 import os
 import signal
+import time
 from pathlib import Path
 from typing import NoReturn
 
@@ -18,9 +19,15 @@ def parser() -> command.Parser:
     return found
 
 
+def started() -> int:
+    """The second in which this process was started: systemd read the unit's settings just before."""
+    ticks = int(Path("/proc/self/stat").read_text().rpartition(")")[2].split()[19])
+    return int(time.time() - time.clock_gettime(time.CLOCK_BOOTTIME) + ticks / os.sysconf("SC_CLK_TCK"))
+
+
 def main(words: list[str]) -> NoReturn:
     if words in (["-h"], ["--help"], ["--version"]):
         parser().parse_args(words)
     # Python ignores it, and a script that inherits that couldn't change it
     signal.signal(signal.SIGPIPE, signal.SIG_DFL)
-    os.execv("/bin/sh", ["sh", str(SCRIPT), command.name, *words])
+    os.execv("/bin/sh", ["sh", str(SCRIPT), command.name, str(started()), *words])

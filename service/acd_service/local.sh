@@ -5,9 +5,10 @@
 # The kernel sees of a process its user and its first group alone, so the group's members are looked up as the table is loaded.
 set -u
 
-# the name by which it was called
+# the name by which it was called, and the second in which its process was started
 name=$1
-shift
+started=$2
+shift 2
 
 users='root acd acd-gate acd-exchange www-data etcd'
 group=acd-local
@@ -67,9 +68,15 @@ written() {
     stat -c '%i %s %z' "$@" 2>/dev/null
 }
 
+# whether the settings were written since this process was started, so that its ports may be older; a moment that is yet to come says nothing
+is_late() {
+    at=$(stat -c %Z "$settings" 2>/dev/null) && [ "$at" -ge "$started" ] && [ "$at" -le "$(date +%s)" ]
+}
+
 # the unit is started again where the settings change, since they give the ports
 watch() {
     began=$(written "$settings")
+    ! is_late || began=
     seen=
     while [ "$(written "$settings")" = "$began" ]; do
         # shellcheck disable=SC2086

@@ -150,6 +150,8 @@ class Users(Edges):
         """The ports are those of acd.env, also behind a change of it; one that is none leaves the table as it was, and the unit has failed."""
         settings = self.container.inside("/etc/acd/acd.env")
         before = settings.read_text()
+        # written as the unit starts, with the ports of before
+        self.done("systemctl", "restart", "acd-local")
         settings.write_text(before.replace("ACD_PORT=8080", "ACD_PORT=8090"))
         self.expect("the new port is kept", self.eventually(lambda: "8090" in self.done(*TABLE), True), True)
         self.done("systemctl", "restart", "acd")
