@@ -1,4 +1,6 @@
-"""A Debian that is booted with a systemd of its own, by systemd-nspawn, in a network of its own that has the loopback interface alone."""
+"""A Debian that is booted with a systemd of its own, by systemd-nspawn, in a network of its own that has the loopback interface alone.
+
+One at a time: all of a machine have the same control groups, so that of two at once each ends processes of the other's units."""
 import os
 import signal
 import subprocess
