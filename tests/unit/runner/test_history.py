@@ -61,6 +61,9 @@ class History(unittest.TestCase):
         self.git("checkout", "-q", "change")
         self.git("merge", "-q", "-s", "ours", "-m", "Keep it beside", "other")
         self.assertEqual(self.told(), (1, ["Keep it beside: a merge that changes nothing"]))
+        self.git("reset", "-q", "--hard", "HEAD~1")
+        self.git("merge", "-q", "-s", "ours", "-m", "Keep the unfinished proof of it beside main", "other")
+        self.assertEqual(self.told(), (0, []))
 
     def test_what_is_on_main(self) -> None:
         self.commit("Added a case")
