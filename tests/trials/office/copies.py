@@ -185,7 +185,7 @@ class Copies(Planned):
             self.expect(f"{what}: the copy fails", self.ran("systemctl", "start", "acd-copy")[0] != 0)
             self.expect_in(f"{what}: and is named", self.ran("systemctl", "--failed", "--no-legend", "--plain")[1], "acd-copy.service")
             lines = self.said_since(mark, "copy")
-            made = re.search(rf"this copy is of what the desk has open; it lies in {COPIES}/(moved-{MOMENT}),", "\n".join(lines))
+            made = re.search(rf"this copy is of what the desk has open; it is in {COPIES}/(moved-{MOMENT}),", "\n".join(lines))
             self.expect(f"{what}: what it tells: {lines}", (f"acdctl copy: {line % process}" in lines, bool(made)), (True, True))
             self.expect(f"{what}: each answered request is in the copy, once", self.kept(what, f"{COPIES}/{made[1]}")[:len(self.answered)], self.answered)
             if what == "moved":
@@ -215,7 +215,7 @@ class Copies(Planned):
         for _ in range(2):
             self.expect("the copy fails", self.ran("systemctl", "start", "acd-copy")[0] != 0)
         lines = [line for line in self.lines() if "requests are missing" in line]
-        self.expect("what it tells", (len(lines), lines[-1].startswith(f"acdctl copy: the copy has {now} executed requests, and the last one of the same file had {before}: requests are missing; it lies in {COPIES}/fewer-")), (2, True))
+        self.expect("what it tells", (len(lines), lines[-1].startswith(f"acdctl copy: the copy has {now} executed requests, and the last one of the same file had {before}: requests are missing; it is in {COPIES}/fewer-")), (2, True))
         self.expect("nothing is cleared away", self.good(), good)
         self.put_back(good[-1])
         self.serves("of the last good copy")

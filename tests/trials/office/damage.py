@@ -123,7 +123,7 @@ class Damage(Planned):
         held, mark = self.held(), self.mark()
         self.expect("the copy fails", self.ran("systemctl", "start", "acd-copy")[0], 1)
         lines, more = self.said_since(mark, "copy"), sorted(set(self.names(copies)) - set(good))
-        self.expect(f"it tells why: {lines}", [(line.startswith("acdctl copy: the copy's log ends early, answered requests are missing: "), f"it lies in {copies}/{name}," in line) for line, name in zip(lines, more)], [(True, True)])
+        self.expect(f"it tells why: {lines}", [(line.startswith("acdctl copy: the copy's log ends early, answered requests are missing: "), f"it is in {copies}/{name}," in line) for line, name in zip(lines, more)], [(True, True)])
         self.expect("its name", bool(re.fullmatch(r"\d{4}-\d\d-\d\dT\d{6}Z\.early", more[0])))
         self.expect("its log is as it was copied", self.held(f"{copies}/{more[0]}/desk.db-wal"), held[1:])
         self.expect("the desk's own files too", self.held() == held)
