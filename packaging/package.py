@@ -271,7 +271,6 @@ def lay_out_service(root, put, version):
         fail(f"CHANGELOG.md begins with version {version}, and service/acd_service/__init__.py has another one")
     put("usr/share/acd/acdctl", (SERVICE / "acdctl").read_bytes(), 0o755)
     put_modules(put, "acd", {file.relative_to(SERVICE): file for file in sorted((SERVICE / "acd_service").rglob("*.py"))} | {name: CLIENT / name for name in CLIENT_MODULES})
-    put("usr/share/acd/acd_service/local.sh", (SERVICE / "acd_service/local.sh").read_bytes(), 0o755)
     for folder, names in {"usr/bin": ("acdctl", *OLD_NAMES_OF_USERS), "usr/sbin": OLD_NAMES_OF_ROOT}.items():
         (root / folder).mkdir(parents=True, exist_ok=True)
         for name in names:

@@ -25,7 +25,7 @@ OLD_WORDS = ((r"\bacdctl restore --undo", "acd-copy --undo"), (r"\bacdctl restor
              (" is on another disk than ", " lies on another disk than "), ("this file is elsewhere$", "this file lies elsewhere"), ("and is ignored: remove", "and is passed over: remove"),
              ("a machine appears twice in ", "a machine stands twice in "), ("the log begins after this ", "the log begins behind this "),
              (r"^place (\S+) of the log has no entry; ignored \(", r"what stands at place \1 of the log is no entry, and is passed over ("),
-             ("where this folder continues$", "where this folder goes on"))
+             ("where this folder continues$", "where this folder goes on"), ("^argument --ports: expected one argument$", "--ports needs a value"))
 
 # those of which a fault of the system has Python's form
 PYTHONS_FORM = ("acd-calls", "acd-export", "acd-forget", "acd-plan", "acd-trail")

@@ -17,13 +17,12 @@ from urllib.parse import quote, urlsplit
 from acd_client import Answer, Client, Request, Unanswered
 
 from acd_service.command import Fault
+from acd_service.local import GROUP, USERS
 
 # seconds: of one attempt, between two, and of all attempts where nothing was asked of the desk yet, and where something
 # was
 WAIT, PAUSE, SOON, PATIENCE = 10, 1, 5, 60
 THIS_MACHINE = ("127.0.0.1", "::1", "localhost")
-# who reaches the desk's own port, as acd-local has it: a group, and users besides root
-GROUP, USERS = "acd-local", ("root", "acd", "acd-gate", "acd-exchange", "www-data", "etcd")
 
 Found = TypeVar("Found")
 

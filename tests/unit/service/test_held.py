@@ -2,8 +2,6 @@
 import os
 import shutil
 import subprocess
-import sys
-import time
 import unittest
 from pathlib import Path
 from unittest import mock
@@ -142,32 +140,6 @@ class Units(ground.Case):
         with mock.patch.object(subprocess, "run", side_effect=FileNotFoundError):
             self.assertEqual(self.of("0::/system.slice/other.service\n")[0], None)
         self.assertIsNone(held.unit(999_999_999))
-
-
-class Local(ground.Case):
-    def test_what_it_becomes(self):
-        with mock.patch.object(os, "execv") as became:
-            ground.said("local", "--list", "a b")
-        became.assert_called_once_with("/bin/sh", ["sh", str(ground.SERVICE / "acd_service/local.sh"), "acdctl local", mock.ANY, "--list", "a b"])
-
-    def test_it_becomes_the_script(self):
-        """With its words, under its own name, and with the signal of a broken pipe as a script expects it."""
-        script = self.folder / "local.sh"
-        script.write_text('echo "$@"; grep SigIgn /proc/$$/status')
-        code = f"from acd_service import local, main; from pathlib import Path; local.SCRIPT = Path({str(script)!r}); main.main(['acdctl', 'local', 'a b', '--c'])"
-        done = subprocess.run([sys.executable, "-B", "-c", code], cwd=ground.SERVICE, capture_output=True, text=True)
-        self.assertEqual((done.returncode, done.stderr), (0, ""))
-        first, second = done.stdout.splitlines()
-        self.assertRegex(first, r"^acdctl local \d+ a b --c$")
-        self.assertEqual(int(second.split()[1], 16) >> 12 & 1, 0)
-
-    def test_when_it_was_started(self):
-        """Also where it took a while until it looks."""
-        before = int(time.time())
-        code = "import time; from acd_service import local; time.sleep(2.5); print(local.started())"
-        with subprocess.Popen([sys.executable, "-B", "-c", code], cwd=ground.SERVICE, stdout=subprocess.PIPE, text=True) as process:
-            after = int(time.time())
-            self.assertIn(int(process.communicate()[0]), range(before - 1, after + 1))
 
 
 if __name__ == "__main__":
