@@ -1,4 +1,5 @@
-"""The bodies that the desk takes and gives, as types: made of docs/openapi.yaml by tests/trials/api/python_types.py, and not by hand."""
+"""The bodies that the desk takes and gives, as types: made of docs/openapi.yaml by
+tests/trials/api/python_types.py, and not by hand."""
 from __future__ import annotations
 
 from typing import Literal, NotRequired, TypedDict, Union
@@ -19,8 +20,9 @@ Figure = int
 ServedGroups = list[DeviceId]
 AgentState = Literal['null', 'notReady', 'ready', 'busy', 'workingAfterCall']
 PendingState = Literal['ready', 'notReady', 'workingAfterCall', 'loggedOff']
-FaultyMember = Literal['head', 'host', 'contentLength', 'after', 'json', 'requester', 'invoke', 'service', 'device', 'called', 'caller', 'to',
-    'group', 'groups', 'agent', 'name', 'requested', 'call', 'monitor', 'ring', 'wrap', 'priority']
+FaultyMember = Literal['head', 'host', 'contentLength', 'after', 'json', 'requester', 'invoke', 'service', 'device',
+                       'called', 'caller', 'to', 'group', 'groups', 'agent', 'name', 'requested', 'call', 'monitor',
+                       'ring', 'wrap', 'priority']
 ConnectionState = Literal['initiated', 'alerting', 'connected', 'hold', 'queued', 'fail']
 QueueReport = str
 
@@ -633,12 +635,15 @@ class AgentWorkingAfterCall(AgentReport):
 
 LogOn = Union[LogOnInGroup, LogOnInGroups]
 SetAgentState = Union[LogOn, ChangeState]
-ServiceRequest = Union[AddGroup, AddStation, AddAgent, ArriveCall, MakeCall, PhoneOffHook, AnswerCall, HoldCall, RetrieveCall, ClearConnection,
-    DeflectCall, SingleStepTransfer, SetAgentState, MonitorStart, MonitorStop, Tick, SetGroupPriority, RejectCall, ChangeGroup, ChangeAgent]
-RefusalError = Union[UnknownDevice, UnknownAgent, UnknownCall, UnknownConnection, WrongConnectionState, WrongAgentState, DeviceExists, AgentExists,
-    NotStation, NotGroup, DestinationBusy, SameDevice, StationTaken, StationBusy, TooManyCalls, PlanFull, UnknownMonitor, CallerPlanned]
+ServiceRequest = Union[AddGroup, AddStation, AddAgent, ArriveCall, MakeCall, PhoneOffHook, AnswerCall, HoldCall,
+                       RetrieveCall, ClearConnection, DeflectCall, SingleStepTransfer, SetAgentState, MonitorStart,
+                       MonitorStop, Tick, SetGroupPriority, RejectCall, ChangeGroup, ChangeAgent]
+RefusalError = Union[UnknownDevice, UnknownAgent, UnknownCall, UnknownConnection, WrongConnectionState, WrongAgentState,
+                     DeviceExists, AgentExists, NotStation, NotGroup, DestinationBusy, SameDevice, StationTaken,
+                     StationBusy, TooManyCalls, PlanFull, UnknownMonitor, CallerPlanned]
 UnavailableError = Union[NoMemory, StoreFault]
 PlannedDevice = Union[Group, Station]
 KeptReply = Union[Reply, RefusalReply]
-EventReport = Union[ServiceInitiated, Originated, Queued, Delivered, Diverted, Established, Held, Retrieved, Transferred, Failed, ConnectionCleared,
-    CallCleared, AgentLoggedOn, AgentLoggedOff, AgentNotReady, AgentReady, AgentBusy, AgentWorkingAfterCall]
+EventReport = Union[ServiceInitiated, Originated, Queued, Delivered, Diverted, Established, Held, Retrieved,
+                    Transferred, Failed, ConnectionCleared, CallCleared, AgentLoggedOn, AgentLoggedOff, AgentNotReady,
+                    AgentReady, AgentBusy, AgentWorkingAfterCall]

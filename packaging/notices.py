@@ -1,10 +1,12 @@
 #!/usr/bin/python3
-"""Prints the notices of the toolchain's crates that a program has linked in: proof/release writes them to release/NOTICES.
+"""Prints the notices of the toolchain's crates that a program has linked in: proof/release writes them to
+release/NOTICES.
 
 usage: packaging/notices.py PROGRAM
 
-Needs the toolchain (`rt doc` says where it is), and nm (Debian package binutils). Which crates these are is read from crates.txt and from the
-toolchain's libraries, and has to cover those that the program's symbols name. The second paragraph of what is printed names all of them."""
+Needs the toolchain (`rt doc` says where it is), and nm (Debian package binutils). Which crates these are is read from
+crates.txt and from the toolchain's libraries, and has to cover those that the program's symbols name. The second
+paragraph of what is printed names all of them."""
 import re
 import shutil
 import subprocess
@@ -56,7 +58,8 @@ def check_symbols(program, crates):
     named = set(re.findall(r"^[0-9a-f]* +\w (\w+)::", told("nm", program), re.MULTILINE))
     missing = sorted(named - set(crates) - set(own_crates()))
     if missing or not named:
-        raise Fault(f"{program} has crates linked in that the notices don't name: {', '.join(missing)}" if named else f"the symbols of {program} name no crates")
+        raise Fault(f"{program} has crates linked in that the notices don't name: "
+                    f"{', '.join(missing)}" if named else f"the symbols of {program} name no crates")
 
 
 def filled(words, end):
@@ -73,16 +76,19 @@ def notices(kit, crates, logic):
         for file in files:
             text = file.read_text().strip("\n")
             if re.match(r"\s*Apache License\s+Version 2\.0", text):
-                owners = re.findall(r"^\s*(Copyright (?!\[)[^\n]*[^\n.,])$", text.partition("APPENDIX")[2], re.MULTILINE)
+                owners = re.findall(r"^\s*(Copyright (?!\[)[^\n]*[^\n.,])$", text.partition("APPENDIX")[2],
+                                    re.MULTILINE)
                 apache.append(f"{crate} ({', '.join([file.name] + owners)})")
             else:
                 texts.setdefault(text, []).append(f"{crate} ({file.name})")
     lines = [f"The program acd has these crates of its toolchain, {logic}, linked in:", "", filled(crates, "."), "",
-             "What follows are their notices, as the toolchain has them, each text once. A crate with several licences has each of them here.", ""]
+             "What follows are their notices, as the toolchain has them, each text once. A crate with several licences "
+             "has each of them here.", ""]
     for text, owners in sorted(texts.items(), key=lambda item: item[1]):
         lines += [RULE, filled(owners, ":"), "", text, ""]
     if apache:
-        lines += [RULE, filled(apache, ":"), "", f"The Apache License, version 2.0, is LICENSE-APACHE of the repository, and on Debian {APACHE}.", ""]
+        lines += [RULE, filled(apache, ":"), "", "The Apache License, version 2.0, is LICENSE-APACHE of the "
+                                                 f"repository, and on Debian {APACHE}.", ""]
     if silent:
         lines += [RULE, "These crates have no notice of their own in the toolchain:", "", filled(silent, ".")]
     return "\n".join(lines).rstrip("\n") + "\n"

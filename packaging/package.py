@@ -1,12 +1,14 @@
 """Makes Debian packages of the desk, and of the telephone exchange that it drives, for packaging/package.
 
-FOLDER/acd_VERSION_amd64.deb and FOLDER/acd-exchange_VERSION_all.deb: VERSION is that of the first heading of CHANGELOG.md, and of what the program says to --version.
-The program is that of release/, which release/SHA256SUMS has to name; another one is packaged by --program, for a trial, and
-one that doesn't know --version by --unchecked-version. The program's manual page and its completion for bash are compared with
-what --help says; those of acdctl are made of what its parsers know. The notices of the toolchain's crates that are linked in are those of release/NOTICES, which have to name each crate that the program's symbols name.
+FOLDER/acd_VERSION_amd64.deb and FOLDER/acd-exchange_VERSION_all.deb: VERSION is that of the first heading of
+CHANGELOG.md, and of what the program says to --version. The program is that of release/, which release/SHA256SUMS has
+to name; another one is packaged by --program, for a trial, and one that doesn't know --version by --unchecked-version.
+The program's manual page and its completion for bash are compared with what --help says; those of acdctl are made of
+what its parsers know. The notices of the toolchain's crates that are linked in are those of release/NOTICES, which have
+to name each crate that the program's symbols name.
 
-The same commit and program make the same bytes on the same Debian: what is packaged has the moment of the commit where this is a clone and git is here, else that of
-the first heading of CHANGELOG.md."""
+The same commit and program make the same bytes on the same Debian: what is packaged has the moment of the commit where
+this is a clone and git is here, else that of the first heading of CHANGELOG.md."""
 import argparse
 import hashlib
 import os
@@ -20,7 +22,6 @@ import zlib
 from email.utils import formatdate
 from pathlib import Path
 
-sys.dont_write_bytecode = True
 import notices
 
 PACKAGING = Path(__file__).resolve().parent
@@ -29,12 +30,14 @@ SERVICE = TOP / "service"
 CLIENT = TOP / "client"
 # an address that takes no mail: README.Debian says whom to ask
 MAINTAINER = "The maintainers of acd <maintainers@users.noreply.hullapricot.example>"
-UNITS = ("acd.service", "acd-tick.service", "acd-gate.service", "acd-copy.service", "acd-copy.timer", "acd-local.service",
-         "acd-node.service", "acd-node-upkeep.service", "acd-node-upkeep.timer", "acd-records.service", "acd-follow.service", "acd-carry.service", "acd-carry.timer",
-         "acd-certificate.service", "acd-certificate.timer")
+UNITS = ("acd.service", "acd-tick.service", "acd-gate.service", "acd-copy.service", "acd-copy.timer",
+         "acd-local.service", "acd-node.service", "acd-node-upkeep.service", "acd-node-upkeep.timer",
+         "acd-records.service", "acd-follow.service", "acd-carry.service", "acd-carry.timer", "acd-certificate.service",
+         "acd-certificate.timer")
 # until the next minor version
 OLD_NAMES_OF_USERS = ("acd-calls", "acd-export", "acd-plan", "acd-trail")
-OLD_NAMES_OF_ROOT = ("acd-carry", "acd-certificate", "acd-copy", "acd-follow", "acd-forget", "acd-gate", "acd-local", "acd-node", "acd-ready", "acd-tick")
+OLD_NAMES_OF_ROOT = ("acd-carry", "acd-certificate", "acd-copy", "acd-follow", "acd-forget", "acd-gate", "acd-local",
+                     "acd-node", "acd-ready", "acd-tick")
 # an office's programs import the first one by its path
 CLIENT_MODULES = ("acd_client.py", "acd_due.py", "acd_notify.py")
 # as dh_python3 has it for a package with a folder of its own
@@ -162,12 +165,14 @@ def copyright_text(version, *more):
     """The licence of what this repository wrote, and what else there is to say."""
     licence = [f"acd {version}, the desk of a help line.", "", f"Contact: {MAINTAINER}", "",
                "Copyright 2026 the maintainers of acd", "", "License: MIT OR Apache-2.0. You may choose either.", "",
-               f"The Apache License, version 2.0, is in {notices.APACHE}. The MIT License:", "", (TOP / "LICENSE-MIT").read_text()]
+               f"The Apache License, version 2.0, is in {notices.APACHE}. The MIT License:", "",
+               (TOP / "LICENSE-MIT").read_text()]
     return "\n".join(licence) + "".join(f"\n{notices.RULE}\n{text}" for text in more)
 
 
 def linked_notices(program):
-    """The notices of what is linked in; which crates these are is what release/NOTICES says, held against the program's symbols."""
+    """The notices of what is linked in; which crates these are is what release/NOTICES says, held against the program's
+    symbols."""
     file = TOP / "release/NOTICES"
     if not file.is_file():
         fail("there is no release/NOTICES: proof/release --lists makes it, where the toolchain is")
@@ -199,20 +204,22 @@ def debian_changelog(versions, moment, package="acd"):
     entries = []
     for number, (version, date, items) in enumerate(versions):
         when = formatdate(moment) if number == 0 else told("date", "-u", "-R", "-d", date).strip()
-        said = "\n".join(textwrap.fill(" ".join(item), 78, initial_indent="  * ", subsequent_indent="    ") for item in items)
+        said = "\n".join(textwrap.fill(" ".join(item), 78, initial_indent="  * ", subsequent_indent="    ")
+                         for item in items)
         entries.append(f"{package} ({version}) unstable; urgency=medium\n\n{said}\n\n -- {MAINTAINER}  {when}\n")
     return "\n".join(entries)
 
 
 def checked_program(options, version):
-    """The program, with the toolchain that proved it, its logic, and the checksum of its sources. The version that the program says names a kit of
-    that logic, not always the one that built it here (docs/DECISIONS.md)."""
+    """The program, with the toolchain that proved it, its logic, and the checksum of its sources. The version that the
+    program says names a kit of that logic, not always the one that built it here (docs/DECISIONS.md)."""
     program = options.program.resolve()
     if not program.is_file():
         fail(f"there is no program {options.program}")
     sums, sources = program.parent / "SHA256SUMS", program.parent / "SOURCES"
     if sums.exists() or options.program == TOP / "release/acd":
-        checked = subprocess.run(["sha256sum", "--check", "--quiet", "--strict", sums.name], cwd=program.parent, capture_output=True)
+        checked = subprocess.run(["sha256sum", "--check", "--quiet", "--strict", sums.name], cwd=program.parent,
+                                 capture_output=True)
         if checked.returncode:
             fail(f"{program.parent.name}/SHA256SUMS isn't that of its files")
     source = sources.read_text().split()[0] if sources.exists() else "unknown (a trial)"
@@ -248,18 +255,21 @@ def putter(root):
 
 
 def manual_page(file, version, date):
-    return packed(re.sub(r'^(\.TH \S+ \d) \S+ "acd [^"]*"', rf'\1 {date} "acd {version}"', file.read_text(), flags=re.MULTILINE))
+    return packed(re.sub(r'^(\.TH \S+ \d) \S+ "acd [^"]*"', rf'\1 {date} "acd {version}"', file.read_text(),
+                         flags=re.MULTILINE))
 
 
 def sizes_and_sums(root):
     """What the files take, in kilobytes, and the sums of those that no administrator changes."""
     files = sorted(file for file in root.rglob("*") if file.is_file() and not file.is_symlink())
     size = sum(file.stat().st_size // 1024 + 1 for file in files)
-    return size, "".join(f"{hashlib.md5(file.read_bytes()).hexdigest()}  {file.relative_to(root)}\n" for file in files if file.parts[len(root.parts)] != "etc")
+    return size, "".join(f"{hashlib.md5(file.read_bytes()).hexdigest()}  "
+                         f"{file.relative_to(root)}\n" for file in files if file.parts[len(root.parts)] != "etc")
 
 
 def put_modules(put, package, modules):
-    """The modules by their places in the package's own folder, and what compiles them anew for another version of Python."""
+    """The modules by their places in the package's own folder, and what compiles them anew for another version of
+    Python."""
     for place, file in modules.items():
         put(f"usr/share/{package}/{place}", file.read_bytes())
     put(f"usr/share/python3/runtime.d/{package}.rtupdate", COMPILED_ANEW.format(package=package), 0o755)
@@ -270,7 +280,9 @@ def lay_out_service(root, put, version):
     if f'VERSION = "{version}"\n' not in (SERVICE / "acd_service/__init__.py").read_text():
         fail(f"CHANGELOG.md begins with version {version}, and service/acd_service/__init__.py has another one")
     put("usr/share/acd/acdctl", (SERVICE / "acdctl").read_bytes(), 0o755)
-    put_modules(put, "acd", {file.relative_to(SERVICE): file for file in sorted((SERVICE / "acd_service").rglob("*.py"))} | {name: CLIENT / name for name in CLIENT_MODULES})
+    put_modules(put, "acd",
+                {file.relative_to(SERVICE): file for file in sorted((SERVICE / "acd_service").rglob("*.py"))} |
+                {name: CLIENT / name for name in CLIENT_MODULES})
     for folder, names in {"usr/bin": ("acdctl", *OLD_NAMES_OF_USERS), "usr/sbin": OLD_NAMES_OF_ROOT}.items():
         (root / folder).mkdir(parents=True, exist_ok=True)
         for name in names:
@@ -278,11 +290,13 @@ def lay_out_service(root, put, version):
 
 
 def lay_out_help(root, put, version, date):
-    """The manual pages and the completions: those of the program as they are, those of acdctl and its old names by what its parsers know."""
+    """The manual pages and the completions: those of the program as they are, those of acdctl and its old names by what
+    its parsers know."""
     completions = "usr/share/bash-completion/completions"
     put(f"{completions}/acd", (SERVICE / "completion/acd.bash").read_bytes())
     with tempfile.TemporaryDirectory() as folder:
-        told("/usr/bin/python3", "-B", SERVICE / "man/make", folder, env={**os.environ, "PYTHONPATH": f"{SERVICE}:{CLIENT}"})
+        told("/usr/bin/python3", "-B", SERVICE / "man/make", folder,
+             env={**os.environ, "PYTHONPATH": f"{SERVICE}:{CLIENT}"})
         for page in (SERVICE / "man/acd.1", *sorted(Path(folder).glob("man*/*"))):
             put(f"usr/share/man/man{page.suffix[1:]}/{page.name}.gz", manual_page(page, version, date))
         put(f"{completions}/acdctl", Path(folder, "acdctl").read_bytes())
@@ -312,13 +326,16 @@ def lay_out(root, options, moment):
     put("usr/share/acd/keep-reads", (PACKAGING / "acd/keep-reads").read_bytes(), 0o755)
     (root / "etc/acd").mkdir(parents=True)
     # records are written behind each copy, so their unit is wanted by that of the copies
-    put("usr/share/lintian/overrides/acd", "acd: systemd-service-file-refers-to-unusual-wantedby-target acd-copy.service *\n")
+    put("usr/share/lintian/overrides/acd", "acd: systemd-service-file-refers-to-unusual-wantedby-target "
+                                           "acd-copy.service *\n")
     doc = "usr/share/doc/acd/"
-    for page in [TOP / "README.md", TOP / "docs/openapi.yaml", *sorted((TOP / "docs").glob("*.md")), *sorted((TOP / "docs").glob("*.png"))]:
+    for page in [TOP / "README.md", TOP / "docs/openapi.yaml", *sorted((TOP / "docs").glob("*.md")),
+                 *sorted((TOP / "docs").glob("*.png"))]:
         put(doc + page.name, page.read_bytes())
     for example in ("nginx/nginx.conf", "settings/node.env", "settings/follow.env"):
         put(f"{doc}examples/{Path(example).name}", (SERVICE / example).read_bytes())
-    # no conffiles, about which an upgrade would ask: postinst makes both in /etc/acd, once. It reads nothing of the documents, which a machine may leave out
+    # no conffiles, about which an upgrade would ask: postinst makes both in /etc/acd, once. It reads nothing of the
+    # documents, which a machine may leave out
     for name in ("acd.env", "roles"):
         put(f"usr/share/acd/{name}", (SERVICE / "settings" / name).read_bytes())
         (root / doc / "examples" / name).symlink_to(f"../../../acd/{name}")
@@ -329,9 +346,10 @@ def lay_out(root, options, moment):
     size, sums = sizes_and_sums(root)
     with tempfile.TemporaryDirectory() as scratch:
         libraries = library_packages(root / "usr/bin/acd", Path(scratch))
-    put("DEBIAN/control", f"Package: acd\nVersion: {version}\nArchitecture: amd64\nMaintainer: {MAINTAINER}\nInstalled-Size: {size}\n"
-                          f"Depends: {', '.join(filter(None, [libraries, 'adduser, python3 (>= 3.11), python3-bcrypt, python3-passlib']))}\n"
-                          f"Recommends: nftables\nSuggests: nginx, etcd-server, etcd-client\nSection: net\nPriority: optional\n"
+    needed = ", ".join(filter(None, [libraries, "adduser, python3 (>= 3.11), python3-bcrypt, python3-passlib"]))
+    put("DEBIAN/control", f"Package: acd\nVersion: {version}\nArchitecture: amd64\nMaintainer: {MAINTAINER}\n"
+                          f"Installed-Size: {size}\nDepends: {needed}\nRecommends: nftables\n"
+                          "Suggests: nginx, etcd-server, etcd-client\nSection: net\nPriority: optional\n"
                           f"Description: {DESCRIPTION} Built by {toolchain} from the sources of checksum\n {source}.\n")
     put("DEBIAN/md5sums", sums)
     for script in ("postinst", "prerm", "postrm"):
@@ -342,8 +360,9 @@ def lay_out(root, options, moment):
 def lay_out_exchange(root, version, moment):
     """Fills the folder with the exchange: its bridge, its edge, and the client that it speaks to the desk by."""
     put, versions, doc = putter(root), changes(), "usr/share/doc/acd-exchange/"
-    put_modules(put, "acd-exchange", {file.relative_to(EXCHANGE): file for file in sorted((EXCHANGE / "bridge").glob("*.py"))}
-                | {name: CLIENT / name for name in CLIENT_MODULES})
+    put_modules(put, "acd-exchange",
+                {file.relative_to(EXCHANGE): file for file in sorted((EXCHANGE / "bridge").glob("*.py"))} |
+                {name: CLIENT / name for name in CLIENT_MODULES})
     put("usr/share/acd-exchange/acd-exchange", (EXCHANGE / "acd-exchange").read_bytes(), 0o755)
     for name in ("acd-account", "acd-edge-limit"):
         put(f"usr/sbin/{name}", (EXCHANGE / name).read_bytes(), 0o755)
@@ -352,7 +371,8 @@ def lay_out_exchange(root, version, moment):
         put(f"usr/share/man/man8/{name}.gz", manual_page(EXCHANGE / name, version, versions[0][1]))
     for name in ("acd-exchange.service", "acd-edge.service", "acd-edge-limit.service"):
         put(f"usr/lib/systemd/system/{name}", (EXCHANGE / name).read_bytes())
-    # no conffiles, so that no upgrade asks: postinst makes each of them once. It mayn't need what is below /usr/share/doc
+    # no conffiles, so that no upgrade asks: postinst makes each of them once. It mayn't need what is below
+    # /usr/share/doc
     for name in ("exchange.env", "local.cfg"):
         put(f"usr/share/acd-exchange/{name}", (EXCHANGE / name).read_bytes())
         (root / doc / "examples").mkdir(parents=True, exist_ok=True)
@@ -364,9 +384,11 @@ def lay_out_exchange(root, version, moment):
     put(doc + "changelog.gz", packed(debian_changelog(versions, moment, "acd-exchange")))
     put(doc + "copyright", copyright_text(version))
     size, sums = sizes_and_sums(root)
-    put("DEBIAN/control", f"Package: acd-exchange\nVersion: {version}\nArchitecture: all\nMaintainer: {MAINTAINER}\nInstalled-Size: {size}\n"
-                          "Depends: adduser, kamailio, kamailio-tls-modules, python3 (>= 3.11)\nRecommends: acd, nftables\nSuggests: asterisk-moh-opsound-wav\n"
-                          f"Section: net\nPriority: optional\nDescription: {EXCHANGE_DESCRIPTION}")
+    put("DEBIAN/control", f"Package: acd-exchange\nVersion: {version}\nArchitecture: all\nMaintainer: {MAINTAINER}\n"
+                          f"Installed-Size: {size}\n"
+                          "Depends: adduser, kamailio, kamailio-tls-modules, python3 (>= 3.11)\n"
+                          "Recommends: acd, nftables\nSuggests: asterisk-moh-opsound-wav\nSection: net\n"
+                          f"Priority: optional\nDescription: {EXCHANGE_DESCRIPTION}")
     put("DEBIAN/md5sums", sums)
     put("DEBIAN/conffiles", "/etc/acd/edge/kamailio.cfg\n")
     for script in ("postinst", "prerm", "postrm"):
@@ -385,8 +407,8 @@ def build(root, package, moment):
 
 
 def moment_of(date):
-    """The moment of the commit, else noon of the version's day: so it is behind that of an older version of the same day. A folder above may be a
-    clone of something else."""
+    """The moment of the commit, else noon of the version's day: so it is behind that of an older version of the same
+    day. A folder above may be a clone of something else."""
     if (TOP / ".git").exists() and shutil.which("git"):
         # the clone may be another user's, which git refuses unless it is told
         return int(told("git", "-c", f"safe.directory={TOP}", "log", "-1", "--format=%ct", cwd=TOP))

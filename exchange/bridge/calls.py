@@ -18,8 +18,8 @@ class Calls:
         self.learning = False
         # the function for the reply to a request, by its name
         self.takers: dict[str, Callable[[Request, Leg | None, Answer], None]] = {
-            "arrived": self.arrived, "went_off_hook": self.went_off_hook, "answered": self.answered, "deflected": self.deflected,
-            "rejected": self.rejected, "ticked": self.ticked}
+            "arrived": self.arrived, "went_off_hook": self.went_off_hook, "answered": self.answered,
+            "deflected": self.deflected, "rejected": self.rejected, "ticked": self.ticked}
 
     def take_reply(self, row: Request, answer: Answer) -> None:
         self.rows.requests.remove(row.key)
@@ -76,7 +76,8 @@ class Calls:
     def rejected(self, row: Request, leg: Leg | None, answer: Answer) -> None:
         """409: a tick, the caller or somebody else was first. A desk that is older than the service answers 400."""
         if answer.status not in (200, 409):
-            self.steps.say_hourly(f"a rejectCall is answered {answer.status} {answer.error}".rstrip() + ": the offer waits for the end of its ring")
+            answered = f"a rejectCall is answered {answer.status} {answer.error}".rstrip()
+            self.steps.say_hourly(f"{answered}: the offer waits for the end of its ring")
 
     def ticked(self, row: Request, leg: Leg | None, answer: Answer) -> None:
         if answer.status != 200:
@@ -104,7 +105,8 @@ class Calls:
             self.rows.agents.remove(device)
         elif kind == "serviceInitiated" and not self.learning:
             # a makeCall by a click on a screen, not by a phone: the phone at that station rings first
-            self.dialogs.invite(self.rows.calls.add(Call(key, device, "")), device, device, self.dialogs.music.offer(""))
+            self.dialogs.invite(self.rows.calls.add(Call(key, device, "")), device, device,
+                                self.dialogs.music.offer(""))
         elif kind == "callCleared":
             self.rows.strangers.remove(key)
         elif key:

@@ -12,7 +12,8 @@ from acd_client import Client, Missed, Request, Unanswered
 
 from .exchange import Exchange
 
-# seconds: from when on a desk is slow, and silent; between two attempts, and where the last one was refused, since a gate counts wrong passwords
+# seconds: from when on a desk is slow, and silent; between two attempts, and where the last one was refused, since a
+# gate counts wrong passwords
 SLOW, SILENT, AGAIN, REFUSED_AGAIN = 2.0, 5.0, 0.2, 10.0
 
 
@@ -26,12 +27,14 @@ class Desk(Client):
             status, data = super().exchange(method, path, body)
         except Unanswered as fault:
             if isinstance(fault.__cause__, ssl.SSLCertVerificationError):
-                raise Unable(f"the desk's certificate isn't trusted: {fault.__cause__.verify_message}; EXCHANGE_CA says whose are") from fault
+                raise Unable(f"the desk's certificate isn't trusted: {fault.__cause__.verify_message}; "
+                             "EXCHANGE_CA says whose are") from fault
             if isinstance(fault.__cause__, (ssl.SSLError, socket.gaierror)):
                 raise Unable(f"the desk can't be asked at the address of EXCHANGE_DESK: {fault.__cause__}") from fault
             raise
         if status == 401:
-            raise Unable("the desk's gate refuses the login of EXCHANGE_DESK with the password of EXCHANGE_PASSWORD (401)")
+            raise Unable("the desk's gate refuses the login of EXCHANGE_DESK with the password of EXCHANGE_PASSWORD "
+                         "(401)")
         if status == 403 and path.startswith("/events"):
             raise Unable("the desk's gate lets the login of EXCHANGE_DESK read no events (403): its role is exchange")
         return status, data
@@ -78,7 +81,8 @@ class DeskLine:
                 await asyncio.sleep(AGAIN)
 
     async def start(self) -> None:
-        """Takes all missing replies and events first. Then it finds the calls in which no phone has a part, and clears them."""
+        """Takes all missing replies and events first. Then it finds the calls in which no phone has a part, and clears
+        them."""
         self.x.calls.learning = not self.x.steps.place.known and not self.x.steps.place.invoke
         while self.x.rows.requests:
             await self.send()
@@ -99,7 +103,8 @@ class DeskLine:
         print(f"following the desk from event {self.x.steps.place.known.get('number', 0)}", flush=True)
 
     async def begin(self) -> None:
-        """If the desk's file was carried over, the snapshot shows who is logged on, and the exchange follows the events after its last one."""
+        """If the desk's file was carried over, the snapshot shows who is logged on, and the exchange follows the events
+        after its last one."""
         shown = await self.call(self.client.attempt, "GET", "/snapshot")
         if shown.status != 200:
             raise Unanswered("no snapshot is shown")
@@ -119,7 +124,8 @@ class DeskLine:
         await self.follow()
 
     async def tick_is_due(self) -> bool:
-        """Whether a tick ends something. A desk that refuses to say (an older one has no snapshot) is sent a tick each step."""
+        """Whether a tick ends something. A desk that refuses to say (an older one has no snapshot) is sent a tick each
+        step."""
         shown = await self.call(self.client.attempt, "GET", "/snapshot")
         if shown.status != 200:
             return True
@@ -149,4 +155,5 @@ class DeskLine:
             if not self.x.steps.step(self.x.calls.take_events, page["events"]):
                 # each event is a step then, and the one that fails is passed over
                 for event in page["events"]:
-                    self.x.steps.step(self.x.calls.take_events, [event]) or self.x.steps.step(setattr, self.x.steps.place, "known", event)
+                    if not self.x.steps.step(self.x.calls.take_events, [event]):
+                        self.x.steps.step(setattr, self.x.steps.place, "known", event)

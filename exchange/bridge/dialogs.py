@@ -12,7 +12,8 @@ from .steps import Steps
 from .transactions import ALLOW, Transactions
 
 LEAST_SESSION = 90
-# answers that concern the phone, and not this very call; the edge says 408 for a silent phone, 477 for one whose connection is gone
+# answers that concern the phone, and not this very call; the edge says 408 for a silent phone, 477 for one whose
+# connection is gone
 UNAVAILABLE = (404, 408, 477, 480, 486, 603)
 # seconds: between two 182, since proxies give up after three minutes; for an answer to a CANCEL; before a new offer
 REMIND, AFTER_CANCEL, AGAIN = 45.0, 4.0, 1.0
@@ -48,7 +49,8 @@ class Dialogs:
         return leg
 
     def hang_up(self, leg: Leg) -> None:
-        """This side of the call is over: asks the desk to end it. If the caller ends, it drops answerCall requests that it hasn't sent yet."""
+        """This side of the call is over: asks the desk to end it. If the caller ends, it drops answerCall requests that
+        it hasn't sent yet."""
         call = self.call_of(leg)
         if call is not None:
             self.detach(call, leg.device)
@@ -64,8 +66,8 @@ class Dialogs:
         target = f"sip:{device}@{edge}" if edge else self.settings.phones.get(device, "")
         hop = read_uri(target).place if target else ""
         leg = self.rows.legs.add(Leg(key, device, True, "out", f"{secrets.token_hex(10)}@{self.settings.host}",
-                                     f'"{shown}" <sip:{shown}@{self.settings.listen}>;tag={key}', f"<{target}>", target, hop,
-                                     call=call.key, way="phone", sender="" if edge else hop.partition(":")[0]))
+                                     f'"{shown}" <sip:{shown}@{self.settings.listen}>;tag={key}', f"<{target}>", target,
+                                     hop, call=call.key, way="phone", sender="" if edge else hop.partition(":")[0]))
         call.legs = {**call.legs, device: key}
         if leg.hop:
             self.offer(leg, offer, "invited", [("x-acd-call", call.key)])
@@ -144,7 +146,8 @@ class Dialogs:
         leg.due = self.now() + (leg.session / 2 if leg.refreshes else leg.session - min(32, leg.session / 3))
 
     def watch_on(self, leg: Leg) -> None:
-        """At a start. If the peer's time to refresh is over by then, a probe asks whether it is there, and it gets another interval."""
+        """At a start. If the peer's time to refresh is over by then, a probe asks whether it is there, and it gets
+        another interval."""
         due = leg.due
         self.watch(leg)
         if leg.refreshes or due > self.now():
@@ -189,7 +192,8 @@ class Dialogs:
 
     # a leg ends
     def finish(self, row: Asked, leg: Leg, message: Message | None) -> None:
-        """The last answer to a request, or None if none came. A peer that is silent or doesn't know the dialog is gone."""
+        """The last answer to a request, or None if none came. A peer that is silent or doesn't know the dialog is
+        gone."""
         ends = leg.state == "closing"
         if row.then:
             self.takers[row.then](leg, message, row.served)
@@ -236,7 +240,8 @@ class Dialogs:
                 self.offer(legs[0], legs[1].sdp, "moved")
 
     def moved(self, leg: Leg, message: Message | None, served: str) -> None:
-        """The peer's answer to an offer of music or of the other phone's media. If the peer refuses, the exchange offers again later."""
+        """The peer's answer to an offer of music or of the other phone's media. If the peer refuses, the exchange
+        offers again later."""
         call, other, offered = self.call_of(leg), self.other(leg), sdp.media(leg.own)
         is_music = offered is not None and offered[:2] == (self.settings.host, self.settings.music_port)
         if call is not None and (message is None or message.status >= 300 or not (is_music or call.connected)):

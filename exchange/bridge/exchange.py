@@ -8,7 +8,7 @@ from .dialogs import REMIND, Dialogs
 from .message import Message, Refused
 from .music import Music
 from .phones import DESK_WAIT, Phones
-from .records import Asked, Served
+from .records import Asked, Leg, Served
 from .settings import Settings
 from .steps import Steps
 from .store import Store
@@ -54,41 +54,50 @@ class Exchange:
             self.phones.take(message, *new)
 
     def resume(self) -> None:
-        """Messages that came to nobody while the exchange was down may come again now. It asks for those that don't come soon. If the machine's clock was set
-        meanwhile, moments of the file are too far off: nothing waits longer than it would from now on."""
+        """Messages that came to nobody while the exchange was down may come again now. It asks for those that don't
+        come soon. If the machine's clock was set meanwhile, moments of the file are too far off: nothing waits longer
+        than it would from now on."""
         now = self.now()
         transactions: list[Asked | Served] = [*self.rows.asked.values(), *self.rows.served.values()]
         for row in transactions:
             row.due, row.ends = min(row.due, now + LIFE), min(row.ends, now + LIFE)
         for asked in self.rows.asked.values():
-            leg = self.rows.legs.get(asked.leg)
-            if asked.over:
-                self.steps.put(asked.ack, asked.to)
-            elif not (asked.then == "invited" and leg is not None and leg.cancelled):
-                # a phone that answered meanwhile says so again within LONGEST_WAIT; one that rings when it is asked
-                wait = GRACE if asked.interval else LONGEST_WAIT + ROUND_TRIP
-                asked.interval, asked.due = asked.interval or ROUND_TRIP, now + wait
-                asked.ends = max(asked.ends, now + wait + 4 * GRACE)
+            self.resume_asked(asked, now)
         for served in self.rows.served.values():
             if served.interval:
                 served.due, served.ends = now, max(served.ends, now + ACK_WAIT)
         for leg in self.rows.legs.values():
-            unheard = self.rows.served.get(leg.transaction)
-            if leg.state == "in" and not leg.call:
-                leg.due = now + DESK_WAIT
-            elif leg.state == "in":
-                leg.due = min(leg.due, now + REMIND)
-            elif leg.state == "up":
-                self.dialogs.watch_on(leg)
-                if not (unheard and unheard.interval):
-                    self.transactions.request(leg, "OPTIONS", patience=PROBE_WAIT)
+            self.resume_leg(leg, now)
+
+    def resume_asked(self, asked: Asked, now: float) -> None:
+        leg = self.rows.legs.get(asked.leg)
+        if asked.over:
+            self.steps.put(asked.ack, asked.to)
+        elif not (asked.then == "invited" and leg is not None and leg.cancelled):
+            # a phone that answered meanwhile says so again within LONGEST_WAIT; one that rings when it is asked
+            wait = GRACE if asked.interval else LONGEST_WAIT + ROUND_TRIP
+            asked.interval, asked.due = asked.interval or ROUND_TRIP, now + wait
+            asked.ends = max(asked.ends, now + wait + 4 * GRACE)
+
+    def resume_leg(self, leg: Leg, now: float) -> None:
+        unheard = self.rows.served.get(leg.transaction)
+        if leg.state == "in" and not leg.call:
+            leg.due = now + DESK_WAIT
+        elif leg.state == "in":
+            leg.due = min(leg.due, now + REMIND)
+        elif leg.state == "up":
+            self.dialogs.watch_on(leg)
+            if not (unheard and unheard.interval):
+                self.transactions.request(leg, "OPTIONS", patience=PROBE_WAIT)
 
     def compare(self, key: str, answer: Answer) -> None:
-        """Compares the desk's connections of a call with its legs: it ends a leg without a connection, a connection without a leg, and a call
-        in which no phone has a part. So it makes up for steps that the file lost by a power cut."""
+        """Compares the desk's connections of a call with its legs: it ends a leg without a connection, a connection
+        without a leg, and a call in which no phone has a part. So it makes up for steps that the file lost by a power
+        cut."""
         shown = answer.body["connections"] if answer.status == 200 else []
         states = {each["device"]: each["state"] for each in shown}
-        call, asked = self.rows.calls.get(key), {row.leg for row in self.rows.requests.values() if row.then == "answered"}
+        call, asked = self.rows.calls.get(key), {row.leg for row in self.rows.requests.values()
+                                                 if row.then == "answered"}
         legs = {device: self.rows.legs.get(leg) for device, leg in call.legs.items()} if call is not None else {}
         if call is not None and states:
             call.legs = {device: leg for device, leg in call.legs.items() if device in states}

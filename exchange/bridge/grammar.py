@@ -1,10 +1,12 @@
 """The grammar of SIP's fields (RFC 3261, 25.1): the only reader of fields in the exchange.
 
-It reads a value once, from left to right. It matches each piece at its position, by a pattern that never backtracks (`++`, `(?>`), and text that
-fits no piece makes the message malformed: the time for a field grows with its length, whatever it holds. White space is allowed where the
-grammar has it, folded lines are white space by then, and none of the fields that it reads may have a comment.
+It reads a value once, from left to right. It matches each piece at its position, by a pattern that never backtracks
+(`++`, `(?>`), and text that fits no piece makes the message malformed: the time for a field grows with its length,
+whatever it holds. White space is allowed where the grammar has it, folded lines are white space by then, and none of
+the fields that it reads may have a comment.
 
-For groups it uses `(?>(?:..)+)` and never `(?:..)++`: in Python 3.11 the latter goes on after a part that failed halfway."""
+For groups it uses `(?>(?:..)+)` and never `(?:..)++`: in Python 3.11 the latter goes on after a part that failed
+halfway."""
 import re
 from collections.abc import Callable
 from functools import lru_cache
@@ -41,7 +43,8 @@ VISIBLE = re.compile("[!-~]++")
 
 PARAMETER = rf"(?>(?:[{UNRESERVED}\[\]/:&+$]|{ESCAPED})+)"
 SIP_URI = re.compile(
-    rf"sips?:(?:((?>(?:[{UNRESERVED}&=+$,;?/]|{ESCAPED})+))(?::(?>(?:[{UNRESERVED}&=+$,]|{ESCAPED})*))?@)?({HOST})(?::([0-9]{{1,5}}))?"
+    rf"sips?:(?:((?>(?:[{UNRESERVED}&=+$,;?/]|{ESCAPED})+))(?::(?>(?:[{UNRESERVED}&=+$,]|{ESCAPED})*))?@)?"
+    rf"({HOST})(?::([0-9]{{1,5}}))?"
     rf"(?>(?:;{PARAMETER}(?:={PARAMETER})?)*)(?:\?((?>(?:[{UNRESERVED}\[\]/?:+$=&]|{ESCAPED})+)))?", re.IGNORECASE)
 TEL_URI = re.compile(rf"tel:(\+?[0-9A-F*#().\-]++)(?>(?:;{PARAMETER}(?:={PARAMETER})?)*)", re.IGNORECASE)
 OTHER_URI = re.compile(rf"[A-Za-z][A-Za-z0-9+\-.]*+:(?>(?:[{UNRESERVED};/?:@&=+$,]|{ESCAPED})+)")
@@ -54,8 +57,8 @@ class Malformed(ValueError):
 
 
 class Uri(NamedTuple):
-    """`number` is the user without its parameters, and without escapes; `place` is where it leads to, as HOST:PORT, empty where the host is no
-    address of IPv4: nothing is looked up here."""
+    """`number` is the user without its parameters, and without escapes; `place` is where it leads to, as HOST:PORT,
+    empty where the host is no address of IPv4: nothing is looked up here."""
     text: str
     scheme: str
     number: str = ""
@@ -64,7 +67,8 @@ class Uri(NamedTuple):
 
 
 class Address(NamedTuple):
-    """A name-addr or an addr-spec. Behind an addr-spec without brackets parameters are those of the field (RFC 3261, 20)."""
+    """A name-addr or an addr-spec. Behind an addr-spec without brackets parameters are those of the field (RFC 3261,
+    20)."""
     text: str
     display: str
     uri: Uri
@@ -130,11 +134,12 @@ class Reader:
         return found
 
     def recipient(self) -> Address:
-        """A To: its tag alone is read, as the edge reads it, and what the edge lets through has to have the same one here. So any URI will do."""
+        """A To: its tag alone is read, as the edge reads it, and what the edge lets through has to have the same one
+        here. So any URI will do."""
         return self.address(ANY_IN_BRACKETS, ANY_BARE, lambda text: Uri(text, ""), False)
 
-    def address(self, in_brackets: re.Pattern[str] = IN_BRACKETS, bare: re.Pattern[str] = BARE, read: Callable[[str], Uri] | None = None,
-                once: bool = True) -> Address:
+    def address(self, in_brackets: re.Pattern[str] = IN_BRACKETS, bare: re.Pattern[str] = BARE,
+                read: Callable[[str], Uri] | None = None, once: bool = True) -> Address:
         self.take(BLANK)
         began, display = self.at, self.quoted()
         if display is not None:
@@ -257,11 +262,13 @@ def read_call_id(reader: Reader) -> str:
 
 # how each field is read; those of SINGLE are there once at most, those of LISTS are kept part by part
 GRAMMAR: dict[str, Callable[[str], list[Any]]] = {
-    "via": some(Reader.via), "from": one(Reader.address), "to": one(Reader.recipient), "call-id": one(read_call_id), "cseq": one(read_sequence),
-    "contact": read_contacts, "route": some(Reader.address), "record-route": some(Reader.address), "refer-to": one(Reader.address),
-    "max-forwards": one(read_hops), "content-length": one(read_length), "session-expires": one(read_lapse),
-    "require": some(Reader.word), "supported": some(Reader.word, 0), "content-type": one(Reader.kind), "accept": some(Reader.kind, 0)}
-SINGLE = {"from", "to", "call-id", "cseq", "refer-to", "max-forwards", "content-length", "session-expires", "content-type"}
+    "via": some(Reader.via), "from": one(Reader.address), "to": one(Reader.recipient), "call-id": one(read_call_id),
+    "cseq": one(read_sequence), "contact": read_contacts, "route": some(Reader.address),
+    "record-route": some(Reader.address), "refer-to": one(Reader.address), "max-forwards": one(read_hops),
+    "content-length": one(read_length), "session-expires": one(read_lapse), "require": some(Reader.word),
+    "supported": some(Reader.word, 0), "content-type": one(Reader.kind), "accept": some(Reader.kind, 0)}
+SINGLE = {"from", "to", "call-id", "cseq", "refer-to", "max-forwards", "content-length", "session-expires",
+          "content-type"}
 LISTS = {"via", "route", "record-route"}
 
 

@@ -4,15 +4,17 @@ from collections.abc import Iterable
 from http import HTTPStatus
 from typing import Any
 
-from .grammar import GRAMMAR, LISTS, SINGLE, TOKEN, TOKEN_SIGNS, Address, Lapse, Malformed, Sequence, Uri, Via, read_field, read_uri
+from .grammar import (GRAMMAR, LISTS, SINGLE, TOKEN, TOKEN_SIGNS, Address, Lapse, Malformed, Sequence, Uri, Via,
+                      read_field, read_uri)
 
 COMPACT = {"v": "via", "f": "from", "t": "to", "i": "call-id", "m": "contact", "l": "content-length",
            "c": "content-type", "r": "refer-to", "k": "supported", "x": "session-expires"}
 SHOWN = {"call-id": "Call-ID", "cseq": "CSeq", "min-se": "Min-SE"}
 PHRASES = {each.value: each.phrase for each in HTTPStatus} | {
-    100: "Trying", 180: "Ringing", 182: "Queued", 416: "Unsupported URI Scheme", 420: "Bad Extension", 422: "Session Interval Too Small",
-    480: "Temporarily Unavailable", 481: "No Such Call", 486: "Busy Here", 487: "Request Terminated", 488: "Not Acceptable Here",
-    491: "Request Pending", 505: "Version Not Supported", 603: "Decline"}
+    100: "Trying", 180: "Ringing", 182: "Queued", 416: "Unsupported URI Scheme", 420: "Bad Extension",
+    422: "Session Interval Too Small", 480: "Temporarily Unavailable", 481: "No Such Call", 486: "Busy Here",
+    487: "Request Terminated", 488: "Not Acceptable Here", 491: "Request Pending", 505: "Version Not Supported",
+    603: "Decline"}
 # what a branch begins with that is of one transaction alone
 COOKIE = "z9hG4bK"
 
@@ -49,7 +51,8 @@ class Message:
         first, *lines = FOLD.sub(" ", head).split("\r\n")
         found = [NAME.match(line) for line in lines]
         fields = [(each[1].lower(), each.string[each.end():].strip(" \t")) for each in found if each]
-        message, is_plain = cls(first, [(COMPACT.get(name, name), value) for name, value in fields], body), not STRAY.search("".join((first, *lines)))
+        message = cls(first, [(COMPACT.get(name, name), value) for name, value in fields], body)
+        is_plain = not STRAY.search("".join((first, *lines)))
         try:
             if not end or not is_plain or not all(found):
                 raise Malformed("a line that is no field, or no end")
@@ -91,9 +94,11 @@ class Message:
         self.fields += [(name, each.text) for each in values] if name in LISTS else [(name, value)]
 
     def can_be_refused(self) -> bool:
-        """Whether it is a request that says to whom to answer, and to which request the answer belongs. An ACK has no answer."""
+        """Whether it is a request that says to whom to answer, and to which request the answer belongs. An ACK has no
+        answer."""
         method = self.first.partition(" ")[0]
-        return self.is_request and TOKEN.fullmatch(method) is not None and method != "ACK" and bool(self.get("via") and self.get("cseq"))
+        return (self.is_request and TOKEN.fullmatch(method) is not None and method != "ACK" and
+                bool(self.get("via") and self.get("cseq")))
 
     def text(self) -> str:
         rows = [f"{SHOWN.get(name, name.title())}: {value}" for name, value in self.fields if name != "content-length"]

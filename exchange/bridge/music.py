@@ -24,7 +24,8 @@ KNOWN = 60.0
 
 
 def is_here(host: str) -> bool:
-    """Whether it is an address of this machine, or the broadcast of a network that it is in: to no other one a socket is bound."""
+    """Whether it is an address of this machine, or the broadcast of a network that it is in: to no other one a socket
+    is bound."""
     with socket.socket(socket.AF_INET, socket.SOCK_DGRAM) as probe:
         try:
             probe.bind((host, 0))
@@ -34,7 +35,8 @@ def is_here(host: str) -> bool:
 
 
 class Music:
-    """Who hears it: nobody before the ACK, and nobody at an address that its peer may not name, since whoever names one has it filled."""
+    """Who hears it: nobody before the ACK, and nobody at an address that its peer may not name, since whoever names one
+    has it filled."""
 
     def __init__(self, steps: Steps, transactions: Transactions):
         self.steps, self.rows, self.settings, self.transactions = steps, steps.rows, steps.settings, transactions
@@ -47,13 +49,15 @@ class Music:
         return sdp.music(self.settings.host, self.settings.music_port, asked)
 
     def place(self, leg: Leg) -> tuple[str, int] | None:
-        """The address to which it is sent for a leg; None, and a line, if the peer asks for it at an address that isn't allowed."""
+        """The address to which it is sent for a leg; None, and a line, if the peer asks for it at an address that isn't
+        allowed."""
         asked = sdp.media(leg.sdp)
         if asked is None or not asked[1]:
             return None
         host, port, _ = asked
         if port < LEAST_PORT or not self.is_allowed(host, leg.way, leg.sender):
-            self.steps.say_hourly(f"no music goes to {host}: a sender at {leg.sender or 'no known address'} ({leg.way}) may not have it sent there")
+            self.steps.say_hourly(f"no music goes to {host}: a sender at {leg.sender or 'no known address'} "
+                                  f"({leg.way}) may not have it sent there")
             return None
         return host, port
 
@@ -67,11 +71,13 @@ class Music:
         return self.allowed[key]
 
     def judge(self, host: IPv4Address, way: str, sender: str) -> bool:
-        """Allowed are the sender's address, the networks of the settings, and any address if the sender gave a password; an address of this machine only if it is the sender's."""
+        """Allowed are the sender's address, the networks of the settings, and any address if the sender gave a
+        password; an address of this machine only if it is the sender's."""
         if any(host in network for network in NO_MACHINE):
             return False
         is_sender = str(host) == sender
-        if host in LOOPBACK or str(host) in (self.settings.host, self.settings.edge.partition(":")[0]) or is_here(str(host)):
+        ours = (self.settings.host, self.settings.edge.partition(":")[0])
+        if host in LOOPBACK or str(host) in ours or is_here(str(host)):
             return is_sender
         return is_sender or way in ("trunk-password", "phone") or any(host in network for network in self.networks)
 

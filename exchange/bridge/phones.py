@@ -36,10 +36,12 @@ class Phones:
         calls.takers |= {"held": self.held, "transferred": self.transferred, "featured": self.featured}
 
     def take(self, message: Message, row: Served, leg: Leg | None) -> None:
-        """A new request. Outside of a dialog the exchange takes only requests for which the edge vouches. The edge makes a CANCEL itself, and vouches for none."""
+        """A new request. Outside of a dialog the exchange takes only requests for which the edge vouches. The edge
+        makes a CANCEL itself, and vouches for none."""
         refusal = self.refusal(message, leg)
         if leg is None and message.method != "CANCEL" and self.sender(message, row.back) is None:
-            self.steps.say_hourly("403 to a request for which the edge doesn't vouch: is its kamailio.cfg of this version?")
+            self.steps.say_hourly("403 to a request for which the edge doesn't vouch: is its kamailio.cfg of this "
+                                  "version?")
             self.answer(row, 403)
         elif message.method == "CANCEL":
             self.cancel_call(message, row)
@@ -52,7 +54,8 @@ class Phones:
             first[message.method](message, row)
         else:
             row.leg = leg.key
-            later: dict[str, Callable[[Message, Served, Leg], None]] = {"INVITE": self.change, "BYE": self.bye, "REFER": self.refer}
+            later: dict[str, Callable[[Message, Served, Leg], None]] = {
+                "INVITE": self.change, "BYE": self.bye, "REFER": self.refer}
             later[message.method](message, row, leg)
 
     def refusal(self, message: Message, leg: Leg | None) -> tuple[int, Fields] | None:
@@ -73,7 +76,8 @@ class Phones:
         return None
 
     def sender(self, message: Message, source: str) -> Sender | None:
-        """The sender by the edge's word, or without an edge by the list of phones and the address of the datagram; None if neither says."""
+        """The sender by the edge's word, or without an edge by the list of phones and the address of the datagram; None
+        if neither says."""
         if not self.settings.edge:
             shown = message.uri_of("from").number
             is_phone = shown in self.settings.phones
@@ -96,10 +100,11 @@ class Phones:
         if self.desk_is_silent:
             return self.answer(row, 503, fields=[("retry-after", "10")])
         row.leg = key = secrets.token_hex(8)
-        leg = self.rows.legs.add(Leg(key, self.device(message, sender), bool(sender.phone), "in", message.get("call-id"),
-                                     f"{message.get('to')};tag={key}", message.get("from"), contact, row.back, row.key,
-                                     message.all("record-route"), heard=message.cseq, sdp=message.body,
-                                     due=self.now() + DESK_WAIT, way=sender.way, sender=sender.address))
+        leg = self.rows.legs.add(Leg(key, self.device(message, sender), bool(sender.phone), "in",
+                                     message.get("call-id"), f"{message.get('to')};tag={key}", message.get("from"),
+                                     contact, row.back, row.key, message.all("record-route"), heard=message.cseq,
+                                     sdp=message.body, due=self.now() + DESK_WAIT, way=sender.way,
+                                     sender=sender.address))
         leg.hop = self.transactions.hop(leg)
         self.answer(row, 100)
         if called.startswith("*"):
@@ -164,11 +169,13 @@ class Phones:
     # a blind transfer; one in two steps has no service at the desk
     def refer(self, message: Message, row: Served, leg: Leg) -> None:
         target, call = message.uri_of("refer-to"), self.dialogs.call_of(leg)
-        if not leg.station or call is None or "replaces=" in target.headers.lower() or not re.fullmatch(r"[0-9]{1,15}", target.number):
+        is_number = re.fullmatch(r"[0-9]{1,15}", target.number)
+        if not leg.station or call is None or "replaces=" in target.headers.lower() or not is_number:
             return self.answer(row, 603)
         self.answer(row, 202, fields=[self.contact])
         self.notify(leg, 100, message.cseq)
-        self.steps.ask("singleStepTransfer", "transferred", leg, row.key, call=int(call.key), device=leg.device, to=target.number)
+        self.steps.ask("singleStepTransfer", "transferred", leg, row.key, call=int(call.key), device=leg.device,
+                       to=target.number)
 
     def transferred(self, row: Request, leg: Leg | None, answer: Answer) -> None:
         refer = self.rows.served.get(row.served)
@@ -179,14 +186,17 @@ class Phones:
     def notify(self, leg: Leg, status: int, cseq: int) -> None:
         state = "active;expires=60" if status < 200 else "terminated;reason=noresource"
         fields = [("event", f"refer;id={cseq}"), ("subscription-state", state), ("content-type", "message/sipfrag")]
-        self.transactions.transmit(self.transactions.in_dialog(leg, "NOTIFY", f"SIP/2.0 {status} {PHRASES[status]}\r\n", fields), leg.hop)
+        line = f"SIP/2.0 {status} {PHRASES[status]}\r\n"
+        self.transactions.transmit(self.transactions.in_dialog(leg, "NOTIFY", line, fields), leg.hop)
 
     # feature codes, dialled or sent as a message
     def feature(self, message: Message, row: Served) -> None:
-        """*22AGENT*GROUP*GROUP.. logs on at the phone; *23 off, *24 ready, *25 not ready, *26 in after-call work: the agent at this phone, and no other one."""
+        """*22AGENT*GROUP*GROUP.. logs on at the phone; *23 off, *24 ready, *25 not ready, *26 in after-call work: the
+        agent at this phone, and no other one."""
         code, sender, leg = message.uri.number, self.sender(message, row.back), self.rows.legs.get(row.leg)
         station = sender.phone if sender is not None else ""
-        found = re.fullmatch(r"\*(?:(22)([0-9]{1,9})((?:\*[0-9]{1,15}){1,8})|(2[3-6]))", code if code.startswith("*") else message.body.strip())
+        found = re.fullmatch(r"\*(?:(22)([0-9]{1,9})((?:\*[0-9]{1,15}){1,8})|(2[3-6]))",
+                             code if code.startswith("*") else message.body.strip())
         logged_on = self.rows.agents.get(station)
         if found is None or not station:
             self.answer_code(row, leg, 404)
@@ -194,7 +204,8 @@ class Phones:
             self.answer_code(row, leg, 403)
         elif found[1]:
             groups = found[3][1:].split("*")
-            self.steps.ask("setAgentState", "featured", leg, row.key, agent=found[2], requested="loggedOn", device=station, groups=groups)
+            self.steps.ask("setAgentState", "featured", leg, row.key, agent=found[2], requested="loggedOn",
+                           device=station, groups=groups)
         elif logged_on is not None:
             self.steps.ask("setAgentState", "featured", leg, row.key, agent=logged_on.agent, requested=STATES[found[4]])
         else:

@@ -15,8 +15,9 @@ class Place(Row):
 @dataclass
 class Leg(Row):
     """A dialog with a phone or a caller; its key is the tag of the exchange. state: `in` (a caller without an answer),
-    `out` (a phone that has the INVITE), `rings`, `up`, `closing`. `ours` and `theirs` are addresses with tags. `own` is the
-    last description of media that the exchange sent, `sdp` the last one of the peer; `transaction` is that of the last INVITE."""
+    `out` (a phone that has the INVITE), `rings`, `up`, `closing`. `ours` and `theirs` are addresses with tags. `own` is
+    the last description of media that the exchange sent, `sdp` the last one of the peer; `transaction` is that of the
+    last INVITE."""
     device: str
     station: bool
     state: str
@@ -78,8 +79,9 @@ class Request(Row):
 
 @dataclass
 class Served(Row):
-    """A peer's request and the last reply to it (a server transaction of RFC 3261, 17.2); with an interval the exchange sends the reply again until its ACK comes.
-    The names `Served`, `served`, `to` and `own` are in the file, so they stay."""
+    """A peer's request and the last reply to it (a server transaction of RFC 3261, 17.2); with an interval the exchange
+    sends the reply again until its ACK comes. The names `Served`, `served`, `to` and `own` are in the file, so they
+    stay."""
     back: str
     request: str
     leg: str = ""
@@ -90,8 +92,9 @@ class Served(Row):
 
 @dataclass
 class Asked(Row):
-    """A request to a peer (a client transaction of RFC 3261, 17.1), and the address `to` which it is sent; with an interval the exchange sends it again until a reply
-    comes. `then` names the function for the last reply, and `ack` is the ACK of that reply, each time that it comes."""
+    """A request to a peer (a client transaction of RFC 3261, 17.1), and the address `to` which it is sent; with an
+    interval the exchange sends it again until a reply comes. `then` names the function for the last reply, and `ack` is
+    the ACK of that reply, each time that it comes."""
     to: str
     text: str
     leg: str

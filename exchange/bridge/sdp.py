@@ -14,8 +14,8 @@ def media(body: str) -> tuple[str, int, tuple[int, ...]] | None:
     if not line or int(line[1]) > 65535:
         return None
     # the address of the audio counts, else that of all media, which comes before the first of them
-    description, all_media = re.split("^m=", body[line.end():], 1, re.MULTILINE)[0], re.split("^m=", body, 1, re.MULTILINE)[0]
-    host = next(filter(None, (re.search(f"^c=IN IP4 ({IPV4})", part, re.MULTILINE) for part in (description, all_media))), None)
+    parts = (re.split("^m=", text, 1, re.MULTILINE)[0] for text in (body[line.end():], body))
+    host = next(filter(None, (re.search(f"^c=IN IP4 ({IPV4})", part, re.MULTILINE) for part in parts)), None)
     if not host:
         return None
     return host[1], int(line[1]), tuple(map(int, line[2].split()))

@@ -29,7 +29,8 @@ def read_agents(path: str) -> dict[str, set[str]] | None:
     agents: dict[str, set[str]] = {}
     for words in filter(None, lines):
         if words[0] in agents or not re.fullmatch("[0-9]+(?: (?:[0-9]+|any))+", " ".join(words)):
-            raise ArgumentTypeError(f"{path}: the line of {words[0]} isn't one of a phone and its agents, or the second one of this phone")
+            raise ArgumentTypeError(f"{path}: the line of {words[0]} isn't one of a phone and its agents, "
+                                    "or the second one of this phone")
         agents[words[0]] = set(words[1:])
     return agents
 
@@ -37,22 +38,28 @@ def read_agents(path: str) -> dict[str, set[str]] | None:
 @dataclass(frozen=True)
 class Settings:
     edge: str = option("", "HOST:PORT of the proxy in front, which alone is heard, and which knows where phones are")
-    phones: dict[str, str] = option(None, 'without a proxy, for a trial on loopback: a file {"201": "sip:201@127.0.0.1:5201"}',
-                                    type=lambda path: json.load(FileType()(path)))
+    phones: dict[str, str] = option(None, 'without a proxy, for a trial on loopback: a file {"201": '
+                                          '"sip:201@127.0.0.1:5201"}', type=lambda path: json.load(FileType()(path)))
     listen: str = option("127.0.0.1:5070", "where it speaks SIP over UDP; with --phones on loopback alone")
-    desk: str = option("", f"the desk, {DESK} or by its gate https://LOGIN@HOST:8443; without it EXCHANGE_DESK of the environment. The login's password is EXCHANGE_PASSWORD "
-                       "of the environment, which others can't read")
-    ca: str = option("", "a FILE with the certificate of the desk's authority, or the desk's own one; without it EXCHANGE_CA of the environment, or whom this machine trusts")
+    desk: str = option("", f"the desk, {DESK} or by its gate https://LOGIN@HOST:8443; without it EXCHANGE_DESK of the "
+                           "environment. The login's password is EXCHANGE_PASSWORD of the environment, "
+                           "which others can't read")
+    ca: str = option("", "a FILE with the certificate of the desk's authority, or the desk's own one; "
+                         "without it EXCHANGE_CA of the environment, or whom this machine trusts")
     file: str = option("exchange.db", "its own file")
     poll: float = option(0.1, "seconds between two looks for events")
-    tick: int = option(0, "looks each so many seconds whether a tick ends something, and sends the desk its ticks; with 0 acd-tick does")
+    tick: int = option(0, "looks each so many seconds whether a tick ends something, and sends the desk its ticks; "
+                          "with 0 acd-tick does")
     waiting: str = option("queued", "callers who wait get 182, or are answered with music", choices=("queued", "music"))
-    refused: str = option("reject", "offers that a phone refuses are rejected, or wait for the end of their ring", choices=("reject", "wait"))
-    agents: dict[str, set[str]] | None = option(None, "FILE with lines as '201 7 8' or '202 any': which agents a phone may log on; without it any agent who is logged off",
+    refused: str = option("reject", "offers that a phone refuses are rejected, or wait for the end of their ring",
+                          choices=("reject", "wait"))
+    agents: dict[str, set[str]] | None = option(None, "FILE with lines as '201 7 8' or '202 any': which agents a phone "
+                                                      "may log on; without it any agent who is logged off",
                                                 type=read_agents)
     music: str = option("", "a WAV file of 8000 Hz, 16 bits, one channel; without it silence")
     music_port: int = option(16000, "where the music is sent from")
-    media: str = option("", "NETWORKS as 192.0.2.0/24,198.51.100.7: where music may go besides the address that its caller sends from")
+    media: str = option("", "NETWORKS as 192.0.2.0/24,198.51.100.7: where music may go besides the address that its "
+                            "caller sends from")
     session: int = option(1800, "the session interval in seconds, at least 90")
     trace: bool = option(False, "writes what comes and goes to standard error")
 
@@ -83,9 +90,11 @@ class Settings:
             parser.add_argument("--" + each.name.replace("_", "-"), default=each.default, **each.metadata)
         given = cls(**vars(parser.parse_args()))
         named = os.environ.get
-        read = replace(given, desk=given.desk or named("EXCHANGE_DESK") or DESK, ca=given.ca or named("EXCHANGE_CA", ""))
+        read = replace(given, desk=given.desk or named("EXCHANGE_DESK") or DESK,
+                       ca=given.ca or named("EXCHANGE_CA", ""))
         password = named("EXCHANGE_PASSWORD", "")
-        fault = read.fault() or ("EXCHANGE_PASSWORD is the one of a login, and EXCHANGE_DESK names none" if password and not read.login else "")
+        fault = read.fault() or ("EXCHANGE_PASSWORD is the one of a login, and EXCHANGE_DESK names none" if password and
+                                 not read.login else "")
         if fault:
             parser.error(fault)
         return replace(read, desk=with_password(read.desk, password)) if password else read
@@ -103,7 +112,8 @@ class Settings:
         except ValueError as fault:
             return f"--media: {fault}"
         if self.desk and (urlsplit(self.desk).scheme not in ("http", "https") or not urlsplit(self.desk).hostname):
-            return f"the desk's address is http://HOST:PORT or https://LOGIN@HOST:PORT, and not {without_password(self.desk)}"
+            return ("the desk's address is http://HOST:PORT or https://LOGIN@HOST:PORT, "
+                    f"and not {without_password(self.desk)}")
         try:
             self.context()
         except OSError as fault:
@@ -113,7 +123,8 @@ class Settings:
 
 def with_password(address: str, password: str) -> str:
     parts = urlsplit(address)
-    return parts._replace(netloc=f"{parts.username}:{quote(password, safe='')}@{parts.netloc.rpartition('@')[2]}").geturl()
+    return parts._replace(
+        netloc=f"{parts.username}:{quote(password, safe='')}@{parts.netloc.rpartition('@')[2]}").geturl()
 
 
 def without_password(address: str) -> str:

@@ -1,4 +1,5 @@
-"""Steps: an input changes rows and puts datagrams aside. The exchange keeps the rows and then sends the datagrams, or undoes all of it."""
+"""Steps: an input changes rows and puts datagrams aside. The exchange keeps the rows and then sends the datagrams, or
+undoes all of it."""
 import heapq
 import secrets
 import sqlite3

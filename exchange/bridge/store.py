@@ -12,9 +12,9 @@ MOMENTS = ("due", "ends")
 
 @dataclass
 class Row:
-    """A record of the file. Code sets its members, and never changes them in place; `due` is when its alarm rings, if ever.
-    The file has the class's name and its members by their names. Moments are of the monotonic clock, which begins anew with each boot; in the file they are of the
-    wall clock."""
+    """A record of the file. Code sets its members, and never changes them in place; `due` is when its alarm rings, if
+    ever. The file has the class's name and its members by their names. Moments are of the monotonic clock, which begins
+    anew with each boot; in the file they are of the wall clock."""
     key: str
     due: float = field(default=0.0, kw_only=True)
 
@@ -33,7 +33,8 @@ R = TypeVar("R", bound=Row)
 
 
 class Store:
-    def __init__(self, path: str, wait: float = 5.0, now: Callable[[], float] = time.monotonic, wall: Callable[[], float] = time.time):
+    def __init__(self, path: str, wait: float = 5.0, now: Callable[[], float] = time.monotonic,
+                 wall: Callable[[], float] = time.time):
         self.now, self.wall, self.ahead = now, wall, wall() - now()
         self.tables: dict[str, Table[Any]] = {}
         self.changed: set[tuple[str, str]] = set()
@@ -49,7 +50,8 @@ class Store:
     def follow_clock(self) -> None:
         """Writes all moments anew, so that they are right at the next start."""
         self.ahead = self.wall() - self.now()
-        self.changed |= {(name, key) for name, table in self.tables.items() for key, row in table.items() if any(row.__dict__.get(each) for each in MOMENTS)}
+        self.changed |= {(name, key) for name, table in self.tables.items() for key, row in table.items()
+                         if any(row.__dict__.get(each) for each in MOMENTS)}
 
     def undo(self) -> None:
         """Reads the changed rows from the file again. They count as changed, so that their alarms are set."""
@@ -59,7 +61,8 @@ class Store:
             self.tables[kind].read("kind = ? AND key = ?", kind, key)
 
     def commit(self) -> list[Any]:
-        """Writes the changed rows into the file, and returns those that are there. If it fails, the program has to end."""
+        """Writes the changed rows into the file, and returns those that are there. If it fails, the program has to
+        end."""
         rows = [self.tables[kind][key] for kind, key in self.changed if key in self.tables[kind]]
         with self.base:
             self.base.executemany("DELETE FROM rows WHERE kind = ? AND key = ?", self.changed)

@@ -1,4 +1,5 @@
-"""Transactions (RFC 3261, 17): requests of peers and their answers, and requests to peers; the exchange sends each again until it has come."""
+"""Transactions (RFC 3261, 17): requests of peers and their answers, and requests to peers; the exchange sends each
+again until it has come."""
 import hashlib
 import secrets
 from typing import Any, Protocol
@@ -124,7 +125,8 @@ class Transactions:
         return Message(invite.first.replace("INVITE", method, 1), [*rows, ("cseq", f"{invite.cseq} {method}")])
 
     def hop(self, leg: Leg) -> str:
-        """The address for its requests: the edge, its first route or its contact, or the address from which its messages come."""
+        """The address for its requests: the edge, its first route or its contact, or the address from which its
+        messages come."""
         first = read_field("route", leg.routes[0])[0].uri if leg.routes else read_uri(leg.target)
         return self.settings.edge or first.place or leg.hop
 
@@ -174,7 +176,8 @@ class Transactions:
             self.listener.finish(row, leg, message)
 
     def turn_away(self, message: Message) -> None:
-        """A phone answers though nobody waits for it any more, or a second phone answers by a fork: the exchange ends its dialog, each time."""
+        """A phone answers though nobody waits for it any more, or a second phone answers by a fork: the exchange ends
+        its dialog, each time."""
         contact = message.uri_of("contact")
         leg = Leg("", "", True, "closing", message.get("call-id"), message.get("from"), message.get("to"),
                   contact.text, routes=message.all("record-route")[::-1], asked=message.cseq)

@@ -1,5 +1,5 @@
-"""Prints what became of each call of a desk, each leg of a call, each agent's day or each group's quarter of an hour, as CSV, out of a copy of the
-desk's file. Or writes files of the days that are over."""
+"""Prints what became of each call of a desk, each leg of a call, each agent's day or each group's quarter of an hour,
+as CSV, out of a copy of the desk's file. Or writes files of the days that are over."""
 import argparse
 import csv
 import datetime
@@ -18,13 +18,17 @@ from acd_service.leaving.records import Call, Records
 from acd_service.office import FILE, Office, counting
 from acd_service.record_days import KINDS, Days, Writer, wanted_from
 
-CALLS = ["number", "caller", "called", "entered", "groups", "rings", "agent", "station", "waited", "talked", "held", "wrapped_up", "ended", "rung", "answered_at", "ended_at"]
-LEGS = ["call", "leg", "device", "agent", "group", "begun", "answered_at", "ended_at", "waited", "rang", "talked", "held", "wrapped_up", "ended", "to"]
-AGENTS = ["day", "agent", "name", "logged_on", "ready", "talking", "wrap_up", "rings_not_answered", "rings_refused", "rings_hung_up", "rings", "calls", "own_calls", "not_ready",
-          "first_on", "last_on", "groups"]
-GROUPS = ["begin", "group", "entered", "answered", "abandoned", "moved", "limit", "in_time", "abandoned_late", "service_level", "waited", "longest", "most_waiting", "handled", "handling"]
+CALLS = ["number", "caller", "called", "entered", "groups", "rings", "agent", "station", "waited", "talked", "held",
+         "wrapped_up", "ended", "rung", "answered_at", "ended_at"]
+LEGS = ["call", "leg", "device", "agent", "group", "begun", "answered_at", "ended_at", "waited", "rang", "talked",
+        "held", "wrapped_up", "ended", "to"]
+AGENTS = ["day", "agent", "name", "logged_on", "ready", "talking", "wrap_up", "rings_not_answered", "rings_refused",
+          "rings_hung_up", "rings", "calls", "own_calls", "not_ready", "first_on", "last_on", "groups"]
+GROUPS = ["begin", "group", "entered", "answered", "abandoned", "moved", "limit", "in_time", "abandoned_late",
+          "service_level", "waited", "longest", "most_waiting", "handled", "handling"]
 # the columns that --names adds for those that have numbers, and of what these are
-NAMES = {"groups": ("group_names", "groups"), "group": ("group_name", "groups"), "agent": ("agent_names", "agents"), "rung": ("rung_names", "agents")}
+NAMES = {"groups": ("group_names", "groups"), "group": ("group_name", "groups"), "agent": ("agent_names", "agents"),
+         "rung": ("rung_names", "agents")}
 # columns of numbers that aren't to be reckoned with, and of names
 NUMBERED = {"caller", "called", "groups", "agent", "station", "rung", "device", "group", "to"}
 NAMED = {"name", *(name for name, _ in NAMES.values())}
@@ -33,7 +37,8 @@ AGAIN = ".again"
 BESIDE = ("-wal", "-shm", "-journal", ".archive", AGAIN)
 # the status if some of what the user asked for is in archives that aren't there
 MISSING = 3
-# an archive is read if its last request is of this many days before the first day that is wanted, or later: who was logged on then is known so
+# an archive is read if its last request is of this many days before the first day that is wanted, or later: who was
+# logged on then is known so
 BEFORE = datetime.timedelta(days=2)
 
 
@@ -52,15 +57,16 @@ def call_row(call: Call) -> Row:
     rung = [leg for leg in call.legs if leg.rings]
     answered = [leg for leg in call.legs if leg.answered is not None]
     missed = [leg.agent for leg in rung if leg.answered is None and leg.ended_at is not None]
-    return [call.number, call.caller, call.called, when(call.entered), " ".join(call.groups), len(rung), " ".join(leg.agent for leg in answered),
-            " ".join(leg.device for leg in answered), call.waited, call.talked, call.held, sum(leg.wrapped_up for leg in call.legs), call.ended, " ".join(missed),
+    return [call.number, call.caller, call.called, when(call.entered), " ".join(call.groups), len(rung),
+            " ".join(leg.agent for leg in answered), " ".join(leg.device for leg in answered), call.waited, call.talked,
+            call.held, sum(leg.wrapped_up for leg in call.legs), call.ended, " ".join(missed),
             when(min((leg.answered for leg in answered), default=None)), when(call.ended_at)]
 
 
 def leg_rows(call: Call) -> Iterator[Row]:
     for number, leg in enumerate(call.legs, 1):
-        yield [call.number, number, leg.device, leg.agent, leg.group, when(leg.begun), when(leg.answered), when(leg.ended_at), leg.waited, leg.rang, leg.talked, leg.held,
-               leg.wrapped_up, leg.ended, leg.to]
+        yield [call.number, number, leg.device, leg.agent, leg.group, when(leg.begun), when(leg.answered),
+               when(leg.ended_at), leg.waited, leg.rang, leg.talked, leg.held, leg.wrapped_up, leg.ended, leg.to]
 
 
 def agent_rows(records: Records, names: Names) -> Iterator[tuple[datetime.date, Row]]:
@@ -68,13 +74,15 @@ def agent_rows(records: Records, names: Names) -> Iterator[tuple[datetime.date, 
     for day, agent in sorted(records.days, key=lambda key: (key[0], int("1" + key[1]))):
         has = records.days[day, agent]
         groups = " ".join(sorted(has.groups, key=lambda group: int("1" + group)))
-        yield day, [day, agent, names["agents"].get(agent, ""), *(has.counts[column] for column in AGENTS[3:14]), when(has.first), when(has.last), groups]
+        yield day, [day, agent, names["agents"].get(agent, ""), *(has.counts[column] for column in AGENTS[3:14]),
+                    when(has.first), when(has.last), groups]
 
 
 def group_rows(quarters: Quarters) -> Iterator[tuple[int, Row]]:
     for begin, group, has in quarters.lines():
-        yield begin, [when(begin), group, has.entered, has.answered, has.abandoned, has.moved, f"{quarters.limit_of(group):g}", has.in_time, has.late,
-                      "" if has.level is None else has.level, has.waited, "" if has.longest is None else has.longest, has.most, has.handled, has.handling]
+        yield begin, [when(begin), group, has.entered, has.answered, has.abandoned, has.moved,
+                      f"{quarters.limit_of(group):g}", has.in_time, has.late, "" if has.level is None else has.level,
+                      has.waited, "" if has.longest is None else has.longest, has.most, has.handled, has.handling]
 
 
 class Form:
@@ -114,7 +122,8 @@ def newest(folder: Path) -> tuple[Path, int]:
     found = []
     for place in folder.iterdir() if folder.is_dir() else ():
         try:
-            found.append((datetime.datetime.strptime(place.name, COPY).replace(tzinfo=datetime.timezone.utc).timestamp(), place))
+            found.append(
+                (datetime.datetime.strptime(place.name, COPY).replace(tzinfo=datetime.timezone.utc).timestamp(), place))
         except ValueError:
             continue  # one that has another name isn't a good one
     if not found:
@@ -129,8 +138,8 @@ def newest(folder: Path) -> tuple[Path, int]:
 
 
 def archives_of(file: Path, since: datetime.date | None) -> list[Path]:
-    """The archives that a file goes on from, by the notes beside them, from the oldest on: those that have requests of the days from one on. Where one isn't
-    there it returns those after it."""
+    """The archives that a file goes on from, by the notes beside them, from the oldest on: those that have requests of
+    the days from one on. Where one isn't there it returns those after it."""
     found: list[Path] = []
     file = file.absolute()
     folders = [file.parent, chain.copies_of(file.parent.parent)]
@@ -145,7 +154,8 @@ def archives_of(file: Path, since: datetime.date | None) -> list[Path]:
     return found
 
 
-def follow(book: Book, records: Records | None, quarters: Quarters | None, write_call: Callable[[Call], object], made: int = 0) -> None:
+def follow(book: Book, records: Records | None, quarters: Quarters | None, write_call: Callable[[Call], object],
+           made: int = 0) -> None:
     """Goes through all events; a call is handed on as soon as it and those before it are finished."""
     if quarters and book.begins() is not None:
         quarters.begin(book.begins(), book.waited_before())
@@ -197,7 +207,8 @@ class Printed:
                 self.put(columns, begin, row)
             return
         records = Records(book)
-        follow(book, records, None, {"legs": self.put_legs, "agents": lambda call: None}.get(self.options.table, self.put_call))
+        follow(book, records, None,
+               {"legs": self.put_legs, "agents": lambda call: None}.get(self.options.table, self.put_call))
         if self.options.table == "agents":
             for day, row in agent_rows(records, self.names):
                 self.put(columns, day, row)
@@ -243,8 +254,13 @@ def write_days(folder: Path, book: Book, office: Office, form: Form, names: Name
     with Days(folder, first, datetime.date.fromtimestamp(end), heads, marked) as days:
         lacks = days.lacks()
         if lacks:
-            report(f"days before {first} aren't there as a whole: name the archives, by --archive, where they are wanted")
-        follow(book, records, quarters, lambda call: days.write("records", datetime.date.fromtimestamp(call.entered), form.row(CALLS, call_row(call))), end)
+            report(f"days before {first} aren't there as a whole: name the archives, by --archive, "
+                   "where they are wanted")
+
+        def write(call: Call) -> None:
+            days.write("records", datetime.date.fromtimestamp(call.entered), form.row(CALLS, call_row(call)))
+
+        follow(book, records, quarters, write, end)
         for day, row in agent_rows(records, names):
             days.write("agents", day, form.row(AGENTS, row))
         for begin, row in group_rows(quarters):
@@ -262,10 +278,12 @@ def day(text: str) -> datetime.date:
 def add_files(parser: argparse.ArgumentParser) -> None:
     """The options that say of what the records are."""
     of = parser.add_mutually_exclusive_group(required=True)
-    of.add_argument("--file", type=Path, metavar="FILE", help="a copy of the desk's file, with its log beside it where it has one")
+    of.add_argument("--file", type=Path, metavar="FILE",
+                    help="a copy of the desk's file, with its log beside it where it has one")
     of.add_argument("--copies", type=Path, metavar="FOLDER", help="a folder of copies: the newest good one there")
     parser.add_argument("--archive", action="append", default=[], type=Path, metavar="A",
-                        help="an archive that the file was carried over from, in place of those that its note names; as often as there are some, from the oldest on")
+                        help="an archive that the file was carried over from, in place of those that its note names; "
+                             "as often as there are some, from the oldest on")
 
 
 def parser() -> command.Parser:
@@ -273,14 +291,18 @@ def parser() -> command.Parser:
     add_files(found)
     found.add_argument("--live", action="store_true", help="of a file that a desk has open: what it has at this moment")
     table = found.add_mutually_exclusive_group()
-    for name, about in (("legs", "each leg of a call: its wait in a group, its ring and talk at a station"), ("agents", "each day and agent"), ("groups", "each quarter of an hour and group")):
+    for name, about in (("legs", "each leg of a call: its wait in a group, its ring and talk at a station"),
+                        ("agents", "each day and agent"), ("groups", "each quarter of an hour and group")):
         table.add_argument(f"--{name}", dest="table", action="store_const", const=name, help=f"a line for {about}")
-    table.add_argument("--days", type=Path, metavar="FOLDER", help="writes records/DAY.csv, agents/DAY.csv and groups/DAY.csv there for the days that are over")
+    table.add_argument("--days", type=Path, metavar="FOLDER",
+                       help="writes records/DAY.csv, agents/DAY.csv and groups/DAY.csv there for the days that are "
+                            "over")
     found.add_argument("--since", type=day, metavar="DAY", help="from this day on, 2026-11-26 say")
     found.add_argument("--until", type=day, metavar="DAY", help="up to this day, and with it")
     found.add_argument("--names", action="store_true", help="names beside numbers")
     found.add_argument("--excel", action="store_true", help="' before what a spreadsheet would change")
-    found.add_argument("--office", type=Path, metavar="FILE", help=f"names, limits and zone; {FILE} as it comes, where that is there")
+    found.add_argument("--office", type=Path, metavar="FILE",
+                       help=f"names, limits and zone; {FILE} as it comes, where that is there")
     return found
 
 

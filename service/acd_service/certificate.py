@@ -1,4 +1,5 @@
-"""Tells when the certificate ends that nginx shows at its port: from two weeks before its end on, and after it, with the status 1.
+"""Tells when the certificate ends that nginx shows at its port: from two weeks before its end on, and after it, with
+the status 1.
 
 It asks the port by TLS, since a new file helps nobody until nginx has read it. It is tested, not proved."""
 import argparse
@@ -55,7 +56,8 @@ def shown_at(host: str, port: int) -> bytes | None:
     # it is looked at, and nothing is sent: so a weak one is looked at too
     context.set_ciphers("DEFAULT:@SECLEVEL=0")
     try:
-        with socket.create_connection((host, port), WAIT) as plain, context.wrap_socket(plain, server_hostname=host) as connection:
+        with (socket.create_connection((host, port), WAIT) as plain,
+              context.wrap_socket(plain, server_hostname=host) as connection):
             return connection.getpeercert(binary_form=True)
     except ConnectionRefusedError:
         return None
@@ -67,7 +69,8 @@ def report(host: str, port: int, days: float, now: datetime.datetime) -> bool:
     """Whether the certificate lasts longer than so many days."""
     certificate = shown_at(host, port)
     if certificate is None:
-        command.report(f"nobody listens at {host}:{port}, so there is no certificate to look at (ACD_TLS_HOST and ACD_TLS_PORT in acd.env)")
+        command.report(f"nobody listens at {host}:{port}, so there is no certificate to look at (ACD_TLS_HOST and "
+                       "ACD_TLS_PORT in acd.env)")
         return True
     end = end_of(certificate)
     left, when = (end - now) / datetime.timedelta(days=1), end.strftime("%Y-%m-%d %H:%M UTC")
@@ -75,25 +78,30 @@ def report(host: str, port: int, days: float, now: datetime.datetime) -> bool:
         command.report(f"the certificate at {host}:{port} ends on {when}", INFO)
         return True
     if left > 0:
-        command.report(f"the certificate at {host}:{port} ends in {int(left)} days, on {when}: renew it, and reload nginx; {HELP}")
+        command.report(f"the certificate at {host}:{port} ends in {int(left)} days, on {when}: renew it, "
+                       f"and reload nginx; {HELP}")
     else:
-        command.report(f"the certificate at {host}:{port} ended on {when}, and browsers and clients refuse it: renew it, and reload nginx; {HELP}")
+        command.report(f"the certificate at {host}:{port} ended on {when}, and browsers and clients refuse it: "
+                       f"renew it, and reload nginx; {HELP}")
     return False
 
 
 def parser() -> command.Parser:
     found = command.Parser("Tells when the certificate ends that a port shows by TLS.", printed_usage=True)
     number = command.whole_number(1, 65535)
-    found.add_argument("--host", default="127.0.0.1", metavar="HOST", help="the host of the port; 127.0.0.1 unless given")
+    found.add_argument("--host", default="127.0.0.1", metavar="HOST",
+                       help="the host of the port; 127.0.0.1 unless given")
     found.add_argument("--port", type=number, default=8443, metavar="PORT", help="the port; 8443 unless given")
-    found.add_argument("--days", type=number, default=14, metavar="N", help="so many days before its end the status is 1; 14 unless given")
+    found.add_argument("--days", type=number, default=14, metavar="N",
+                       help="so many days before its end the status is 1; 14 unless given")
     return found
 
 
 def do(options: argparse.Namespace) -> int:
     """Its status."""
     try:
-        return 0 if report(options.host, options.port, options.days, datetime.datetime.now(datetime.timezone.utc)) else command.FAILED
+        now = datetime.datetime.now(datetime.timezone.utc)
+        return 0 if report(options.host, options.port, options.days, now) else command.FAILED
     except Fault as fault:
         raise Fault(f"{options.host}:{options.port}: {fault}") from None
 

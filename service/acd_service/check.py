@@ -1,6 +1,8 @@
-"""Judges what the administrator writes: settings, roles, logins, names, and nginx's ports and certificate. Tested, not proved.
+"""Judges what the administrator writes: settings, roles, logins, names, and nginx's ports and certificate. Tested, not
+proved.
 
-It starts nothing and changes nothing. It reads each file as the program reads it that the file is for, and what that program would report is a fault here."""
+It starts nothing and changes nothing. It reads each file as the program reads it that the file is for, and what that
+program would report is a fault here."""
 import argparse
 import contextlib
 import datetime
@@ -15,16 +17,18 @@ from acd_service import certificate, command, office, settings
 from acd_service.command import Fault
 
 # least and greatest value of a setting
-NUMBERS = {"ACD_PORT": (1024, 65535), "ACD_GATE_PORT": (1024, 65535), "ACD_TLS_PORT": (1, 65535), "ACD_STEP": (2, 3600), "ACD_COPIES": (1, 999),
-           "ACD_HALT": (0, 999), "ACD_CARRY_DAYS": (1, 999_999_999)}
+NUMBERS = {"ACD_PORT": (1024, 65535), "ACD_GATE_PORT": (1024, 65535), "ACD_TLS_PORT": (1, 65535), "ACD_STEP": (2, 3600),
+           "ACD_COPIES": (1, 999), "ACD_HALT": (0, 999), "ACD_CARRY_DAYS": (1, 999_999_999)}
 PATHS = ("ACD_FILE", "ACD_COPY_FOLDER")
 # days before the end of a certificate from which on it is a fault
 SOON = 14
 MEMBERS = {"title": str, "language": str, "zone": str, "names": dict, "limits": dict}
 NAMED = ("groups", "agents", "stations")
-# the settings of pages that are numbers, each with its greatest value, those of one group among them, and those that are texts
+# the settings of pages that are numbers, each with its greatest value, those of one group among them, and those that
+# are texts
 DAY = 86400
-MOST = {"limit": DAY, "goal": 100, "lost": 100, "long": DAY, "bad": DAY, "ringing": DAY, "busy": DAY, "hold": DAY, "own": DAY, "workingAfterCall": DAY, "notReady": DAY}
+MOST = {"limit": DAY, "goal": 100, "lost": 100, "long": DAY, "bad": DAY, "ringing": DAY, "busy": DAY, "hold": DAY,
+        "own": DAY, "workingAfterCall": DAY, "notReady": DAY}
 OF_GROUP = r"(limit|goal|lost|long|bad)\.[0-9]{1,15}"
 TEXTS = ("title", "lang", "since", "theme", "groups", "level", "tone", "notify")
 SECRET = "nginx-secret.conf"
@@ -144,7 +148,8 @@ def of_names(file: Path, names: dict[str, Any]) -> Iterator[str]:
             continue
         for number, name in named.items():
             if not re.fullmatch("[0-9]{1,15}", number) or not isinstance(name, str) or len(name) > office.LONGEST:
-                yield f"{file}: names.{kind}: {number} must be a number, and its name a text of {office.LONGEST} letters at most"
+                yield (f"{file}: names.{kind}: {number} must be a number, and its name a text of {office.LONGEST} "
+                       "letters at most")
 
 
 def of_limits(file: Path, limits: dict[str, Any]) -> Iterator[str]:
@@ -161,12 +166,14 @@ def of_limits(file: Path, limits: dict[str, Any]) -> Iterator[str]:
 # nginx
 
 def of_nginx(folder: Path, env: Path) -> Iterator[str]:
-    """A machine may have none. Its configurations that concern the desk are those that name the gate's secret, or pass requests to the gate."""
+    """A machine may have none. Its configurations that concern the desk are those that name the gate's secret, or pass
+    requests to the gate."""
     if not folder.exists():
         return
     has = {**settings.DEFAULTS, **settings.written(env)}
     ports = {name: has[name] for name in ("ACD_PORT", "ACD_GATE_PORT", "ACD_TLS_PORT")}
-    texts = {file: re.sub(r"(^|\s)#.*", "", file.read_text(errors="replace")) for file in sorted((*folder.glob("conf.d/*.conf"), *folder.glob("sites-enabled/*")))}
+    texts = {file: re.sub(r"(^|\s)#.*", "", file.read_text(errors="replace"))
+             for file in sorted((*folder.glob("conf.d/*.conf"), *folder.glob("sites-enabled/*")))}
     ours = {file: text for file, text in texts.items() if SECRET in text or "/auth/any" in text}
     if not ours:
         yield f"{folder}: no configuration asks the gate; /usr/share/doc/acd/examples/nginx.conf is one"
@@ -175,7 +182,8 @@ def of_nginx(folder: Path, env: Path) -> Iterator[str]:
     passed_to, shown_at = r"server\s+127\.0\.0\.1:{}\b", r"listen\s+(\S+:)?{}\b[^;]*\bssl\b"
     for name, pattern in (("ACD_PORT", passed_to), ("ACD_GATE_PORT", passed_to), ("ACD_TLS_PORT", shown_at)):
         if not re.search(pattern.format(re.escape(ports[name])), whole):
-            yield f"{', '.join(map(str, ours))}: the port {ports[name]} of {name} isn't there; change it here or in {env}"
+            yield (f"{', '.join(map(str, ours))}: the port {ports[name]} of {name} isn't there; change it here or in "
+                   f"{env}")
     for file, text in ours.items():
         if SECRET not in text:
             yield f"{file} is of before 1.15: nginx asks the gate for every stranger"
@@ -183,7 +191,8 @@ def of_nginx(folder: Path, env: Path) -> Iterator[str]:
 
 
 def of_certificates(file: Path, text: str) -> Iterator[str]:
-    shown, keys = (re.findall(rf"^\s*{name}\s+([^;\s]+)\s*;", text, re.MULTILINE) for name in ("ssl_certificate", "ssl_certificate_key"))
+    shown, keys = (re.findall(rf"^\s*{name}\s+([^;\s]+)\s*;", text, re.MULTILINE)
+                   for name in ("ssl_certificate", "ssl_certificate_key"))
     if len(shown) != len(keys) or not shown:
         yield f"{file}: needs as many ssl_certificate_key as ssl_certificate, and one at least"
     for place, key in zip(shown, keys):
@@ -192,7 +201,8 @@ def of_certificates(file: Path, text: str) -> Iterator[str]:
 
 def of_certificate(place: Path, key: Path, now: datetime.datetime) -> Iterator[str]:
     try:
-        first = re.search(r"-----BEGIN CERTIFICATE-----.*?-----END CERTIFICATE-----", place.read_text(errors="replace"), re.DOTALL)
+        first = re.search(r"-----BEGIN CERTIFICATE-----.*?-----END CERTIFICATE-----", place.read_text(errors="replace"),
+                          re.DOTALL)
         end = certificate.end_of(ssl.PEM_cert_to_DER_cert(first[0])) if first else None
     except OSError as fault:
         yield f"{place} {why(fault)}"
@@ -203,7 +213,8 @@ def of_certificate(place: Path, key: Path, now: datetime.datetime) -> Iterator[s
         yield f"{place} has no certificate that can be read"
         return
     if end <= now + datetime.timedelta(days=SOON):
-        yield f"the certificate {place} {'ended' if end <= now else 'ends'} on {end:%Y-%m-%d}; renew it, and reload nginx"
+        yield (f"the certificate {place} {'ended' if end <= now else 'ends'} on {end:%Y-%m-%d}; renew it, "
+               "and reload nginx")
     try:
         key.read_bytes()
         ssl.SSLContext(ssl.PROTOCOL_TLS_SERVER).load_cert_chain(place, key, password="")
@@ -228,9 +239,12 @@ def faults(folder: Path, nginx: Path) -> Iterator[str]:
 
 
 def parser() -> command.Parser:
-    found = command.Parser("Judges acd.env, roles, users, board.json, and nginx's ports and certificate. It starts nothing, and prints a line for each fault.")
-    found.add_argument("--folder", type=Path, default=settings.FILE.parent, metavar="FOLDER", help=f"where the first four are; {settings.FILE.parent} unless given")
-    found.add_argument("--nginx", type=Path, default=Path("/etc/nginx"), metavar="FOLDER", help="where nginx's configuration is; /etc/nginx unless given")
+    found = command.Parser("Judges acd.env, roles, users, board.json, and nginx's ports and certificate. "
+                           "It starts nothing, and prints a line for each fault.")
+    found.add_argument("--folder", type=Path, default=settings.FILE.parent, metavar="FOLDER",
+                       help=f"where the first four are; {settings.FILE.parent} unless given")
+    found.add_argument("--nginx", type=Path, default=Path("/etc/nginx"), metavar="FOLDER",
+                       help="where nginx's configuration is; /etc/nginx unless given")
     return found
 
 

@@ -18,14 +18,23 @@ ENDING = (signal.SIGHUP, signal.SIGINT, signal.SIGTERM)
 FAILED, REFUSED = 1, 2
 # what the new names say, and what the old ones say in its place: the words of a command, and sentences
 OLD_WORDS = ((r"\bacdctl restore --undo", "acd-copy --undo"), (r"\bacdctl restore\b", "acd-copy --restore"),
-             (r"\bacdctl (calls|carry|certificate|copy|export|follow|forget|gate|local|node|plan|ready|tick|trail)\b", r"acd-\1"),
-             (r"; it is in (.*), and all older copies are kept$", r"; it lies in \1, and the older copies are all kept"),
-             ("be audited with its archive: ", "be looked at behind its archive: "), ("can't audit with an archive ", "can't look behind an archive "),
-             (" is no folder put-away-", " lies no folder put-away-"), ("isn't sound with ", "isn't sound behind "), (r" is sound with (\S+) \(audit", r" is sound behind \1 (audit"),
-             (" is on another disk than ", " lies on another disk than "), ("this file is elsewhere$", "this file lies elsewhere"), ("and is ignored: remove", "and is passed over: remove"),
-             ("a machine appears twice in ", "a machine stands twice in "), ("the log begins after this ", "the log begins behind this "),
-             (r"^place (\S+) of the log has no entry; ignored \(", r"what stands at place \1 of the log is no entry, and is passed over ("),
-             ("where this folder continues$", "where this folder goes on"), ("^argument --ports: expected one argument$", "--ports needs a value"))
+             (r"\bacdctl (calls|carry|certificate|copy|export|follow|forget|gate|local|node|plan|ready|tick|trail)\b",
+              r"acd-\1"),
+             (r"; it is in (.*), and all older copies are kept$",
+              r"; it lies in \1, and the older copies are all kept"),
+             ("be audited with its archive: ", "be looked at behind its archive: "),
+             ("can't audit with an archive ", "can't look behind an archive "),
+             (" is no folder put-away-", " lies no folder put-away-"), ("isn't sound with ", "isn't sound behind "),
+             (r" is sound with (\S+) \(audit", r" is sound behind \1 (audit"),
+             (" is on another disk than ", " lies on another disk than "),
+             ("this file is elsewhere$", "this file lies elsewhere"),
+             ("and is ignored: remove", "and is passed over: remove"),
+             ("a machine appears twice in ", "a machine stands twice in "),
+             ("the log begins after this ", "the log begins behind this "),
+             (r"^place (\S+) of the log has no entry; ignored \(",
+              r"what stands at place \1 of the log is no entry, and is passed over ("),
+             ("where this folder continues$", "where this folder goes on"),
+             ("^argument --ports: expected one argument$", "--ports needs a value"))
 
 # those of which a fault of the system has Python's form
 PYTHONS_FORM = ("acd-calls", "acd-export", "acd-forget", "acd-plan", "acd-trail")
@@ -101,8 +110,8 @@ def say(text: object) -> None:
 # Words
 
 class Parser(argparse.ArgumentParser):
-    """Of one command. It refuses words in one line. The old names of some commands still do so by `usage:` and a line with `error:`, and those of some take
-    the beginning of an option for the option."""
+    """Of one command. It refuses words in one line. The old names of some commands still do so by `usage:` and a line
+    with `error:`, and those of some take the beginning of an option for the option."""
 
     def __init__(self, about: str, printed_usage: bool = False, took_beginnings: bool = False):
         super().__init__(prog=name, description=spoken(about), allow_abbrev=is_old and took_beginnings, add_help=False)
@@ -153,7 +162,8 @@ def fault_text(fault: OSError, file: object = None) -> str:
 
 
 def run(read: Callable[[list[str]], Any], do: Callable[[Any], int | None], words: list[str]) -> NoReturn:
-    """Reads the words, does what they ask for, and ends with the status that this returned, 0 where it returned none. A fault is told in its lines."""
+    """Reads the words, does what they ask for, and ends with the status that this returned, 0 where it returned none. A
+    fault is told in its lines."""
     options, status = None, 0
     try:
         options = read(words)

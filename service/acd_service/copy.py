@@ -1,8 +1,10 @@
-"""Copies a desk's file with its log, audits the copy, and clears old copies away. Puts a copy back, and takes that back.
+"""Copies a desk's file with its log, audits the copy, and clears old copies away. Puts a copy back, and takes that
+back.
 
-It copies the file while the desk runs, and then halts the desk for its log: if nothing wrote to the file meanwhile, both are what a power cut would leave, and
-every answered request is in them. A copy whose name is its moment alone is good, and has no fewer requests than the copy before. It keeps all other copies
-beside these for a look, ends with status 1, and clears no old copy away. It audits a file that was carried over together with its archive, and copies each
+It copies the file while the desk runs, and then halts the desk for its log: if nothing wrote to the file meanwhile,
+both are what a power cut would leave, and every answered request is in them. A copy whose name is its moment alone is
+good, and has no fewer requests than the copy before. It keeps all other copies beside these for a look, ends with
+status 1, and clears no old copy away. It audits a file that was carried over together with its archive, and copies each
 archive once. It is tested, not proved."""
 import argparse
 import contextlib
@@ -27,7 +29,8 @@ NGINX = Path("/etc/nginx")
 DATE, MOMENT = "YYYY-MM-DD", "%Y-%m-%dT%H%M%SZ"
 NAMED = r"\d{4}-\d\d-\d\dT\d{6}Z"
 DAY = 86400
-# for how many seconds the desk is halted for its log; for how many a copy is tried before the desk is halted for all of it, and the pauses between
+# for how many seconds the desk is halted for its log; for how many a copy is tried before the desk is halted for all of
+# it, and the pauses between
 BRIEF, PATIENCE, PAUSE, LONGEST = 2, 600, 0.1, 60
 # seconds after which a later write of a file has another time, and where the file system counts whole ones
 TICK, SECOND = 0.1, 2.1
@@ -35,7 +38,8 @@ TICK, SECOND = 0.1, 2.1
 MOST = 20
 # seconds from which on a copy takes long, and how many bytes are compared at once
 SLOW, BLOCK = 1, 1 << 20
-CHANGED, LONGER = "its file was written, or moved, while it was copied", "the desk was halted, and its copy takes longer"
+CHANGED = "its file was written, or moved, while it was copied"
+LONGER = "the desk was halted, and its copy takes longer"
 
 
 # of a file its device and inode, its size, and when it was written
@@ -45,11 +49,13 @@ State = tuple[int, int, int, int]
 # A copy
 
 def sources(file: Path, desk: Desk | None) -> dict[str, Path]:
-    """The file and its log, each with its name in the copy: by their paths or, if one was removed or moved from under the desk, as the desk has them open."""
+    """The file and its log, each with its name in the copy: by their paths or, if one was removed or moved from under
+    the desk, as the desk has them open."""
     found: tuple[Path | None, Path | None] = file, log_of(file)
     if desk and desk.moved:
         has = held.opened(desk.process)
-        found = next((one.at for one in has if one.is_database()), None), next((one.at for one in has if not one.is_database()), None)
+        found = (next((one.at for one in has if one.is_database()), None),
+                 next((one.at for one in has if not one.is_database()), None))
         if not found[0]:
             raise Fault(f"the desk, process {desk.process}, has no file open that could be copied")
     return {name: part for name, part in zip((file.name, log_of(file).name), found) if part}
@@ -105,7 +111,8 @@ def take(part: Path, made: Path, end: float | None = None) -> None:
     if made.exists():
         return refresh(part, made, end)
     try:
-        done = subprocess.run(["cp", "--reflink=auto", "--preserve=timestamps", "--", part, made], timeout=end and max(end - time.monotonic(), 0))
+        done = subprocess.run(["cp", "--reflink=auto", "--preserve=timestamps", "--", part, made],
+                              timeout=end and max(end - time.monotonic(), 0))
     except subprocess.TimeoutExpired:
         raise Missed(LONGER) from None
     if done.returncode:
@@ -117,8 +124,9 @@ def halting(desk: Desk | None, seconds: float) -> contextlib.AbstractContextMana
 
 
 def copied(parts: dict[str, Path], desk: Desk | None, new: Path, seconds: float, running: int) -> int:
-    """Copies so many of the parts while the desk runs, of which none may have changed by the end, and the others while it is halted, for so many seconds at
-    most: they are what a power cut would have left. Returns for how many milliseconds the desk was halted."""
+    """Copies so many of the parts while the desk runs, of which none may have changed by the end, and the others while
+    it is halted, for so many seconds at most: they are what a power cut would have left. Returns for how many
+    milliseconds the desk was halted."""
     early, late = list(parts.items())[:running], list(parts.items())[running:]
     before = [settled(part) for _, part in early]
     for name, part in early:
@@ -135,8 +143,8 @@ def copied(parts: dict[str, Path], desk: Desk | None, new: Path, seconds: float,
 
 
 def tried(file: Path, desk: Desk | None, new: Path, seconds: float | None) -> int:
-    """Copies the file with its log, and with the note of the archive that the file continues. Returns for how long the desk was halted: for so many seconds at
-    most or, where this says none, for no more than its log needs."""
+    """Copies the file with its log, and with the note of the archive that the file continues. Returns for how long the
+    desk was halted: for so many seconds at most or, where this says none, for no more than its log needs."""
     parts, note = sources(file, desk), chain.note_of(file)
     take(note, new / note.name)
     if not desk:
@@ -145,24 +153,27 @@ def tried(file: Path, desk: Desk | None, new: Path, seconds: float | None) -> in
 
 
 def taken(file: Path, new: Path, seconds: int) -> Desk | None:
-    """Tries it until nothing writes to the file meanwhile, and at last with a desk that is halted for all of it. Returns the desk that runs over the file, if
-    one does."""
+    """Tries it until nothing writes to the file meanwhile, and at last with a desk that is halted for all of it.
+    Returns the desk that runs over the file, if one does."""
     last, pause, tries, is_slow = time.monotonic() + PATIENCE, PAUSE, 0, False
     why: Missed | None = None
     while True:
         desk, begin = next(iter(desks_over(file)), None), time.monotonic()
         is_last = tries > 0 and begin >= last
         if is_last and not seconds:
-            raise Fault(f"{why}, {tries} times, and ACD_HALT=0 says that the desk isn't halted for all of it; no copy is kept")
+            raise Fault(f"{why}, {tries} times, and ACD_HALT=0 says that the desk isn't halted for all of it; "
+                        "no copy is kept")
         try:
             halt = tried(file, desk, new, seconds if is_last else None)
             if desk:
-                say(f"the desk was halted for {halt} ms{f', for all of the copy: {why}, {tries} times' if is_last else ''}")
+                because = f", for all of the copy: {why}, {tries} times" if is_last else ""
+                say(f"the desk was halted for {halt} ms{because}")
             return desk
         except Missed as missed:
             why, tries = missed, tries + 1
         if not desk or is_last:
-            raise Fault(f"{why}{f', {tries} times, at last with the desk halted for up to {seconds} s (ACD_HALT)' if is_last else ''}; no copy is kept")
+            how = f", {tries} times, at last with the desk halted for up to {seconds} s (ACD_HALT)" if is_last else ""
+            raise Fault(f"{why}{how}; no copy is kept")
         # a file whose copy takes long is made what it is by then, which is quicker
         is_slow = is_slow or time.monotonic() > begin + SLOW
         for half in new.iterdir():
@@ -173,8 +184,8 @@ def taken(file: Path, new: Path, seconds: int) -> Desk | None:
 
 
 def counted(folder: Path, file: Path, executed: int) -> str | None:
-    """Looks how many requests the last sound copy had of the same file, or of one that it goes on from. Returns a line if this one has fewer; else
-    writes down its number."""
+    """Looks how many requests the last sound copy had of the same file, or of one that it goes on from. Returns a line
+    if this one has fewer; else writes down its number."""
     note, same = folder / "executed", {"device": str(os.stat(file).st_dev), "inode": identity(file)}
     earlier = [{**same, "inode": archive.was} for archive in chain.chain(file, [chain.copies_of(folder)])]
     then: dict[str, str] | None
@@ -186,7 +197,8 @@ def counted(folder: Path, file: Path, executed: int) -> str | None:
     if then in (same, *earlier) and executed < before:
         return f"the copy has {executed} executed requests, and the last one of the same file had {before}"
     if then not in (None, same, *earlier):
-        say(f"this is another file than that of the last copy, which had {before} executed requests: counted anew, from {executed}")
+        say(f"this is another file than that of the last copy, which had {before} executed requests: counted anew, "
+            f"from {executed}")
     put.put(note, "".join(f"{name} {value}\n" for name, value in {"executed": str(executed), **same}.items()))
     return None
 
@@ -209,7 +221,8 @@ def kept_aside(new: Path, folder: Path, name: str, why: str) -> NoReturn:
 
 
 def archived(new: Path, folder: Path, file: Path) -> Path | None:
-    """The copied archive that a copy goes on from, if there is one. It copies each archive once, and checks the copies each time."""
+    """The copied archive that a copy goes on from, if there is one. It copies each archive once, and checks the copies
+    each time."""
     copies = chain.copies_of(folder)
     for note in chain.chain(new / file.name, [file.parent, copies]):
         if (file.parent / note.name).is_file():
@@ -228,7 +241,8 @@ def judged(new: Path, folder: Path, file: Path, desk: Desk | None) -> Path:
     if found.verdict == audit.UNAUDITED:
         kept_aside(new, folder, "{}.unaudited", f"the copy's audit wasn't ended: {found.said}")
     if found.verdict == audit.EARLY:
-        kept_aside(new, folder, "{}.early", f"the copy's log ends early, answered requests are missing: the audit says '{found.said}'")
+        kept_aside(new, folder, "{}.early", "the copy's log ends early, answered requests are missing: "
+                                            f"the audit says '{found.said}'")
     if not found.is_good():
         kept_aside(new, folder, "unsound", f"the copy isn't sound: the audit says '{found.said}'")
     if desk and desk.moved:
@@ -251,7 +265,8 @@ def is_sound(copy: Path) -> bool:
 
 
 def superfluous(copies: list[Path], days: int) -> list[Path]:
-    """Those of good copies that nobody needs: all but the last copy of each of the last days that have one, and but the last twenty of today."""
+    """Those of good copies that nobody needs: all but the last copy of each of the last days that have one, and but the
+    last twenty of today."""
     by_day: dict[str, list[Path]] = {}
     for copy in copies:
         by_day.setdefault(copy.name[:len(DATE)], []).append(copy)
@@ -265,8 +280,8 @@ def has_room(made: Path) -> bool:
 
 
 def clear_away(folder: Path, days: int, made: Path) -> None:
-    """Clears away good copies that nobody needs, and then the older ones of today, until the disk has room for two more. Beside one that isn't wholly sound, all
-    that are stay."""
+    """Clears away good copies that nobody needs, and then the older ones of today, until the disk has room for two
+    more. Beside one that isn't wholly sound, all that are stay."""
     # the names sort by their moments
     copies = sorted(path for path in folder.iterdir() if path.is_dir() and re.fullmatch(NAMED, path.name))
     may_go = [copy for copy in copies if copy != made and (is_sound(made) or not is_sound(copy))]
@@ -296,7 +311,8 @@ def clear_half_copies(folder: Path) -> None:
 
 def damaged(file: Path) -> list[Path]:
     """The folders in which acd-ready kept the file and its log as they were, where the log was damaged."""
-    return sorted(folder for folder in file.parent.glob("damaged-*") if folder.is_dir() and any(folder.glob(f"{file.name}*")))
+    kept = file.parent.glob("damaged-*")
+    return sorted(folder for folder in kept if folder.is_dir() and any(folder.glob(f"{file.name}*")))
 
 
 def looked_for(file: Path, found: list[Desk]) -> None:
@@ -327,9 +343,11 @@ def copy(file: Path, folder: Path, keep: int, halt: int) -> bool:
     found = desks_over(file)
     looked_for(file, found)
     for proxy in old_proxies():
-        report(f"{proxy} is of before 1.15: nginx asks the gate for every stranger. Take /usr/share/doc/acd/examples/nginx.conf, or add the lines that "
-               "OPERATING names ('A newer program')")
-    wrong = [desk.moved for desk in found if desk.moved] + [f"{left} is there: the log was damaged as the desk was started" for left in damaged(file)]
+        report(f"{proxy} is of before 1.15: nginx asks the gate for every stranger. "
+               "Take /usr/share/doc/acd/examples/nginx.conf, or add the lines that OPERATING names ('A newer "
+               "program')")
+    wrong = [desk.moved for desk in found if desk.moved] + [
+        f"{left} is there: the log was damaged as the desk was started" for left in damaged(file)]
     broken = list(chain.look(chain.copies_of(folder)))
     for line in wrong + broken:
         report(line)
@@ -357,28 +375,35 @@ def number(text: str) -> int:
 
 def halt_seconds(text: str) -> int:
     if not re.fullmatch("0|[1-9][0-9]{0,2}", text):
-        raise argparse.ArgumentTypeError(f"to halt the desk for '{text}' seconds: that isn't a whole number from 0 to 999")
+        raise argparse.ArgumentTypeError(f"to halt the desk for '{text}' seconds: that isn't a whole number from 0 to "
+                                         "999")
     return int(text)
 
 
 def parser() -> command.Parser:
     found = command.Parser(ABOUT)
     add_places(found)
-    found.add_argument("--keep", type=number, metavar="DAYS", help="of how many days to keep the last good copy; ACD_COPIES, else 7")
-    found.add_argument("--halt", type=halt_seconds, metavar="SECONDS", help="for how many seconds at most the desk may be halted; ACD_HALT, else 20")
+    found.add_argument("--keep", type=number, metavar="DAYS",
+                       help="of how many days to keep the last good copy; ACD_COPIES, else 7")
+    found.add_argument("--halt", type=halt_seconds, metavar="SECONDS",
+                       help="for how many seconds at most the desk may be halted; ACD_HALT, else 20")
     does = found.add_mutually_exclusive_group()
     if command.is_old:
         does.add_argument("--restore", metavar="MOMENT", help="put the copy of this moment back")
         does.add_argument("--undo", action="store_true", help="take the last restore back")
-    does.add_argument("--continue", dest="continues", action="store_true", help="let a halted desk continue, and copy nothing")
+    does.add_argument("--continue", dest="continues", action="store_true",
+                      help="let a halted desk continue, and copy nothing")
     found.set_defaults(restore=None, undo=False)
     return found
 
 
 def add_places(found: argparse.ArgumentParser) -> None:
-    """Where the file and its copies are, for copies and restores. The settings are those of the desk's own file: another file has its copies beside it."""
-    found.add_argument("--file", metavar="F", help=f"the desk's file; that of ACD_FILE, else {settings.DEFAULTS['ACD_FILE']}")
-    found.add_argument("--folder", metavar="COPIES", help="the folder of the copies; that of ACD_COPY_FOLDER, else copies beside the file")
+    """Where the file and its copies are, for copies and restores. The settings are those of the desk's own file:
+    another file has its copies beside it."""
+    found.add_argument("--file", metavar="F", help="the desk's file; that of ACD_FILE, "
+                                                   f"else {settings.DEFAULTS['ACD_FILE']}")
+    found.add_argument("--folder", metavar="COPIES",
+                       help="the folder of the copies; that of ACD_COPY_FOLDER, else copies beside the file")
 
 
 def read(words: list[str]) -> argparse.Namespace:
@@ -389,7 +414,8 @@ def with_settings(options: argparse.Namespace) -> argparse.Namespace:
     """The options, with what the settings give where they don't."""
     has = settings.current() if not options.file else settings.DEFAULTS
     options.file = held.place(options.file or has["ACD_FILE"])
-    options.folder = Path(os.path.abspath(options.folder or has.get("ACD_COPY_FOLDER") or options.file.parent / "copies"))
+    options.folder = Path(os.path.abspath(options.folder or has.get("ACD_COPY_FOLDER") or
+                                          options.file.parent / "copies"))
     try:
         options.keep = options.keep or number(has["ACD_COPIES"])
         options.halt = halt_seconds(has["ACD_HALT"]) if options.halt is None else options.halt

@@ -1,7 +1,9 @@
-"""Keeps a copy of a desk that runs elsewhere: asks it for the requests that it has executed, page after page, and feeds each to a desk of its own over a file.
+"""Keeps a copy of a desk that runs elsewhere: asks it for the requests that it has executed, page after page, and feeds
+each to a desk of its own over a file.
 
-It feeds the next one once it has compared the copy's reply with the desk's. Each time it asks for the copy's last request once more: if the desk has
-another one there, or fewer requests, the two have different histories, and it feeds nothing more. It is tested, not proved."""
+It feeds the next one once it has compared the copy's reply with the desk's. Each time it asks for the copy's last
+request once more: if the desk has another one there, or fewer requests, the two have different histories, and it feeds
+nothing more. It is tested, not proved."""
 import argparse
 import contextlib
 import json
@@ -18,8 +20,8 @@ from acd_client import Client, Unanswered
 from acd_service import command, pair, put, reach, settings
 from acd_service.command import NOTICE, Fault, report, say
 
-# seconds between two looks at a desk that has nothing new; between two attempts; and for how long a file may be open elsewhere, as by the desk that a
-# killed one left, and what doesn't answer is asked again where an end is wanted
+# seconds between two looks at a desk that has nothing new; between two attempts; and for how long a file may be open
+# elsewhere, as by the desk that a killed one left, and what doesn't answer is asked again where an end is wanted
 LOOK, PAUSE, SOON = 0.1, 1, 5
 # beside the copy: what it said of it last; it writes this at its end, and so often in seconds
 NOTE, NOTED = ".followed", 10
@@ -67,7 +69,8 @@ class Page(NamedTuple):
 
 
 def object_at(text: str, at: int) -> tuple[dict[str, str], int]:
-    """The members of the object that begins there, each as it is spelt, and where it ends; a desk writes no blanks between them."""
+    """The members of the object that begins there, each as it is spelt, and where it ends; a desk writes no blanks
+    between them."""
     found: dict[str, str] = {}
     between = "{"
     while between != "}":
@@ -93,7 +96,8 @@ def records_in(text: str) -> Iterator[Record]:
     at = 1
     while text != "[]" and at < len(text):
         found, at = object_at(text, at)
-        yield Record(number(found["stamp"]), number(found["moment"]), found["request"], number(found["status"]), found["reply"])
+        yield Record(number(found["stamp"]), number(found["moment"]), found["request"], number(found["status"]),
+                     found["reply"])
         if text[at] != ("," if at + 1 < len(text) else "]"):
             raise ValueError("no list")
         at += 1
@@ -150,7 +154,8 @@ class Copy:
             time.sleep(PAUSE)
 
     def make(self) -> None:
-        """If there is no file, makes one of a desk without requests, which gets its name once it is whole: a start that is killed meanwhile leaves no file that can't be opened."""
+        """If there is no file, makes one of a desk without requests, which gets its name once it is whole: a start that
+        is killed meanwhile leaves no file that can't be opened."""
         folder, name = os.path.split(self.file)
         new = Path(folder, f".{name}.acd-follow")
         try:
@@ -251,7 +256,8 @@ def undisturbed() -> Iterator[None]:
 # The follower
 
 class Trouble:
-    """A fault that keeps it from going on: it reports the fault once, and waits for its end for ever, or for some seconds only."""
+    """A fault that keeps it from going on: it reports the fault once, and waits for its end for ever, or for some
+    seconds only."""
 
     def __init__(self, is_brief: bool) -> None:
         self.is_brief = is_brief
@@ -282,7 +288,8 @@ class Follower:
 
     def state(self) -> str:
         """The last requests of the copy, and of the desk by its last report."""
-        reported = "the desk hasn't answered yet" if self.reported is None else f"the last that the desk told of is {self.reported}, at {moment_text(self.when)}"
+        reported = ("the desk hasn't answered yet" if self.reported is None
+                    else f"the last that the desk told of is {self.reported}, at {moment_text(self.when)}")
         return f"{self.copy.file} has the requests up to {self.copy.last}; {reported}"
 
     def note(self) -> None:
@@ -297,7 +304,8 @@ class Follower:
         status, data = self.desk.exchange("GET", f"/requests?after={max(self.copy.last - 1, 0)}")
         if status != 200:
             name = re.search(rb'"name":"([A-Za-z]{1,40})"', data)
-            raise Fault(f"the desk answered {status}{f' {name[1].decode()}' if name else ''}: it tells no requests, or not to this login")
+            raise Fault(f"the desk answered {status}{f' {name[1].decode()}' if name else ''}: it tells no requests, "
+                        "or not to this login")
         page = page_of(data)
         self.reported, self.when = page.last, time.time()
         return page, time.monotonic() - begin
@@ -318,18 +326,20 @@ class Follower:
         """Refuses a copy that isn't a beginning of the desk's requests."""
         copy = self.copy
         if page.last < copy.last:
-            raise Fault(f"the desk has the requests up to {page.last}, and {copy.file} those up to {copy.last}: it isn't the desk that was followed, "
-                        "or an older copy was put back there. Nothing was fed", status=DIFFERS)
+            raise Fault(f"the desk has the requests up to {page.last}, and {copy.file} those up to {copy.last}: "
+                        "it isn't the desk that was followed, or an older copy was put back there. Nothing was fed",
+                        status=DIFFERS)
         needed, first = max(copy.last, 1), page.records[0].stamp if page.records else None
         if copy.last and first == copy.last + 1:
             # a cut has just left the copy's last request behind: what follows it is there, and is compared
             return say(f"the desk's archive alone has request {copy.last}, the last of {copy.file}: it isn't compared")
         if page.last >= needed and (first is None or first > needed):
-            raise Fault(f"request {needed} is needed of the desk, and {f'the first that it has is {first}' if first else 'it has none from there on'}: "
+            raise Fault(f"request {needed} is needed of the desk, "
+                        f"and {f'the first that it has is {first}' if first else 'it has none from there on'}: "
                         f"{copy.file} has to be made of the desk's archive. Nothing was fed", status=LACKS)
         if copy.last and page.records[0] != copy.record:
-            raise Fault(f"{copy.file} has another request {copy.last} than the desk: it isn't its copy, and nothing was fed",
-                        *self.both(page.records[0], copy.record), status=DIFFERS)
+            raise Fault(f"{copy.file} has another request {copy.last} than the desk: it isn't its copy, "
+                        "and nothing was fed", *self.both(page.records[0], copy.record), status=DIFFERS)
 
     def both(self, of_desk: Record, of_copy: Record | None) -> tuple[str, str]:
         return f"the desk: {of_desk.text()}", f"{self.copy.file}: {of_copy.text() if of_copy else 'none'}"
@@ -341,9 +351,11 @@ class Follower:
             if record == before:
                 continue
             if record.stamp != self.copy.last + 1:
-                raise Fault(f"request {self.copy.last + 1} is needed of the desk, and isn't among those that it tells", status=LACKS)
+                raise Fault(f"request {self.copy.last + 1} is needed of the desk, and isn't among those that it tells",
+                            status=LACKS)
             if before and record.moment < before.moment:
-                raise Fault("the desk tells a request whose moment is before that of the one before it", *self.both(record, before), status=DIFFERS)
+                raise Fault("the desk tells a request whose moment is before that of the one before it",
+                            *self.both(record, before), status=DIFFERS)
             with undisturbed():
                 self.feed(record)
 
@@ -351,10 +363,12 @@ class Follower:
         """Feeds one request; the copy's answer has to be the one that the desk reported."""
         answer = self.copy.fed(record)
         if answer != record:
-            raise Fault(f"{self.copy.file} answers a request otherwise than the desk did, and isn't its copy", *self.both(record, answer), status=DIFFERS)
+            raise Fault(f"{self.copy.file} answers a request otherwise than the desk did, "
+                        "and isn't its copy", *self.both(record, answer), status=DIFFERS)
 
     def round(self) -> float | None:
-        """Asks once, and feeds what there is; how many seconds to wait before the next time, nothing where it has caught up and is to end."""
+        """Asks once, and feeds what there is; how many seconds to wait before the next time, nothing where it has
+        caught up and is to end."""
         page, took = self.insisted()
         self.compare(page)
         if page.records and page.records[-1].stamp > self.copy.last:
@@ -362,8 +376,8 @@ class Follower:
             fed = self.copy.last
             self.copy.look()
             if self.copy.last != fed:
-                raise Fault(f"{self.copy.file} has the requests up to {self.copy.last}, where it was fed up to {fed}: the desk told one of them twice",
-                            status=DIFFERS)
+                raise Fault(f"{self.copy.file} has the requests up to {self.copy.last}, where it was fed up to {fed}: "
+                            "the desk told one of them twice", status=DIFFERS)
         if self.copy.last < page.last:
             # the desk has as long for others as it had for this
             return took
@@ -393,12 +407,17 @@ class Follower:
 # The command
 
 def parser() -> command.Parser:
-    found = command.Parser("Keeps a copy of a desk that runs elsewhere, by the requests that it has executed.", printed_usage=True)
-    found.add_argument("address", nargs="?", type=reach.address, metavar="URL", help="the desk's address, as http://127.0.0.1:8080 or https://desk.example:8443")
-    found.add_argument("--file", metavar="G", help="the file of the copy, which is made if it isn't there; with --last that of ACD_FILE unless given")
+    found = command.Parser("Keeps a copy of a desk that runs elsewhere, by the requests that it has executed.",
+                           printed_usage=True)
+    found.add_argument("address", nargs="?", type=reach.address, metavar="URL",
+                       help="the desk's address, as http://127.0.0.1:8080 or https://desk.example:8443")
+    found.add_argument("--file", metavar="G", help="the file of the copy, which is made if it isn't there; "
+                                                   "with --last that of ACD_FILE unless given")
     found.add_argument("--once", action="store_true", help="end as soon as the copy has all that the desk told")
-    found.add_argument("--last", action="store_true", help="print what was last said of the copy, and end; it takes no URL")
-    found.add_argument("--desk", default="acd", metavar="PROGRAM", help="the desk's program that keeps the copy; acd unless given")
+    found.add_argument("--last", action="store_true",
+                       help="print what was last said of the copy, and end; it takes no URL")
+    found.add_argument("--desk", default="acd", metavar="PROGRAM",
+                       help="the desk's program that keeps the copy; acd unless given")
     reach.add_login_options(found)
     return found
 

@@ -1,8 +1,10 @@
-"""Makes a caller's number unknown in the archives that a desk's file goes on from: it replaces the number in all of them by another one, which is in no file.
+"""Makes a caller's number unknown in the archives that a desk's file goes on from: it replaces the number in all of
+them by another one, which is in no file.
 
-It changes each archive in a copy, which it makes anew row by row, so that nothing of the number is left in free pages; it compares all other content, and
-audits all files as before. Then the copies replace the archives, one after the other, and the archives themselves are put away until --confirm. It doesn't
-touch the desk's file, and a desk may run over it meanwhile; while that file has the number, it does nothing. It is tested, not proved."""
+It changes each archive in a copy, which it makes anew row by row, so that nothing of the number is left in free pages;
+it compares all other content, and audits all files as before. Then the copies replace the archives, one after the
+other, and the archives themselves are put away until --confirm. It doesn't touch the desk's file, and a desk may run
+over it meanwhile; while that file has the number, it does nothing. It is tested, not proved."""
 import argparse
 import contextlib
 import fcntl
@@ -66,8 +68,8 @@ def requests_with(rows: sqlite3.Connection, device: str) -> sqlite3.Cursor:
 
 def tables_with(rows: sqlite3.Connection, device: str) -> list[str]:
     """The tables that have the number."""
-    found = [table for table, columns in COLUMNS.items()
-             if rows.execute(f"SELECT 1 FROM {table} WHERE ? IN ({', '.join(columns)}) LIMIT 1", (number_of(device),)).fetchone()]
+    found = [table for table, columns in COLUMNS.items() if rows.execute(
+        f"SELECT 1 FROM {table} WHERE ? IN ({', '.join(columns)}) LIMIT 1", (number_of(device),)).fetchone()]
     return found + ["kept"] * (next(requests_with(rows, device), None) is not None)
 
 
@@ -81,7 +83,8 @@ def refuse_others(rows: sqlite3.Connection, file: Path | str, device: str) -> No
             raise Fault(f"{device} is in a {column} of {table} in {file}, and would stay there; nothing was changed")
     for stamp, text in requests_with(rows, device):
         if f'"{device}"' in changed(text, device, ""):
-            raise Fault(f"{device} is in request {stamp} of {file} as something other than a device, and would stay there; nothing was changed")
+            raise Fault(f"{device} is in request {stamp} of {file} as something other than a device, "
+                        "and would stay there; nothing was changed")
 
 
 @contextlib.contextmanager
@@ -110,15 +113,18 @@ def holds(file: Path, scratch: Path, device: str) -> bool:
 
 
 def others_with(file: Path, archives: Iterable[Path], copies: Path, scratch: Path, device: str) -> Iterator[Path]:
-    """The archives from which the file doesn't go on, and the folders of copies and of files that were put away, that still have the number."""
+    """The archives from which the file doesn't go on, and the folders of copies and of files that were put away, that
+    still have the number."""
     names = {archive.name for archive in archives}
     for one in sorted((*file.parent.glob(f"{file.name}-*"), *chain.copies_of(copies).glob(f"{file.name}-*"))):
         if chain.is_name(file, one.name) and one.name not in names and holds(one, scratch, device):
             yield one
-    folders = [folder for pattern in KEPT_BESIDE for folder in file.parent.glob(pattern) if not (folder / STATE).exists()]
+    folders = [folder for pattern in KEPT_BESIDE for folder in file.parent.glob(pattern)
+               if not (folder / STATE).exists()]
     folders += [folder for folder in copies.glob("*") if folder.is_dir() and folder.name != chain.FOLDER]
     for folder in sorted(folders):
-        files = [one for one in folder.rglob(f"{file.name}*") if one.is_file() and (one.name == file.name or chain.is_name(file, one.name))]
+        files = [one for one in folder.rglob(f"{file.name}*") if one.is_file() and
+                 (one.name == file.name or chain.is_name(file, one.name))]
         if any(holds(one, scratch, device) for one in files):
             yield folder
 
@@ -126,16 +132,20 @@ def others_with(file: Path, archives: Iterable[Path], copies: Path, scratch: Pat
 # The archives
 
 def chained(file: Path, copies: Path, named: list[Path]) -> dict[Path, str]:
-    """The archives in their order, from the oldest on, with their digests: the named ones, which have to be all, with the digests that the notes have."""
+    """The archives in their order, from the oldest on, with their digests: the named ones, which have to be all, with
+    the digests that the notes have."""
     notes = chain.chain(file, [copies])[::-1]
-    wanted = {note.name: note.digest for note in notes if any((folder / note.name).is_file() for folder in (file.parent, copies))}
+    wanted = {note.name: note.digest for note in notes
+              if any((folder / note.name).is_file() for folder in (file.parent, copies))}
     if sorted(path.name for path in named) != sorted(wanted):
-        raise Fault(f"{file} continues {', '.join(wanted) or 'no archive'}: name these, each by --archive; nothing was changed")
+        raise Fault(f"{file} continues {', '.join(wanted) or 'no archive'}: name these, each by --archive; "
+                    "nothing was changed")
     for path in named:
         if path.is_file() and path.stat().st_dev != file.parent.stat().st_dev:
             raise Fault(f"{path} is on another disk than {file}: put it beside that; nothing was changed")
         if holds_something(log_of(path)) or chain.digest(path) != wanted[path.name]:
-            raise Fault(f"{path} isn't the archive that was noted: its digest is another one, or it has a log; nothing was changed")
+            raise Fault(f"{path} isn't the archive that was noted: its digest is another one, or it has a log; "
+                        "nothing was changed")
     return {path: wanted[path.name] for path in sorted(named, key=lambda path: list(wanted).index(path.name))}
 
 
@@ -161,7 +171,8 @@ def replace(new: Path, device: str, alias: str) -> None:
             book.execute(f"PRAGMA {pragma}")
         for table, columns in COLUMNS.items():
             for column in columns:
-                book.execute(f"UPDATE {table} SET {column} = ? WHERE {column} = ?", (number_of(alias), number_of(device)))
+                book.execute(f"UPDATE {table} SET {column} = ? WHERE {column} = ?",
+                             (number_of(alias), number_of(device)))
         for stamp, text in requests_with(book, device).fetchall():
             book.execute("UPDATE kept SET request = ? WHERE stamp = ?", (changed(text, device, alias), stamp))
         book.execute("VACUUM")
@@ -171,12 +182,15 @@ def replace(new: Path, device: str, alias: str) -> None:
 
 
 def compare(new: Path, archive: Path, device: str, alias: str) -> None:
-    """Refuses a new archive unless it has the archive's rows, with the alias in place of the number, and nothing of the number."""
+    """Refuses a new archive unless it has the archive's rows, with the alias in place of the number, and nothing of the
+    number."""
     with contextlib.closing(sqlite3.connect(chain.immutable(new), uri=True)) as book:
         book.execute("ATTACH ? AS old", (chain.immutable(archive),))
-        book.create_function("changed", 1, lambda text: changed(text, device, alias) if f'"{device}"' in text else text, deterministic=True)
-        names = [name for name, in book.execute("SELECT name FROM old.sqlite_master WHERE type = 'table' ORDER BY name")]
-        if names != [name for name, in book.execute("SELECT name FROM main.sqlite_master WHERE type = 'table' ORDER BY name")]:
+        book.create_function("changed", 1, lambda text: changed(text, device, alias) if f'"{device}"' in text else text,
+                             deterministic=True)
+        listed = "SELECT name FROM {}.sqlite_master WHERE type = 'table' ORDER BY name"
+        names, new_names = ([name for name, in book.execute(listed.format(of))] for of in ("old", "main"))
+        if names != new_names:
             raise Fault(f"{new} has other tables than {archive}; nothing was changed")
         for table in names:
             columns = [name for _, name, *_ in book.execute(f"PRAGMA old.table_info({table})")]
@@ -212,7 +226,8 @@ def copy_of(file: Path, scratch: Path | str) -> Path:
 
 
 def audits(program: str, links: list[Path]) -> str:
-    """The program's audits of copies: of each file with the one before it as its archive. A program without such an audit audits all of them as one file."""
+    """The program's audits of copies: of each file with the one before it as its archive. A program without such an
+    audit audits all of them as one file."""
     with tempfile.TemporaryDirectory(dir=links[-1].parent) as scratch:
         links = [copy_of(link, scratch) for link in links]
         said = [audit(program, links[0])]
@@ -225,7 +240,8 @@ def audits(program: str, links: list[Path]) -> str:
 
 
 def audit(program: str, file: Path) -> str:
-    done = subprocess.run([program, "audit", "--file", file], stdin=subprocess.DEVNULL, stdout=subprocess.PIPE, stderr=subprocess.STDOUT, text=True)
+    done = subprocess.run([program, "audit", "--file", file], stdin=subprocess.DEVNULL, stdout=subprocess.PIPE,
+                          stderr=subprocess.STDOUT, text=True)
     if not holds_something(log_of(file)):
         log_of(file).unlink(missing_ok=True)
     return done.stdout.strip()
@@ -259,8 +275,8 @@ class Replaced(TypedDict):
 
 
 class Forgetting:
-    """A folder put-away-DATE-RANDOM with the new archives in its folder `new`, and with the old ones that were put away; and its state: the place of each
-    archive, and its digests, old and new."""
+    """A folder put-away-DATE-RANDOM with the new archives in its folder `new`, and with the old ones that were put
+    away; and its state: the place of each archive, and its digests, old and new."""
 
     def __init__(self, folder: Path) -> None:
         self.folder = folder
@@ -270,7 +286,8 @@ class Forgetting:
         return not (self.folder / "new").exists()
 
     def go(self, file: Path, copies: Path) -> None:
-        """Each step is on the disk before the next one, and the places of the files show the next step, whenever this was broken off."""
+        """Each step is on the disk before the next one, and the places of the files show the next step, whenever this
+        was broken off."""
         for archive in self.state:
             at, new, copy = Path(archive["at"]), self.folder / "new" / archive["name"], copies / archive["name"]
             if new.exists():
@@ -290,7 +307,8 @@ class Forgetting:
 
     @staticmethod
     def put_in_copies(new: Path, copy: Path, archive: Replaced) -> None:
-        if not copy.is_file() or not Path(f"{copy}{chain.DIGEST}").exists() or chain.read_digest(copy) != archive["old"]:
+        is_noted = copy.is_file() and Path(f"{copy}{chain.DIGEST}").exists()
+        if not is_noted or chain.read_digest(copy) != archive["old"]:
             return
         half = copy.with_name(f".{copy.name}.new")
         shutil.copyfile(new, half)
@@ -310,7 +328,8 @@ def forgettings(file: Path) -> list[Forgetting]:
 
 def made(file: Path, archives: dict[Path, str], folder: Path) -> Forgetting:
     """The folder gets its state, and then its name: nobody knows of it before."""
-    state: list[Replaced] = [{"at": str(archive), "name": archive.name, "old": digest, "new": chain.digest(folder / "new" / archive.name)}
+    state: list[Replaced] = [{"at": str(archive), "name": archive.name, "old": digest,
+                              "new": chain.digest(folder / "new" / archive.name)}
                              for archive, digest in archives.items()]
     (folder / STATE).write_text(json.dumps(state) + "\n")
     sync(folder / STATE, folder / "new", folder)
@@ -337,7 +356,8 @@ def prepared(file: Path, archives: dict[Path, str], device: str, program: str, s
         opened(desk, links, scratch).close()
         new_audits = audits(program, [*links, desk])
         if new_audits != old_audits:
-            raise Fault(f"the audit says '{new_audits}' of what was made, and '{old_audits}' of what is there; nothing was changed")
+            raise Fault(f"the audit says '{new_audits}' of what was made, and '{old_audits}' of what is there; "
+                        "nothing was changed")
         say(f"the audit says '{new_audits}' of the new archives with {file}, as before")
         return made(file, archives, folder)
     except BaseException:
@@ -380,12 +400,13 @@ def forget(file: Path, copies: Path, named: list[Path], device: str, program: st
             refuse_others(rows, link, device)
             found[link] = tables_with(rows, device)
             if found[file]:
-                raise Fault(f"{device} is still in {file} ({', '.join(found[file])}). The first carry-over two days or more after its last call removes it; "
-                            "nothing was changed")
+                raise Fault(f"{device} is still in {file} ({', '.join(found[file])}). The first carry-over two days or "
+                            "more after its last call removes it; nothing was changed")
     if any(found.values()):
         done = prepared(file, archives, device, program, scratch)
         done.go(file, copies)
-        say(f"Removed {device} from all archives. The old ones are in {done.folder}; delete them with acdctl forget --confirm")
+        say(f"Removed {device} from all archives. The old ones are in {done.folder}; delete them with acdctl forget "
+            "--confirm")
     else:
         say(f"{device} is in no archive")
     for place in others_with(file, archives, copies.parent, scratch, device):
@@ -418,7 +439,8 @@ def parser() -> command.Parser:
     found.add_argument("--archive", action="append", default=[], type=Path, metavar="A",
                        help="an archive that the file continues; all of them must be named")
     settings.add_file(found)
-    found.add_argument("--folder", type=Path, metavar="COPIES", help="the folder of the copies; copies beside the file unless given")
+    found.add_argument("--folder", type=Path, metavar="COPIES",
+                       help="the folder of the copies; copies beside the file unless given")
     found.add_argument("--desk", default="acd", metavar="PROGRAM", help="the desk's program; acd unless given")
     return found
 
@@ -438,7 +460,8 @@ def do(options: argparse.Namespace) -> None:
             if options.confirm:
                 confirm(options.file)
             else:
-                forget(options.file, options.folder, options.archive, options.caller, shutil.which(options.desk) or options.desk, Path(scratch))
+                forget(options.file, options.folder, options.archive, options.caller,
+                       shutil.which(options.desk) or options.desk, Path(scratch))
     except ValueError as fault:
         raise Fault(fault) from None
 

@@ -47,7 +47,8 @@ OLD = {f"acd-{name}": name for name in COMMANDS if name not in ("check", "record
 def usage() -> str:
     width = max(map(len, COMMANDS))
     lines = [f"  {name:{width}}  {each.about}" for name, each in COMMANDS.items()]
-    return "\n".join(["usage: acdctl COMMAND [OPTION ..]", "", "Commands:", *lines, "", "Options:", f"  {'--help':{width}}  print this, and after a command what it takes",
+    return "\n".join(["usage: acdctl COMMAND [OPTION ..]", "", "Commands:", *lines, "", "Options:",
+                      f"  {'--help':{width}}  print this, and after a command what it takes",
                       f"  {'--version':{width}}  print the version"])
 
 
@@ -57,7 +58,8 @@ def run(name: str, called: str, words: list[str]) -> NoReturn:
 
 
 def is_first_of_the_day(old: str) -> bool:
-    """Whether this user hasn't used the old name within a day; where no file can be made, as in a unit, each use counts as the first one."""
+    """Whether this user hasn't used the old name within a day; where no file can be made, as in a unit, each use counts
+    as the first one."""
     try:
         file = os.open(f"{STAMPS}/{old}.{os.geteuid()}.told", os.O_WRONLY | os.O_CREAT | os.O_NOFOLLOW, 0o600)
     except OSError:
@@ -78,7 +80,8 @@ def tell_new_words(old: str) -> None:
     """Once a day, in the journal alone: scripts read what the command prints."""
     if os.path.exists(JOURNAL) and is_first_of_the_day(old):
         syslog.openlog(old)
-        syslog.syslog(syslog.LOG_NOTICE, f"'{old}' is 'acdctl {OLD[old]}' now; the next minor version doesn't have the old name any more")
+        syslog.syslog(syslog.LOG_NOTICE, f"'{old}' is 'acdctl {OLD[old]}' now; the next minor version doesn't have the "
+                                         "old name any more")
         syslog.closelog()
 
 
@@ -95,5 +98,6 @@ def main(argv: list[str]) -> NoReturn:
     if words == ["--version"]:
         print(f"acdctl {VERSION}")
         sys.exit(0)
-    command.report(f"there is no command '{words[0]}': acdctl --help names all" if words else "which command? acdctl --help names all")
+    command.report(f"there is no command '{words[0]}': acdctl --help names all" if words
+                   else "which command? acdctl --help names all")
     sys.exit(2)

@@ -1,5 +1,5 @@
-"""Prints the plan of a desk as `acd import` reads it, out of the desk's snapshot: its JSON, or the line that `acd lines --reads` answers.
-Or prints the requests that make it another plan, and sends them."""
+"""Prints the plan of a desk as `acd import` reads it, out of the desk's snapshot: its JSON, or the line that `acd lines
+--reads` answers. Or prints the requests that make it another plan, and sends them."""
 import argparse
 import csv
 import io
@@ -20,9 +20,12 @@ LONGEST, MOST_SECONDS = 1048576, 3600
 MARK = b"\xef\xbb\xbf"
 DEVICE, AGENT, NAME, SECONDS, NOTHING = "[0-9]{1,15}", "[0-9]{1,9}", "[ -~]{1,40}", "[0-9]{1,4}", ""
 # the forms of number, name, ring and wrap
-FORMS = {"group": (DEVICE, NAME, SECONDS, SECONDS), "station": (DEVICE, NOTHING, NOTHING, NOTHING), "agent": (AGENT, NAME, NOTHING, NOTHING)}
+FORMS = {"group": (DEVICE, NAME, SECONDS, SECONDS), "station": (DEVICE, NOTHING, NOTHING, NOTHING),
+         "agent": (AGENT, NAME, NOTHING, NOTHING)}
 # the same in words
-WORDS = {DEVICE: "1 to 15 digits", AGENT: "1 to 9 digits", NAME: "1 to 40 characters of ASCII, from the blank to ~ (Mueller for Müller)", SECONDS: f"0 to {MOST_SECONDS} seconds", NOTHING: "empty"}
+WORDS = {DEVICE: "1 to 15 digits", AGENT: "1 to 9 digits",
+         NAME: "1 to 40 characters of ASCII, from the blank to ~ (Mueller for Müller)",
+         SECONDS: f"0 to {MOST_SECONDS} seconds", NOTHING: "empty"}
 
 
 class Row(NamedTuple):
@@ -73,7 +76,8 @@ def priorities(desk: dict[str, Any], requester: str, invoke: int) -> Iterator[Re
     for group in desk["groups"]:
         if "priority" in group:
             invoke += 1
-            yield {"requester": requester, "invoke": invoke, "service": "setGroupPriority", "device": group["device"], "priority": group["priority"]}
+            yield {"requester": requester, "invoke": invoke, "service": "setGroupPriority",
+                   "device": group["device"], "priority": group["priority"]}
 
 
 # The plan of a file
@@ -102,10 +106,12 @@ def faulty_member(fields: list[str]) -> str | None:
 def wanted_of(fields: list[str], member: str) -> str:
     """The rule for a faulty member of a row, in words."""
     if member == "fields":
-        return f"a row has {len(HEADER)} fields, with commas between them; this one has {len(fields)}" if len(fields) != len(HEADER) else "it isn't UTF-8: save the file as UTF-8"
+        return (f"a row has {len(HEADER)} fields, with commas between them; this one has {len(fields)}"
+                if len(fields) != len(HEADER) else "it isn't UTF-8: save the file as UTF-8")
     if member == "kind":
         return "its kind must be group, station or agent"
-    return f"{'an' if fields[0] == 'agent' else 'a'} {fields[0]}'s {member} must be {WORDS[FORMS[fields[0]][HEADER.index(member) - 1]]}"
+    return (f"{'an' if fields[0] == 'agent' else 'a'} {fields[0]}'s {member} must be "
+            f"{WORDS[FORMS[fields[0]][HEADER.index(member) - 1]]}")
 
 
 def shown(character: str) -> str:
@@ -179,11 +185,13 @@ def changes(wanted: dict[Key, Row], present: dict[Key, Row]) -> list[Request]:
                for what, row in present.items() if what in wanted and wanted[what][0] != row[0]]
     if crossed:
         raise Fault(*crossed)
-    return [request("change" if what in present else "add", row) for what, row in wanted.items() if present.get(what) != row]
+    return [request("change" if what in present else "add", row) for what, row in wanted.items()
+            if present.get(what) != row]
 
 
 def send(desk: Client, requests: Iterable[Request]) -> bool:
-    """Sends them in their order, and reports each answer that isn't 200, and how many there were of each. Returns whether none was refused."""
+    """Sends them in their order, and reports each answer that isn't 200, and how many there were of each. Returns
+    whether none was refused."""
     done = dict.fromkeys(("add", "change", "refused"), 0)
     for one in requests:
         name = f"{one['service']} {one.get('agent') or one.get('device')}"
@@ -208,12 +216,18 @@ def count(done: dict[str, int]) -> str:
 # The command
 
 def parser() -> command.Parser:
-    found = command.Parser("Prints the plan of a desk, for acd import, out of its snapshot on standard input; or what makes it another one.", printed_usage=True, took_beginnings=True)
+    found = command.Parser("Prints the plan of a desk, for acd import, out of its snapshot on standard input; "
+                           "or what makes it another one.", printed_usage=True, took_beginnings=True)
     reach.add_options(found)
     instead = found.add_mutually_exclusive_group()
-    instead.add_argument("--priorities", action="store_true", help="the groups' priorities instead, as lines for acd lines: a plan has none")
-    instead.add_argument("--changes", metavar="PLAN", help="the requests instead that make the desk's plan that of this file, as lines for acd lines")
-    found.add_argument("--send", action="store_true", help="send the changes to the desk too; print each answer that isn't 200, and how many there were of each")
+    instead.add_argument("--priorities", action="store_true",
+                         help="the groups' priorities instead, as lines for acd lines: a plan has none")
+    instead.add_argument("--changes", metavar="PLAN",
+                         help="the requests instead that make the desk's plan that of this file, as lines for acd "
+                              "lines")
+    found.add_argument("--send", action="store_true",
+                       help="send the changes to the desk too; print each answer that isn't 200, and how many there "
+                            "were of each")
     return found
 
 
@@ -241,7 +255,8 @@ def change(wanted: dict[Key, Row], desk: dict[str, Any], client: Client | None, 
     """Prints the changes, or sends them; whether none was refused."""
     present = {key(row): row for row in plan(desk)}
     requester = reach.new_requester(options.login, "plan")
-    requests = [{"requester": requester, "invoke": invoke, **one} for invoke, one in enumerate(changes(wanted, present), 1)]
+    requests = [{"requester": requester, "invoke": invoke, **one}
+                for invoke, one in enumerate(changes(wanted, present), 1)]
     for kind, number, name, *_ in (row for row in present.values() if key(row) not in wanted):
         report(f"the desk has more than the plan: {kind} {number} {name}".rstrip())
     if options.send and client is not None:

@@ -1,5 +1,5 @@
-"""Looks whether a desk can be served, and becomes `acd serve --endless`; notes what a desk that has ended left; or makes the file of a new desk. Tested, not
-proved.
+"""Looks whether a desk can be served, and becomes `acd serve --endless`; notes what a desk that has ended left; or
+makes the file of a new desk. Tested, not proved.
 
 If a start would fail, or would lose something, it says so in a line before anything opens the desk's file."""
 import argparse
@@ -33,7 +33,8 @@ OURS = Path("/var/lib/acd")
 # what no unit sees, ProtectHome=yes
 HOMES = [Path(one) for one in ("/home", "/root", "/run/user")]
 PAGE = "'What a start looks at' in OPERATING.md"
-# the status of what has to be mended first, so that systemd starts nothing again, and that of what may be otherwise the next time
+# the status of what has to be mended first, so that systemd starts nothing again, and that of what may be otherwise the
+# next time
 MEND, AGAIN = 64, 1
 # seconds between two looks at a log that seems damaged
 PAUSE = 0.1
@@ -63,8 +64,8 @@ def clear_away(folder: Path, prefix: str) -> None:
 
 def look_at_names(names: Iterable[str]) -> None:
     for name in settings.others(names):
-        raise to_mend(f"no setting is called {name}: {settings.nearest(name)} is the nearest that there is; mend it in {SETTINGS}, "
-                      "or in the unit's own file of settings")
+        raise to_mend(f"no setting is called {name}: {settings.nearest(name)} is the nearest that there is; "
+                      f"mend it in {SETTINGS}, or in the unit's own file of settings")
     for name in settings.earlier(names):
         report(f"{name} is a setting of an earlier version, and is ignored: remove it from {SETTINGS}")
 
@@ -72,7 +73,8 @@ def look_at_names(names: Iterable[str]) -> None:
 # The file and its folder
 
 def advice(folder: Path) -> str:
-    """What to do about a folder that the desk's user can't use. Others may need one that has something in it, so that it must not become this user's."""
+    """What to do about a folder that the desk's user can't use. Others may need one that has something in it, so that
+    it must not become this user's."""
     user = name_of(os.geteuid())
     if any(home == folder or home in folder.parents for home in HOMES):
         return f"no unit sees a home: move the file under {OURS}, and name it there, ACD_FILE in {SETTINGS}"
@@ -82,7 +84,8 @@ def advice(folder: Path) -> str:
         is_empty = False
     if is_empty or OURS in (folder, *folder.parents):
         return f"give it to this user (chown {user} {shlex.quote(str(folder))})"
-    return f"others may need it, so move the file under {OURS}, or into an empty folder, and name it there, ACD_FILE in {SETTINGS}"
+    return (f"others may need it, so move the file under {OURS}, or into an empty folder, and name it there, "
+            f"ACD_FILE in {SETTINGS}")
 
 
 def look_into(folder: Path) -> None:
@@ -92,13 +95,15 @@ def look_into(folder: Path) -> None:
     except PermissionError:
         raise to_mend(f"the user {user} may not look into what is above {folder}: {advice(folder)}") from None
     if not is_folder:
-        raise to_mend(f"the folder {folder} isn't there for the user {user}: is ACD_FILE in {SETTINGS} spelt right? Else mount its disk")
+        raise to_mend(f"the folder {folder} isn't there for the user {user}: is ACD_FILE in {SETTINGS} spelt right? "
+                      "Else mount its disk")
     if not os.access(folder, os.X_OK, effective_ids=True):
         raise to_mend(f"the user {user} may not look into {folder}: {advice(folder)}")
 
 
 def place(path: str) -> Path:
-    """The file's path with links followed. Until a broken-off restore is finished, the file's name is a link that leads nowhere."""
+    """The file's path with links followed. Until a broken-off restore is finished, the file's name is a link that leads
+    nowhere."""
     if not path:
         raise Fault("the file has no name", status=command.REFUSED)
     named = held.place(path)
@@ -114,7 +119,8 @@ def place(path: str) -> Path:
 def look_at_writing(folder: Path) -> None:
     user = name_of(os.geteuid())
     if os.statvfs(folder).f_flag & os.ST_RDONLY:
-        raise to_mend(f"{folder} is read-only: its disk is, or the unit isn't told of it (systemctl edit acd, and ReadWritePaths={folder} under [Service])")
+        raise to_mend(f"{folder} is read-only: its disk is, or the unit isn't told of it (systemctl edit acd, "
+                      f"and ReadWritePaths={folder} under [Service])")
     if not os.access(folder, os.W_OK, effective_ids=True):
         raise to_mend(f"the user {user} may not write in {folder}: {advice(folder)}")
 
@@ -125,14 +131,16 @@ def look_at_kind(path: Path) -> None:
     if not stat.S_ISREG(found.st_mode):
         raise to_mend(f"{path} is no file: move it away, or name another file, ACD_FILE in {SETTINGS}")
     if found.st_nlink != 1:
-        raise to_mend(f"{path} has {found.st_nlink} names: remove all but this one (find / -xdev -samefile {shlex.quote(str(path))})")
+        raise to_mend(f"{path} has {found.st_nlink} names: remove all but this one (find / -xdev -samefile "
+                      f"{shlex.quote(str(path))})")
     if found.st_uid != os.geteuid():
-        raise to_mend(f"{path} is the user {name_of(found.st_uid)}'s and not {user}'s: chown {user} {shlex.quote(str(path))}")
+        raise to_mend(f"{path} is the user {name_of(found.st_uid)}'s and not {user}'s: "
+                      f"chown {user} {shlex.quote(str(path))}")
 
 
 def lone_log(file: Path, what: str) -> Fault:
-    return to_mend(f"{file} {what}, but its log {pair.log_of(file)} is there: put {file.name} or a copy back (acdctl restore MOMENT), or move the log away, "
-                   "but don't remove it: it may hold answered requests")
+    return to_mend(f"{file} {what}, but its log {pair.log_of(file)} is there: put {file.name} or a copy back (acdctl "
+                   "restore MOMENT), or move the log away, but don't remove it: it may hold answered requests")
 
 
 def look_at_files(file: Path) -> None:
@@ -142,17 +150,19 @@ def look_at_files(file: Path) -> None:
     if is_there(file) and not os.path.getsize(file) and pair.holds_something(log):
         raise lone_log(file, "has no bytes")
     if not is_there(file):
-        raise to_mend(f"{file} isn't there: is ACD_FILE in {SETTINGS} spelt right? Else put a copy back (acdctl restore MOMENT), "
-                      f"or begin a new desk (acdctl ready --make --file {shlex.quote(str(file))})")
+        raise to_mend(f"{file} isn't there: is ACD_FILE in {SETTINGS} spelt right? Else put a copy back (acdctl "
+                      f"restore MOMENT), or begin a new desk (acdctl ready --make --file {shlex.quote(str(file))})")
     both = [path for path in (file, log) if is_there(path)]
     for path in both:
         look_at_kind(path)
     look_at_writing(file.parent)
     for path in both:
         if not os.access(path, os.R_OK | os.W_OK, effective_ids=True):
-            raise to_mend(f"the user {name_of(os.geteuid())} may not read and write {path}: chmod 600 {shlex.quote(str(path))}")
+            raise to_mend(f"the user {name_of(os.geteuid())} may not read and write {path}: "
+                          f"chmod 600 {shlex.quote(str(path))}")
     if pair.is_split(file):
-        raise to_mend(f"{file} and its log {log} weren't here together: put both of one copy back (acdctl restore MOMENT), or remove {pair.note_of(file)} where they are of one desk and one time")
+        raise to_mend(f"{file} and its log {log} weren't here together: put both of one copy back (acdctl restore "
+                      f"MOMENT), or remove {pair.note_of(file)} where they are of one desk and one time")
     if pair.lost(file):
         raise lost_log(file)
 
@@ -162,22 +172,25 @@ def look_at_files(file: Path) -> None:
 def good_copies(file: Path) -> tuple[list[str], Path]:
     """The moments of the good copies of a file, the oldest first, and their folder."""
     folder = Path(os.environ.get("ACD_COPY_FOLDER") or file.parent / "copies")
-    return sorted(one.name for one in folder.glob("*") if re.fullmatch(GOOD, one.name) and (one / file.name).is_file()), folder
+    good = [one.name for one in folder.glob("*") if re.fullmatch(GOOD, one.name) and (one / file.name).is_file()]
+    return sorted(good), folder
 
 
 def lost_log(file: Path) -> Fault:
     copies, folder = good_copies(file)
     until = time.strftime("%Y-%m-%dT%H%M%SZ", time.gmtime(os.stat(file).st_mtime))
-    copy = f"the newest good copy is {copies[-1]} (acdctl restore {copies[-1]})" if copies else f"there is no good copy in {folder}"
-    return to_mend(f"the log {pair.log_of(file)} is gone, which had {pair.lost(file)} bytes as the desk ended, and nobody wrote it into {file}: "
-                   f"answered requests are lost. Put the log back; where it can't be had, {copy}, and {file} has what was written into it until {until}: "
+    copy = (f"the newest good copy is {copies[-1]} (acdctl restore {copies[-1]})" if copies
+            else f"there is no good copy in {folder}")
+    return to_mend(f"the log {pair.log_of(file)} is gone, which had {pair.lost(file)} bytes as the desk ended, "
+                   f"and nobody wrote it into {file}: answered requests are lost. Put the log back; "
+                   f"where it can't be had, {copy}, and {file} has what was written into it until {until}: "
                    f"to start with that, remove {pair.note_of(file)}")
 
 
 def look_for_log(file: Path) -> None:
     if pair.is_gone(file):
-        report(f"the log {pair.log_of(file)} of the last start is gone, and no stop noted what it left: unless sqlite3 or acd wrote it into {file}, "
-               f"answered requests are lost ({PAGE})")
+        report(f"the log {pair.log_of(file)} of the last start is gone, and no stop noted what it left: "
+               f"unless sqlite3 or acd wrote it into {file}, answered requests are lost ({PAGE})")
 
 
 # The port
@@ -189,9 +202,11 @@ def look_at_port(port: int) -> None:
             tried.bind(("127.0.0.1", port))
         except OSError as fault:
             if fault.errno == errno.EADDRINUSE:
-                raise to_mend(f"port {port} is taken: end who listens there (ss -ltnp sport = :{port}), or name another port, ACD_PORT in {SETTINGS}") from None
+                raise to_mend(f"port {port} is taken: end who listens there (ss -ltnp sport = :{port}), "
+                              f"or name another port, ACD_PORT in {SETTINGS}") from None
             if fault.errno == errno.EACCES:
-                raise to_mend(f"the user {name_of(os.geteuid())} may not use port {port}: choose 1024 or higher, ACD_PORT in {SETTINGS}") from None
+                raise to_mend(f"the user {name_of(os.geteuid())} may not use port {port}: choose 1024 or higher, "
+                              f"ACD_PORT in {SETTINGS}") from None
             raise Fault(f"port {port}: {fault.strerror}", status=AGAIN) from None
 
 
@@ -203,8 +218,8 @@ def written(path: Path) -> tuple[int, int]:
 
 
 def settled(log: Path) -> State:
-    """The state of the log, by two looks. If they differ, or the log was written in between, somebody is writing it: then it counts as sound, and the desk will
-    say that its file is open elsewhere."""
+    """The state of the log, by two looks. If they differ, or the log was written in between, somebody is writing it:
+    then it counts as sound, and the desk will say that its file is open elsewhere."""
     before, found = written(log), look(log)
     if isinstance(found, Sound):
         return found
@@ -230,9 +245,11 @@ def keep(file: Path, log: Path) -> Path:
         words: list[str | Path] = ["cp", "--reflink=auto", "--preserve=mode,timestamps", "--", file, log, new]
         synced: list[str | Path] = ["sync", *(new / one.name for one in (file, log)), new]
         for step in (words, synced):
-            done = subprocess.run(step, stdin=subprocess.DEVNULL, stdout=subprocess.PIPE, stderr=subprocess.STDOUT, text=True)
+            done = subprocess.run(step, stdin=subprocess.DEVNULL, stdout=subprocess.PIPE, stderr=subprocess.STDOUT,
+                                  text=True)
             if done.returncode:
-                raise Fault(f"the log {log} is damaged, and can't be kept as it is before the desk opens it: {' '.join(done.stdout.split())}", status=AGAIN)
+                raise Fault(f"the log {log} is damaged, and can't be kept as it is before the desk opens it: "
+                            f"{' '.join(done.stdout.split())}", status=AGAIN)
         made = file.parent / Path(scratch).name.lstrip(".")
         os.rename(new, made)
     put.sync_folder(file.parent)
@@ -242,17 +259,20 @@ def keep(file: Path, log: Path) -> Path:
 def report_damage(file: Path, log: Path, found: Damaged | Unreadable) -> None:
     folder = kept_before(file, log) or keep(file, log)
     if isinstance(found, Damaged):
-        what = f"is damaged from its frame {found.frame} on (byte {found.offset}), and answered requests from there on are missing"
+        what = (f"is damaged from its frame {found.frame} on (byte {found.offset}), and answered requests from there "
+                "on are missing")
     else:
         what = f"can't be read ({found.why}), and the answered requests that it may have held are missing"
     report(f"the log {log} {what}; both files, as they were, are in {folder} ({PAGE})")
 
 
 def empty(file: Path, patience: float | None = None) -> None:
-    """The program opens the file and closes it, which writes the log into the file and empties it. A start without this would write after the last good commit, and
-    the old frames there would seem damage, once a commit before them is torn. If this fails, the start will say why. However early it is ended, nothing is lost."""
+    """The program opens the file and closes it, which writes the log into the file and empties it. A start without this
+    would write after the last good commit, and the old frames there would seem damage, once a commit before them is
+    torn. If this fails, the start will say why. However early it is ended, nothing is lost."""
     with contextlib.suppress(subprocess.TimeoutExpired):
-        subprocess.run(["acd", "lines", "--file", file], stdin=subprocess.DEVNULL, stdout=subprocess.DEVNULL, stderr=subprocess.DEVNULL, timeout=patience)
+        subprocess.run(["acd", "lines", "--file", file], stdin=subprocess.DEVNULL, stdout=subprocess.DEVNULL,
+                       stderr=subprocess.DEVNULL, timeout=patience)
 
 
 def look_at_log(file: Path) -> None:
@@ -275,20 +295,23 @@ def timer() -> str:
 
 def is_active(unit: str) -> bool:
     try:
-        return subprocess.run(["systemctl", "is-active", "--quiet", unit], stdin=subprocess.DEVNULL, stderr=subprocess.DEVNULL).returncode == 0
+        return subprocess.run(["systemctl", "is-active", "--quiet", unit], stdin=subprocess.DEVNULL,
+                              stderr=subprocess.DEVNULL).returncode == 0
     except OSError:
         return False
 
 
 def look_at_copies(file: Path) -> None:
-    """Nothing else tells of a timer that was turned off and forgotten. A desk whose folder is younger than a week may have none yet."""
+    """Nothing else tells of a timer that was turned off and forgotten. A desk whose folder is younger than a week may
+    have none yet."""
     copies, folder = good_copies(file)
     since = time.time() - WEEK
     last = time.strftime("%Y-%m-%dT%H%M%SZ", time.gmtime(since))
     # the moment at which the folder was made, where its file system says so
     _, _, made = pair.identity(file.parent).partition(" ")
     if float(made or 0) < since and not any(copy > last for copy in copies) and not is_active(timer()):
-        report(f"no good copy in {folder} is younger than a week: is {timer()} active? (systemctl enable --now {timer()})")
+        report(f"no good copy in {folder} is younger than a week: is {timer()} active? (systemctl enable --now "
+               f"{timer()})")
 
 
 # The work
@@ -313,8 +336,8 @@ def answers(port: int) -> bool:
 
 
 def notify(port: int) -> None:
-    """Where systemd waits for it, a process tells it that the desk answers at its port, and ends then, or with this process, which becomes the desk. It is no
-    child of this one, since a desk waits for none."""
+    """Where systemd waits for it, a process tells it that the desk answers at its port, and ends then, or with this
+    process, which becomes the desk. It is no child of this one, since a desk waits for none."""
     if "NOTIFY_SOCKET" not in os.environ:
         return
     desk = os.pidfd_open(os.getpid())
@@ -351,8 +374,8 @@ def serve(options: argparse.Namespace) -> NoReturn:
 
 
 def stopped(options: argparse.Namespace) -> None:
-    """Behind a desk that has ended: what it left is noted, so that a start sees a log that was removed. Behind a clean stop there is nothing in the log by then.
-    What keeps a desk from being served is told by its start alone."""
+    """Behind a desk that has ended: what it left is noted, so that a start sees a log that was removed. Behind a clean
+    stop there is nothing in the log by then. What keeps a desk from being served is told by its start alone."""
     is_clean = os.environ.get("SERVICE_RESULT") == "success"
     try:
         file = place(options.file)
@@ -395,7 +418,8 @@ def make(options: argparse.Namespace) -> None:
     os.umask(0o077)
     with tempfile.TemporaryDirectory(prefix=".new-desk-", dir=file.parent) as scratch:
         new = Path(scratch, file.name)
-        done = subprocess.run(["acd", "lines", "--file", new], stdin=subprocess.DEVNULL, stdout=subprocess.DEVNULL, stderr=subprocess.PIPE, text=True)
+        done = subprocess.run(["acd", "lines", "--file", new], stdin=subprocess.DEVNULL, stdout=subprocess.DEVNULL,
+                              stderr=subprocess.PIPE, text=True)
         if done.returncode:
             raise Fault(f"{file} isn't made: {' '.join(done.stderr.split())}", status=AGAIN)
         os.rename(new, file)
@@ -410,13 +434,18 @@ def port_of(text: str) -> int:
 
 
 def parser() -> command.Parser:
-    found = command.Parser("Looks whether the desk can be served, and serves it; notes how it ended; or makes the file of a new desk.")
+    found = command.Parser("Looks whether the desk can be served, and serves it; notes how it ended; "
+                           "or makes the file of a new desk.")
     act = found.add_mutually_exclusive_group(required=True)
-    act.add_argument("--serve", action="store_const", const=serve, dest="act", help="look, and become acd serve --endless on a port of the loopback address")
-    act.add_argument("--stopped", action="store_const", const=stopped, dest="act", help="after a clean stop write the log into the file; note what is left")
-    act.add_argument("--make", action="store_const", const=make, dest="act", help="make the file of a new desk; root makes it for the folder's owner")
+    act.add_argument("--serve", action="store_const", const=serve, dest="act",
+                     help="look, and become acd serve --endless on a port of the loopback address")
+    act.add_argument("--stopped", action="store_const", const=stopped, dest="act",
+                     help="after a clean stop write the log into the file; note what is left")
+    act.add_argument("--make", action="store_const", const=make, dest="act",
+                     help="make the file of a new desk; root makes it for the folder's owner")
     settings.add_file(found)
-    found.add_argument("--port", metavar="P", type=port_of, default=8080, help="the port of the loopback address; 8080 unless given")
+    found.add_argument("--port", metavar="P", type=port_of, default=8080,
+                       help="the port of the loopback address; 8080 unless given")
     return found
 
 

@@ -8,9 +8,11 @@ from acd_service.office import FILE
 
 
 def parser() -> command.Parser:
-    found = command.Parser("Writes records/DAY.csv, agents/DAY.csv and groups/DAY.csv for the days that are over, out of a copy of a desk's file.")
+    found = command.Parser("Writes records/DAY.csv, agents/DAY.csv and groups/DAY.csv for the days that are over, "
+                           "out of a copy of a desk's file.")
     calls.add_files(found)
-    found.add_argument("--office", type=Path, metavar="FILE", help=f"names, limits and zone; {FILE} as it comes, where that is there")
+    found.add_argument("--office", type=Path, metavar="FILE",
+                       help=f"names, limits and zone; {FILE} as it comes, where that is there")
     found.add_argument("days", type=Path, metavar="FOLDER", help="where the files are written")
     found.set_defaults(live=False, names=True, since=None, until=None)
     return found

@@ -9,14 +9,17 @@ from pathlib import Path
 FILE = Path("/etc/acd/acd.env")
 PREFIX = "ACD_"
 # those of all shipped programs and units, since a file may be read by several of them
-NAMES = ("ACD_CARRY_DAYS", "ACD_CLOCK", "ACD_COPIES", "ACD_COPY_FOLDER", "ACD_FILE", "ACD_FOLLOW", "ACD_FOLLOW_OPTIONS", "ACD_GATE_PORT", "ACD_HALT", "ACD_LOCAL_PORTS",
-         "ACD_NODE_CA", "ACD_NODE_CERT", "ACD_NODE_ETCD", "ACD_NODE_ETCD_PASSWORD", "ACD_NODE_ETCD_USER", "ACD_NODE_FOLDER", "ACD_NODE_GONE",
-         "ACD_NODE_KEY", "ACD_NODE_LINE", "ACD_NODE_MACHINES", "ACD_NODE_NAME", "ACD_NODE_UPKEEP_USER", "ACD_PASSWORD", "ACD_PORT", "ACD_PURGE_DESK", "ACD_STEP", "ACD_TLS_HOST", "ACD_TLS_PORT")
+NAMES = ("ACD_CARRY_DAYS", "ACD_CLOCK", "ACD_COPIES", "ACD_COPY_FOLDER", "ACD_FILE", "ACD_FOLLOW", "ACD_FOLLOW_OPTIONS",
+         "ACD_GATE_PORT", "ACD_HALT", "ACD_LOCAL_PORTS", "ACD_NODE_CA", "ACD_NODE_CERT", "ACD_NODE_ETCD",
+         "ACD_NODE_ETCD_PASSWORD", "ACD_NODE_ETCD_USER", "ACD_NODE_FOLDER", "ACD_NODE_GONE", "ACD_NODE_KEY",
+         "ACD_NODE_LINE", "ACD_NODE_MACHINES", "ACD_NODE_NAME", "ACD_NODE_UPKEEP_USER", "ACD_PASSWORD", "ACD_PORT",
+         "ACD_PURGE_DESK", "ACD_STEP", "ACD_TLS_HOST", "ACD_TLS_PORT")
 # those that only earlier versions had
 EARLIER = ("ACD_CONNECTIONS",)
 # what a setting is where nobody says otherwise; the folder of copies is then beside the file
-DEFAULTS = {"ACD_FILE": "/var/lib/acd/desk.db", "ACD_PORT": "8080", "ACD_GATE_PORT": "8081", "ACD_COPIES": "7", "ACD_HALT": "20", "ACD_STEP": "10", "ACD_CARRY_DAYS": "2",
-            "ACD_TLS_HOST": "127.0.0.1", "ACD_TLS_PORT": "8443", "ACD_LOCAL_PORTS": "2379,2380"}
+DEFAULTS = {"ACD_FILE": "/var/lib/acd/desk.db", "ACD_PORT": "8080", "ACD_GATE_PORT": "8081", "ACD_COPIES": "7",
+            "ACD_HALT": "20", "ACD_STEP": "10", "ACD_CARRY_DAYS": "2", "ACD_TLS_HOST": "127.0.0.1",
+            "ACD_TLS_PORT": "8443", "ACD_LOCAL_PORTS": "2379,2380"}
 
 
 def others(names: Iterable[str]) -> list[str]:
@@ -33,7 +36,8 @@ def nearest(name: str) -> str:
 
 
 def written(file: Path | None = None) -> dict[str, str]:
-    """What the administrator wrote for the units; quotes around a value don't belong to it, as with systemd. Nothing where the file can't be read."""
+    """What the administrator wrote for the units; quotes around a value don't belong to it, as with systemd. Nothing
+    where the file can't be read."""
     try:
         lines = (file or FILE).read_text(errors="replace").splitlines()
     except OSError:
@@ -43,7 +47,8 @@ def written(file: Path | None = None) -> dict[str, str]:
 
 
 def current() -> dict[str, str]:
-    """The settings that count here: those of the environment, as a unit has them, before those of the file, and those before the defaults."""
+    """The settings that count here: those of the environment, as a unit has them, before those of the file, and those
+    before the defaults."""
     given = {**written(), **{name: value for name, value in os.environ.items() if name in NAMES}}
     return {**DEFAULTS, **{name: value for name, value in given.items() if value}}
 
@@ -54,4 +59,5 @@ def desk_file() -> str:
 
 def add_file(parser: argparse.ArgumentParser, about: str = "the desk's file", metavar: str = "F") -> None:
     """The option --file, with one default in all commands."""
-    parser.add_argument("--file", metavar=metavar, default=desk_file(), help=f"{about}; that of ACD_FILE, else {DEFAULTS['ACD_FILE']}")
+    parser.add_argument("--file", metavar=metavar, default=desk_file(),
+                        help=f"{about}; that of ACD_FILE, else {DEFAULTS['ACD_FILE']}")

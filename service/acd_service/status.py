@@ -1,7 +1,9 @@
-"""Prints how a desk is, and what is around it: a line for each thing that an operator asks first, or JSON. Tested, not proved.
+"""Prints how a desk is, and what is around it: a line for each thing that an operator asks first, or JSON. Tested, not
+proved.
 
-It only reads: it asks the desk at its port, looks at names, sizes and notes beside the file, and asks systemd. It opens the desk's file only where no desk
-answers and its log holds nothing, and then as a file that nobody changes. What it can't ask, it says, and why."""
+It only reads: it asks the desk at its port, looks at names, sizes and notes beside the file, and asks systemd. It opens
+the desk's file only where no desk answers and its log holds nothing, and then as a file that nobody changes. What it
+can't ask, it says, and why."""
 import argparse
 import contextlib
 import datetime
@@ -90,7 +92,8 @@ class Desk:
             client = Client(f"http://127.0.0.1:{self.port}", wait=WAIT)
             try:
                 answer = reach.insisted(client, lambda: client.attempt("GET", path), 0)
-                self.answers[path] = answer.body if answer.status == 200 else Fault(f"the desk answered {answer.status}")
+                self.answers[path] = (answer.body if answer.status == 200
+                                      else Fault(f"the desk answered {answer.status}"))
             except Fault as fault:
                 self.answers[path] = Fault(f"port {self.port}: {fault}")
         if isinstance(self.answers[path], Fault):
@@ -102,7 +105,8 @@ class Desk:
     def version(self) -> Found:
         program = shutil.which("acd")
         says = told(program, "--version") if program else None
-        return Found({"service": VERSION, "program": says}, f"{says or 'there is no program acd in the PATH'}; acdctl {VERSION}")
+        return Found({"service": VERSION, "program": says},
+                     f"{says or 'there is no program acd in the PATH'}; acdctl {VERSION}")
 
     def which(self) -> Found:
         try:
@@ -133,12 +137,15 @@ class Desk:
         if not moment:
             return Found({"stamp": stamp, "moment": None, "age": None}, f"number {stamp}, of no known time{more}")
         age = max(int(self.now) - moment, 0)
-        return Found({"stamp": stamp, "moment": moment, "age": age}, f"number {stamp}, {span(age)} ago ({moment_text(moment)}){more}")
+        return Found({"stamp": stamp, "moment": moment, "age": age},
+                     f"number {stamp}, {span(age)} ago ({moment_text(moment)}){more}")
 
     def waiting(self) -> Found:
-        since = [one["queued"] for call in self.read("/snapshot")["calls"] for one in call["connections"] if one["state"] == "queued"]
+        since = [one["queued"] for call in self.read("/snapshot")["calls"] for one in call["connections"]
+                 if one["state"] == "queued"]
         longest = max((int(self.now) - moment for moment in since), default=None)
-        return Found({"count": len(since), "longest": longest}, f"{len(since)}, the longest for {span(longest)}" if longest is not None else "none")
+        return Found({"count": len(since), "longest": longest}, f"{len(since)}, the longest for {span(longest)}"
+                     if longest is not None else "none")
 
     def agents(self) -> Found:
         states = Counter(agent["state"] for agent in self.read("/snapshot")["agents"])
@@ -159,7 +166,8 @@ class Desk:
         made, name = max(found)
         is_whole = not any((self.copies / name).glob("*.again"))
         return Found({"moment": name, "age": int(self.now - made), "isWhollySound": is_whole},
-                     f"{name}, {span(self.now - made)} ago{'' if is_whole else ', good up to a request that was sent again'}")
+                     f"{name}, {span(self.now - made)} "
+                     f"ago{'' if is_whole else ', good up to a request that was sent again'}")
 
     def standby(self) -> Found:
         """Of a machine that keeps a copy of another one's desk."""
@@ -172,7 +180,8 @@ class Desk:
         has, desk = int(said[1]), int(said[2])
         when = datetime.datetime.fromisoformat(said[3]).replace(tzinfo=datetime.timezone.utc).timestamp()
         return Found({"has": has, "desk": desk, "lag": desk - has, "age": int(self.now - when)},
-                     f"has {has} of {desk} requests, lacks {desk - has}; the other desk answered {span(self.now - when)} ago")
+                     f"has {has} of {desk} requests, lacks {desk - has}; the other desk answered "
+                     f"{span(self.now - when)} ago")
 
     def archive(self) -> Found:
         note = chain.read_note(self.file)
@@ -180,7 +189,8 @@ class Desk:
             return Found(None, "none: the file wasn't carried over")
         is_there = (self.file.parent / note.name).is_file()
         return Found({"name": note.name, "last": note.last, "isThere": is_there},
-                     f"{note.name}, with the requests up to {note.last}{'' if is_there else '; it is not beside the file'}")
+                     f"{note.name}, with the requests up to "
+                     f"{note.last}{'' if is_there else '; it is not beside the file'}")
 
     def certificate(self) -> Found:
         shown = certificate.shown_at(*self.certificate_at)
@@ -190,7 +200,8 @@ class Desk:
         ends = certificate.end_of(shown)
         days = int((ends.timestamp() - self.now) // 86400)
         says = f"ends in {days} days" if days >= 0 else "has ended"
-        return Found({"ends": ends.strftime("%Y-%m-%dT%H:%M:%SZ"), "days": days}, f"{says} ({ends:%Y-%m-%d %H:%M} UTC), at {where}")
+        return Found({"ends": ends.strftime("%Y-%m-%dT%H:%M:%SZ"), "days": days},
+                     f"{says} ({ends:%Y-%m-%d %H:%M} UTC), at {where}")
 
     def failed(self) -> Found:
         words = ("systemctl", "list-units", "--all", "--state=failed", "--plain", "--no-legend", "--no-pager", *UNITS)
@@ -199,10 +210,11 @@ class Desk:
 
 
 QUESTIONS: tuple[tuple[str, str, Callable[[Desk], Found]], ...] = (
-    ("version", "version", Desk.version), ("file", "file", Desk.which), ("lastRequest", "last request", Desk.last_request),
-    ("callsWaiting", "calls waiting", Desk.waiting), ("agents", "agents", Desk.agents), ("lastGoodCopy", "last good copy", Desk.copy),
-    ("standby", "standby", Desk.standby), ("archive", "archive", Desk.archive), ("certificate", "certificate", Desk.certificate),
-    ("failedUnits", "failed units", Desk.failed))
+    ("version", "version", Desk.version), ("file", "file", Desk.which),
+    ("lastRequest", "last request", Desk.last_request), ("callsWaiting", "calls waiting", Desk.waiting),
+    ("agents", "agents", Desk.agents), ("lastGoodCopy", "last good copy", Desk.copy),
+    ("standby", "standby", Desk.standby), ("archive", "archive", Desk.archive),
+    ("certificate", "certificate", Desk.certificate), ("failedUnits", "failed units", Desk.failed))
 
 
 def asked(desk: Desk) -> list[Answer]:
@@ -222,12 +234,14 @@ def asked(desk: Desk) -> list[Answer]:
 
 def table(answers: list[Answer]) -> str:
     width = max(len(answer.about) for answer in answers)
-    return "\n".join(f"{answer.about:{width}}  {answer.found.text if answer.found else f'not known: {answer.why}'}" for answer in answers)
+    return "\n".join(f"{answer.about:{width}}  "
+                     f"{answer.found.text if answer.found else f'not known: {answer.why}'}" for answer in answers)
 
 
 def as_json(answers: list[Answer]) -> str:
     found = {answer.member: answer.found.value if answer.found else None for answer in answers}
-    return json.dumps({**found, "unknown": {answer.member: answer.why for answer in answers if not answer.found}}, indent=2)
+    return json.dumps({**found, "unknown": {answer.member: answer.why for answer in answers if not answer.found}},
+                      indent=2)
 
 
 def desk_of(options: argparse.Namespace) -> Desk:
@@ -245,8 +259,10 @@ def desk_of(options: argparse.Namespace) -> Desk:
 
 def parser() -> command.Parser:
     found = command.Parser("Prints how the desk is, and what is around it. It changes nothing, and halts nothing.")
-    found.add_argument("--file", metavar="F", help=f"the desk's file; that of ACD_FILE, else {settings.DEFAULTS['ACD_FILE']}")
-    found.add_argument("--port", metavar="P", type=command.whole_number(1, 65535), help="the desk's port of the loopback address; ACD_PORT, else 8080")
+    found.add_argument("--file", metavar="F", help="the desk's file; that of ACD_FILE, "
+                                                   f"else {settings.DEFAULTS['ACD_FILE']}")
+    found.add_argument("--port", metavar="P", type=command.whole_number(1, 65535),
+                       help="the desk's port of the loopback address; ACD_PORT, else 8080")
     found.add_argument("--json", action="store_true", help="print JSON in place of a table")
     return found
 

@@ -1,8 +1,10 @@
-"""Sends a tick to a desk in each step in which one ends something: an offer that has rung, or after-call work that has lasted, as long as its group gives.
+"""Sends a tick to a desk in each step in which one ends something: an offer that has rung, or after-call work that has
+lasted, as long as its group gives.
 
-The desk's snapshot shows when. It passes over a desk that isn't there: systemd may be about to start it again, and the next step finds it. Each minute it
-looks whether the file or its log were removed or moved from under the desk. Somebody who foresaw the ticks' keys could use them up. So it draws their
-requester at random, and passes it on in the environment, never on a command line. It is tested, not proved."""
+The desk's snapshot shows when. It passes over a desk that isn't there: systemd may be about to start it again, and the
+next step finds it. Each minute it looks whether the file or its log were removed or moved from under the desk. Somebody
+who foresaw the ticks' keys could use them up. So it draws their requester at random, and passes it on in the
+environment, never on a command line. It is tested, not proved."""
 import argparse
 import contextlib
 import http.client
@@ -38,7 +40,8 @@ class Journal:
         now = time.time()
         # a line from a time when the clock was ahead keeps no line back
         if not now - HOUR < self.reported_at.get(text, -HOUR) <= now:
-            self.reported_at = {line: moment for line, moment in self.reported_at.items() if now - HOUR < moment <= now} | {text: now}
+            self.reported_at = {line: moment for line, moment in self.reported_at.items()
+                                if now - HOUR < moment <= now} | {text: now}
             command.report(text)
 
 
@@ -52,17 +55,20 @@ def is_error(body: object) -> bool:
 
 def name_of(body: Any) -> str:
     """The name of an error: the rest of its text has the requester, which isn't for the journal."""
-    return f" {body['error']['name']}" if is_error(body) and re.fullmatch("[A-Za-z]{1,40}", body["error"]["name"]) else ""
+    is_name = is_error(body) and re.fullmatch("[A-Za-z]{1,40}", body["error"]["name"])
+    return f" {body['error']['name']}" if is_name else ""
 
 
 class Desk:
-    """The program that listens at a port of the loopback address; its whole answer comes within so many seconds, or it counts as not there."""
+    """The program that listens at a port of the loopback address; its whole answer comes within so many seconds, or it
+    counts as not there."""
 
     def __init__(self, port: int, patience: float) -> None:
         self.port, self.patience = port, patience
 
     def ask(self, method: str, path: str, body: str | None = None) -> tuple[int, Any]:
-        """The status of an answer, and its JSON, None where it is none; OSError or HTTPException where no whole answer comes."""
+        """The status of an answer, and its JSON, None where it is none; OSError or HTTPException where no whole answer
+        comes."""
         connection = http.client.HTTPConnection("127.0.0.1", self.port)
         # no limit of one read is one of all together
         signal.setitimer(signal.ITIMER_REAL, self.patience)
@@ -97,7 +103,8 @@ class Ticker:
             # the number of steps since 1970 is new with each step
             invoke = int(time.time()) // self.step
             if invoke > GREATEST:
-                raise Fault(f"the step {self.step} is too short by now: its number since 1970 has more than nine digits")
+                raise Fault(f"the step {self.step} is too short by now: its number since 1970 has more than nine "
+                            "digits")
             self.turn(invoke)
             self.wait()
 
@@ -113,17 +120,19 @@ class Ticker:
         self.silent_since = None
 
     def look_at_silence(self) -> None:
-        """A desk that takes connections and answers none is told once that has lasted a minute. A step has passed by then; a clock that was put back begins anew."""
+        """A desk that takes connections and answers none is told once that has lasted a minute. A step has passed by
+        then; a clock that was put back begins anew."""
         now = time.time()
         if self.silent_since is None or now < self.silent_since:
             self.silent_since = now - self.step
         if now - self.silent_since >= MINUTE:
-            self.journal.report(f"the desk at port {self.desk.port} has answered nothing for a minute, and is there: it is halted (acdctl copy --continue), "
-                                "or its disk hangs; until it answers no ring and no after-call work ends by a tick")
+            self.journal.report(f"the desk at port {self.desk.port} has answered nothing for a minute, and is there: "
+                                "it is halted (acdctl copy --continue), or its disk hangs; until it answers no ring "
+                                "and no after-call work ends by a tick")
 
     def is_due(self) -> bool:
-        """Whether a tick ends something. A desk that refuses to say (an older one has no snapshot) is sent a tick each step. Who answers otherwise than a desk does is
-        sent nothing."""
+        """Whether a tick ends something. A desk that refuses to say (an older one has no snapshot) is sent a tick each
+        step. Who answers otherwise than a desk does is sent nothing."""
         status, body = self.desk.ask("GET", "/snapshot")
         if 300 <= status <= 599 and is_error(body):
             return True
@@ -137,10 +146,12 @@ class Ticker:
         return False
 
     def look_at_clock(self, moment: int) -> None:
-        """The snapshot's moment is that of the last request; if it is ahead, the desk's time doesn't advance until the clock reaches it."""
+        """The snapshot's moment is that of the last request; if it is ahead, the desk's time doesn't advance until the
+        clock reaches it."""
         if moment > int(time.time()) + MINUTE:
             until = time.strftime("%Y-%m-%d %H:%M:%S UTC", time.gmtime(moment))
-            self.journal.report(f"the desk's time is over a minute ahead of this machine's clock: until {until} no ring and no after-call work ends by a tick")
+            self.journal.report("the desk's time is over a minute ahead of this machine's clock: "
+                                f"until {until} no ring and no after-call work ends by a tick")
 
     def send(self, invoke: int) -> None:
         """Sends the tick of a step; its answer has to be 200."""
@@ -150,7 +161,8 @@ class Ticker:
             self.journal.report(f"the desk answered a tick with {status}{name_of(body)}")
 
     def look_at_files(self) -> None:
-        """Reports each minute that the file or its log was removed or moved from under the desk: the desk's answers are lost with it."""
+        """Reports each minute that the file or its log was removed or moved from under the desk: the desk's answers are
+        lost with it."""
         now = time.time()
         if self.looked <= now < self.looked + MINUTE:
             return
@@ -176,9 +188,12 @@ def drawn() -> str:
 
 
 def parser() -> command.Parser:
-    found = command.Parser("Sends the desk a tick in each step in which one ends something: an offer that has rung, or after-call work that has lasted, long enough.")
-    found.add_argument("--port", type=command.whole_number(1, 65535), default=8080, metavar="P", help="the desk's port of the loopback address; 8080 unless given")
-    found.add_argument("--step", type=command.whole_number(2, 3600), default=10, metavar="SECONDS", help="seconds between two looks; 10 unless given")
+    found = command.Parser("Sends the desk a tick in each step in which one ends something: an offer that has rung, "
+                           "or after-call work that has lasted, long enough.")
+    found.add_argument("--port", type=command.whole_number(1, 65535), default=8080, metavar="P",
+                       help="the desk's port of the loopback address; 8080 unless given")
+    found.add_argument("--step", type=command.whole_number(2, 3600), default=10, metavar="SECONDS",
+                       help="seconds between two looks; 10 unless given")
     settings.add_file(found, "the desk's file, to see whether it was moved")
     return found
 
@@ -187,7 +202,8 @@ def read(words: list[str]) -> argparse.Namespace:
     options = parser().parse_args(words)
     options.requester = os.environ.get("ACD_CLOCK") or drawn()
     if not re.fullmatch(REQUESTER, options.requester):
-        raise Fault("ACD_CLOCK, which /etc/acd/clock.env gives, isn't 'clock-' and 12 letters of a-z", status=command.REFUSED)
+        raise Fault("ACD_CLOCK, which /etc/acd/clock.env gives, isn't 'clock-' and 12 letters of a-z",
+                    status=command.REFUSED)
     return options
 
 

@@ -1,5 +1,5 @@
-"""Prints who asked a desk for what, when, and with which result: a line for each request that it has executed, from its file and archives, or from a
-running desk.
+"""Prints who asked a desk for what, when, and with which result: a line for each request that it has executed, from its
+file and archives, or from a running desk.
 
 A requester is what the sender wrote. The gate lets a login use its requesters only. It is tested, not proved."""
 import argparse
@@ -24,15 +24,17 @@ from acd_service.office import FILE, counting
 
 # the status if other files have some of the requests that the user asked for
 MISSING = 3
-# members of requests, in the order in which they are printed, and those of them that have a group's, a station's or a caller's number
-MEMBERS = ["agent", "requested", "call", "caller", "called", "device", "to", "groups", "name", "ring", "wrap", "priority", "monitor"]
+# members of requests, in the order in which they are printed, and those of them that have a group's, a station's or a
+# caller's number
+MEMBERS = ["agent", "requested", "call", "caller", "called", "device", "to", "groups", "name", "ring", "wrap",
+           "priority", "monitor"]
 DEVICES = ("caller", "called", "device", "to", "groups")
 # the members of a result: numbers, printed in the columns of these members, and states
 GIVEN, STATES = ("call", "monitor"), ("state", "pending")
 COLUMNS = ["stamp", "when", "requester", "invoke", "service", *MEMBERS, "outcome"]
 # the columns that --names adds, and of what their names are
-NAMED = {"agent": ("agent_name", "agents"), "called": ("called_name", "groups"), "device": ("device_name", "groups"), "to": ("to_name", "groups"),
-         "groups": ("group_names", "groups")}
+NAMED = {"agent": ("agent_name", "agents"), "called": ("called_name", "groups"), "device": ("device_name", "groups"),
+         "to": ("to_name", "groups"), "groups": ("group_names", "groups")}
 # columns of numbers that aren't to be reckoned with, and of what a spreadsheet may take for a date
 NUMBERED, LIKE_NAMES = {"agent", *DEVICES}, {"requester", "name", *(column for column, _ in NAMED.values())}
 KEPT = "stamp, moment, request, status, body"
@@ -68,7 +70,8 @@ class Record(NamedTuple):
     def outcome(self) -> str:
         if self.status != 200:
             return f"refused, {self.reply['error']['name']}"
-        return ", ".join(f"{name} {self.reply['result'][name]}" for name in (*GIVEN, *STATES) if name in self.reply["result"]) or "done"
+        return ", ".join(f"{name} {self.reply['result'][name]}" for name in (*GIVEN, *STATES)
+                         if name in self.reply["result"]) or "done"
 
 
 def record_of(stamp: int, moment: int, request: Any, status: int, reply: Any) -> Record:
@@ -76,7 +79,8 @@ def record_of(stamp: int, moment: int, request: Any, status: int, reply: Any) ->
     try:
         request, reply = (json.loads(text) if isinstance(text, str) else text for text in (request, reply))
         outcome = reply["result"] if status == 200 else reply["error"]
-        is_whole = all(type(request[name]) is kind for name, kind in KEY) and isinstance(outcome, dict) and (status == 200 or "name" in outcome)
+        is_whole = all(type(request[name]) is kind
+                       for name, kind in KEY) and isinstance(outcome, dict) and (status == 200 or "name" in outcome)
     except (ValueError, LookupError, TypeError, AttributeError):
         is_whole = False
     if not is_whole:
@@ -91,7 +95,8 @@ class FileRequests:
 
     def __init__(self, file: str, archives: Sequence[str], folder: Path, is_live: bool = False) -> None:
         self.rows = opened(file, archives, folder, is_live)
-        first: tuple[int, int] | None = next(self.rows.execute("SELECT stamp, moment FROM kept ORDER BY stamp LIMIT 1"), None)
+        first: tuple[int, int] | None = next(self.rows.execute("SELECT stamp, moment FROM kept ORDER BY stamp LIMIT 1"),
+                                             None)
         self.last: int = next(self.rows.execute("SELECT last_stamp FROM meta"))[0]
         self.first, self.begins = first or (self.last + 1, EVER)
 
@@ -102,7 +107,8 @@ class FileRequests:
         return next(record_of(*row) for row in self.rows.execute(f"SELECT {KEPT} FROM kept WHERE stamp = ?", (stamp,)))
 
     def records(self, since: int, until: int) -> Iterator[Record]:
-        for row in self.rows.execute(f"SELECT {KEPT} FROM kept WHERE moment BETWEEN ? AND ? ORDER BY stamp", (since, until)):
+        for row in self.rows.execute(f"SELECT {KEPT} FROM kept WHERE moment BETWEEN ? AND ? ORDER BY stamp",
+                                     (since, until)):
             yield record_of(*row)
 
 
@@ -115,13 +121,15 @@ class DeskRequests:
         self.first, self.begins = (page[0].stamp, page[0].moment) if page else (self.last + 1, EVER)
 
     def page(self, after: int) -> tuple[list[Record], int]:
-        """A page, and the stamp of the last request of all. The desk has as long for others as the page before took it."""
+        """A page, and the stamp of the last request of all. The desk has as long for others as the page before took
+        it."""
         time.sleep(self.took)
         begin = time.monotonic()
         answer = reach.read(self.desk, f"/requests?after={after}")
         self.took = time.monotonic() - begin
         try:
-            found, last = [record_of(*(one[name] for name in ("stamp", "moment", "request", "status", "reply"))) for one in answer["requests"]], answer["last"]
+            found, last = [record_of(*(one[name] for name in ("stamp", "moment", "request", "status", "reply")))
+                           for one in answer["requests"]], answer["last"]
             if any(type(number) is not int for number in (last, *(number for one in found for number in one[:2]))):
                 raise TypeError
             return found, last
@@ -132,10 +140,12 @@ class DeskRequests:
         """The desk's names, where this login reads its snapshot; none else."""
         answer = reach.insisted(self.desk, lambda: self.desk.attempt("GET", "/snapshot"), reach.SOON)
         snapshot = answer.body if answer.status == 200 else {"groups": [], "agents": []}
-        return {kind: {one[member]: one["name"] for one in snapshot[kind]} for kind, member in (("groups", "device"), ("agents", "agent"))}
+        return {kind: {one[member]: one["name"] for one in snapshot[kind]}
+                for kind, member in (("groups", "device"), ("agents", "agent"))}
 
     def begin(self, since: int) -> int:
-        """A stamp after which all requests from this moment on are, and not many earlier ones, so that it doesn't ask for each page from the first on."""
+        """A stamp after which all requests from this moment on are, and not many earlier ones, so that it doesn't ask
+        for each page from the first on."""
         low, high = max(self.first - 1, self.after), self.last
         while since > NEVER and high - low > 1000:
             middle = (low + high) // 2
@@ -186,9 +196,11 @@ def when(text: str) -> When:
             raise ValueError
         day, clock, seconds = found.groups()
         lasts = datetime.timedelta(days=1) if not clock else datetime.timedelta(seconds=1 if seconds else 60)
-        return When(datetime.date.fromisoformat(day) if day else None, datetime.time.fromisoformat((clock or ("00:00" if day else "")) + (seconds or "")), lasts)
+        return When(datetime.date.fromisoformat(day) if day else None,
+                    datetime.time.fromisoformat((clock or ("00:00" if day else "")) + (seconds or "")), lasts)
     except ValueError:
-        raise argparse.ArgumentTypeError(f"'{text}' is neither a day like 2026-11-28 nor a time like 14:32, 14:32:07 or 2026-11-28T14:32") from None
+        raise argparse.ArgumentTypeError(f"'{text}' is neither a day like 2026-11-28 nor a time like 14:32, "
+                                         "14:32:07 or 2026-11-28T14:32") from None
 
 
 def is_of(requester: str, one: str) -> bool:
@@ -225,24 +237,30 @@ def parser() -> command.Parser:
     found = command.Parser("Prints who asked a desk for what, when, and with which result.", printed_usage=True)
     found.add_argument("address", nargs="?", type=reach.address, metavar="URL",
                        help="the desk's address, as http://127.0.0.1:8080 or https://desk.example:8443")
-    found.add_argument("--file", metavar="FILE", help="a copy of the desk's file, with its log beside it where it has one")
+    found.add_argument("--file", metavar="FILE",
+                       help="a copy of the desk's file, with its log beside it where it has one")
     found.add_argument("--live", action="store_true", help="of a file that a desk has open: what it has at this moment")
     found.add_argument("--archive", action="append", default=[], metavar="A",
-                       help="an archive that the file was carried over from; as often as there are some, from the oldest on")
+                       help="an archive that the file was carried over from; as often as there are some, "
+                            "from the oldest on")
     reach.add_login_options(found)
-    found.add_argument("--since", type=when, metavar="WHEN", help="from then on: 2026-11-28, 14:32 of today, or 2026-11-28T14:32")
+    found.add_argument("--since", type=when, metavar="WHEN",
+                       help="from then on: 2026-11-28, 14:32 of today, or 2026-11-28T14:32")
     found.add_argument("--until", type=when, metavar="WHEN", help="up to then, and with that day, minute or second")
     found.add_argument("--at", type=when, metavar="WHEN", help="of that day, minute or second")
     filters: list[tuple[str, Callable[[str], object], str]] = [
-        ("requester", str, "by this requester, or one that begins with it and a hyphen"), ("service", str, "for this service"),
-        ("agent", digits, "of this agent"), ("device", digits, "of this group, station or caller's number"),
-        ("call", number, "of this call"), ("invoke", number, "with this number of the key"), ("stamp", number, "with this stamp")]
+        ("requester", str, "by this requester, or one that begins with it and a hyphen"),
+        ("service", str, "for this service"), ("agent", digits, "of this agent"),
+        ("device", digits, "of this group, station or caller's number"), ("call", number, "of this call"),
+        ("invoke", number, "with this number of the key"), ("stamp", number, "with this stamp")]
     for name, kind, about in filters:
-        found.add_argument(f"--{name}", action="append", type=kind, metavar=name[0].upper(), help=f"{about}; as often as there are some")
+        found.add_argument(f"--{name}", action="append", type=kind, metavar=name[0].upper(),
+                           help=f"{about}; as often as there are some")
     found.add_argument("--names", action="store_true", help="names beside numbers")
     found.add_argument("--csv", action="store_true", help="CSV in place of lines to read")
     found.add_argument("--excel", action="store_true", help="CSV with ' before what a spreadsheet would change")
-    found.add_argument("--office", type=Path, metavar="FILE", help=f"names and zone; {FILE} as it comes, where that is there")
+    found.add_argument("--office", type=Path, metavar="FILE",
+                       help=f"names and zone; {FILE} as it comes, where that is there")
     return found
 
 
@@ -293,7 +311,8 @@ class Lines:
         request = record.request
         words = ", ".join(self.words(name, value) for name, value in record.members().items())
         asked_for = f"{request['service']} {words}" if words else request["service"]
-        print(f"{moment_text(record.moment)}  {record.requester()}  {asked_for}: {record.outcome()}  (#{record.stamp}, invoke {request['invoke']})")
+        print(f"{moment_text(record.moment)}  {record.requester()}  {asked_for}: {record.outcome()}  (#{record.stamp}, "
+              f"invoke {request['invoke']})")
 
     def words(self, name: str, value: object) -> str:
         """A member, and the names of those whose numbers it has."""
@@ -317,16 +336,18 @@ class Sheet:
     def put(self, record: Record) -> None:
         has: dict[str, Any] = {name: field(value) for name, value in (record.given() | record.members()).items()}
         has |= {column: names_of(self.names, name, has.get(name, "")) for name, (column, _) in NAMED.items()}
-        has |= {"stamp": record.stamp, "when": moment_text(record.moment), "requester": record.requester(), "invoke": record.request["invoke"],
-                "service": record.request["service"], "outcome": record.outcome()}
+        has |= {"stamp": record.stamp, "when": moment_text(record.moment), "requester": record.requester(),
+                "invoke": record.request["invoke"], "service": record.request["service"], "outcome": record.outcome()}
         self.writer.writerow([self.guarded(column, has.get(column, "")) for column in self.columns])
 
     def guarded(self, column: str, text: Any) -> Any:
-        return sheets.guarded(text, column in LIKE_NAMES) if self.is_guarded and column in LIKE_NAMES | NUMBERED else text
+        return sheets.guarded(text,
+                              column in LIKE_NAMES) if self.is_guarded and column in LIKE_NAMES | NUMBERED else text
 
 
 def sources(options: argparse.Namespace, folder: Path) -> list[FileRequests | DeskRequests]:
-    """The sources of the requests, in their order: those of a running desk come after its archives, which are one source."""
+    """The sources of the requests, in their order: those of a running desk come after its archives, which are one
+    source."""
     if options.file:
         return [FileRequests(options.file, options.archive, folder, options.live)]
     desk = reach.desk_at(options)
@@ -341,11 +362,14 @@ def sources(options: argparse.Namespace, folder: Path) -> list[FileRequests | De
 
 
 def are_missing(found: Sequence[FileRequests | DeskRequests], since: int, options: argparse.Namespace) -> bool:
-    """Reports requests that the user may have asked for and that other files have. Returns whether there are any: requests before the first one here aren't later than that."""
+    """Reports requests that the user may have asked for and that other files have. Returns whether there are any:
+    requests before the first one here aren't later than that."""
     last, missing = 0, False
     for source in found:
-        if source.first > last + 1 and since <= source.begins and (not options.stamp or any(last < stamp < source.first for stamp in options.stamp)):
-            report(f"requests {last + 1} to {source.first - 1} aren't there: name the archives that have them, by --archive")
+        if source.first > last + 1 and since <= source.begins and (
+                not options.stamp or any(last < stamp < source.first for stamp in options.stamp)):
+            report(f"requests {last + 1} to {source.first - 1} aren't there: name the archives that have them, "
+                   "by --archive")
             missing = True
         last = source.last
     return missing

@@ -1,21 +1,24 @@
-"""One of several machines with a desk each, fed from one log in etcd: a front that takes requests, and a bridge that feeds this machine's desk.
+"""One of several machines with a desk each, fed from one log in etcd: a front that takes requests, and a bridge that
+feeds this machine's desk.
 
-Not verified: what is proved of the desk is said in docs/PROVED.md, what this has to do for it in docs/OPERATING.md. Clients send requests as to
-`acd serve`, by POST to /csta, to any machine, and send one again, with its key, until its answer isn't 503. A read, by GET or HEAD, is answered by this
-machine's own desk (`acd lines --reads`), behind all that this machine has answered; it goes into no log, no count and no digest. F/desk.db is the desk,
-F/at the place of the last entry of the log that it has answered, how many those were, and a digest of their replies. Every 1,000 entries the machines
-compare digests: one that differs from two others of --machines says so, and answers 503 to everything. So does one that needs an entry that the log no longer
-has. F must then be replaced by a copy of another machine's.
+Not verified: what is proved of the desk is said in docs/PROVED.md, what this has to do for it in docs/OPERATING.md.
+Clients send requests as to `acd serve`, by POST to /csta, to any machine, and send one again, with its key, until its
+answer isn't 503. A read, by GET or HEAD, is answered by this machine's own desk (`acd lines --reads`), behind all that
+this machine has answered; it goes into no log, no count and no digest. F/desk.db is the desk, F/at the place of the
+last entry of the log that it has answered, how many those were, and a digest of their replies. Every 1,000 entries the
+machines compare digests: one that differs from two others of --machines says so, and answers 503 to everything. So does
+one that needs an entry that the log no longer has. F must then be replaced by a copy of another machine's.
 
-It asks nobody who they are, so it listens on the loopback address, behind a proxy and a gate, or asks each client for a certificate (--client-ca): then no gate
-knows the client's role, and /requests is 403.
-An entry is 32 hexadecimal digits, a blank, a moment of 1 to 10 digits, a blank, and a request of 1 to 4,096 bytes that begins with neither GET nor HEAD, without
-CR or LF. All else in the log is passed over, on all machines alike, and told.
+It asks nobody who they are, so it listens on the loopback address, behind a proxy and a gate, or asks each client for a
+certificate (--client-ca): then no gate knows the client's role, and /requests is 403. An entry is 32 hexadecimal
+digits, a blank, a moment of 1 to 10 digits, a blank, and a request of 1 to 4,096 bytes that begins with neither GET nor
+HEAD, without CR or LF. All else in the log is passed over, on all machines alike, and told.
 
-Each machine of --machines tells its place, every 1,000 entries and every minute, and the log is kept from the least of them on. For one that has told
-none for --gone hours (72) it isn't kept. With --etcd-user it asks etcd as this user, whose password is in a file that only root and a group may read: so etcd lets
-it write the log and the keys below its own name, and nothing else. --upkeep, for a timer, looks after etcd once: it gives back what the files of its members have free, and lets a full
-one take entries again."""
+Each machine of --machines tells its place, every 1,000 entries and every minute, and the log is kept from the least of
+them on. For one that has told none for --gone hours (72) it isn't kept. With --etcd-user it asks etcd as this user,
+whose password is in a file that only root and a group may read: so etcd lets it write the log and the keys below its
+own name, and nothing else. --upkeep, for a timer, looks after etcd once: it gives back what the files of its members
+have free, and lets a full one take entries again."""
 import argparse
 import ipaddress
 import os
@@ -37,7 +40,8 @@ from acd_service.node.log import Log
 
 def name(word: str) -> str:
     if not re.fullmatch(r"[A-Za-z0-9.-]{1,64}", word):
-        raise argparse.ArgumentTypeError(f"a machine's name is 1 to 64 letters, digits, dots and hyphens, and not '{word}'")
+        raise argparse.ArgumentTypeError("a machine's name is 1 to 64 letters, digits, dots and hyphens, "
+                                         f"and not '{word}'")
     return word
 
 
@@ -69,23 +73,31 @@ def is_loopback(address: str) -> bool:
 
 
 def parser() -> command.Parser:
-    found = command.Parser("Feeds this machine's desk from a log in etcd that several machines share, and answers for it.", printed_usage=True, took_beginnings=True)
+    found = command.Parser("Feeds this machine's desk from a log in etcd that several machines share, "
+                           "and answers for it.", printed_usage=True, took_beginnings=True)
     for word, kind, metavar, about in (
             ("--name", name, "N", "this machine's name"), ("--etcd", ends, "HOST:PORT,..", "the members of etcd")):
         found.add_argument(word, type=kind, required=True, metavar=metavar, help=about)
-    found.add_argument("--machines", type=names, default=[], metavar="N,N,N", help="the names of all machines; without them the log is never shortened")
-    found.add_argument("--gone", type=hours, default=72.0, metavar="HOURS", help="for how many hours the log is kept for a machine that tells nothing; 72 unless given")
-    found.add_argument("--upkeep", choices=["now", "turn"], help="look after etcd once, now or if it is this machine's turn, and end")
-    for word, usual, metavar, about in (
-            ("--port", 8080, "P", "the port to listen on"), ("--bind", "127.0.0.1", "A", "the address to listen at"),
-            ("--line", "desk/line", "KEY", "the log's key in etcd"), ("--desk", "acd", "PROGRAM", "the desk's program")):
-        found.add_argument(word, type=type(usual), default=usual, metavar=metavar, help=f"{about}; {usual} unless given")
-    for word, metavar, about in (
-            ("--folder", "F", "the folder of the files desk.db and at"), ("--etcd-ca", "C", "the certificate of etcd's authority"),
-            ("--etcd-cert", "C", "this machine's certificate for etcd"), ("--etcd-key", "K", "its key"),
-            ("--etcd-user", "U", "the user of etcd"), ("--etcd-password", "FILE", "the file of this user's password"),
-            ("--cert", "C", "the certificate for clients"), ("--key", "K", "its key"),
-            ("--client-ca", "C", "the authority of the clients' certificates, which each client must have then")):
+    found.add_argument("--machines", type=names, default=[], metavar="N,N,N",
+                       help="the names of all machines; without them the log is never shortened")
+    found.add_argument("--gone", type=hours, default=72.0, metavar="HOURS",
+                       help="for how many hours the log is kept for a machine that tells nothing; 72 unless given")
+    found.add_argument("--upkeep", choices=["now", "turn"],
+                       help="look after etcd once, now or if it is this machine's turn, and end")
+    for word, usual, metavar, about in (("--port", 8080, "P", "the port to listen on"),
+                                        ("--bind", "127.0.0.1", "A", "the address to listen at"),
+                                        ("--line", "desk/line", "KEY", "the log's key in etcd"),
+                                        ("--desk", "acd", "PROGRAM", "the desk's program")):
+        found.add_argument(word, type=type(usual), default=usual, metavar=metavar,
+                           help=f"{about}; {usual} unless given")
+    for word, metavar, about in (("--folder", "F", "the folder of the files desk.db and at"),
+                                 ("--etcd-ca", "C", "the certificate of etcd's authority"),
+                                 ("--etcd-cert", "C", "this machine's certificate for etcd"),
+                                 ("--etcd-key", "K", "its key"), ("--etcd-user", "U", "the user of etcd"),
+                                 ("--etcd-password", "FILE", "the file of this user's password"),
+                                 ("--cert", "C", "the certificate for clients"), ("--key", "K", "its key"),
+                                 ("--client-ca", "C", "the authority of the clients' certificates, "
+                                                      "which each client must have then")):
         found.add_argument(word, metavar=metavar, help=about)
     return found
 
@@ -106,7 +118,8 @@ def options_of(words: list[str]) -> argparse.Namespace:
     if options.etcd_user:
         check_password(found, options.etcd_password)
     if not is_loopback(options.bind) and not options.client_ca:
-        found.error(f"at {options.bind} strangers would ask for everything: bind it to 127.0.0.1, behind a proxy and a gate, or ask for certificates by --client-ca")
+        found.error(f"at {options.bind} strangers would ask for everything: bind it to 127.0.0.1, behind a proxy and a "
+                    "gate, or ask for certificates by --client-ca")
     return options
 
 

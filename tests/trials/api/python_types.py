@@ -8,7 +8,8 @@ import textwrap
 
 from made import put
 
-HEAD = '''"""The bodies that the desk takes and gives, as types: made of docs/openapi.yaml by tests/trials/api/python_types.py, and not by hand."""
+HEAD = '''"""The bodies that the desk takes and gives, as types: made of docs/openapi.yaml by
+tests/trials/api/python_types.py, and not by hand."""
 from __future__ import annotations
 
 from typing import Literal, NotRequired, TypedDict, Union
@@ -35,7 +36,9 @@ def typed_dict(name, schema):
 
 
 def assigned(name, kind):
-    return textwrap.fill(f"{name} = {kind}", 150, subsequent_indent="    ", break_long_words=False, break_on_hyphens=False) + "\n"
+    line = f"{name} = {kind}"
+    indent = " " * (line.find("[") + 1)
+    return textwrap.fill(line, 120, subsequent_indent=indent, break_long_words=False, break_on_hyphens=False) + "\n"
 
 
 def module(document):
