@@ -2,7 +2,7 @@
 proved.
 
 It starts nothing and changes nothing. It reads each file as the program reads it that the file is for, and what that
-program would report is a fault here."""
+program would report is a fault here. What all read alike, and its writer may not have meant, is a warning."""
 import argparse
 import contextlib
 import datetime
@@ -32,6 +32,8 @@ MOST = {"limit": DAY, "goal": 100, "lost": 100, "long": DAY, "bad": DAY, "ringin
 OF_GROUP = r"(limit|goal|lost|long|bad)\.[0-9]{1,15}"
 TEXTS = ("title", "lang", "since", "theme", "groups", "level", "tone", "notify")
 SECRET = "nginx-secret.conf"
+# what a line begins with that is no fault
+WARNING = "warning: "
 
 
 def why(fault: OSError) -> str:
@@ -55,7 +57,7 @@ def of_settings(file: Path) -> Iterator[str]:
             yield f"{file}, line {number}: must be NAME=VALUE"
             continue
         if name in found:
-            yield f"{file}, line {number}: {name} appears twice; the last one counts"
+            yield f"{WARNING}{file}, line {number}: {name} appears twice; the last one counts"
         found[name] = value
     for name in settings.others(found):
         yield f"{file}: no setting is called {name}; the nearest is {settings.nearest(name)}"
@@ -226,7 +228,7 @@ def of_certificate(place: Path, key: Path, now: datetime.datetime) -> Iterator[s
 
 # The command
 
-def faults(folder: Path, nginx: Path) -> Iterator[str]:
+def findings(folder: Path, nginx: Path) -> Iterator[str]:
     env = folder / "acd.env"
     judges: tuple[tuple[Path, Callable[[], Iterator[str]]], ...] = (
         (env, lambda: of_settings(env)), (folder / "roles", lambda: of_logins(folder / "roles", folder / "users")),
@@ -240,7 +242,7 @@ def faults(folder: Path, nginx: Path) -> Iterator[str]:
 
 def parser() -> command.Parser:
     found = command.Parser("Judges acd.env, roles, users, board.json, and nginx's ports and certificate. "
-                           "It starts nothing, and prints a line for each fault.")
+                           "It starts nothing, and prints a line for each fault and each warning.")
     found.add_argument("--folder", type=Path, default=settings.FILE.parent, metavar="FOLDER",
                        help=f"where the first four are; {settings.FILE.parent} unless given")
     found.add_argument("--nginx", type=Path, default=Path("/etc/nginx"), metavar="FOLDER",
@@ -250,12 +252,13 @@ def parser() -> command.Parser:
 
 def do(options: argparse.Namespace) -> int:
     """Its status."""
-    found = list(faults(options.folder, options.nginx))
+    found = list(findings(options.folder, options.nginx))
     for line in found:
         command.say(line)
-    if not found:
+    if all(line.startswith(WARNING) for line in found):
         command.say("no fault was found in acd.env, roles, users, board.json and nginx's configuration")
-    return command.FAILED if found else 0
+        return 0
+    return command.FAILED
 
 
 def main(words: list[str]) -> None:

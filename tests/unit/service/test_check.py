@@ -18,6 +18,7 @@ from acd_service.gate import roles  # noqa: E402,F401  (what it uses warns as it
 
 ENV, NGINX = (SERVICE / "settings/acd.env").read_text(), (SERVICE / "nginx/nginx.conf").read_text()
 # of "secret" by SHA-1, as `htpasswd -s` makes it
+NOTHING = "no fault was found in acd.env, roles, users, board.json and nginx's configuration"
 HASHED = "{SHA}5en6G6MezRroT3XKqkdPOmY/BfQ="
 BOARD = {"title": "Hotline Nord", "language": "de", "zone": "Europe/Berlin", "limits": {"limit": 30, "long.100": 45, "title": "North"},
          "names": {"groups": {"100": "Störung"}, "agents": {"7": "Jürgen Müller"}, "stations": {"201": "Empfang"}}}
@@ -70,7 +71,7 @@ class Office(unittest.TestCase):
 
 class Good(Office):
     def test_nothing_is_wrong(self):
-        self.assertEqual(self.said(), (0, ["no fault was found in acd.env, roles, users, board.json and nginx's configuration"]))
+        self.assertEqual(self.said(), (0, [NOTHING]))
 
     def test_what_may_be_missing(self):
         (self.folder / "board.json").unlink()
@@ -95,8 +96,12 @@ class Settings(Office):
                    "no setting is called ACD_FLIE; the nearest is ACD_FILE", "ACD_CONNECTIONS is a setting of an earlier version; remove it")
 
     def test_a_name_that_appears_twice(self):
+        """A warning is no fault, and hides none."""
         self.with_lines("ACD_STEP=5")
-        self.finds(f"acd.env, line {len(ENV.splitlines()) + 1}: ACD_STEP appears twice; the last one counts")
+        warning = f"warning: {self.folder}/acd.env, line {len(ENV.splitlines()) + 1}: ACD_STEP appears twice; the last one counts"
+        self.assertEqual(self.said(), (0, [warning, NOTHING]))
+        self.with_lines("ACD_STEP=1")
+        self.finds("ACD_STEP appears twice; the last one counts", "ACD_STEP appears twice; the last one counts", "ACD_STEP must be a whole number from 2 to 3600, and not '1'")
 
     def test_values(self):
         for name, value, bounds in (("ACD_PORT", "81", "1024 to 65535"), ("ACD_GATE_PORT", "x", "1024 to 65535"), ("ACD_STEP", "5s", "2 to 3600"), ("ACD_STEP", "1", "2 to 3600"),
