@@ -8,7 +8,6 @@ import signal
 import socket
 import ssl
 import subprocess
-import sys
 import tempfile
 import threading
 import time
@@ -16,12 +15,11 @@ from http.client import HTTPException
 from pathlib import Path
 
 from shipped import shipped, text_of
-from trial import TOP, Connection, Desk, Trial, planted, ran, until
+from trial import Connection, Desk, Trial, planted, ran, until
 
-sys.path.append(str(TOP / "tests"))
-import office  # noqa: E402
-import switch  # noqa: E402
-import tables  # noqa: E402
+import office
+import switch
+import tables
 
 # that of Debian, which the scripts are run by
 PYTHON = "/usr/bin/python3"

@@ -101,13 +101,11 @@ def packages_by(package, exchange):
     return (*made, *beside), f"beside it are {len(beside)} packages of the exchange, and not one" if exchange and len(beside) != 1 else None
 
 
-def chosen(document, tool, parts, needed=(), exchange=False, faults=False):
+def chosen(document, tool, parts, needed=(), exchange=False):
     """The options of the command line. From here on there are the packages, and the folder is where all is made."""
     parser = command(document, parts, "package")
     parser.set_defaults(package=None, program=None)
     parser.add_argument("--folder", type=Path, default=Path(f"/var/tmp/{tool}"))
-    if faults:
-        parser.add_argument("--wrong", action="store_true")
     options = parser.parse_args()
     lacking = missing(sorted({*NEEDED, *needed}))
     Booted.packages, fault = packages_by(options.package, exchange)

@@ -41,8 +41,8 @@ def wait_until(so, seconds=PATIENCE, step=1.0):
 
 
 def set_up_network():
-    """Loopback, and an address that isn't."""
-    for words in ("link set lo up", "link add eth0 type veth peer name eth1", "address add 10.0.0.1/24 dev eth0", "link set eth0 up", "link set eth1 up"):
+    """An address beside loopback."""
+    for words in ("link add eth0 type veth peer name eth1", "address add 10.0.0.1/24 dev eth0", "link set eth0 up", "link set eth1 up"):
         run(["ip", *words.split()], check=True)
 
 

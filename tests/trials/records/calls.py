@@ -22,11 +22,10 @@ from unittest import mock
 
 from trial import TOP, Desk, Plan, Requests, ran
 
-sys.path.insert(0, str(TOP / "tests"))
-import office  # noqa: E402
-import story  # noqa: E402
-from ground import Records  # noqa: E402
-from reckoning import LIMIT, Reckoning, stretched  # noqa: E402
+import office
+import story
+from ground import Records
+from reckoning import LIMIT, Reckoning, stretched
 
 TABLES = {"calls": ([], story.CALLS, "call_lines"), "legs": (["--legs"], story.LEGS, "leg_lines"), "agents": (["--agents"], story.AGENTS, "day_lines"),
           "groups": (["--groups"], story.GROUPS, "quarter_lines")}

@@ -2,13 +2,10 @@
 import bisect
 import json
 import math
-import sys
 import time
 from collections import Counter, defaultdict
-from pathlib import Path
 
-sys.path.insert(0, str(Path(__file__).resolve().parents[2]))
-from switch import Desk, Switch, order  # noqa: E402
+from switch import Desk, Switch, order
 
 COLUMNS = {"ready": "ready", "busy": "talking", "workingAfterCall": "wrap_up", "notReady": "not_ready"}
 COUNTS = ("logged_on", "ready", "talking", "wrap_up", "rings_not_answered", "rings_refused", "rings_hung_up", "rings", "calls", "own_calls", "not_ready")

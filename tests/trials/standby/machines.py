@@ -75,7 +75,6 @@ class Network:
     def __init__(self, names):
         # names of networks lie in /run, which nobody else sees
         run("mount", "-t", "tmpfs", "run", "/run")
-        run("ip", "link", "set", "lo", "up")
         run("ip", "link", "add", "bridge", "type", "bridge")
         run("ip", "link", "set", "bridge", "up")
         for name, address in names.items():

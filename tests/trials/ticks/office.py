@@ -2,13 +2,11 @@
 import heapq
 import json
 import random
-import sys
 
 from ground import BEGIN, CLOCK, HOUR, Ground, Played
-from trial import TOP, Lines, Plan, Requests, compact
+from trial import Lines, Plan, Requests, compact
 
-sys.path.insert(0, str(TOP / "tests"))
-import switch  # noqa: E402
+import switch
 
 DAY = 24 * HOUR
 # the morning begins, callers come until the evening; a talk lasts so long on average

@@ -1,12 +1,9 @@
 """What a day's requests leave to tell: of the lines as they were sent, with the answers that tests/switch.py foresees, in a table that SQL asks."""
 import json
 import sqlite3
-import sys
 import time
-from pathlib import Path
 
-sys.path.insert(0, str(Path(__file__).resolve().parents[2]))
-from switch import order  # noqa: E402
+from switch import order
 
 # by docs/USING.md: the members of each service
 OF_CALL = ["call", "device"]

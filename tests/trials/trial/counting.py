@@ -209,25 +209,29 @@ def missing(needed):
 
 def command(document, parts=(), program="program"):
     """The command line of a trial by its head: what follows `usage:` there, and the program, which is release/acd where none is named, by its place or by an option. Where there
-    are parts `--only` chooses of them. A script adds its options."""
+    are parts `--only` chooses of them; where the head has `--wrong` faults are planted. A script adds its options."""
     usage = re.search(r"^usage: (.*?)(?:  +\(|$)", document, re.MULTILINE)[1]
     parser = argparse.ArgumentParser(usage=usage, description=document, formatter_class=argparse.RawDescriptionHelpFormatter)
     parser.add_argument(program, **({} if program.startswith("-") else {"nargs": "?"}), type=lambda text: Path(text).resolve(), default=TOP / "release/acd")
     parser.add_argument("--case", metavar="NAME", help="one case alone: try_success, success or Statuses.try_success")
+    if "--wrong" in usage:
+        parser.add_argument("--wrong", action="store_true")
     if parts:
         parser.add_argument("--only", type=lambda text: text.split(","), default=list(parts), help=f"of {','.join(parts)}")
     return parser
 
 
-def main(cases, options, says=str, most=None):
+def main(cases, options, says=str, most=None, faults=None):
     """Tries the cases, prints what `says` makes of the count, and ends: with status 1 where anything went otherwise, or nothing was tried. Cases that have names, each a list, are
-    parts, of which `options.only` says which. The last line ends with the number of cases, and the seconds. With the trial ends whatever it started."""
+    parts, of which `options.only` says which. With --wrong the case that plants `faults` follows them. The last line ends with the number of cases, and the seconds. With the trial
+    ends whatever it started."""
     if not is_alone():
         hold()
     signal.signal(signal.SIGTERM, lambda *_: sys.exit(143))     # so that what was made is removed too
     count = Trial.count = Count(most)
     Trial.options, Trial.program = options, options.program
     parts = {part: cases[part] for part in options.only} if isinstance(cases, dict) else {None: cases}
+    parts |= {"wrong": [faults]} if faults and options.wrong else {}
     try:
         for part, chosen in parts.items():
             tried, wrong = count.tried, count.wrong

@@ -1,5 +1,6 @@
 """A trial in name spaces of its own, with its folders in memory."""
 import os
+import subprocess
 import sys
 import tempfile
 
@@ -17,3 +18,5 @@ def alone(*spaces):
         hold()
         os.execvpe("unshare", ["unshare", *spaces, "--pid", "--fork", "--kill-child", "--mount-proc", "/usr/bin/python3", *sys.argv], {**os.environ, "TRIAL_ALONE": "yes"})
     tempfile.tempdir = "/dev/shm"
+    if "--net" in spaces:
+        subprocess.run(["ip", "link", "set", "lo", "up"], check=True)

@@ -5,17 +5,15 @@ import json
 import random
 import shutil
 import sqlite3
-import sys
 from collections import Counter
 from pathlib import Path
 
-from ground import TOP, Ground, firsts, from_on, held, joined
+from ground import Ground, firsts, from_on, held, joined
 
-sys.path.append(str(TOP / "tests"))
-import limits  # noqa: E402
-import office  # noqa: E402
-import switch  # noqa: E402
-import tables  # noqa: E402
+import limits
+import office
+import switch
+import tables
 
 LAID = 1000000
 # how often a request that was left behind, and is sent again, is answered so: by service and result or refusal

@@ -2,7 +2,6 @@
 import contextlib
 import shutil
 import sqlite3
-import sys
 import tempfile
 from pathlib import Path
 
@@ -10,7 +9,6 @@ from shipped import PACKAGE, shipped
 from trial import TOP, Lines, Trial, planted, ran
 
 UNITS = TOP / "service/units"
-sys.path.append(str(TOP / "tests"))
 import tables  # noqa: E402
 
 CARRY = "leaving/carry.py"
