@@ -1,9 +1,10 @@
 """The service's package in a folder of a trial's own, where a module may have another text."""
 import shutil
 import subprocess
+import tempfile
 from pathlib import Path
 
-from trial import TOP
+from trial import TOP, planted
 
 SERVICE = TOP / "service"
 PACKAGE, CLIENT = SERVICE / "acd_service", TOP / "client"
@@ -30,3 +31,10 @@ def shipped(folder, texts=(), of=SERVICE):
     # as it is installed: no command writes what Python made of it
     subprocess.run(["/usr/bin/python3", "-m", "compileall", "-q", folder], check=True)
     return folder / "bin"
+
+
+def with_fault(module, old, new):
+    """The folder of the commands, with a fault in one module."""
+    folder = Path(tempfile.mkdtemp())
+    folder.chmod(0o755)
+    return shipped(folder / "service", {module: planted(text_of(module), old, new)})

@@ -9,8 +9,9 @@ import time
 from pathlib import Path
 
 from copying import SOUND
-from ground import PYTHON, Office, Part, call, frames, kept, log_of, spoil
+from ground import PYTHON, Office, Part, call, frames, kept, spoil
 from trial import Lines, Requests, compact
+from trial.files import log_of
 
 DAY = 86400
 PLANNED = '0 {"requester":"p","invoke":1,"service":"addGroup","device":"100","name":"B","ring":20,"wrap":30}\n'

@@ -9,8 +9,9 @@ import subprocess
 import tempfile
 from pathlib import Path
 
-from ground import PLANNED, Office, kept, log_of, sums
+from ground import PLANNED, Office, kept, sums
 from trial import Desk, Plan, free_port
+from trial.files import log_of
 
 ROW = Plan([], ["299"], []).text()
 CLOSED = "cannot open"

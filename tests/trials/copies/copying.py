@@ -10,8 +10,9 @@ import subprocess
 import time
 from pathlib import Path
 
-from ground import OTHER, PYTHON, Load, Part, call, frames, kept, log_of, lost, spoil, sums
+from ground import OTHER, PYTHON, Load, Part, call, frames, kept, lost, spoil, sums
 from trial import free_port
+from trial.files import log_of
 
 SOUND = r"sound: \S+/copies/\d{4}-\d\d-\d\dT\d{6}Z\n"
 

@@ -14,6 +14,7 @@ from pathlib import Path
 
 from shipped import SERVICE, shipped
 from trial import Connection, Desk, Lines, Plan, Requests, Trial, compact, line, ran
+from trial.files import log_of
 
 # that of Debian, which the scripts are run by
 PYTHON = "/usr/bin/python3"
@@ -31,10 +32,6 @@ def call(number, requester="x"):
 def sums(*paths):
     """What lies there, to the byte."""
     return [hashlib.sha256(path.read_bytes()).hexdigest() if path.is_file() else None for path in paths]
-
-
-def log_of(file):
-    return Path(f"{file}-wal")
 
 
 def kept(file):

@@ -10,8 +10,9 @@ import time
 from pathlib import Path
 
 from copying import SOUND
-from ground import PYTHON, Load, Part, ask, call, kept, log_of
+from ground import PYTHON, Load, Part, ask, call, kept
 from trial import until
+from trial.files import log_of
 
 HALTED = r"the desk was halted for (\d+) ms"
 # cp, with something done before it or after it: of the file, and of the log

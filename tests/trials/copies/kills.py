@@ -7,7 +7,8 @@ import tempfile
 from pathlib import Path
 
 from answers import CLOSED, COMMANDS, Answers
-from ground import Office, Part, call, kept, log_of, sums
+from ground import Office, Part, call, kept, sums
+from trial.files import log_of
 
 CALLS = ("rename", "renameat", "renameat2", "link", "linkat", "symlink", "symlinkat", "unlink", "unlinkat", "mkdir", "mkdirat", "rmdir", "fsync", "write",
          "pwrite64", "sendfile", "copy_file_range", "ftruncate", "chmod", "fchmod", "fchmodat", "chown", "fchown", "lchown", "fchownat", "utimensat", "fcntl", "flock")

@@ -7,8 +7,9 @@ import stat
 import subprocess
 from pathlib import Path
 
-from ground import OTHER, PYTHON, Part, call, frames, kept, listing, log_of, spoil, sums
+from ground import OTHER, PYTHON, Part, call, frames, kept, listing, spoil, sums
 from trial import free_port
+from trial.files import log_of
 
 DONE = r"Restored %s into %s\. The previous files are in (\S+); acd-copy --undo brings them back\n"
 UNDONE = r"Took the restore of %s back: %s is as before(?:\. The files of meanwhile are in (\S+))?\n"

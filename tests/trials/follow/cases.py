@@ -11,8 +11,9 @@ import threading
 import time
 from pathlib import Path
 
-from ground import PATIENCE, Between, Follower, Ground, Served, ask, certificate, day, held, is_beginning, last_of, log_of, state_in
+from ground import PATIENCE, Between, Follower, Ground, Served, ask, certificate, day, is_beginning, last_of, state_in
 from trial import until
+from trial.files import held, log_of
 
 FAULT, REFUSED, DIFFERS, LACKS = 1, 2, 3, 4
 # what it makes a file at

@@ -16,6 +16,7 @@ from pathlib import Path
 
 from shipped import shipped, text_of
 from trial import Connection, Desk, Trial, planted, ran, until
+from trial.files import copied, held
 
 import office
 import switch
@@ -268,26 +269,6 @@ class Load:
 
 
 # What a file holds
-
-def log_of(file):
-    return Path(f"{file}-wal")
-
-
-def copied(file, folder):
-    """The file with its log, in a folder."""
-    made = Path(folder) / file.name
-    for source, target in ((file, made), (log_of(file), log_of(made))):
-        target.unlink(missing_ok=True)
-        if source.exists():
-            shutil.copy(source, target)
-    return made
-
-
-def held(file):
-    """All rows, read out of a copy, since SQLite plays the log into the file."""
-    with tempfile.TemporaryDirectory() as folder:
-        return tables.held(copied(file, folder))
-
 
 def last_of(file):
     """The number of the last request that it has."""

@@ -9,7 +9,8 @@ import time
 from collections import Counter
 from pathlib import Path
 
-from ground import Follower, Ground, Load, Served, copied, endless_day, held, is_beginning, last_of, state_in
+from ground import Follower, Ground, Load, Served, endless_day, is_beginning, last_of, state_in
+from trial.files import copied, held
 
 DIFFERS, KILLED = 3, -signal.SIGKILL
 SEEN = Counter()

@@ -269,15 +269,7 @@ def much_at_once(machines, many=100):
 
 def differs(machines, chance):
     """A machine with an older file under a newer place; and what machine 1 says then is no majority."""
-    machines.kill_node(2)
-    shutil.copytree(machines.folder / "m2", machines.folder / "older")
-    machines.start_node(2)
-    machines.arrive("newer", "0500", 20, chance)
-    machines.wait_until_equal()
-    machines.kill_node(2)
-    shutil.copy(machines.folder / "older/desk.db", machines.folder / "m2/desk.db")
-    (machines.folder / "m2/desk.db-wal").unlink(missing_ok=True)
-    machines.start_node(2)
+    machines.put_older_file(2, 20, chance)
     machines.arrive("other", "0550", 20, chance, (1, 3))
     put_ticks(machines, "differs", 1100)
     machines.see("it differs, answers nothing, and says why", machines.refuses(2, "differ from those of two other machines"), machines.said(2)[-300:])

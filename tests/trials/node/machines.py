@@ -4,6 +4,7 @@ import http.client
 import json
 import os
 import re
+import shutil
 import signal
 import ssl
 import subprocess
@@ -285,6 +286,18 @@ class Machines:
         self.start_node(to)
         time.sleep(3)
         self.start_node(source)
+
+    def put_older_file(self, n, many, chance):
+        """The machine goes on with its desk's file of before so many calls, below its newer place."""
+        self.kill_node(n)
+        shutil.copytree(self.folder / f"m{n}", self.folder / "older")
+        self.start_node(n)
+        self.arrive("newer", "0500", many, chance)
+        self.wait_until_equal()
+        self.kill_node(n)
+        shutil.copy(self.folder / "older/desk.db", self.folder / f"m{n}/desk.db")
+        (self.folder / f"m{n}/desk.db-wal").unlink(missing_ok=True)
+        self.start_node(n)
 
 
 class OfMachines(Trial):

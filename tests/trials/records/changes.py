@@ -1,17 +1,16 @@
 """What is tried of acd-plan --changes: what it prints and sends for a desk that differs from a plan in every way, reckoned by hand."""
 import base64
 import contextlib
-import http.server
 import json
 import os
 import pty
 import re
 import ssl
 import subprocess
-import threading
 
 from ground import Records
 from trial import Connection, Desk, Plan, Requests
+from trial.played import Handler, Played
 
 # what the desk has, and a priority
 PRESENT = Plan([("100", "Billing", 20, 30), ("110", "Claims", 20, 30), ("120", "Orders", 0, 30), ("130", "a, b", 20, 0), ("0100", "Old", 1, 1)], ["201", "202", "0201"],
@@ -78,19 +77,15 @@ FAULTY = [
 ]
 
 
-class Front(http.server.ThreadingHTTPServer):
+class Front(Played):
     """Stands before a desk, below a path: does with each request the next of what is to be done, and lets it pass behind that; over TLS by a
     certificate, and with a password."""
-    daemon_threads = True
 
     def __init__(self, port, todo=(), below="", certificate=None, password=None):
         self.todo, self.asked, self.scheme = list(todo), [], "https" if certificate else "http"
         front, right = self, password and "Basic " + base64.b64encode(password.encode()).decode()
 
-        class Handler(http.server.BaseHTTPRequestHandler):
-            def log_message(self, *_):
-                pass
-
+        class OfFront(Handler):
             def do_GET(self):
                 self.pass_on("GET", None)
 
@@ -110,13 +105,7 @@ class Front(http.server.ThreadingHTTPServer):
                 if what == "pass":
                     self.answer(reply.status, reply.body)
 
-            def answer(self, status, said):
-                self.send_response(status)
-                self.send_header("Content-Length", str(len(said)))
-                self.end_headers()
-                self.wfile.write(said)
-
-        super().__init__(("127.0.0.1", 0), Handler)
+        super().__init__(OfFront)
         if certificate:
             context = ssl.SSLContext(ssl.PROTOCOL_TLS_SERVER)
             context.load_cert_chain(certificate, certificate.with_suffix(".key"))
@@ -125,14 +114,6 @@ class Front(http.server.ThreadingHTTPServer):
 
     def handle_error(self, *_):
         """A client that doesn't trust the certificate ends the connection."""
-
-    def __enter__(self):
-        threading.Thread(target=self.serve_forever, daemon=True).start()
-        return self
-
-    def __exit__(self, *_):
-        self.shutdown()
-        self.server_close()
 
 
 def at_a_terminal(words, typed):

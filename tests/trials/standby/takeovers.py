@@ -6,7 +6,7 @@ import statistics
 import subprocess
 import time
 
-from ground import copied, held
+from trial.files import copied, held
 from machines import CLIENT, DAY, NOTING, OPERATING, PORT, PYTHON, Machine, Office, grown, run
 from trial import until
 

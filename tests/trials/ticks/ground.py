@@ -2,12 +2,10 @@
 import json
 import os
 import shutil
-import threading
-from http.server import BaseHTTPRequestHandler, ThreadingHTTPServer
 from pathlib import Path
 
 from shipped import PACKAGE, shipped
-from trial import TOP, Trial, ran
+from trial import TOP, Trial, played, ran
 
 CLOCK = "clock-abcdefghijkl"
 HOUR, STEP, BEGIN = 3600, 600, 1800000000
@@ -51,13 +49,12 @@ def words_of_all():
     return found
 
 
-class Played(ThreadingHTTPServer):
+class Played(played.Played):
     """A desk that is played: it answers each read with the same snapshot and status, and each tick by a function of it and of the place that it came at."""
 
     def __init__(self, answer=lambda request, _: granted(request), snapshot=RINGS, status=200):
-        super().__init__(("127.0.0.1", 0), Handler)
+        super().__init__(OfPlayed)
         self.answer, self.snapshot, self.status, self.asked, self.words, self.reads = answer, snapshot, status, [], [], 0
-        threading.Thread(target=self.serve_forever, daemon=True).start()
 
     def read(self):
         self.reads += 1
@@ -70,26 +67,13 @@ class Played(ThreadingHTTPServer):
         status, told = self.answer(request, len(self.asked))
         return status, json.dumps(told, separators=(",", ":"))
 
-    def __exit__(self, *_):
-        self.shutdown()
-        self.server_close()
 
-
-class Handler(BaseHTTPRequestHandler):
-    def log_message(self, *_):
-        pass
-
-    def reply(self, status, body):
-        self.send_response(status)
-        self.send_header("Content-Length", str(len(body)))
-        self.end_headers()
-        self.wfile.write(body.encode())
-
+class OfPlayed(played.Handler):
     def do_GET(self):
-        self.reply(*self.server.read())
+        self.answer(*self.server.read())
 
     def do_POST(self):
-        self.reply(*self.server.take(json.loads(self.rfile.read(int(self.headers["Content-Length"])))))
+        self.answer(*self.server.take(json.loads(self.rfile.read(int(self.headers["Content-Length"])))))
 
 
 class Ground(Trial):

@@ -1,14 +1,11 @@
 """A stand-in for a desk that tells executed requests: it has the records that it is given, and may be silent, grow, begin late, or answer otherwise."""
-import http.server
 import json
-import threading
 import urllib.parse
 
+from trial.played import Handler, Played
 
-class Handler(http.server.BaseHTTPRequestHandler):
-    def log_message(self, *_):
-        pass
 
+class OfPages(Handler):
     def do_GET(self):
         server, (path, _, query) = self.server, self.path.partition("?")
         after = int(urllib.parse.parse_qs(query)["after"][0])
@@ -23,17 +20,12 @@ class Handler(http.server.BaseHTTPRequestHandler):
             status = server.answer[0]
         else:
             text = server.page(after)
-        self.send_response(status)
-        self.send_header("Content-Length", str(len(text)))
-        self.end_headers()
-        self.wfile.write(text.encode())
+        self.answer(status, text)
 
 
-class Pages(http.server.ThreadingHTTPServer):
-    daemon_threads = True
-
+class Pages(Played):
     def __init__(self, records):
-        super().__init__(("127.0.0.1", 0), Handler)
+        super().__init__(OfPages)
         self.records, self.asked, self.silent, self.answer, self.first, self.grows = records, [], 0, None, 1, 0
 
     def page(self, after):
@@ -44,11 +36,3 @@ class Pages(http.server.ThreadingHTTPServer):
         begin = max(after + 1, self.first) - behind
         found = known[max(begin, 0):max(begin, 0) + 1000]
         return json.dumps({"last": known[-1]["stamp"] if known else 0, "requests": found}, separators=(",", ":"))
-
-    def __enter__(self):
-        threading.Thread(target=self.serve_forever, args=(0.05,), daemon=True).start()
-        return self
-
-    def __exit__(self, *_):
-        self.shutdown()
-        self.server_close()

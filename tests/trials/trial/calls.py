@@ -4,6 +4,7 @@ from pathlib import Path
 
 from .counting import Trial
 from .desks import Lines
+from .files import log_of
 from .requests import Plan, Requests, compact, line, lines
 
 PLANNED = 5
@@ -29,12 +30,8 @@ class OverCalls(Trial):
             cls.gives(turn, ["import", "--file", cls.file, "--plan", cls.plan], 0, cls.planned)
         answers = cls.gives("lines", ["lines", "--file", cls.file], given=lines(asked()))
         cls.expect("six lines granted", answers.count("200 "), 6)
-        log = cls.log_of(cls.file)
+        log = log_of(cls.file)
         cls.see("a log without a frame", not log.exists() or log.stat().st_size < 32 + 24, log.exists() and log.stat().st_size)
-
-    @staticmethod
-    def log_of(file):
-        return Path(f"{file}-wal")
 
     @classmethod
     def copy(cls, name):

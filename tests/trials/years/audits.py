@@ -5,7 +5,8 @@ import sqlite3
 
 # by cuts the folder of tests is among those that modules are looked for in
 from cuts import Cuts, Day
-from ground import Ground, firsts, log_of
+from ground import Ground, firsts
+from trial.files import log_of
 import office
 
 # Each alters one thing: in the file, or in its archive. Where the tables alone differ by it, that is found at the last stamp and one.

@@ -5,7 +5,8 @@ import sqlite3
 import subprocess
 from pathlib import Path
 
-from ground import Ground, copied, firsts, held, log_of
+from ground import Ground, firsts
+from trial.files import copied, held, log_of
 from kills import PLAN
 
 HOUR, DAY = 3600, 86400

@@ -9,7 +9,8 @@ import subprocess
 from pathlib import Path
 
 from cases import changed, disk, listing
-from ground import PYTHON, Ground, copied, from_on, held, log_of
+from ground import PYTHON, Ground, from_on
+from trial.files import copied, held, log_of
 from kills import PLAN, Kills
 
 HOUR, DAY = 3600, 86400

@@ -8,7 +8,8 @@ import sqlite3
 from collections import Counter
 from pathlib import Path
 
-from ground import Ground, firsts, from_on, held, joined
+from ground import Ground, firsts, from_on, joined
+from trial.files import held
 
 import limits
 import office

@@ -8,14 +8,16 @@ import sys
 import urllib.request
 from unittest import mock
 
+from trial import Desk
+from trial.files import copied, held, log_of
+
 from cases import changed
-from ground import TOP, Ground, copied, firsts, held, joined, log_of
+from ground import TOP, Ground, firsts, joined
 from kills import PLAN, calls
 
 sys.path += [str(TOP / "service"), str(TOP / "client")]
 import acd_client  # noqa: E402
 from acd_service.leaving import days, following  # noqa: E402
-from trial import Desk  # noqa: E402
 
 
 def module(ground):

@@ -4,7 +4,8 @@ import json
 import subprocess
 
 from cuts import LAID, lay_history
-from ground import PYTHON, Ground, log_of
+from ground import PYTHON, Ground
+from trial.files import log_of
 from kills import PLAN
 
 DAY = 86400

@@ -11,7 +11,8 @@ from pathlib import Path
 
 from cases import changed, listing
 from chains import DAY, HOUR, Office, note_of, sha256, text_of
-from ground import PYTHON, Ground, copied, held, joined
+from ground import PYTHON, Ground, joined
+from trial.files import copied, held
 from kills import PLAN
 
 # who is forgotten: of 11 digits, whose integers have 6 bytes, of 15, whose integers have 8, and of 6, whose integers have 3 and may stand in bytes by chance

@@ -7,9 +7,9 @@ from pathlib import Path
 
 from shipped import PACKAGE, shipped
 from trial import TOP, Lines, Trial, planted, ran
+from trial.files import held
 
 UNITS = TOP / "service/units"
-import tables  # noqa: E402
 
 CARRY = "leaving/carry.py"
 MODULES = {str(file.relative_to(PACKAGE)): file.read_text() for file in PACKAGE.rglob("*.py")}
@@ -86,25 +86,6 @@ class Ground(Trial):
 
 
 # What a file holds
-
-def log_of(file):
-    return Path(f"{file}-wal")
-
-
-def copied(file, folder):
-    """The file with its log, in a folder of its own."""
-    made = Path(folder) / file.name
-    for source, target in ((file, made), (log_of(file), log_of(made))):
-        if source.exists():
-            shutil.copy(source, target)
-    return made
-
-
-def held(file):
-    """All rows, read out of a copy, since SQLite plays the log into the file."""
-    with tempfile.TemporaryDirectory() as folder:
-        return tables.held(copied(file, folder))
-
 
 def from_on(found, stamp, number):
     """Of these rows what goes on from a request and an event."""

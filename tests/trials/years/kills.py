@@ -4,7 +4,8 @@ import re
 import shutil
 import signal
 
-from ground import Ground, copied, held
+from ground import Ground
+from trial.files import copied, held
 
 CALLS = ("mkdir", "rmdir", "unlink", "unlinkat", "rename", "renameat", "renameat2", "link", "chmod", "fchmod", "write", "pwrite64", "ftruncate", "fsync", "fdatasync",
          "flock", "fcntl", "vfork", "clone", "clone3", "fork")

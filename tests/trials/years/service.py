@@ -16,8 +16,8 @@ from cases import disk, listing
 from chains import identity, note_of, sha256
 from disks import Disk, lay, states
 from disks import strace as strace_of_disks
-from ground import copied, held, joined
-from joined import knows_archives, stand_in
+from ground import joined
+from trial.files import copied, held
 from kills import CALLS, PLAN
 from trial import Connection, free_port
 from units import Carrying, Desk
@@ -54,11 +54,7 @@ class Service:
             made.mkdir()
         self.begin = int(time.time()) - DAYS * DAY
         self.port = free_port()
-        self.is_real = knows_archives(ground.program)
-        real = self.bin / "acd" if self.is_real else self.bin / "real/acd"
-        real.parent.mkdir(exist_ok=True)
-        shutil.copy(ground.program, real)
-        self.program = real if self.is_real else stand_in(real, self.bin)
+        self.program = Path(shutil.copy(ground.program, self.bin / "acd"))
         (self.bin / "systemctl").write_text(f'#!/bin/sh\nexec /usr/bin/python3 {Path(__file__).with_name("units.py")} {folder / "state"} "$@"\n')
         (self.bin / "systemctl").chmod(0o755)
         self.file = self.place / "desk.db"

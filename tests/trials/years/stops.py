@@ -7,7 +7,8 @@ import time
 
 from cuts import LAID, lay_history
 from figures import requests
-from ground import Ground, log_of
+from ground import Ground
+from trial.files import log_of
 from kills import PLAN
 from service import DAY, Service, try_service
 
@@ -68,8 +69,7 @@ class Stops(Service):
         # the old one is opened once, and the new one twice, and then by the desk
         alone = old + 2 * new + audit
         self.ground.expect(f"{what}: {took:.2f} s, and its openings and audit {alone:.2f} s", took < SLOWER * alone + BESIDES)
-        by = "" if self.is_real else ", by a stand-in,"
-        print(f"{what}: nobody is answered for {took:.2f} s. An opening of the old file takes {old:.2f} s, of the new one {new:.2f} s, their audit{by} {audit:.2f} s: "
+        print(f"{what}: nobody is answered for {took:.2f} s. An opening of the old file takes {old:.2f} s, of the new one {new:.2f} s, their audit {audit:.2f} s: "
               f"one, two and one are {alone:.2f} s", flush=True)
         shutil.rmtree(self.place)
 

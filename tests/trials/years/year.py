@@ -8,8 +8,8 @@ import subprocess
 import sys
 import time
 
-from ground import TOP, Ground, held, joined
-from joined import knows_archives, stand_in
+from ground import TOP, Ground, joined
+from trial.files import held
 from trial import Lines
 from units import command, lines_of
 
@@ -107,7 +107,6 @@ class OfYear(Ground):
         office, longest, greatest = Office(chance), 0.0, 0
         with self.scratch() as folder:
             file = folder / "desk.db"
-            program = self.program if knows_archives(self.program) else stand_in(self.program, folder)
             for week in range(weeks):
                 begun = time.monotonic()
                 office.desk = Desk(self.program, file, words=["--reads"])
@@ -120,7 +119,7 @@ class OfYear(Ground):
                 office.desk.ends()
                 rows = held(file)["kept"]
                 greatest, longest = max(greatest, len(rows)), max(longest, opened)
-                carry(self, program, file, week + 1, chance)
+                carry(self, self.program, file, week + 1, chance)
             archives = archives_of(file)
             self.expect("archives and file together", self.audit(joined(archives, file, folder / "joined.db")), (0, f"sound\nexecuted {office.asked}\n", ""))
             self.expect("no file has over nine days", greatest < office.asked / weeks / 7 * 9 + 400)
