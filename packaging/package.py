@@ -346,7 +346,8 @@ def lay_out(root, options, moment):
     size, sums = sizes_and_sums(root)
     with tempfile.TemporaryDirectory() as scratch:
         libraries = library_packages(root / "usr/bin/acd", Path(scratch))
-    needed = ", ".join(filter(None, [libraries, "adduser, python3 (>= 3.11), python3-bcrypt, python3-passlib"]))
+    ours = "adduser, python3 (>= 3.11), python3-aiohttp, python3-bcrypt, python3-passlib"
+    needed = ", ".join(filter(None, [libraries, ours]))
     put("DEBIAN/control", f"Package: acd\nVersion: {version}\nArchitecture: amd64\nMaintainer: {MAINTAINER}\n"
                           f"Installed-Size: {size}\nDepends: {needed}\nRecommends: nftables\n"
                           "Suggests: nginx, etcd-server, etcd-client\nSection: net\nPriority: optional\n"

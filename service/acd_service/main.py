@@ -29,7 +29,7 @@ COMMANDS = {
     "export": Command("leaving.export", "print all events of a file and its archives as CSV"),
     "follow": Command("follow", "keep a copy of a desk that runs elsewhere"),
     "forget": Command("forget", "make a caller's number unknown in the archives"),
-    "gate": Command("leaving.server", "judge logins for the proxy, and let each ask for no more than its role may"),
+    "gate": Command("gate.main", "judge logins for the proxy, and let each ask for no more than its role may"),
     "local": Command("local", "keep this machine's other users from the desk's ports"),
     "node": Command("node.main", "feed this machine's desk from a log that several machines share"),
     "plan": Command("plan", "print the desk's plan, or change it to another one"),

@@ -34,6 +34,7 @@ KNOWN_BY = {
     "node-typescript": "tsc",
     "nodejs": "node",
     "openssl": "openssl",
+    "python3-aiohttp": "aiohttp",
     "python3-bcrypt": "bcrypt",
     "python3-coverage": "coverage",
     "python3-h2": "h2",

@@ -15,10 +15,10 @@ from .jobs import PYTHON, TOP, Job
 UNIT = "tests/unit"
 PLAIN = TOP / "tests/runner/plain.py"
 # what unit tests need: a folder of them can't be left out by .ci/run
-UNIT_PACKAGES = {"client": (), "exchange": (), "gate": ("python3-bcrypt", "python3-passlib"), "node": (), "runner": (),
+UNIT_PACKAGES = {"client": (), "exchange": (), "gate": ("python3-aiohttp", "python3-bcrypt", "python3-passlib"), "node": (), "runner": (),
                  "service": ("python3-bcrypt", "python3-passlib")}
 HELPERS = ("python3-pytest", "python3-pytest-timeout")      # unittest takes their place where they are missing
-NGINX = ("nginx-light", "openssl", "python3-bcrypt", "python3-passlib")
+NGINX = ("nginx-light", "openssl", "python3-aiohttp", "python3-bcrypt", "python3-passlib")
 SPACES = ("iproute2", "openssl", "strace", "util-linux")
 LONGEST = 4 * 3600      # seconds that a trial may take
 
@@ -114,7 +114,7 @@ def lint() -> list[Job]:
 
 
 def types() -> list[Job]:
-    return [Job("types", (PYTHON, "-m", "mypy"), counts.of_status, ("mypy",))]
+    return [Job("types", (PYTHON, "-m", "mypy"), counts.of_status, ("mypy", "python3-aiohttp"))]
 
 
 def case_names(place: str) -> Iterator[str]:
@@ -122,7 +122,7 @@ def case_names(place: str) -> Iterator[str]:
     file, _, of = place.partition(":")
     for found in ast.walk(ast.parse((TOP / file).read_text())):
         if isinstance(found, ast.ClassDef) and of in ("", found.name):
-            yield from (f"{found.name}.{each.name}" for each in found.body if isinstance(each, ast.FunctionDef) and each.name.startswith(("test_", "try_")))
+            yield from (f"{found.name}.{each.name}" for each in found.body if isinstance(each, ast.FunctionDef | ast.AsyncFunctionDef) and each.name.startswith(("test_", "try_")))
 
 
 def cases_in(places: tuple[str, ...]) -> int:

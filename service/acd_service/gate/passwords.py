@@ -1,5 +1,6 @@
 """Judges passwords: remembers a right one, counts wrong ones, and lets what nobody has vouched for wait by turns of the
-addresses. Unproved."""
+addresses for one of a few threads. Unproved."""
+import asyncio
 import contextlib
 import hashlib
 import hmac
@@ -7,15 +8,16 @@ import ipaddress
 import itertools
 import os
 import secrets
-import threading
 import time
 from collections import Counter, OrderedDict, deque
-from collections.abc import Callable, Iterator
+from collections.abc import AsyncIterator, Callable
+from concurrent.futures import ThreadPoolExecutor
 from typing import NamedTuple, Protocol
 
 from passlib.context import CryptContext
 
 from acd_service.command import report
+from acd_service.gate.exchanges import Left
 
 # what htpasswd makes, or has made: no plain text, so that a line which isn't a hash is nobody's password
 FORMS = CryptContext(
@@ -63,15 +65,8 @@ class Users(Protocol):
     def now(self) -> dict[str, str]: ...
 
 
-class Left(ConnectionError):
-    """Who asked has closed the connection, and waits for no answer."""
-
-
-class Place:
-    """Of one who waits. `is_turn` says whether a turn came, or the place was given up."""
-
-    def __init__(self) -> None:
-        self.called, self.is_turn = threading.Event(), False
+# one who waits: whether a turn came, or the place was given up
+Place = asyncio.Future[bool]
 
 
 class Turns:
@@ -81,39 +76,35 @@ class Turns:
     latest."""
 
     def __init__(self, at_once: int = AT_ONCE) -> None:
-        self.lock, self.free, self.count, self.numbers = threading.Lock(), at_once, 0, itertools.count(1)
+        self.free, self.count, self.numbers = at_once, 0, itertools.count(1)
         self.waiting: dict[bytes, deque[Place]] = {}
         self.last: OrderedDict[bytes, int] = OrderedDict()
 
-    @contextlib.contextmanager
-    def turn(self, address: bytes) -> Iterator[bool]:
+    @contextlib.asynccontextmanager
+    async def turn(self, address: bytes) -> AsyncIterator[bool]:
         """Waits for a turn; whether there was one."""
-        place = Place()
-        with self.lock:
-            self.enter(address, place)
-            self.call()
-        place.called.wait()
+        place: Place = asyncio.get_running_loop().create_future()
+        self.enter(address, place)
+        self.call()
         try:
-            yield place.is_turn
+            yield await place
         finally:
-            if place.is_turn:
-                with self.lock:
-                    self.free += 1
-                    self.call()
+            if place.done() and not place.cancelled() and place.result():
+                self.free += 1
+                self.call()
 
     def forget(self, address: bytes) -> None:
         """The last turn of this address was for a right password."""
-        with self.lock:
-            self.last.pop(address, None)
+        self.last.pop(address, None)
 
     def enter(self, address: bytes, place: Place) -> None:
         self.waiting.setdefault(address, deque()).append(place)
         self.count += 1
         if len(self.waiting[address]) > MOST_OF_ADDRESS:
-            self.take(address, latest=True).called.set()
+            self.take(address, latest=True).set_result(False)
         elif self.count > MOST_WAITING:
             fullest = max(reversed(self.waiting), key=lambda each: (len(self.waiting[each]), self.last.get(each, 0)))
-            self.take(fullest, latest=True).called.set()
+            self.take(fullest, latest=True).set_result(False)
 
     def take(self, address: bytes, latest: bool = False) -> Place:
         places = self.waiting[address]
@@ -128,13 +119,14 @@ class Turns:
         while self.free and self.waiting:
             address = min(self.waiting, key=lambda each: self.last.get(each, 0))
             place = self.take(address)
+            if place.cancelled():
+                continue
             self.last[address] = next(self.numbers)
             self.last.move_to_end(address)
             if len(self.last) > MOST_KNOWN:
                 self.last.popitem(last=False)
             self.free -= 1
-            place.is_turn = True
-            place.called.set()
+            place.set_result(True)
 
 
 class Passwords:
@@ -143,7 +135,7 @@ class Passwords:
 
     def __init__(self, users: Users, clock: Callable[[], float] = time.monotonic) -> None:
         self.users, self.clock, self.key = users, clock, secrets.token_bytes(32)
-        self.lock, self.turns = threading.Lock(), Turns()
+        self.turns, self.pool = Turns(), ThreadPoolExecutor(AT_ONCE, "password")
         # of a login the password that was right, the hash that it fitted, and until when it counts
         self.right: dict[bytes, tuple[bytes, str, float]] = {}
         # of a pair the moments of wrong passwords; of a login since when they were counted, and how many
@@ -152,7 +144,8 @@ class Passwords:
         # of a pair those that are being checked, which may be wrong: no eleventh try slips by
         self.checked: Counter[bytes] = Counter()
 
-    def judge(self, address: bytes, login: bytes, password: bytes, has_left: Callable[[], bool] = lambda: False) -> str:
+    async def judge(self, address: bytes, login: bytes, password: bytes,
+                    has_left: Callable[[], bool] = lambda: False) -> str:
         """The verdict; a password that has to be checked waits for its turn, and is dropped where it has_left by
         then."""
         address = network(address)
@@ -161,13 +154,13 @@ class Passwords:
         verdict = self.known(self.users.now(), attempt)
         if verdict is not None:
             return verdict
-        with self.turns.turn(address) as is_turn:
+        async with self.turns.turn(address) as is_turn:
             if not is_turn:
                 return TOO_MANY
             if has_left():
                 raise Left
             hashes = self.users.now()
-            verdict = self.known(hashes, attempt, checks=True) or self.looked_at(hashes, attempt)
+            verdict = self.known(hashes, attempt, checks=True) or await self.looked_at(hashes, attempt)
         if verdict == RIGHT:
             self.turns.forget(address)
         return verdict
@@ -175,37 +168,35 @@ class Passwords:
     def known(self, hashes: dict[str, str], attempt: Attempt, checks: bool = False) -> str | None:
         """The verdict without a check of the password, or None; with `checks` it is checked then."""
         now = self.clock()
-        with self.lock:
-            given, hashed, until = self.right.get(attempt.login, (b"", "", now))
-            if now < until and hashed == hashes.get(text(attempt.login)) and hmac.compare_digest(given, attempt.given):
-                self.right[attempt.login] = given, hashed, now + MINUTE
-                return RIGHT
-            wrong = sum(now - moment < MINUTE for moment in self.wrong.get(attempt.pair, ()))
-            if wrong + self.checked[attempt.pair] >= MOST_WRONG:
-                return TOO_MANY
-            if checks:
-                self.checked[attempt.pair] += 1
+        given, hashed, until = self.right.get(attempt.login, (b"", "", now))
+        if now < until and hashed == hashes.get(text(attempt.login)) and hmac.compare_digest(given, attempt.given):
+            self.right[attempt.login] = given, hashed, now + MINUTE
+            return RIGHT
+        wrong = sum(now - moment < MINUTE for moment in self.wrong.get(attempt.pair, ()))
+        if wrong + self.checked[attempt.pair] >= MOST_WRONG:
+            return TOO_MANY
+        if checks:
+            self.checked[attempt.pair] += 1
         return None
 
-    def looked_at(self, hashes: dict[str, str], attempt: Attempt) -> str:
+    async def looked_at(self, hashes: dict[str, str], attempt: Attempt) -> str:
         try:
-            good, now = self.fits(hashes, attempt), self.clock()
+            good = await asyncio.get_running_loop().run_in_executor(self.pool, self.fits, hashes, attempt)
         finally:
-            with self.lock:
-                self.checked[attempt.pair] -= 1
-                self.checked = +self.checked
-        with self.lock:
-            if good:
-                self.right[attempt.login] = attempt.given, hashes[text(attempt.login)], now + MINUTE
-                return RIGHT
-            earlier = [moment for moment in self.wrong.pop(attempt.pair, ()) if now - moment < MINUTE]
-            self.wrong[attempt.pair] = [*earlier, now]
-            oldest = next(iter(self.wrong))
-            if len(self.wrong) > MOST_PAIRS or now - self.wrong[oldest][-1] >= MINUTE:
-                del self.wrong[oldest]
-            if text(attempt.login) in hashes:
-                self.count_guess(text(attempt.login), now)
-            return WRONG
+            self.checked[attempt.pair] -= 1
+            self.checked = +self.checked
+        now = self.clock()
+        if good:
+            self.right[attempt.login] = attempt.given, hashes[text(attempt.login)], now + MINUTE
+            return RIGHT
+        earlier = [moment for moment in self.wrong.pop(attempt.pair, ()) if now - moment < MINUTE]
+        self.wrong[attempt.pair] = [*earlier, now]
+        oldest = next(iter(self.wrong))
+        if len(self.wrong) > MOST_PAIRS or now - self.wrong[oldest][-1] >= MINUTE:
+            del self.wrong[oldest]
+        if text(attempt.login) in hashes:
+            self.count_guess(text(attempt.login), now)
+        return WRONG
 
     def count_guess(self, login: str, now: float) -> None:
         """A line of the journal, once an hour, for a login at which many guess."""

@@ -1,22 +1,12 @@
-"""What a login may ask for, by its role: the files of roles and users, whose a requester is, and the rules of each
-role. Unproved."""
-from __future__ import annotations
-
-import json
+"""The files of roles and users: each login's rights, and the hash of its password. Unproved."""
 import re
-import threading
-from collections.abc import Callable, Collection, Iterable
+from collections.abc import Callable, Iterable
 from pathlib import Path
-from typing import Any, Generic, NamedTuple, Protocol, TypeVar
+from typing import Generic, NamedTuple, TypeVar
 
 from acd_service.command import report
 from acd_service.gate.passwords import FORMS
 
-PLAN = {"addGroup", "addStation", "addAgent", "setGroupPriority", "changeGroup", "changeAgent"}
-CALLS = {
-    "makeCall", "phoneOffHook", "answerCall", "rejectCall", "holdCall", "retrieveCall", "clearConnection",
-    "deflectCall", "singleStepTransfer"
-}
 ROLES = {"supervisor", "lead", "agent", "office", "exchange", "follow"}
 MEMBERS = {
     "agent": r"[0-9]{1,9}", "stations": r"[0-9]{1,15}(,[0-9]{1,15})*", "groups": r"[0-9]{1,15}(,[0-9]{1,15})*",
@@ -25,15 +15,10 @@ MEMBERS = {
 # what a line of a role has to have, and may have besides `reads`
 NEEDS = {"agent": {"agent"}, "lead": {"groups"}}
 MAY_HAVE = {"agent": {"agent", "stations", "groups"}, "lead": {"groups"}}
-LEADS_TO = ("ready", "notReady", "loggedOff")
-# the states that need neither a station nor a group
-OTHER_STATES = ("ready", "notReady", "workingAfterCall", "loggedOff")
 # requesters of acd-tick and acd-plan
 RESERVED = ("clock", "plan")
 NO_KEYS = ("it only reads: to ask for services a login is 1 to 15 of a-z, 0-9 and hyphen, and neither clock nor plan, "
            "nor begins with clock- or plan-")
-Request = dict[str, Any]
-Member = TypeVar("Member")
 Content = TypeVar("Content")
 
 
@@ -43,24 +28,23 @@ class Watched(Generic[Content]):
 
     def __init__(self, file: Path | str, read: Callable[[Path, list[str]], dict[str, Content]],
                  keeps: bool = False) -> None:
-        self.file, self.read, self.keeps, self.lock = Path(file), read, keeps, threading.Lock()
+        self.file, self.read, self.keeps = Path(file), read, keeps
         self.stamp: tuple[int, int, int] | None = None
         self.said: dict[str, Content] = {}
         self.fault: str | None = None
 
     def now(self) -> dict[str, Content]:
-        with self.lock:
-            try:
-                found = self.file.stat()
-                stamp = found.st_mtime_ns, found.st_size, found.st_ino
-                if stamp != self.stamp:
-                    lines = self.file.read_bytes().removeprefix(b"\xef\xbb\xbf").decode("utf-8", "replace").split("\n")
-                    self.said, self.stamp, self.fault = self.read(self.file, lines), stamp, None
-            except OSError as fault:
-                if fault.strerror != self.fault:
-                    report(f"{self.file} can't be read: {fault.strerror}")
-                self.said, self.stamp, self.fault = self.said if self.keeps else {}, None, fault.strerror
-            return self.said
+        try:
+            found = self.file.stat()
+            stamp = found.st_mtime_ns, found.st_size, found.st_ino
+            if stamp != self.stamp:
+                lines = self.file.read_bytes().removeprefix(b"\xef\xbb\xbf").decode("utf-8", "replace").split("\n")
+                self.said, self.stamp, self.fault = self.read(self.file, lines), stamp, None
+        except OSError as fault:
+            if fault.strerror != self.fault:
+                report(f"{self.file} can't be read: {fault.strerror}")
+            self.said, self.stamp, self.fault = self.said if self.keeps else {}, None, fault.strerror
+        return self.said
 
 
 class Role(NamedTuple):
@@ -88,29 +72,6 @@ class Role(NamedTuple):
 
 
 NOTHING = Role("nothing")
-
-
-# the parts of the desk at which a lead's rule looks
-
-class Agent(Protocol):
-    groups: list[str]
-
-
-class Connection(Protocol):
-    state: str
-    group: str | None
-
-
-class Call(Protocol):
-    connections: dict[str, Connection]
-
-
-class State(Protocol):
-    agents: dict[str, Agent]
-    groups: dict[str, object]
-    calls: dict[int, Call]
-
-    def agent_at(self, device: str) -> Agent | None: ...
 
 
 def numbers_of(value: str | None) -> frozenset[str] | None:
@@ -181,103 +142,7 @@ def hashes_of(file: Path, lines: list[str]) -> dict[str, str]:
     return found
 
 
-class Twice(Exception):
-    """A member is there twice: the desk decides which one counts, so the gate doesn't guess."""
-
-
-def once(members: list[tuple[str, Member]]) -> dict[str, Member]:
-    found = dict(members)
-    if len(found) != len(members):
-        raise Twice
-    return found
-
-
 def has_keys(login: str) -> bool:
     """Whether the login can have requesters; those that begin with a name of RESERVED belong to nobody."""
     is_reserved = any(login == name or login.startswith(f"{name}-") for name in RESERVED)
     return bool(re.fullmatch(r"[a-z0-9-]{1,15}", login)) and not is_reserved
-
-
-def owner(requester: str, logins: Iterable[str]) -> str | None:
-    """The longest login that is the requester, or with which the requester begins, followed by a hyphen."""
-    found = [login for login in logins if requester == login or requester.startswith(f"{login}-")]
-    return max(found, key=len) if found else None
-
-
-def are_within(allowed: frozenset[str] | None, numbers: object) -> bool:
-    if allowed is None:
-        return True
-    return isinstance(numbers, list) and all(isinstance(one, str) and one in allowed for one in numbers)
-
-
-def logs_on_within(role: Role, request: Request) -> bool:
-    """Whether setAgentState of an agent keeps to the role's stations and groups."""
-    if request.get("requested") in OTHER_STATES:
-        return True
-    groups = [request["group"]] if "group" in request else request.get("groups")
-    return are_within(role.stations, [request.get("device")]) and are_within(role.groups, groups)
-
-
-def may(role: Role, login: str, logins: Collection[str], body: bytes, station_of: Callable[[str], str | None],
-        led: Callable[[Callable[[State], bool]], bool]) -> bool:
-    """Whether the login may send this body; station_of returns where an agent is logged on, led lets a lead's rule look
-    at the desk."""
-    if not role.asks or not has_keys(login):
-        return False
-    try:
-        request = json.loads(body.decode("utf-8"), object_pairs_hook=once)
-    except Twice:
-        return False
-    except (ValueError, RecursionError):
-        request = None
-    if not isinstance(request, dict) or not isinstance(request.get("requester"), str):
-        return role.name == "exchange"  # the desk answers 400
-    if owner(request["requester"], logins) != login:
-        return False
-    if role.name == "lead":
-        return may_be_leads(role, request) and led(lambda state: may_lead(role, request, state))
-    return role.name == "exchange" or may_ask(role, request, station_of)
-
-
-def may_ask(role: Role, request: Request, station_of: Callable[[str], str | None]) -> bool:
-    service, device = request.get("service"), request.get("device")
-    if not isinstance(service, str):
-        return False
-    if role.name == "office":
-        return service in PLAN
-    if service == "setAgentState":
-        return request.get("agent") == role.agent and logs_on_within(role, request)
-    if service not in CALLS or not isinstance(device, str) or role.agent is None:
-        return False
-    return (role.stations is None or device in role.stations) and device == station_of(role.agent)
-
-
-def may_be_leads(role: Role, request: Request) -> bool:
-    """The part of a lead's rule that needs no look at the desk."""
-    service = request.get("service")
-    if service == "setAgentState":
-        return request.get("requested") in LEADS_TO and isinstance(request.get("agent"), str)
-    if service in ("clearConnection", "deflectCall"):
-        has_target = service == "clearConnection" or isinstance(request.get("to"), str)
-        return type(request.get("call")) is int and isinstance(request.get("device"), str) and has_target
-    return service == "setGroupPriority" and are_within(role.groups, [request.get("device")])
-
-
-def may_lead(role: Role, request: Request, state: State) -> bool:
-    """Whether a lead may ask for this, as the desk is now."""
-    service, groups = request["service"], role.groups or frozenset()
-    if service == "setAgentState":
-        agent = state.agents.get(request["agent"])
-        return agent is not None and not groups.isdisjoint(agent.groups)
-    if service == "setGroupPriority":
-        return request["device"] in state.groups
-    call = state.calls.get(request["call"])
-    here = call.connections.get(request["device"]) if call else None
-    if not call or not here or here.group not in groups:
-        return False
-    if service == "clearConnection":
-        others = [one.group for one in call.connections.values()]
-        return here.state != "queued" and all(group is None or group in groups for group in others)
-    there = state.agent_at(request["to"])
-    is_within = request["to"] in groups or (there is not None and not groups.isdisjoint(there.groups))
-    return here.state == "queued" and is_within

@@ -1,15 +1,16 @@
 """Sessions of people who logged in by a form: a cookie for the browser, and its digest in a file that outlives a start.
 Unproved."""
+import asyncio
 import base64
 import hashlib
 import json
 import re
 import secrets
-import threading
 import time
-from collections.abc import Callable
+from collections.abc import Callable, Iterable
 from dataclasses import dataclass
 from pathlib import Path
+from typing import Any
 
 from acd_service import put
 from acd_service.command import report
@@ -81,13 +82,13 @@ def cookie_field(token: str | None) -> tuple[str, str]:
 
 
 class Sessions:
-    """`users` has the hash of each login's password. Without a file sessions end with the gate. Each request takes
-    `lock`, and who writes the file `writing`."""
+    """`users` has the hash of each login's password. Without a file sessions end with the gate. Who changes one waits
+    until it is in the file, and nobody else does."""
 
     def __init__(self, file: Path | str | None, users: Users, clock: Callable[[], float] = time.time,
                  secret: str = "") -> None:
         self.file, self.users, self.clock, self.secret = Path(file) if file else None, users, clock, secret
-        self.lock, self.writing = threading.Lock(), threading.Lock()
+        self.writing = asyncio.Lock()
         self.changes = self.written = 0
         self.found = self.kept()
 
@@ -107,27 +108,23 @@ class Sessions:
                 report(f"{self.file} has a line that is no session")
         return found
 
-    def keep(self) -> None:
-        """Writes all sessions down, whole or not at all, and not within the lock; those who come meanwhile are written
-        at once."""
+    async def keep(self) -> None:
+        """Writes all sessions down, whole or not at all, in a thread; those who come meanwhile are written at once."""
         if self.file is None:
             return
-        with self.lock:
-            self.changes += 1
-            wanted = self.changes
-        with self.writing:
-            if self.written >= wanted:
-                return
-            with self.lock:
+        self.changes += 1
+        wanted = self.changes
+        async with self.writing:
+            if self.written < wanted:
                 self.written = self.changes
                 found = [{"digest": name, **vars(session)} for name, session in self.found.items()]
-            self.write("".join(json.dumps(members) + "\n" for members in found))
+                await asyncio.to_thread(self.write, found)
 
-    def write(self, text: str) -> None:
+    def write(self, found: Iterable[dict[str, Any]]) -> None:
         if self.file is None:
             return
         try:
-            put.put(self.file, text)
+            put.put(self.file, "".join(json.dumps(members) + "\n" for members in found))
         except OSError as fault:
             report(f"{self.file} can't be written: {fault.strerror}")
 
@@ -142,39 +139,31 @@ class Sessions:
     def is_good(self, session: Session | None) -> bool:
         return session is not None and self.is_current(session) and session.bound == self.bound(session.login)
 
-    def begin(self, login: str) -> str:
+    async def begin(self, login: str) -> str:
         """The token of a new session. Others end by time alone: who isn't among the users now may be in a moment, when
         the file is written."""
         token, now = signed(secrets.token_urlsafe(32), self.secret), int(self.clock())
-        with self.lock:
-            self.found = {name: session for name, session in self.found.items() if self.is_current(session)}
-            oldest_first = sorted(
-                (session.used, name) for name, session in self.found.items() if session.login == login)
-            for _, name in oldest_first[:max(0, len(oldest_first) + 1 - MOST)]:
-                del self.found[name]
-            self.found[digest(token)] = Session(login, self.bound(login) or "", now, now)
-        self.keep()
+        self.found = {name: session for name, session in self.found.items() if self.is_current(session)}
+        oldest_first = sorted((session.used, name) for name, session in self.found.items() if session.login == login)
+        for _, name in oldest_first[:max(0, len(oldest_first) + 1 - MOST)]:
+            del self.found[name]
+        self.found[digest(token)] = Session(login, self.bound(login) or "", now, now)
+        await self.keep()
         return token
 
     def of(self, token: str | None) -> Session | None:
         """The session of a token, where it is good."""
-        with self.lock:
-            session = self.found.get(digest(token)) if token else None
-            return session if self.is_good(session) else None
+        session = self.found.get(digest(token)) if token else None
+        return session if self.is_good(session) else None
 
-    def use(self, token: str | None) -> Session | None:
+    async def use(self, token: str | None) -> Session | None:
         """Somebody clicked."""
         session = self.of(token)
-        with self.lock:
-            is_used = session is not None and self.clock() - session.used >= USED_AGAIN
-            if session and is_used:
-                session.used = int(self.clock())
-        if is_used:
-            self.keep()
+        if session is not None and self.clock() - session.used >= USED_AGAIN:
+            session.used = int(self.clock())
+            await self.keep()
         return session
 
-    def end(self, token: str | None) -> None:
-        with self.lock:
-            session = self.found.pop(digest(token), None) if token else None
-        if session:
-            self.keep()
+    async def end(self, token: str | None) -> None:
+        if token and self.found.pop(digest(token), None):
+            await self.keep()

@@ -7,7 +7,7 @@ import {portFault} from './browser.mjs';
 import {aDay, Desk, Front, missing, TOP} from './desk.mjs';
 import {people} from './page.mjs';
 
-const NEEDED = {nginx: 'nginx-light', openssl: 'openssl', curl: 'curl', python3: 'python3'}, MODULES = {passlib: 'python3-passlib'};
+const NEEDED = {nginx: 'nginx-light', openssl: 'openssl', curl: 'curl', python3: 'python3'}, MODULES = {aiohttp: 'python3-aiohttp', passlib: 'python3-passlib'};
 
 function read(words) {
   try {

@@ -70,7 +70,8 @@ class Trial {
   }
 
   async gate() {
-    for (const test of ['tests/unit/gate/test_gate.py', 'tests/unit/gate/test_doors.py', 'tests/trials/board/login_again.mjs']) {
+    const unit = readdirSync(join(TOP, 'tests/unit/gate')).filter(name => /^test_.*\.py$/.test(name)).map(name => `tests/unit/gate/${name}`);
+    for (const test of [...unit, 'tests/trials/board/login_again.mjs']) {
       const program = test.endsWith('.mjs') ? process.execPath : '/usr/bin/python3';
       try { execFileSync(program, [join(TOP, test)], {stdio: 'pipe'}); } catch (error) { this.see(test, false, String(error.stderr).slice(-600)); }
     }

@@ -1,4 +1,5 @@
 """What the gate tells an agent of the day, against acd-calls and the exported reports, over a day with a midnight in the middle, in two zones."""
+import asyncio
 import csv
 import datetime
 import io
@@ -7,7 +8,7 @@ import sys
 import time
 from collections import Counter, deque
 
-from followed import Asked, load, office
+from followed import Asked, following, office
 from trial import TOP, Trial, ran
 
 ZONES = ("UTC", "America/New_York")
@@ -28,16 +29,16 @@ class Days(Trial):
                 time.tzset()
 
     def day(self, zone, lines):
-        module, desk = load(), self.enterContext(Asked(self.program))
-        followers = [module.Following(desk.ask, lambda: int(desk.moment))]
+        desk = self.enterContext(Asked(self.program))
+        followers = [following.Following(desk.ask, lambda: int(desk.moment))]
         for number, line in enumerate(lines, 1):
             desk.say(line)
             if number % 800 == 0:
-                followers.append(module.Following(desk.ask, lambda: int(desk.moment)))
+                followers.append(following.Following(desk.ask, lambda: int(desk.moment)))
             if number % EACH == 0 or number == len(lines):
                 for follower in followers:
-                    follower.catch_up()
-                    follower.read_day()
+                    asyncio.run(follower.catch_up())
+                    asyncio.run(follower.read_day())
         wanted = self.judged(zone, lines)
         for begun, follower in enumerate(followers):
             found = told(follower, int(desk.moment))

@@ -1,39 +1,43 @@
 """What the gate follows of a desk, against the desk's own snapshots, over an office's day at its own moments."""
-import importlib.util
+import asyncio
 import json
 import sys
 
 from trial import TOP, Lines, Trial, ran
+
+sys.path.insert(0, str(TOP / "service"))
+from acd_service.gate import following  # noqa: E402
+from acd_service.gate.exchanges import Answer  # noqa: E402
 
 EACH = 20
 
 
 class Followed(Trial):
     def try_followed(self):
-        module, desk, lines = load(), self.enterContext(Asked(self.program)), office()
+        desk, lines = self.enterContext(Asked(self.program)), office()
         # one begins before the day, and each later one in the middle of it; all are carried on to its end
-        followers, compared, waited, rang = [module.Following(desk.ask)], 0, 0, 0
+        followers, compared, waited, rang = [following.Following(desk.ask)], 0, 0, 0
         for number, line in enumerate(lines, 1):
             desk.say(line)
             if number % 400 == 0:
-                followers.append(module.Following(desk.ask))
+                followers.append(following.Following(desk.ask))
             if number % EACH == 0 or number == len(lines):
-                snapshot = json.loads(desk.ask("GET", "/snapshot")[2])
+                snapshot = json.loads(desk.told("/snapshot")[1])
                 wanted = shape_of_snapshot(snapshot)
                 waited, rang = waited + sum(map(len, wanted["queues"].values())), rang + sum(side[1] == "alerting" for sides in wanted["calls"].values() for side in sides)
                 for follower in followers:
                     # a snapshot of its own would mend what reports were taken wrongly
                     follower.renewed = float("inf") if follower.state else 0
-                    follower.catch_up()
+                    asyncio.run(follower.catch_up())
                     found = shape_of_state(follower.state)
                     compared += 1
                     for what, told in wanted.items():
                         self.see(f"{what} behind request {number}", found[what] == told, differences(found[what], told))
-        self.another(module, followers[:2], lines)
+        self.another(followers[:2], lines)
         self.see("an office's day was followed", compared > 500 and waited > 500 and rang > 100, (compared, waited, rang))
         print(f"    {len(followers)} times begun, {compared} comparisons with {waited} waiting and {rang} ringing calls")
 
-    def another(self, module, followers, lines):
+    def another(self, followers, lines):
         """Another desk's history in place of the one that was followed: one with fewer events, and one that differs in its moments alone."""
         later = [f"{int(moment) + 7} {request}" for moment, _, request in (line.partition(" ") for line in lines)]
         for follower, others in zip(followers, (lines[:200], later)):
@@ -42,25 +46,19 @@ class Followed(Trial):
                 desk.say(line)
             follower.ask, told = desk.ask, None
             try:
-                follower.catch_up()
-            except module.Away:
+                asyncio.run(follower.catch_up())
+            except following.Away:
                 told = follower.state
-                follower.catch_up()
+                asyncio.run(follower.catch_up())
             else:
                 told = "nothing"
             self.expect("another history is seen", told, None)
-            self.expect("and followed from its begin", shape_of_state(follower.state), shape_of_snapshot(json.loads(desk.ask("GET", "/snapshot")[2])))
+            self.expect("and followed from its begin", shape_of_state(follower.state), shape_of_snapshot(json.loads(desk.told("/snapshot")[1])))
 
 
 def office():
     """The lines of the day of tests/office.py."""
     return ran(sys.executable, "-B", TOP / "tests/office.py", "given").output.splitlines()
-
-
-def load():
-    if str(TOP / "service") not in sys.path:
-        sys.path.insert(0, str(TOP / "service"))
-    return importlib.import_module("acd_service.leaving.following")
 
 
 class Asked(Lines):
@@ -74,9 +72,14 @@ class Asked(Lines):
         self.moment = line.partition(" ")[0]
         return super().say(line)
 
-    def ask(self, method, path):
-        status, _, body = self.say(f"{self.moment} {method} {path}").partition(" ")
-        return int(status), "application/json", body.encode()
+    def told(self, path):
+        """Status and body of a read."""
+        status, _, body = self.say(f"{self.moment} GET {path}").partition(" ")
+        return int(status), body.encode()
+
+    async def ask(self, _, path):
+        status, body = self.told(path)
+        return Answer(status, "application/json", body)
 
 
 def shape_of_snapshot(snapshot):

@@ -39,7 +39,7 @@ MAY = {
 }
 LIMITS = {
     "acd": {"CPUWeight": "400", "TasksMax": "64", "MemoryMax": "infinity", "OOMScoreAdjust": "-500"},
-    "acd-gate": {"CPUWeight": "200", "TasksMax": "4096", "MemoryMax": str(400 << 20), "OOMScoreAdjust": "0"},
+    "acd-gate": {"CPUWeight": "200", "TasksMax": "64", "MemoryMax": str(400 << 20), "OOMScoreAdjust": "0"},
     "acd-copy": {"CPUWeight": "20", "TasksMax": "64"},
     "acd-records": {"CPUWeight": "20", "TasksMax": "64"},
     "acd-exchange": {"CPUWeight": "400", "TasksMax": "64", "MemoryMax": str(256 << 20)},

@@ -1,5 +1,6 @@
 """acd-export over a file and its archives, and archives.py: what they read is what one file of all has; holes, altered rows and a wrong order are told. And who
 follows events over a file that was carried over."""
+import asyncio
 import importlib.util
 import json
 import re
@@ -17,7 +18,8 @@ from kills import PLAN, calls
 
 sys.path += [str(TOP / "service"), str(TOP / "client")]
 import acd_client  # noqa: E402
-from acd_service.leaving import days, following  # noqa: E402
+from acd_service.gate import days, following  # noqa: E402
+from acd_service.gate.exchanges import Answer  # noqa: E402
 
 
 def module(ground):
@@ -158,25 +160,25 @@ class Exports:
             self.ground.carry("--from", file, "--to", new, "--keep", 1)
             with Desk(self.ground.program, new) as desk:
                 address = f"http://127.0.0.1:{desk.port}"
-                gate = following.Following(lambda method, path: asked(address, method, path))
-                gate.catch_up()
+                gate = following.Following(lambda _, path: asked(address, path))
+                asyncio.run(gate.catch_up())
                 board = subprocess.Popen(["node", TOP / "tests/trials/years/feed.mjs", address, "409", "2000", "80000", "90000", "90001", str(2 ** 40)], stdout=subprocess.PIPE, text=True)
                 self.ground.expect("the board begins", board.stdout.readline(), "begun\n")
                 for number in range(500, 510):
                     desk.post({"requester": "pbx", "invoke": number, "service": "arriveCall", "caller": "0301", "called": "100"})
-                gate.catch_up()
+                asyncio.run(gate.catch_up())
                 self.ground.expect("what the gate knows", (gate.state.last, len(gate.state.groups["100"].waiting)), (409, 409))
                 found = json.loads(board.communicate(timeout=60)[0])
                 self.ground.expect("what the board takes", (found["taken"], found["anew"]), (list(range(400, 410)), 0))
                 # events 1 to 399 were left behind, so that no day is whole that began before event 400
                 self.ground.expect("where a day begins, and whether it is whole", found["before"], [{"last": 399, "isWhole": False}] * 4 + [{"last": 409, "isWhole": True}])
                 self.ground.expect("in few reads", found["reads"] < 40)
-                self.ground.expect("as the gate finds it", [days.first_of(lambda after: gate.events(f"/events?after={after}"), 409, moment) for moment in (2000, 90000)], [399, 399])
+                self.ground.expect("as the gate finds it", [asyncio.run(days.first_of(lambda after: gate.events(f"/events?after={after}"), 409, moment)) for moment in (2000, 90000)], [399, 399])
 
 
-def asked(address, method, path):
-    with urllib.request.urlopen(urllib.request.Request(f"{address}{path}", method=method)) as reply:
-        return reply.status, "", reply.read()
+async def asked(address, path):
+    with urllib.request.urlopen(f"{address}{path}") as reply:
+        return Answer(reply.status, "", reply.read())
 
 
 class OfExports(Ground):

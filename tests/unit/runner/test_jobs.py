@@ -143,7 +143,7 @@ class Lacks(unittest.TestCase):
     """`./test --only python` with one job, on machines that lack packages."""
 
     def ended(self, *words: str, lacked: set[str] = frozenset(), status: int = 0) -> tuple[int | str | None, list[str]]:  # type: ignore[assignment]
-        file = TOP / "tests/unit/gate/test_gate.py"
+        file = TOP / "tests/unit/gate/test_passwords.py"
         jobs = [Job("gate", ("sh", "-c", f"exit {status}"), counts.of_status, ("python3-bcrypt",), lambda: parts.cases_in((str(file),))), Job("other", ("true",), counts.of_status)]
         with mock.patch.object(packages, "is_there", lambda package: package not in lacked), mock.patch.object(parts, "unit", lambda *_: jobs), \
                 mock.patch.object(parts, "trials", lambda *_: []), mock.patch.object(parts, "lint", lambda: []), mock.patch.object(parts, "types", lambda: []), \
@@ -163,10 +163,16 @@ class Lacks(unittest.TestCase):
     def test_a_package(self) -> None:
         status, said = self.ended(lacked={"python3-bcrypt"})
         self.assertEqual((status, said[-1]), (75, "1 passed, 0 failed"))
-        cases = parts.cases_in((str(TOP / "tests/unit/gate/test_gate.py"),))
+        cases = parts.cases_in((str(TOP / "tests/unit/gate/test_passwords.py"),))
         self.assertGreater(cases, 10)
         self.assertIn(f"gate: left out ({cases} cases), for want of python3-bcrypt", said)
         self.assertIn("missing Debian packages: python3-bcrypt. As root: apt-get install --no-install-recommends python3-bcrypt", said)
+
+    def test_coroutines_are_cases_too(self) -> None:
+        with tempfile.NamedTemporaryFile("w", suffix=".py") as file:
+            file.write("class One:\n    def test_a(self): pass\n    async def test_b(self): pass\n    async def other(self): pass\n    def try_c(self): pass\n")
+            file.flush()
+            self.assertEqual(parts.cases_in((file.name,)), 3)
 
     def test_a_package_that_may_be_missing(self) -> None:
         with tempfile.NamedTemporaryFile("w") as allowed:

@@ -1,5 +1,6 @@
 #!/usr/bin/python3
 """Tests of put, and of each program's small files that it puts in their place.   usage: tests/unit/service/test_put.py"""
+import asyncio
 import csv
 import datetime
 import os
@@ -28,7 +29,7 @@ def sessions(folder, number):
     """The gate's file, of so many sessions."""
     kept = Sessions(folder / "sessions", mock.Mock(now=lambda: {"ana": "hash"}))
     kept.found = {str(one): Session("ana", "bound", one, one) for one in range(number)}
-    kept.keep()
+    asyncio.run(kept.keep())
 
 
 def state(folder, number):

@@ -1,0 +1,141 @@
+"""Each agent's day, by the desk's event reports: calls, talks, offers that the desk withdrew. Unproved.
+
+A day begins at midnight of this machine's zone, as in acd-calls. The gate reads the reports of today once, a page at a
+time, and continues with each new one."""
+import datetime
+from collections import deque
+from collections.abc import Awaitable, Callable
+from dataclasses import dataclass, field
+
+from acd_service.gate.state import State, Text
+from acd_service.gate.texts import without_nothing
+
+# reports of before midnight say who is logged on where, and who talks
+EARLIER = 4 * 3600
+# how many of the last calls a day names
+LAST = 5
+
+
+@dataclass
+class AgentDay:
+    """`busy` is since when the agent talks; `missed_offer` the last offer that the desk withdrew, until the agent logs
+    on or off."""
+    answered: int = 0
+    talking: int = 0
+    missed: int = 0
+    busy: int | None = None
+    calls: deque[Text] = field(default_factory=lambda: deque(maxlen=LAST))
+    missed_offer: Text | None = None
+
+
+def midnight(moment: float, days: int = 0) -> int:
+    """The begin of a moment's day, or of a day later."""
+    day = datetime.date.fromtimestamp(moment) + datetime.timedelta(days=days)
+    return int(datetime.datetime.combine(day, datetime.time()).timestamp())
+
+
+class Days:
+    """`last` is the number of the last report that it took, None before the first; `whole` whether it has taken all of
+    today's once."""
+
+    def __init__(self, moment: float) -> None:
+        self.last: int | None = None
+        self.whole = False
+        self.agents: dict[str, AgentDay] = {}
+        self.at: dict[str, str | None] = {}
+        self.offers: dict[str, tuple[int, int]] = {}
+        self.talks: dict[int, dict[str, tuple[int, str | None]]] = {}
+        self.begins, self.ends = midnight(moment), midnight(moment, 1)
+
+    def roll(self, moment: float) -> bool:
+        """Whether another day has begun; then it clears the figures of the day before."""
+        if moment < self.ends:
+            return False
+        self.begins, self.ends = midnight(moment), midnight(moment, 1)
+        for day in self.agents.values():
+            day.answered = day.talking = day.missed = 0
+            day.calls.clear()
+        return True
+
+    def day_of(self, agent: str) -> AgentDay:
+        found = self.agents.get(agent)
+        if found is None:
+            found = self.agents[agent] = AgentDay()
+        return found
+
+    def take(self, report: Text, state: State) -> None:
+        """The next report; state is the desk before it, or a later one, and says who calls, and who is where as long as
+        no report did."""
+        self.last = report["number"]
+        self.roll(report["moment"])
+        if "agent" in report:
+            self.take_agent(report, report["moment"])
+        else:
+            self.take_call(report, report["moment"], state)
+
+    def take_agent(self, report: Text, moment: int) -> None:
+        day, event = self.day_of(report["agent"]), report["event"]
+        self.at[report["device"]] = report["agent"] if event != "agentLoggedOff" else None
+        if day.busy is not None:
+            day.talking += max(0, moment - max(day.busy, self.begins))
+        day.busy = moment if event == "agentBusy" else None
+        day.answered += event == "agentBusy" and moment >= self.begins
+        if event in ("agentLoggedOn", "agentLoggedOff"):
+            day.missed_offer = None
+
+    def take_call(self, report: Text, moment: int, state: State) -> None:
+        event, number, device = report["event"], report["call"], report.get("device", "")
+        if event == "delivered":
+            self.offers[device] = number, moment
+        elif event == "established":
+            self.talks.setdefault(number, {})[device] = moment, report.get("group")
+        elif event == "callCleared":
+            self.talks.pop(number, None)
+        elif event in ("diverted", "transferred", "connectionCleared"):
+            self.leave(report, moment, state)
+
+    def leave(self, report: Text, moment: int, state: State) -> None:
+        number, device = report["call"], report["device"]
+        station, call = state.stations.get(device), state.calls.get(number)
+        agent, caller = self.at.get(device, station.agent if station else None), call.caller if call else None
+        offered, since = self.offers.get(device, (None, 0))
+        if report.get("cause") == "noAnswer" and agent and offered == number:
+            day = self.day_of(agent)
+            day.missed += moment >= self.begins
+            day.missed_offer = {"call": number, "caller": caller, "group": report.get("group"), "moment": moment,
+                                "since": since}
+        began, group = self.talks.get(number, {}).pop(device, (None, None))
+        if began is not None and agent and moment >= self.begins:
+            self.day_of(agent).calls.append({"call": number, "caller": caller, "group": group, "moment": began,
+                                             "talked": moment - began})
+
+    def text(self, agent: str) -> Text | None:
+        """The day as an agent's page shows it; None until all of it is known."""
+        if not self.whole:
+            return None
+        day = self.agents.get(agent) or AgentDay()
+        return {"answered": day.answered, "begins": self.begins,
+                "calls": [without_nothing(**call) for call in day.calls], "missed": day.missed, "talking": day.talking}
+
+    def missed_offer(self, agent: str) -> Text | None:
+        day = self.agents.get(agent)
+        return without_nothing(**day.missed_offer) if day and day.missed_offer else None
+
+
+async def first_of(ask: Callable[[int], Awaitable[list[Text]]], last: int, moment: float) -> int:
+    """The number of the last event before a moment, by bisection; if the file begins later, the number before its first
+    event. ask returns the events after a number."""
+    low, high = 0, last
+    while low < high:
+        middle = (low + high) // 2
+        events = await ask(middle)
+        later = next((place for place, event in enumerate(events) if event["moment"] >= moment), None)
+        if later is None and events:
+            low = events[-1]["number"]
+        elif later == 0 and events[0]["number"] > middle + 1:
+            return int(events[0]["number"]) - 1
+        elif not later:
+            high = middle
+        else:
+            return int(events[later - 1]["number"])
+    return low

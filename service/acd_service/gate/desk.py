@@ -1,0 +1,95 @@
+"""The desk, asked over a connection for each question, which the desk closes. Unproved."""
+import argparse
+import asyncio
+import json
+import re
+from typing import NamedTuple
+
+from acd_service.gate.exchanges import Answer, error
+
+# seconds: for the desk's answer to a request, and to a question of the gate itself, so that pages learn that a desk
+# hangs
+PATIENCE, SOON = 60, 5
+# questions that are out at a time; the kernel keeps 128 connections that the desk hasn't taken yet, and drops more
+MOST_OUT = 100
+# bytes of an answer that are read ahead
+AHEAD = 1 << 20
+
+
+class Place(NamedTuple):
+    """Where a desk listens: a port of the loopback address, or the path of a socket."""
+    port: int = 0
+    path: str = ""
+
+
+def place(text: str) -> Place:
+    """The place that a word names: `8080`, `http://127.0.0.1:8080` or `unix:/run/acd/desk`."""
+    if text.startswith("unix:/"):
+        return Place(path=text.removeprefix("unix:"))
+    found = re.fullmatch(r"(?:http://127\.0\.0\.1:)?([0-9]{1,5})/?", text)
+    if not found or int(found[1]) > 65535:
+        raise argparse.ArgumentTypeError(f"'{text}' is neither a port, nor http://127.0.0.1:PORT or unix:PATH")
+    return Place(port=int(found[1]))
+
+
+class Broken(Exception):
+    """What came isn't a whole answer."""
+
+
+FAILS = OSError, EOFError, ValueError, asyncio.LimitOverrunError, Broken
+
+
+def read_head(head: bytes) -> tuple[int, dict[str, str]]:
+    """Status and fields of the head of an answer."""
+    line, *lines = head.decode("latin-1").split("\r\n")
+    found = re.fullmatch(r"HTTP/1\.[01] ([0-9]{3})(?: .*)?", line)
+    if not found:
+        raise Broken
+    pairs = (each.partition(":") for each in lines)
+    return int(found[1]), {name.lower(): value.strip() for name, _, value in pairs}
+
+
+class Desk:
+    def __init__(self, where: Place) -> None:
+        self.where, self.places = where, asyncio.Semaphore(MOST_OUT)
+
+    async def ask(self, method: str, path: str, body: bytes | None = None) -> Answer:
+        """The desk's answer to a client's request, byte for byte; 502 where none came within PATIENCE."""
+        try:
+            async with asyncio.timeout(PATIENCE), self.places:
+                return await self.exchange(method, path, body)
+        except FAILS:
+            return error(502)
+
+    async def ask_soon(self, method: str, path: str) -> Answer:
+        """The answer to a question of the gate itself, which waits for no client's; 502 where none came within SOON."""
+        try:
+            async with asyncio.timeout(SOON):
+                return await self.exchange(method, path, None)
+        except FAILS:
+            return error(502)
+
+    async def exchange(self, method: str, path: str, body: bytes | None) -> Answer:
+        reader, writer = await self.connected()
+        try:
+            head = f"{method} {path} HTTP/1.1\r\nHost: desk\r\nConnection: close\r\n"
+            if body is not None:
+                head += f"Content-Type: application/json\r\nContent-Length: {len(body)}\r\n"
+            writer.write(f"{head}\r\n".encode("latin-1") + (body or b""))
+            status, fields = read_head(await reader.readuntil(b"\r\n\r\n"))
+            length = fields.get("content-length")
+            came = await reader.read() if length is None else await reader.readexactly(int(length))
+            return Answer(status, fields.get("content-type", "application/json"), came)
+        finally:
+            writer.close()
+
+    async def connected(self) -> tuple[asyncio.StreamReader, asyncio.StreamWriter]:
+        if self.where.path:
+            return await asyncio.open_unix_connection(self.where.path, limit=AHEAD)
+        return await asyncio.open_connection("127.0.0.1", self.where.port, limit=AHEAD)
+
+    async def station_of(self, agent: str) -> str | None:
+        """Where an agent is logged on now."""
+        answer = await self.ask("GET", f"/agents/{agent}")
+        found = json.loads(answer.body).get("device") if answer.status == 200 else None
+        return found if isinstance(found, str) else None

@@ -1,0 +1,332 @@
+"""The gate's picture of a desk: a snapshot, kept up to date by the desk's event reports. Unproved.
+
+It asks the desk once for all readers, and holds each reader's question until there is news for it."""
+import asyncio
+import contextlib
+import json
+import time
+import zlib
+from collections.abc import Awaitable, Callable
+from dataclasses import dataclass, field
+
+from acd_service import command
+from acd_service.gate.days import EARLIER, Days, first_of
+from acd_service.gate.exchanges import Answer
+from acd_service.gate.state import State, Text
+from acd_service.gate.texts import agent_text, groups_of, names_text, without_nothing
+
+# seconds: between two looks at the desk, at least and without a request in between, two snapshots, two tries of a desk
+# that is away; until pages learn that the desk is away, until the gate answers a question without news, and for how
+# long it follows the desk after the last question
+LEAST, EVERY, RENEW, AGAIN = 0.05, 0.2, 30, 1
+AWAY, HELD, WANTED = 2, 20, 60
+# the gate sends the names, which are long, to all pages once in this time at most
+NAMES_EVERY = 10
+# a page that waits for a queue's news gets its answer in every tenth turn only, so that not all pages ask again at once
+TURNS = 10
+MOST_CALLERS = 50
+
+
+class Away(Exception):
+    """The desk doesn't answer."""
+
+
+class Another(Exception):
+    """It is another desk's history."""
+
+
+def news() -> asyncio.Future[None]:
+    return asyncio.get_running_loop().create_future()
+
+
+@dataclass(eq=False)
+class Waiter:
+    agent: str
+    groups: frozenset[str]
+    after: int
+    names: int
+    woken: asyncio.Future[None] = field(default_factory=news)
+
+    @property
+    def turn(self) -> int:
+        return zlib.crc32(self.agent.encode()) % TURNS
+
+    def wake(self) -> None:
+        if not self.woken.done():
+            self.woken.set_result(None)
+
+
+def as_json(text: Text) -> bytes:
+    return json.dumps(text, separators=(",", ":"), sort_keys=True).encode()
+
+
+class Following:
+    """Follows the desk while somebody wants to know. `ask` is the desk's: a method and a path."""
+
+    def __init__(self, ask: Callable[[str, str], Awaitable[Answer]], clock: Callable[[], float] = time.time) -> None:
+        self.ask, self.clock, self.asking = ask, clock, asyncio.Lock()
+        # `answered` is by the clock, `renewed` and `heard` are by one that is never set back
+        self.answered, self.renewed, self.heard, self.live = 0.0, 0.0, 0.0, False
+        self.state: State | None = None
+        self.seen: Text | None = None
+        self.days = Days(clock())
+        # numbers that no earlier gate gave, unless the clock was set back
+        self.number = int(clock() * 1000)
+        self.all_changed = self.names_changed = self.number
+        self.changed: dict[str, int] = {}
+        self.groups_changed: dict[str, int] = {}
+        self.named, self.names = 0.0, (0, b"")
+        self.waiters: set[Waiter] = set()
+        self.turn, self.turned, self.wanted = 0, 0.0, 0.0
+        self.task: asyncio.Task[None] | None = None
+        self.nudged = asyncio.Event()
+
+    # asking the desk
+
+    async def read(self, path: str) -> Text | None:
+        answer = await self.ask("GET", path)
+        if answer.status != 200:
+            if answer.status == 404:
+                return None
+            raise Away
+        try:
+            found: Text = json.loads(answer.body)
+        except ValueError:
+            raise Away from None
+        return found
+
+    async def page(self, path: str) -> Text:
+        found = await self.read(path)
+        if found is None:
+            raise Away
+        return found
+
+    async def events(self, path: str) -> list[Text]:
+        found: list[Text] = (await self.page(path))["events"]
+        return found
+
+    async def catch_up(self) -> State:
+        """The desk with all that it has executed by now; Away where it doesn't answer."""
+        async with self.asking:
+            try:
+                state = await self.renewed_state()
+                while await self.take_page(state):
+                    pass
+                await self.ask_for_more(state)
+            except Another:
+                self.forget()
+                raise Away from None
+            self.answered, self.heard = self.clock(), time.monotonic()
+            self.settle(True)
+            return state
+
+    async def renewed_state(self) -> State:
+        """The state, by a new snapshot where the last one is too old."""
+        before = self.state
+        if before is not None and time.monotonic() - self.renewed < RENEW:
+            return before
+        while before is not None and await self.take_page(before):
+            pass
+        snapshot = await self.page("/snapshot")
+        if before is not None and snapshot["last"] < before.last:
+            raise Another
+        # in a thread: it takes long at the greatest plan, and others are answered meanwhile
+        state = await asyncio.to_thread(State, snapshot, before)
+        self.state, self.renewed = state, time.monotonic()
+        if before is None or before.last != state.last:
+            self.change_all()
+            self.seen = None
+        else:
+            state.touched, state.dirty, state.renamed = before.touched, before.dirty, before.renamed
+            state.unknown = before.unknown
+            state.differs(before)
+        return state
+
+    async def take_page(self, state: State) -> bool:
+        """Reads a page of events after the last one, and that one again. True if there may be more."""
+        last = state.last
+        page = await self.page(f"/history?after={max(0, last - 1)}")
+        events: list[Text] = page["events"]
+        if last > 0:
+            # over a file that was carried over it may be that the last one isn't there any more
+            again = events.pop(0) if events and events[0]["number"] == last else None
+            is_other = self.seen is not None and again != self.seen
+            if page["last"] < last or is_other or (events and events[0]["number"] > last + 1):
+                raise Another
+            self.seen = again
+        if events:
+            self.seen = events[-1]
+            for report in events:
+                if self.days.whole and report["number"] == (self.days.last or 0) + 1:
+                    self.days.take(report, state)
+                state.apply(report)
+        return bool(page["last"] > state.last)
+
+    async def ask_for_more(self, state: State) -> None:
+        """Asks for members that no report names: an agent's groups, a call's caller."""
+        for agent in list(state.unknown):
+            text = await self.read(f"/agents/{agent}")
+            if text is None:
+                state.unknown.discard(agent)
+            else:
+                state.learn(text)
+        for number in state.callers_unknown()[-MOST_CALLERS:]:
+            text, call = await self.read(f"/calls/{number}"), state.calls.get(number)
+            if text is not None and call is not None:
+                call.caller, call.called = text["caller"], text["called"]
+                state.mark(call)
+
+    async def read_day(self) -> None:
+        """A page of the reports of today that the agents' days don't have yet."""
+        async with self.asking:
+            days, state = self.days, self.state
+            if state is None:
+                return
+            if days.last is None:
+                days.last = await first_of(lambda after: self.events(f"/events?after={after}"), state.last,
+                                           days.begins - EARLIER)
+            for report in await self.events(f"/history?after={days.last}") if days.last < state.last else []:
+                days.take(report, state)
+            is_new = days.last >= state.last and not days.whole
+            days.whole |= is_new
+            if days.roll(self.clock()) or is_new:
+                self.change_all(names=False)
+
+    def forget(self) -> None:
+        self.state, self.seen, self.days = None, None, Days(self.clock())
+        self.change_all()
+
+    # answers to those who wait
+
+    def change_all(self, names: bool = True) -> None:
+        """Every page gets everything anew; names, which are long, only if they may have changed."""
+        self.number += 1
+        self.all_changed = self.number
+        self.names_changed = self.number if names else self.names_changed
+        self.changed.clear()
+        self.groups_changed.clear()
+
+    def settle(self, live: bool) -> None:
+        """Numbers what changed, and wakes whom it concerns at once."""
+        if live != self.live:
+            self.live = live
+            self.change_all(names=False)
+        state = self.state
+        if state is not None and (state.touched or state.dirty or state.renamed):
+            self.number += 1
+            self.changed.update(dict.fromkeys(state.touched, self.number))
+            self.groups_changed.update(dict.fromkeys(state.dirty, self.number))
+            state.touched, state.dirty = set(), set()
+            if state.renamed and time.monotonic() - self.named >= NAMES_EVERY:
+                self.names_changed, self.named, state.renamed = self.number, time.monotonic(), False
+        for waiter in self.waiters:
+            if self.has_agent_news(waiter):
+                waiter.wake()
+
+    def has_agent_news(self, waiter: Waiter) -> bool:
+        last = max(self.changed.get(waiter.agent, 0), self.all_changed)
+        return last > waiter.after or waiter.after > self.number
+
+    def has_news(self, waiter: Waiter) -> bool:
+        """Whether queues or names have news."""
+        queues = groups_of(self.state, waiter.agent, waiter.groups) if self.state else ()
+        last = max((self.groups_changed.get(queue, 0) for queue in queues), default=0)
+        return self.names_changed > waiter.names or last > waiter.after
+
+    def take_turn(self) -> None:
+        """Wakes those of this turn for whose queues there is something new."""
+        if time.monotonic() - self.turned < EVERY:
+            return
+        self.turn, self.turned = (self.turn + 1) % TURNS, time.monotonic()
+        for waiter in self.waiters:
+            if waiter.turn == self.turn and self.has_news(waiter):
+                waiter.wake()
+
+    def want(self) -> None:
+        """Somebody asks: the gate follows the desk from now on."""
+        self.wanted = time.monotonic()
+        if self.task is None:
+            self.task = asyncio.get_running_loop().create_task(self.run())
+
+    def nudge(self, body: bytes, reply: bytes) -> None:
+        """The desk has answered somebody's request: the reply has the pending state, which no event names."""
+        if self.task is None:
+            return
+        if b'"pending"' in reply and self.state is not None:
+            with contextlib.suppress(ValueError, KeyError, TypeError, AttributeError):
+                agent = self.state.agents[json.loads(body)["agent"]]
+                agent.pending = json.loads(reply)["result"]["pending"]
+                self.state.touched.add(agent.id)
+        self.nudged.set()
+
+    async def run(self) -> None:
+        while not await self.ends():
+            began = time.monotonic()
+            self.nudged.clear()
+            pause = await self.look()
+            self.take_turn()
+            with contextlib.suppress(TimeoutError):
+                async with asyncio.timeout(began + pause - time.monotonic()):
+                    await self.nudged.wait()
+            await asyncio.sleep(max(0.01, began + LEAST - time.monotonic()))
+
+    async def ends(self) -> bool:
+        """Whether nobody has asked for long: then it forgets the desk."""
+        async with self.asking:
+            if time.monotonic() - self.wanted <= WANTED or self.waiters:
+                return False
+            self.task, self.state, self.live, self.days = None, None, False, Days(self.clock())
+            return True
+
+    async def look(self) -> float:
+        """One look at the desk; in how many seconds the next one comes, if nobody asks for something before."""
+        try:
+            await self.catch_up()
+            await self.read_day()
+            return EVERY
+        except Away:
+            if time.monotonic() - self.heard >= AWAY:
+                self.settle(False)
+        except Exception as fault:  # what nobody foresaw: begin anew
+            command.report(f"the desk is read anew: {fault!r}")
+            self.forget()
+        return AGAIN
+
+    async def mine(self, agent: str, groups: frozenset[str] | None, after: int, names: int,
+                   hold: float = HELD) -> bytes | None:
+        """An agent's page as JSON, as soon as it has news; None if the gate never reached the desk."""
+        waiter = Waiter(agent, groups or frozenset(), after, names)
+        self.want()
+        if self.state is None or (after and not self.has_agent_news(waiter)):
+            await self.wait(waiter, AWAY if self.state is None else min(hold, HELD))
+        if self.state is None:
+            return None
+        body = as_json(self.text_of(self.state, waiter))
+        if not (self.names_changed > names or names > self.number):
+            return body
+        return body[:-1] + b',"names":' + self.names_now(self.state) + b"}"
+
+    async def wait(self, waiter: Waiter, patience: float) -> None:
+        self.waiters.add(waiter)
+        try:
+            async with asyncio.timeout(patience):
+                await waiter.woken
+        except TimeoutError:
+            pass
+        finally:
+            self.waiters.discard(waiter)
+
+    def is_live(self) -> bool:
+        """Also where a question is out to a desk that hangs."""
+        return self.live and time.monotonic() - self.heard < AWAY
+
+    def text_of(self, state: State, waiter: Waiter) -> Text:
+        text = agent_text(state, waiter.agent, waiter.groups)
+        text |= {"live": self.is_live(), "moment": int(self.answered), "number": self.number}
+        return text | without_nothing(day=self.days.text(waiter.agent), missed=self.days.missed_offer(waiter.agent))
+
+    def names_now(self, state: State) -> bytes:
+        """The names as JSON, made once for all pages."""
+        if self.names[0] != self.names_changed:
+            self.names = self.names_changed, as_json(names_text(state) | {"number": self.names_changed})
+        return self.names[1]

@@ -1,0 +1,65 @@
+"""The gate of a desk: judges passwords for the proxy, and lets a login ask for no more than its role may. Unproved."""
+import argparse
+import asyncio
+import contextlib
+from collections.abc import Callable
+from typing import NoReturn
+
+import acd_notify
+
+from acd_service import command
+from acd_service.command import Fault
+from acd_service.gate.desk import Desk, place
+
+
+def parser() -> command.Parser:
+    found = command.Parser("Judges logins for the proxy, and lets each ask for no more than its role may.",
+                           printed_usage=True, took_beginnings=True)
+    found.add_argument("--port", type=int, default=8081, metavar="P",
+                       help="the port of the loopback address to listen on; 8081 unless given")
+    found.add_argument("--desk", type=place, default="8080", metavar="PLACE",
+                       help="the desk: its port, http://127.0.0.1:PORT or unix:PATH; 8080 unless given")
+    found.add_argument("--roles", default="/etc/acd/roles", metavar="FILE",
+                       help="the roles; /etc/acd/roles unless given")
+    found.add_argument("--users", default="/etc/acd/users", metavar="FILE",
+                       help="the logins with their passwords, as htpasswd makes them; /etc/acd/users unless given")
+    found.add_argument("--sessions", metavar="FILE", help="where sessions are kept; in memory alone unless given")
+    found.add_argument("--records", default="/var/lib/acd-records", metavar="FOLDER",
+                       help="the files of records; /var/lib/acd-records unless given")
+    found.add_argument("--secret", default="/etc/acd/nginx-secret.conf", metavar="FILE",
+                       help="nginx's file of the secret; /etc/acd/nginx-secret.conf unless given")
+    return found
+
+
+async def serve(options: argparse.Namespace) -> None:
+    # only here: who asks for the words of each command needs no more than Python has
+    from acd_service.gate.routes import Gate
+    from acd_service.gate.server import Server, listening_at
+    from acd_service.gate.sessions import secret_of
+    try:
+        listening = listening_at(options.port)
+    except (OSError, OverflowError):
+        raise Fault(f"cannot listen on port {options.port}") from None
+    gate = Gate(Desk(options.desk), options.roles, options.users, options.sessions, options.records,
+                secret_of(options.secret))
+    acd_notify.ready()
+    await Server(gate.answer).listen(listening)
+
+
+def loop_of() -> Callable[[], asyncio.AbstractEventLoop] | None:
+    """uvloop's, where that is installed; None is Python's own."""
+    try:
+        import uvloop
+    except ImportError:
+        return None
+    made: Callable[[], asyncio.AbstractEventLoop] = uvloop.new_event_loop
+    return made
+
+
+def do(options: argparse.Namespace) -> None:
+    with contextlib.suppress(KeyboardInterrupt), asyncio.Runner(loop_factory=loop_of()) as runner:
+        runner.run(serve(options))
+
+
+def main(words: list[str]) -> NoReturn:
+    command.run(lambda given: parser().parse_args(given), do, words)

@@ -1,0 +1,161 @@
+"""What the gate listens with: aiohttp's server, each question handed to the routes. Unproved.
+
+Both aiohttp 3.8 and 3.11 do. A response of theirs is falsy, so refusals are exceptions; and a handler goes on when its
+client has left, so whoever does what costs much asks before."""
+import asyncio
+import socket
+import sys
+import time
+import traceback
+from collections.abc import Awaitable, Callable
+from typing import Any
+
+from aiohttp import web
+from aiohttp.http_exceptions import LineTooLong
+
+from acd_service.command import report
+from acd_service.gate.exchanges import Answer, Left, Question, Refused, error
+
+# connections, beyond which others wait; behind half of these none stays open
+MOST_OPEN = 3000
+# connections that the kernel keeps until they are taken
+BACKLOG = 1024
+# seconds: for a request to come whole, and between two on a connection
+PATIENCE = 60
+# bytes of a line of a head, and how many fields a request may have
+LONGEST_LINE, MOST_FIELDS = 65536, 100
+SETTINGS: dict[str, Any] = {"keepalive_timeout": PATIENCE, "access_log": None, "max_line_size": LONGEST_LINE,
+                            "max_field_size": LONGEST_LINE, "auto_decompress": False}
+# of a request that the library can't read: by what its fault says, the status
+FAULTS = {"Content-Length overflow": 413, "Content-Length": 411, "nvalid method": 501, "oo many headers": 431}
+
+
+def status_of(fault: BaseException | None) -> int:
+    """The status for a request that the library can't read."""
+    if isinstance(fault, LineTooLong):
+        return 431
+    return next((status for words, status in FAULTS.items() if words in str(fault)), 400)
+
+
+def response(answer: Answer, stays: bool) -> web.Response:
+    fields = {**dict(answer.fields), "Content-Type": answer.kind, "Connection": "keep-alive" if stays else "close"}
+    made = web.Response(status=answer.status, body=answer.body, headers=fields)
+    if not stays:
+        made.force_close()
+    return made
+
+
+class Connection(web.RequestHandler):
+    """A connection; the library's own errors are answered in the desk's form."""
+    has_asked = False
+
+    def handle_error(self, request: web.BaseRequest, status: int = 500, exc: BaseException | None = None,
+                     message: str | None = None) -> web.StreamResponse:
+        if request.writer.output_size > 0:
+            raise ConnectionError("a part of the answer is sent already")
+        if status == 500 and not isinstance(exc, ConnectionError):
+            traceback.print_exception(exc, file=sys.stderr)
+            return response(error(502), False)
+        return response(error(status_of(exc)), False)
+
+
+class Server(web.Server):
+    """Takes connections of a socket while there is room, and hands each question to `answer`."""
+
+    def __init__(self, answer: Callable[[Question], Awaitable[Answer]], most: int = MOST_OPEN) -> None:
+        super().__init__(self.handle)
+        self.answer, self.most, self.open = answer, most, 0
+        self.room = asyncio.Event()
+        self.room.set()
+        # connections that haven't asked for anything yet, with the moment at which they came
+        self.silent: dict[object, tuple[Connection, float]] = {}
+
+    def __call__(self) -> Connection:
+        return Connection(self, loop=asyncio.get_running_loop(), **SETTINGS)
+
+    def connection_made(self, handler: web.RequestHandler, transport: asyncio.Transport) -> None:
+        super().connection_made(handler, transport)
+        if isinstance(handler, Connection):
+            self.silent[handler] = handler, time.monotonic()
+
+    def connection_lost(self, handler: web.RequestHandler, exc: BaseException | None = None) -> None:
+        super().connection_lost(handler, exc)
+        self.silent.pop(handler, None)
+        self.open -= 1
+        self.room.set()
+
+    def has_room(self) -> bool:
+        """Whether a connection may stay open for the next question."""
+        return self.open < self.most / 2
+
+    async def listen(self, listening: socket.socket) -> None:
+        """Takes connections for ever; who comes beyond the most waits."""
+        sweeper = asyncio.create_task(self.sweep())
+        try:
+            while True:
+                await self.room.wait()
+                await self.take(listening)
+        finally:
+            sweeper.cancel()
+
+    async def take(self, listening: socket.socket) -> None:
+        loop = asyncio.get_running_loop()
+        try:
+            connection, _ = await loop.sock_accept(listening)
+        except OSError as fault:
+            report(f"no connection can be taken: {fault.strerror}")
+            return await asyncio.sleep(1)
+        self.open += 1
+        if self.open >= self.most:
+            self.room.clear()
+        try:
+            await loop.connect_accepted_socket(self, connection)
+        except OSError:
+            self.open -= 1
+            connection.close()
+
+    async def sweep(self) -> None:
+        """Closes connections on which nothing came."""
+        while True:
+            await asyncio.sleep(PATIENCE / 6)
+            for handler, since in list(self.silent.values()):
+                if time.monotonic() - since >= PATIENCE:
+                    handler.force_close()
+
+    async def handle(self, request: web.BaseRequest) -> web.StreamResponse:
+        self.silent.pop(request.protocol, None)
+        try:
+            if len(request.raw_headers) > MOST_FIELDS:
+                raise Refused(error(431))
+            answer = await self.answer(asked(request))
+        except Refused as refused:
+            answer = refused.answer
+        return response(answer, answer.stays and self.has_room())
+
+
+def asked(request: web.BaseRequest) -> Question:
+    """What the routes see of a request; several slashes at its begin are one."""
+    def has_left() -> bool:
+        return request.transport is None or request.transport.is_closing()
+
+    async def read() -> bytes:
+        try:
+            async with asyncio.timeout(PATIENCE):
+                return await request.read()
+        except TimeoutError:
+            raise Left from None
+
+    target = request.raw_path.encode("utf-8", "surrogateescape").decode("latin-1")
+    path, _, query = target.partition("?")
+    fields: dict[str, str] = {}
+    for name, value in request.raw_headers:
+        fields.setdefault(name.decode("latin-1").lower(), value.decode("latin-1"))
+    return Question(request.method, "/" + path.lstrip("/") if path.startswith("//") else path, query, fields, read,
+                    has_left)
+
+
+def listening_at(port: int) -> socket.socket:
+    """A socket at a port of the loopback address; OSError or OverflowError where that isn't free, or is none."""
+    found = socket.create_server(("127.0.0.1", port), backlog=BACKLOG)
+    found.setblocking(False)
+    return found

@@ -1,0 +1,295 @@
+"""A desk by its reports: agents, groups, stations and calls, and which of them a report concerns. Unproved."""
+from __future__ import annotations
+
+from collections.abc import Callable, Iterable
+from dataclasses import dataclass, field
+from typing import Any, TypeVar
+
+# a snapshot ranks by stamps, of at most 1000000000; less EARLIER they come before all numbers of events, which rank
+# later things
+EARLIER = 2_000_000_000
+STATE_AFTER = {"agentLoggedOn": "notReady", "agentLoggedOff": "null", "agentNotReady": "notReady",
+               "agentReady": "ready", "agentBusy": "busy", "agentWorkingAfterCall": "workingAfterCall"}
+BECOMES = {"originated": "connected", "established": "connected", "held": "hold", "retrieved": "connected"}
+LEAVES = {"diverted", "transferred", "connectionCleared"}
+# an event report, or a part of a snapshot
+Text = dict[str, Any]
+Made = TypeVar("Made")
+
+
+@dataclass
+class Agent:
+    """`log_on` identifies a log-on: the number of its event, or of the last event before the gate first saw it."""
+    id: str
+    name: str = ""
+    state: str = "null"
+    since: int = 0
+    station: str | None = None
+    groups: list[str] = field(default_factory=list)
+    pending: str | None = None
+    log_on: int | None = None
+
+
+@dataclass
+class Group:
+    id: str
+    name: str = ""
+    ring: int = 0
+    wrap: int = 0
+    waiting: set[Call] = field(default_factory=set)
+    agents: set[str] = field(default_factory=set)
+
+
+@dataclass
+class Station:
+    id: str
+    agent: str | None = None
+    calls: set[int] = field(default_factory=set)
+
+
+@dataclass
+class Connection:
+    device: str
+    state: str
+    group: str | None
+    since: int
+
+
+@dataclass(eq=False)
+class Call:
+    number: int
+    since: int
+    caller: str | None = None
+    called: str | None = None
+    rank: int = 0
+    queued: int | None = None
+    connections: dict[str, Connection] = field(default_factory=dict)
+
+
+def in_order(numbers: Iterable[str]) -> list[str]:
+    """Devices or agents by the number that the digit 1 and their digits make."""
+    return sorted(numbers, key=lambda number: (len(number), number))
+
+
+def made(kind: Callable[[str], Made], table: dict[str, Made], number: str) -> Made:
+    found = table.get(number)
+    if found is None:
+        found = table[number] = kind(number)
+    return found
+
+
+class State:
+    """The desk by its reports. `touched` are the agents whose state or calls changed, `dirty` the groups whose queue or
+    agents did, `renamed` says whether a name or a station's agent did; `unknown` are agents whose groups no report
+    names."""
+
+    def __init__(self, snapshot: Text | None = None, before: State | None = None) -> None:
+        self.last = 0
+        self.agents: dict[str, Agent] = {}
+        self.groups: dict[str, Group] = {}
+        self.stations: dict[str, Station] = {}
+        self.calls: dict[int, Call] = {}
+        self.touched: set[str] = set()
+        self.dirty: set[str] = set()
+        self.renamed = False
+        self.unknown: set[str] = set()
+        if snapshot is not None:
+            self.begin(snapshot, before)
+
+    def begin(self, snapshot: Text, before: State | None) -> None:
+        self.last = snapshot["last"]
+        for text in snapshot["groups"]:
+            group = made(Group, self.groups, text["device"])
+            group.name, group.ring, group.wrap = text["name"], text["ring"], text["wrap"]
+        for text in snapshot["stations"]:
+            made(Station, self.stations, text["device"]).agent = text.get("agent")
+        for text in snapshot["agents"]:
+            agent = made(Agent, self.agents, text["agent"])
+            agent.name, agent.state, agent.since = text["name"], text["state"], text["since"]
+            agent.station, agent.pending = text.get("device"), text.get("pending")
+            agent.log_on = self.log_on_of(agent, before)
+            self.assign_groups(agent, text)
+        for text in snapshot["calls"]:
+            self.begin_call(text, before)
+        self.touched, self.dirty = set(), set()
+
+    def log_on_of(self, agent: Agent, before: State | None) -> int | None:
+        """The log-on of before, if the agent's station, state and time of change are the same."""
+        was = before.agents.get(agent.id) if before else None
+        if agent.station and was and (was.station, was.state, was.since) == (agent.station, agent.state, agent.since):
+            return was.log_on
+        return self.last if agent.station else None
+
+    def begin_call(self, text: Text, before: State | None) -> None:
+        call = self.call_of(text["call"], text["since"])
+        call.caller, call.called = text["caller"], text["called"]
+        known = before.calls.get(call.number) if before else None
+        if known is not None:
+            call.queued = known.queued
+        for one in text["connections"]:
+            device, state = one["device"], one["state"]
+            call.rank = one["place"] - EARLIER if "place" in one else call.rank
+            call.queued = one.get("queued", call.queued)
+            since = one.get("offered") or self.since_when(call, device, state, known)
+            self.put(call, device, state, device if state == "queued" else one.get("group"), since)
+
+    def since_when(self, call: Call, device: str, state: str, known: Call | None) -> int:
+        """Since when a connection is as a snapshot shows it, which doesn't say so."""
+        old, agent = known.connections.get(device) if known else None, self.agent_at(device)
+        if old and old.state == state:
+            return old.since
+        return agent.since if agent else call.queued or call.since
+
+    def call_of(self, number: int, since: int) -> Call:
+        found = self.calls.get(number)
+        if found is None:
+            found = self.calls[number] = Call(number, since)
+        return found
+
+    def assign_groups(self, agent: Agent, text: Text) -> None:
+        """Puts the agent into the groups that the desk's text of the agent names."""
+        self.leave(agent)
+        agent.groups = text.get("groups") or ([text["group"]] if "group" in text else [])
+        for group in agent.groups:
+            made(Group, self.groups, group).agents.add(agent.id)
+        self.dirty.update(agent.groups)
+
+    def leave(self, agent: Agent) -> None:
+        for group in agent.groups:
+            self.groups[group].agents.discard(agent.id)
+        self.dirty.update(agent.groups)
+        agent.groups = []
+
+    def agent_at(self, device: str) -> Agent | None:
+        station = self.stations.get(device)
+        return self.agents.get(station.agent) if station and station.agent else None
+
+    def apply(self, report: Text) -> None:
+        if report["number"] <= self.last:
+            return
+        self.last = report["number"]
+        if "agent" in report:
+            self.change_agent(report)
+        else:
+            self.change_call(report)
+
+    def change_agent(self, report: Text) -> None:
+        agent, event = made(Agent, self.agents, report["agent"]), report["event"]
+        if event == "agentLoggedOn":
+            agent.station, agent.log_on = report["device"], report["number"]
+            made(Station, self.stations, report["device"]).agent = agent.id
+            self.assign_groups(agent, report)
+            if "group" not in report:
+                self.unknown.add(agent.id)
+        elif event == "agentLoggedOff":
+            made(Station, self.stations, report["device"]).agent = None
+            agent.station = agent.log_on = None
+            self.leave(agent)
+            self.unknown.discard(agent.id)
+        self.renamed |= event in ("agentLoggedOn", "agentLoggedOff")
+        agent.state, agent.since = STATE_AFTER[event], report["moment"]
+        self.touched.add(agent.id)
+        self.dirty.update(agent.groups)
+
+    def change_call(self, report: Text) -> None:
+        number, event, device, moment = report["call"], report["event"], report.get("device", ""), report["moment"]
+        call = self.call_of(number, moment)
+        self.mark(call)
+        if event == "serviceInitiated":
+            call.caller = device
+            self.put(call, device, "initiated", None, moment)
+        elif event == "queued":
+            self.enqueue(call, report)
+        elif event == "delivered":
+            self.put(call, device, "alerting", report.get("group"), moment)
+        elif event == "failed":
+            self.put(call, device, "fail", None, moment)
+        elif event in BECOMES:
+            self.become(call, device, BECOMES[event], moment)
+        elif event in LEAVES:
+            self.take(call, device)
+        elif event == "callCleared":
+            self.clear(call)
+        if event == "originated":
+            call.called = report["to"]
+        self.mark(call)
+
+    def clear(self, call: Call) -> None:
+        for left in list(call.connections):
+            self.take(call, left)
+        del self.calls[call.number]
+
+    def mark(self, call: Call) -> None:
+        """Whom the call touches."""
+        for device in call.connections:
+            if device in self.groups:
+                self.dirty.add(device)
+            agent = self.agent_at(device)
+            if agent:
+                self.touched.add(agent.id)
+                self.dirty.update(agent.groups)
+
+    def enqueue(self, call: Call, report: Text) -> None:
+        if report["cause"] != "noAnswer":
+            call.rank, call.queued = report["number"], report["moment"]
+        self.put(call, report["device"], "queued", report["device"], report["moment"])
+
+    def put(self, call: Call, device: str, state: str, group: str | None, since: int) -> None:
+        call.connections[device] = Connection(device, state, group, since)
+        if state == "queued":
+            made(Group, self.groups, device).waiting.add(call)
+        elif device in self.stations:
+            self.stations[device].calls.add(call.number)
+
+    def become(self, call: Call, device: str, state: str, since: int) -> None:
+        connection = call.connections.get(device)
+        if connection is None:
+            self.put(call, device, state, None, since)
+        else:
+            connection.state, connection.since = state, since
+
+    def take(self, call: Call, device: str) -> None:
+        connection, agent = call.connections.pop(device, None), self.agent_at(device)
+        if device in self.stations:
+            self.stations[device].calls.discard(call.number)
+        if device in self.groups:
+            self.groups[device].waiting.discard(call)
+        if connection and connection.group and agent:
+            agent.pending = None  # it holds now
+
+    def learn(self, text: Text) -> None:
+        """Takes the desk's text of an agent, which the gate reads since no report names the agent's groups."""
+        agent = made(Agent, self.agents, text["agent"])
+        self.unknown.discard(agent.id)
+        if agent.station and agent.station == text.get("device"):
+            agent.pending = text.get("pending")
+            self.assign_groups(agent, text)
+            self.touched.add(agent.id)
+
+    def callers_unknown(self) -> list[int]:
+        """The calls whose caller no report named."""
+        return [call.number for call in self.calls.values() if call.caller is None or call.called is None]
+
+    def is_eligible(self, number: str) -> bool:
+        """Whether the desk may offer a call to the agent."""
+        agent = self.agents[number]
+        station = self.stations.get(agent.station) if agent.station else None
+        if station is None:
+            return agent.state == "ready"
+        calls = [self.calls[call] for call in station.calls if call in self.calls]
+        here = [call.connections[station.id] for call in calls if station.id in call.connections]
+        return agent.state == "ready" and all(one.state == "fail" for one in here)
+
+    def differs(self, other: State) -> None:
+        """Marks differences from an earlier state of the same moment in members that no report names."""
+        for number, agent in self.agents.items():
+            was = other.agents.get(number)
+            if was is None or (was.name, was.pending, was.groups) != (agent.name, agent.pending, agent.groups):
+                self.touched.add(number)
+                self.renamed |= was is None or was.name != agent.name
+        for number, group in self.groups.items():
+            old = other.groups.get(number)
+            if old is None or (old.name, old.ring, old.wrap) != (group.name, group.ring, group.wrap):
+                self.dirty.add(number)
+                self.renamed |= old is None or old.name != group.name
+        self.renamed |= self.stations.keys() != other.stations.keys()

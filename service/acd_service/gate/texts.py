@@ -1,0 +1,59 @@
+"""What an agent's page is told of the desk: the agent, own calls whole, queues with shortened callers, names.
+Unproved."""
+from collections.abc import Iterable
+from typing import Any
+
+from acd_service.gate.state import Call, Connection, Group, State, Text, in_order
+
+
+def without_nothing(**members: Any) -> Text:
+    return {name: value for name, value in members.items() if value is not None}
+
+
+def side_text(one: Connection) -> Text:
+    return without_nothing(device=one.device, group=one.group if one.state != "queued" else None, since=one.since,
+                           state=one.state)
+
+
+def call_text(call: Call) -> Text:
+    """A call of the agent, with all members."""
+    connections = [side_text(call.connections[device]) for device in in_order(call.connections)]
+    return without_nothing(call=call.number, called=call.called, caller=call.caller, connections=connections,
+                           queued=call.queued, since=call.since)
+
+
+def queue_text(state: State, group: Group) -> Text:
+    """A queue, in which no caller's number is whole."""
+    calls = [without_nothing(call=call.number, caller=call.caller and f"...{call.caller[-3:]}", queued=call.queued)
+             for call in sorted(group.waiting, key=lambda call: call.rank)]
+    ready = sum(state.is_eligible(number) for number in group.agents)
+    return {"calls": calls, "device": group.id, "loggedOn": len(group.agents), "name": group.name, "ready": ready,
+            "ring": group.ring, "wrap": group.wrap}
+
+
+def agent_text(state: State, number: str, groups: Iterable[str]) -> Text:
+    """An agent as the agent's page shows it: state, calls, queues. `groups` are those of an agent who is logged off."""
+    agent = state.agents.get(number)
+    if agent is None:
+        return {"agent": {"agent": number}, "calls": [], "groups": []}
+    state_text = without_nothing(agent=agent.id, device=agent.station, groups=agent.groups or None, logOn=agent.log_on,
+                                 name=agent.name, pending=agent.pending, since=agent.since, state=agent.state)
+    station = state.stations.get(agent.station) if agent.station else None
+    calls = [call_text(state.calls[call]) for call in sorted(station.calls) if call in state.calls] if station else []
+    queues = [queue_text(state, state.groups[group]) for group in groups_of(state, number, groups)
+              if group in state.groups]
+    return {"agent": state_text, "calls": calls, "groups": queues}
+
+
+def groups_of(state: State, number: str, groups: Iterable[str]) -> list[str]:
+    """The groups in which an agent is logged on, or those of the agent's line."""
+    agent = state.agents.get(number)
+    return agent.groups if agent and agent.station else in_order(groups)
+
+
+def names_text(state: State) -> Text:
+    """Who has which name, and where agents are logged on, for transfers."""
+    agents = [without_nothing(agent=number, device=state.agents[number].station, name=state.agents[number].name)
+              for number in in_order(state.agents)]
+    groups = [{"device": number, "name": state.groups[number].name} for number in in_order(state.groups)]
+    return {"agents": agents, "groups": groups, "stations": in_order(state.stations)}
