@@ -12,9 +12,9 @@ from base import ALONE, SUITES, make_base, unpack
 from trial import TOP, Trial
 
 # base-files is in each Debian: nothing more than the smallest one
-NOTHING, NEEDED = "base-files", "binutils,dpkg-dev,python3,python3-passlib"
+NOTHING, NEEDED = "base-files", "binutils,dpkg-dev,python3"
 PLACE = "home/ana/acd"
-LACKING = ("packaging/package: not found: python3, passlib, nm, strip, dpkg-shlibdeps. As root: apt-get install --no-install-recommends python3 python3-passlib binutils dpkg-dev\n")
+LACKING = ("packaging/package: not found: python3, nm, strip, dpkg-shlibdeps. As root: apt-get install --no-install-recommends python3 binutils dpkg-dev\n")
 HALF = "packaging/package: not found: python3. As root: apt-get install --no-install-recommends python3\n"
 
 
