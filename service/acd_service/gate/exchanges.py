@@ -13,18 +13,16 @@ ERRORS = {
 
 
 class Answer(NamedTuple):
-    """Status, type and body of an answer; `fields` are those that it has besides, `stays` says whether the connection
-    may stay open for the next question."""
+    """Status, type and body of an answer; `fields` are those that it has besides."""
     status: int
     kind: str = "text/plain"
     body: bytes = b""
     fields: tuple[tuple[str, str], ...] = ()
-    stays: bool = False
 
 
-def error(status: int, stays: bool = False) -> Answer:
+def error(status: int) -> Answer:
     """An error in the desk's form."""
-    return Answer(status, "application/json", f'{{"error":{{{ERRORS[status]}}}}}'.encode(), (), stays)
+    return Answer(status, "application/json", f'{{"error":{{{ERRORS[status]}}}}}'.encode())
 
 
 class Refused(Exception):

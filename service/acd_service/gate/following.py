@@ -11,7 +11,7 @@ from dataclasses import dataclass, field
 
 from acd_service import command
 from acd_service.gate.days import EARLIER, Days, first_of
-from acd_service.gate.exchanges import Answer
+from acd_service.gate.exchanges import Answer, Left
 from acd_service.gate.state import State, Text
 from acd_service.gate.texts import agent_text, groups_of, names_text, without_nothing
 
@@ -292,13 +292,16 @@ class Following:
             self.forget()
         return AGAIN
 
-    async def mine(self, agent: str, groups: frozenset[str] | None, after: int, names: int,
-                   hold: float = HELD) -> bytes | None:
-        """An agent's page as JSON, as soon as it has news; None if the gate never reached the desk."""
+    async def mine(self, agent: str, groups: frozenset[str] | None, after: int, names: int, hold: float = HELD,
+                   has_left: Callable[[], bool] = lambda: False) -> bytes | None:
+        """An agent's page as JSON, as soon as it has news; None if the gate never reached the desk. Left where nobody
+        waits for it any more."""
         waiter = Waiter(agent, groups or frozenset(), after, names)
         self.want()
         if self.state is None or (after and not self.has_agent_news(waiter)):
             await self.wait(waiter, AWAY if self.state is None else min(hold, HELD))
+        if has_left():
+            raise Left
         if self.state is None:
             return None
         body = as_json(self.text_of(self.state, waiter))

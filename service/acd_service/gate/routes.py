@@ -145,13 +145,13 @@ class Gate:
 
     async def judge(self, question: Question) -> Answer:
         login, _ = await self.judged(question)
-        return Answer(204, fields=(("X-Login", login),), stays=True)
+        return Answer(204, fields=(("X-Login", login),))
 
     async def judge_reads(self, question: Question) -> Answer:
         login, role = await self.judged(question)
         if role.reading != "all":
-            raise Refused(Answer(403, stays=True))
-        return Answer(204, fields=(("X-Login", login),), stays=True)
+            raise Refused(Answer(403))
+        return Answer(204, fields=(("X-Login", login),))
 
     async def judged(self, question: Question) -> tuple[str, Role]:
         """The login and its role. A refusal has no body: nginx would leave it unread, and so close the connection."""
@@ -162,9 +162,9 @@ class Gate:
         if role != NOTHING and not self.rates.takes_request(login, role, question.field("x-path")):
             verdict = TOO_MANY
         if verdict != RIGHT:
-            raise Refused(Answer(401, fields=why(question, verdict), stays=True))
+            raise Refused(Answer(401, fields=why(question, verdict)))
         if role == NOTHING:
-            raise Refused(Answer(403, stays=True))
+            raise Refused(Answer(403))
         return login, role
 
     async def who_asks(self, question: Question) -> tuple[str, str]:
@@ -265,18 +265,19 @@ class Gate:
         agent = asked.get("agent", role.agent)
         are_numbers = all(re.fullmatch(r"[0-9]{1,15}", number) for number in numbers)
         if not are_numbers or not re.fullmatch(MEMBERS["agent"], agent or "0"):
-            raise Refused(error(400, stays=True))
+            raise Refused(error(400))
         is_others = agent != role.agent and role.reading != "all"
         if role == NOTHING or role.reading == "none" or agent is None or is_others:
-            raise Refused(error(403, stays=True))
+            raise Refused(error(403))
         with self.held.one(login) as has_room:
             if not has_room:
-                raise Refused(error(429, stays=True))
+                raise Refused(error(429))
             groups = role.groups if agent == role.agent else None
-            page = await self.following.mine(agent, groups, *map(int, numbers))
+            after, names, hold = map(int, numbers)
+            page = await self.following.mine(agent, groups, after, names, hold, question.has_left)
         if page is None:
-            raise Refused(error(502, stays=True))
-        return Answer(200, "application/json", page, stays=True)
+            raise Refused(error(502))
+        return Answer(200, "application/json", page)
 
     async def requests(self, question: Question) -> Answer:
         """The page of the desk itself; the quoted query means the same to the desk."""

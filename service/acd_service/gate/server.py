@@ -37,7 +37,8 @@ def status_of(fault: BaseException | None) -> int:
     return next((status for words, status in FAULTS.items() if words in str(fault)), 400)
 
 
-def response(answer: Answer, stays: bool) -> web.Response:
+def response(answer: Answer, stays: bool = False) -> web.Response:
+    """An answer as the library sends it; `stays` says whether the connection stays open for the next question."""
     fields = {**dict(answer.fields), "Content-Type": answer.kind, "Connection": "keep-alive" if stays else "close"}
     made = web.Response(status=answer.status, body=answer.body, headers=fields)
     if not stays:
@@ -47,16 +48,15 @@ def response(answer: Answer, stays: bool) -> web.Response:
 
 class Connection(web.RequestHandler):
     """A connection; the library's own errors are answered in the desk's form."""
-    has_asked = False
 
     def handle_error(self, request: web.BaseRequest, status: int = 500, exc: BaseException | None = None,
                      message: str | None = None) -> web.StreamResponse:
         if request.writer.output_size > 0:
             raise ConnectionError("a part of the answer is sent already")
-        if status == 500 and not isinstance(exc, ConnectionError):
+        if status >= 500 and not isinstance(exc, ConnectionError):
             traceback.print_exception(exc, file=sys.stderr)
-            return response(error(502), False)
-        return response(error(status_of(exc)), False)
+            return response(error(502))
+        return response(error(status_of(exc)))
 
 
 class Server(web.Server):
@@ -130,7 +130,7 @@ class Server(web.Server):
             answer = await self.answer(asked(request))
         except Refused as refused:
             answer = refused.answer
-        return response(answer, answer.stays and self.has_room())
+        return response(answer, request.keep_alive and self.has_room())
 
 
 def asked(request: web.BaseRequest) -> Question:

@@ -64,10 +64,12 @@ class ServerTest(DoorTest):
         with mock.patch.object(server, "PATIENCE", 0.3), Standing(self.gate) as standing, contextlib.ExitStack() as held:
             silent = held.enter_context(socket.create_connection(("127.0.0.1", standing.port)))
             half = held.enter_context(socket.create_connection(("127.0.0.1", standing.port)))
-            half.sendall(b"GET /who HTTP/1.1\r\nX-Login: ")
+            with contextlib.suppress(OSError):  # on a busy machine it is closed by now
+                half.sendall(b"GET /who HTTP/1.1\r\nX-Login: ")
             for one in (silent, half):
                 one.settimeout(PATIENCE)
-                self.assertEqual(one.recv(1), b"")
+                with contextlib.suppress(ConnectionResetError):
+                    self.assertEqual(one.recv(1), b"")
             self.assertTrue(until(lambda: standing.server.open == 0, PATIENCE))
 
     def test_descriptors_that_run_out(self):
@@ -108,6 +110,19 @@ class ServerTest(DoorTest):
                 self.assertEqual(fields["connection"], wanted)
                 held.enter_context(socket.create_connection(("127.0.0.1", self.port)))
                 self.assertTrue(until(lambda: self.standing.server.open >= 1, PATIENCE))
+
+    def test_a_connection_stays_behind_each_answer(self):
+        """Where the other end wants it to; nginx of before 1.16 closes those of services."""
+        asked = [("POST", "/csta", b'{"requester":"pbx"}', 409), ("POST", "/csta", b'{"requester":"clock"}', 403), ("GET", "/who", None, 200), ("GET", "/none", None, 404), ("POST", "/none", b"{}", 404),
+                 ("POST", "/csta", b" " * 5000, 413), ("GET", "/requests", None, 403), ("POST", "/logout", None, 204), ("PUT", "/csta", b"{}", 501)]
+        with Connection(self.port, seconds=PATIENCE) as one:
+            ports = set()
+            for method, path, body, wanted in asked:
+                reply = one.ask(method, path, body, [("X-Login", "pbx")])
+                self.assertEqual((reply.status, reply.fields["connection"]), (wanted, "keep-alive"), path)
+                ports.add(one.connection.sock.getsockname())
+            self.assertEqual(len(ports), 1)
+            self.assertEqual(one.ask("GET", "/who", None, [("X-Login", "pbx"), ("Connection", "close")]).fields["connection"], "close")
 
     def test_a_connection_stays(self):
         ports = set()
