@@ -13,7 +13,7 @@ from unittest import mock
 from standing import PATIENCE, Named
 
 from acd_service.gate import days, following, texts
-from acd_service.gate.exchanges import Answer, error
+from acd_service.gate.exchanges import Answer, Left, error
 from acd_service.gate.state import State
 
 
@@ -244,6 +244,19 @@ class FollowingTest(Named, unittest.IsolatedAsyncioTestCase):
         self.desk.texts["/calls/5"] = {"caller": "0301", "called": "100"}
         told = await self.mine(after=first["number"], names=first["names"]["number"])
         self.assertEqual(told["groups"][0]["calls"], [{"call": 5, "caller": "...301", "queued": 1002}])
+        await self.ends()
+
+    async def test_names_are_told_once_in_ten_seconds(self):
+        await self.following.catch_up()
+        for after, told in ((0, True), (1, False), (following.NAMES_EVERY, True)):
+            before, self.following.named = self.following.names_changed, time.monotonic() - after if after else 0.0
+            self.desk.events.append(logged_on(len(self.desk.events) + 1, agent="78"[len(self.desk.events) % 2], device="20" + "12"[len(self.desk.events) % 2]))
+            await self.following.catch_up()
+            self.assertEqual(self.following.names_changed > before, told, after)
+
+    async def test_a_page_whose_client_has_left_is_not_made(self):
+        with self.assertRaises(Left), mock.patch.object(following, "as_json", side_effect=AssertionError):
+            await self.following.mine("7", None, 0, 0, 0.1, lambda: True)
         await self.ends()
 
     async def test_what_is_pending(self):

@@ -12,8 +12,9 @@ from unittest import mock
 
 from standing import BAD_GATEWAY, FORBIDDEN, PAGE, REPLY, ROLES, DoorTest, basic
 
-from acd_service.gate import following, limits
+from acd_service.gate import files, following, limits
 from acd_service.gate.desk import Place
+from acd_service.gate.exchanges import Left, Question
 
 # a desk with an agent who is logged off
 SNAPSHOT = {"/snapshot": {"last": 0, "moment": 5, "groups": [], "stations": [], "calls": [], "agents": [{"agent": "7", "name": "Ana", "state": "null", "since": 0, "stamp": 1}]},
@@ -121,6 +122,13 @@ class RouteTest(DoorTest):
         self.assertEqual(self.ask("planner", None, "GET", "/records/agents/2026-11-28.csv")[0], 404)
         for login in ("pbx", "ana", "sup", "blind", "Copy.2", "nobody"):
             self.assertEqual(self.ask(login, None, "GET", "/records/"), FORBIDDEN, login)
+
+    def test_who_has_left_gets_neither_page_nor_file(self):
+        """The desk isn't asked, and no file is read."""
+        for path in ("/requests", "/records/", "/records/groups/2026-11-27.csv"):
+            with self.assertRaises(Left), mock.patch.object(files, "days", side_effect=AssertionError), mock.patch.object(files, "content", side_effect=AssertionError):
+                self.standing.do(self.gate.answer(Question("GET", path, "", {"x-login": "planner"}, mock.AsyncMock(), lambda: True)))
+        self.assertEqual(self.desk.got, [])
 
     def test_a_session(self):
         """Begun by a form, used, told of, ended."""
