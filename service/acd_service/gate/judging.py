@@ -13,6 +13,8 @@ CALLS = {
     "makeCall", "phoneOffHook", "answerCall", "rejectCall", "holdCall", "retrieveCall", "clearConnection",
     "deflectCall", "singleStepTransfer"
 }
+# what a program may ask for that moves callers by an office's rules
+OF_RULES = {"clearConnection", "deflectCall"}
 LEADS_TO = ("ready", "notReady", "loggedOff")
 # the states that need neither a station nor a group
 OTHER_STATES = ("ready", "notReady", "workingAfterCall", "loggedOff")
@@ -80,7 +82,7 @@ def looks_at(role: Role, login: str, logins: Container[object], body: bytes) -> 
         return Look.NOTHING
     if request is None or not role.asks or not has_keys(login) or owner(request["requester"], logins) != login:
         return Look.NOTHING
-    if role.name == "lead" and may_be_leads(role, request):
+    if role.name == "lead" and may_be_leads(role, request) or role.name == "rules" and may_be_rules(request):
         return Look.STATE
     return Look.STATION if role.name == "agent" and is_call_within(role, request) else Look.NOTHING
 
@@ -99,6 +101,9 @@ def may(role: Role, login: str, logins: Container[object], body: bytes, seen: Se
         return False
     if role.name == "lead":
         return may_be_leads(role, request) and seen.state is not None and may_lead(role, request, seen.state)
+    if role.name == "rules":
+        # a connection at a group is one that waits, and the desk refuses any other
+        return may_be_rules(request) and seen.state is not None and request["device"] in seen.state.groups
     return role.name == "exchange" or may_ask(role, request, seen)
 
 
@@ -131,6 +136,12 @@ def logs_on_within(role: Role, request: Request) -> bool:
         return True
     groups = [request["group"]] if "group" in request else request.get("groups")
     return are_within(role.stations, [request.get("device")]) and are_within(role.groups, groups)
+
+
+def may_be_rules(request: Request) -> bool:
+    """The part of the rule of who moves waiting callers that needs no look at the desk."""
+    service = request.get("service")
+    return isinstance(service, str) and service in OF_RULES and isinstance(request.get("device"), str)
 
 
 def may_be_leads(role: Role, request: Request) -> bool:

@@ -7,7 +7,7 @@ from typing import Generic, NamedTuple, TypeVar
 from acd_service.command import report
 from acd_service.gate.passwords import FORMS
 
-ROLES = {"supervisor", "lead", "agent", "office", "exchange", "follow"}
+ROLES = {"supervisor", "lead", "agent", "office", "exchange", "follow", "rules"}
 MEMBERS = {
     "agent": r"[0-9]{1,9}", "stations": r"[0-9]{1,15}(,[0-9]{1,15})*", "groups": r"[0-9]{1,15}(,[0-9]{1,15})*",
     "reads": "none|own|all"
@@ -68,7 +68,7 @@ class Role(NamedTuple):
     @property
     def asks(self) -> bool:
         """Whether it may ask for any service."""
-        return self.name in ("lead", "agent", "office", "exchange")
+        return self.name in ("lead", "agent", "office", "exchange", "rules")
 
 
 NOTHING = Role("nothing")

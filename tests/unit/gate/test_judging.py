@@ -37,6 +37,26 @@ class ServiceTest(GateTest):
             self.assertEqual(self.passes("ana", {"requester": "ana", "service": "setAgentState", "agent": agent, "requested": "ready"}), wanted)
         self.assertTrue(self.passes("ben", {"requester": "ben", "service": "setAgentState", "agent": "07", "requested": "ready"}))
 
+    def test_the_role_of_rules(self):
+        """Who moves callers by an office's rules names a group as device: a call is in a group only while it waits."""
+        role, logins, state = Role("rules"), {"rules", "rules-b"}, desk_state()
+
+        def allows(service, requester="rules-100-long-1", **members):
+            body = json.dumps({"requester": requester, "invoke": 1, "service": service, **members}).encode()
+            look = looks_at(role, "rules", logins, body)
+            return may(role, "rules", logins, body, Seen(state=state) if look is Look.STATE else Seen())
+
+        for service, members in (("deflectCall", {"call": 3, "device": "100", "to": "110"}), ("deflectCall", {"call": 3, "device": "120", "to": "203"}), ("clearConnection", {"call": 3, "device": "100"})):
+            self.assertTrue(allows(service, **members), (service, members))
+        for service, members in (("deflectCall", {"call": 1, "device": "201", "to": "110"}), ("clearConnection", {"call": 1, "device": "201"}), ("clearConnection", {"call": 3, "device": "0303333"}),
+                                 ("clearConnection", {"call": 3, "device": ["100"]}), ("clearConnection", {"call": 3}), ("clearConnection", {"call": 3, "device": "130"}),
+                                 ("answerCall", {"call": 3, "device": "100"}), ("setGroupPriority", {"device": "100", "priority": 9}), ("arriveCall", {"caller": "1", "called": "100"}), ("tick", {}),
+                                 (["deflectCall"], {"call": 3, "device": "100", "to": "110"})):
+            self.assertFalse(allows(service, **members), (service, members))
+        for requester in ("pbx", "rules-b-100-long-1", "clock-abcdefghijkl"):
+            self.assertFalse(allows("clearConnection", requester, call=3, device="100"), requester)
+        self.assertEqual((role.reading, role.reads_requests, role.asks), ("all", False, True))
+
     def logs_on(self, login, **members):
         return self.passes(login, {"requester": login, "invoke": 1, "service": "setAgentState", "agent": "7", "requested": "loggedOn", **members})
 
