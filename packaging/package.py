@@ -33,7 +33,7 @@ MAINTAINER = "The maintainers of acd <maintainers@users.noreply.hullapricot.exam
 UNITS = ("acd.service", "acd-tick.service", "acd-gate.service", "acd-copy.service", "acd-copy.timer",
          "acd-local.service", "acd-node.service", "acd-node-upkeep.service", "acd-node-upkeep.timer",
          "acd-records.service", "acd-follow.service", "acd-carry.service", "acd-carry.timer", "acd-certificate.service",
-         "acd-certificate.timer")
+         "acd-certificate.timer", "acd-rules.service")
 # until the next minor version
 OLD_NAMES_OF_USERS = ("acd-calls", "acd-export", "acd-plan", "acd-trail")
 OLD_NAMES_OF_ROOT = ("acd-carry", "acd-certificate", "acd-copy", "acd-follow", "acd-forget", "acd-gate", "acd-local",
@@ -332,7 +332,8 @@ def lay_out(root, options, moment):
     for page in [TOP / "README.md", TOP / "docs/openapi.yaml", *sorted((TOP / "docs").glob("*.md")),
                  *sorted((TOP / "docs").glob("*.png"))]:
         put(doc + page.name, page.read_bytes())
-    for example in ("nginx/nginx.conf", "settings/node.env", "settings/follow.env"):
+    for example in ("nginx/nginx.conf", "settings/node.env", "settings/follow.env", "settings/rules.env",
+                    "settings/rules.toml"):
         put(f"{doc}examples/{Path(example).name}", (SERVICE / example).read_bytes())
     # no conffiles, about which an upgrade would ask: postinst makes both in /etc/acd, once. It reads nothing of the
     # documents, which a machine may leave out
@@ -349,7 +350,7 @@ def lay_out(root, options, moment):
     ours = "adduser, python3 (>= 3.11), python3-aiohttp, python3-bcrypt, python3-passlib"
     needed = ", ".join(filter(None, [libraries, ours]))
     put("DEBIAN/control", f"Package: acd\nVersion: {version}\nArchitecture: amd64\nMaintainer: {MAINTAINER}\n"
-                          f"Installed-Size: {size}\nDepends: {needed}\nRecommends: nftables\n"
+                          f"Installed-Size: {size}\nDepends: {needed}\nRecommends: nftables, python3-icalendar\n"
                           "Suggests: nginx, etcd-server, etcd-client\nSection: net\nPriority: optional\n"
                           f"Description: {DESCRIPTION} Built by {toolchain} from the sources of checksum\n {source}.\n")
     put("DEBIAN/md5sums", sums)

@@ -36,12 +36,13 @@ COMMANDS = {
     "ready": Command("ready", "look whether the desk can be served, and serve it"),
     "records": Command("records", "write files of the days that are over: calls, agents and groups"),
     "restore": Command("restore", "put a copy of the desk's file back, or take that back"),
+    "rules": Command("rules.main", "move callers who wait where a group is closed, or its queue has an end"),
     "status": Command("status", "print how the desk is, and what runs beside it"),
     "tick": Command("tick", "send the desk its ticks"),
     "trail": Command("trail", "print who asked the desk for what, when, and with which result"),
 }
 # commands of before 1.15
-OLD = {f"acd-{name}": name for name in COMMANDS if name not in ("check", "records", "restore", "status")}
+OLD = {f"acd-{name}": name for name in COMMANDS if name not in ("check", "records", "restore", "rules", "status")}
 
 
 def usage() -> str:

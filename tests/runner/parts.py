@@ -61,6 +61,7 @@ OF_THE_SERVICE = {
        for part, file in (("answers", "answers.py"), ("days", "days.py"), ("sessions", "sessions.py"), ("leads", "leads.py"), ("reads", "mine.py:Reads"), ("executed", "executed.py"), ("mine", "mine.py:Mine"))},
     **{f"trail {part}": Part("try-trail", ("--only", part), (f"try-trail:{case}",), packages)
        for part, case, packages in (("story", "Story", ()), ("archives", "Archives", ()), ("faults", "Bad", ()), ("pages", "OfPages", ()), ("served", "Served", NGINX))},
+    "rules": Part("try-rules", ("--only", "days"), ("rules/drawn_days.py",)),
     "certificates": Part("try-certificates", (), ("try-certificates",), ("openssl",)),
     "follow cases": Part("try-follow", ("--only", "cases"), ("follow/cases.py",), SPACES, ("alone",)),
     "copies": Part("try-copies", ("--some", "--only", "copies,again"), ("copies/copying.py", "copies/again.py"), ("strace", "util-linux"), ("alone",)),
@@ -84,6 +85,8 @@ BY_HAND = {
     "ready": Part("try-ready", (), tuple(f"ready/{name}.py" for name in ("cuts", "logs", "notices", "settings", "starts", "stops")), (), ("root",)),
     "records": Part("try-records", (), ("try-records", "records/calls.py", "records/changes.py"), ("curl", "nodejs", "openssl")),
     "release": Part("try-release", (), ("try-release",), ("binutils",), (), False),
+    "rules nodes": Part("try-rules", ("--only", "nodes"), ("try-rules:Nodes",), (), ("etcd",)),
+    "rules whole": Part("try-rules", ("--days", "1000", "--only", "days,process,served"), ("rules/drawn_days.py", "try-rules:Process", "try-rules:Served"), NGINX),
     "standby": Part("try-standby", (), ("try-standby",), (*NGINX, *SPACES, "curl", "gcc"), ("root",)),
     "stops": Part("try-stops", (), ("try-stops",)),
     "ticks": Part("try-ticks", (), ("try-ticks",)),

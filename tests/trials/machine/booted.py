@@ -12,7 +12,7 @@ from container import Container
 from trial import TOP, Trial, command, missing
 
 # of each such trial; debootstrap follows no virtual packages: python3-cffi-backend is what python3-bcrypt means by one
-INCLUDED = ("adduser", "curl", "dbus", "iproute2", "nftables", "procps", "python3", "python3-aiohttp", "python3-bcrypt", "python3-cffi-backend", "python3-passlib", "systemd", "systemd-sysv")
+INCLUDED = ("adduser", "curl", "dbus", "iproute2", "nftables", "procps", "python3", "python3-aiohttp", "python3-bcrypt", "python3-cffi-backend", "python3-icalendar", "python3-passlib", "systemd", "systemd-sysv")
 NEEDED = ("debootstrap", "nsenter", "systemd-nspawn", "tar")
 DESK = "http://127.0.0.1:8080"
 
