@@ -234,8 +234,8 @@ class Following:
         return self.names_changed > waiter.names or last > waiter.after
 
     def take_turn(self) -> None:
-        """Wakes those of this turn for whose queues there is something new."""
-        if time.monotonic() - self.turned < EVERY:
+        """Wakes those of this turn for whose queues there is something new; nobody while the desk is read anew."""
+        if self.state is None or time.monotonic() - self.turned < EVERY:
             return
         self.turn, self.turned = (self.turn + 1) % TURNS, time.monotonic()
         for waiter in self.waiters:

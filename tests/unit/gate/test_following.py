@@ -246,6 +246,17 @@ class FollowingTest(Named, unittest.IsolatedAsyncioTestCase):
         self.assertEqual(told["groups"][0]["calls"], [{"call": 5, "caller": "...301", "queued": 1002}])
         await self.ends()
 
+    async def test_nobody_is_woken_while_the_desk_is_read_anew(self):
+        waiter = following.Waiter("7", frozenset(), self.following.number, 0)
+        self.following.waiters.add(waiter)
+        self.following.forget()
+        for _ in range(following.TURNS):
+            self.following.turned = 0.0
+            self.following.take_turn()
+        self.assertFalse(waiter.woken.done())
+        await self.following.catch_up()
+        self.assertTrue(waiter.woken.done())
+
     async def test_names_are_told_once_in_ten_seconds(self):
         await self.following.catch_up()
         for after, told in ((0, True), (1, False), (following.NAMES_EVERY, True)):
