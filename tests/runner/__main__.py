@@ -130,7 +130,7 @@ def run_tests(options: argparse.Namespace, total: Total) -> bool:
 
 
 def run_release(options: argparse.Namespace, total: Total) -> bool:
-    return all([run([one("release", "proof/release", "--check", good=(0, OLDER))], total), run([one("history", "proof/check-history")], total)])
+    return all([run([one("release", "proof/release", "--check", good=(0, OLDER), needed=("binutils",))], total), run([one("history", "proof/check-history")], total)])
 
 
 def run_coverage(options: argparse.Namespace, total: Total) -> bool:
