@@ -34,7 +34,7 @@ class RouteTest(DoorTest):
 
     def test_a_query_of_requests_goes_on(self):
         for query, sent in (("after=1&after=2", "after=1&after=2"), ("after=%31&x=?/#'\"<", "after=%31&x=?/#'\"<"), ("\xe4fter=1", "%E4fter=1"), ("after=\xc3\xa4", "after=%C3%A4")):
-            self.begins(f"GET /requests?{query} HTTP/1.1\r\nX-Login: planner\r\n\r\n".encode("latin-1"), rb"\AHTTP/1.1 200 ")
+            self.begins(f"GET /requests?{query} HTTP/1.1\r\nConnection: close\r\nX-Login: planner\r\n\r\n".encode("latin-1"), rb"\AHTTP/1.1 200 ")
             self.assertEqual(self.desk.got.pop(), f"/requests?{sent}")
         # nginx refuses it too
         self.begins(b"GET /requests?after=1&x=\x7f HTTP/1.1\r\nX-Login: planner\r\n\r\n", rb"\AHTTP/1.\d 400 ")
