@@ -129,8 +129,12 @@ def run_tests(options: argparse.Namespace, total: Total) -> bool:
     return True
 
 
+def of_release() -> list[Job]:
+    return [one("release", "proof/release", "--check", good=(0, OLDER), needed=("binutils",)), one("history", "proof/check-history")]
+
+
 def run_release(options: argparse.Namespace, total: Total) -> bool:
-    return all([run([one("release", "proof/release", "--check", good=(0, OLDER), needed=("binutils",))], total), run([one("history", "proof/check-history")], total)])
+    return all([run([job], total) for job in of_release()])
 
 
 def run_coverage(options: argparse.Namespace, total: Total) -> bool:
@@ -155,7 +159,9 @@ def needed(options: argparse.Namespace) -> list[str]:
     jobs = tests(options.only, Path()) + (parts.unit(Path()) if "coverage" in options.only else [])
     jobs += parts.trials(Path(), parts.BY_HAND) if "trials" in options.only else []
     jobs = chosen(options.words, jobs)
-    found = {package for job in jobs for package in job.packages} | set(parts.HELPERS if jobs else ())
+    helpers = set(parts.HELPERS if jobs else ())
+    jobs += of_release() if "release" in options.only else []
+    found = helpers | {package for job in jobs for package in job.packages}
     return sorted(found | ({"python3-coverage"} if "coverage" in options.only else set()))
 
 
