@@ -42,3 +42,4 @@ pub mod Pairs
 pub mod Overlap
 pub mod ReplayWith
 pub mod AuditedWith
+pub mod Pruning

@@ -1,0 +1,5 @@
+use Rattle.acd_desk.proofs.Pruning.{prune_loses_nothing, prune_carries_further}
+use Rattle.acd_desk.proofs.laws.pruned_is_carried.Goals as goal
+
+pub returns : goal.returns
+returns c = record { gone = prune_loses_nothing; further = prune_carries_further }
