@@ -42,4 +42,5 @@ pub mod Pairs
 pub mod Overlap
 pub mod ReplayWith
 pub mod AuditedWith
-pub mod Pruning
+pub mod Clock
+pub mod Clocked
