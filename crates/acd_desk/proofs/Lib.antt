@@ -56,4 +56,4 @@ pub mod StepsWith
 pub mod CleanCuts
 pub mod InTime
 pub mod AuditedWith
-pub mod Pruning
+pub mod Ticking
