@@ -200,6 +200,10 @@ FindsSeconds name options found = MatchOption found ((time : Option Duration) �
 abbrev pub FindsSpan : List Row → Option Span → Type 0
 FindsSpan options found = MatchOption found ((span : Span) → ¬ IsSpan options span) (IsSpan options)
 
+-- the command's options have this flag
+abbrev pub asks_for : Text → Option (Text × List Row) → Bool
+asks_for flag matches = option_map_or (λ (found : Text × List Row). is_given flag found.1) matches false
+
 -- there is no task, with an error of this kind: there was no memory; or the words aren't a command line, as where help is asked for; or they name no task
 abbrev pub IsRefusedBy : List Text → ErrorKind → Type 0
 IsRefusedBy words kind = (kind ≡ OutOfMemory) ⊎ (IsUntaken words ⊎ ((¬ IsHelp kind) × NamesNoTask words))

@@ -2,7 +2,7 @@
 
 ghost use Rattle.std.specs.Prelude.{◌≡◌, [], false, codes, map, IsTrue, IfOk, IfErr};
 ghost use Rattle.clap.specs.Words.{app_of, found_of, kind_of, rows_of, subcommand_rows_of};
-ghost use Rattle.acd_program.specs.CommandLine.{HasApp, HasRule, IsTaskWith, FindsTask, FindsTaskIn, FindsConnections, FindsSeconds, FindsSpan, IsTaskOf, IsRefusedBy, AddsCommand, acd, command_of, export_shape, file_rule, flag_rule, import_shape, is_given, lines_shape, number_rule, option_rule, report_shape, audit_shape, serve_shape};
+ghost use Rattle.acd_program.specs.CommandLine.{HasApp, HasRule, IsTaskWith, FindsTask, FindsTaskIn, FindsSpan, IsTaskOf, IsRefusedBy, AddsCommand, acd, asks_for, command_of, export_shape, file_rule, flag_rule, import_shape, is_given, lines_shape, number_rule, option_rule, report_shape, audit_shape, serve_shape};
 ghost use Rattle.acd_program.specs.Statuses.{IsHelp};
 
 use crate::asked::Task;
@@ -415,7 +415,9 @@ fn task_in<'a>(matches: &ArgMatches<'a>) -> Option<Task<'a>>
 }
 
 // Whether a service is asked for that has no end.
-fn is_endless(matches: &ArgMatches<'_>) -> bool {
+fn is_endless(matches: &ArgMatches<'_>) -> bool
+    ensures { result ≡ asks_for (codes "endless") (subcommand_rows_of matches.now) }
+{
     match matches.subcommand() {
         Some((_, options)) => is_given(options, ENDLESS),
         None => false,
