@@ -57,3 +57,4 @@ pub mod CleanCuts
 pub mod InTime
 pub mod AuditedWith
 pub mod Ticking
+pub mod Pruning
