@@ -9,13 +9,14 @@ use Rattle.acd_book.specs.declared.kept.Kept.{Kept}
 use Rattle.acd_book.specs.Content.{Content}
 use Rattle.acd_book.specs.Memory.{stamp_of, number_of}
 use Rattle.acd_book.specs.Order.{Rises}
+use Rattle.acd_book.specs.Pruned.{pruned}
 use Rattle.acd_desk.specs.Stands.{IsSound}
 use Rattle.acd_desk.specs.Carried.{Archive, together, joined}
 use Rattle.acd_desk.specs.Sharing.{IsSplit}
 use Rattle.acd_desk.specs.WithArchive.{ComeBefore, IsCut, IsSoundWith, IsLedFrom}
 use Rattle.acd_desk.specs.AuditWith.{StandsInTime, HoldsArchive, first_sent_again, IsSentAgain}
 use Rattle.acd_desk.specs.Overlap.{IsCleanCut}
-use Rattle.acd_desk.specs.Pruning.{pruned, IsPlace, IsGone, StaysLed, IsCarriedFurther}
+use Rattle.acd_desk.specs.Pruning.{IsPlace, IsGone, StaysLed, IsCarriedFurther}
 use Rattle.acd_desk.proofs.AuditLaws.{zero_least}
 use Rattle.acd_desk.proofs.Audits.{same_content}
 use Rattle.acd_desk.proofs.Carrying.{cut_again}

@@ -1,20 +1,12 @@
 -- A content whose oldest records are taken away, since its archive has them.
-use Rattle.std.specs.Prelude.{◌≡◌, ℕ, ◌≤◌, nat_lt, filter}
-use Rattle.acd_terms.specs.declared.event.Event.{Event}
-use Rattle.acd_book.specs.declared.kept.Kept.{Kept}
+use Rattle.std.specs.Prelude.{◌≡◌, ℕ, ◌≤◌}
 use Rattle.acd_book.specs.Content.{Content}
+use Rattle.acd_book.specs.Pruned.{pruned}
 use Rattle.acd_desk.specs.Stands.{IsSound}
 use Rattle.acd_desk.specs.Carried.{Archive, together, joined}
 use Rattle.acd_desk.specs.WithArchive.{IsCut, IsSoundWith, IsLedFrom}
 use Rattle.acd_desk.specs.AuditWith.{StandsInTime, HoldsArchive, first_sent_again, IsSentAgain}
 use Rattle.acd_desk.specs.Overlap.{IsCleanCut}
-
--- without the kept records up to a stamp and the events up to a number: all else is as it was, the counters too
-abbrev pub pruned : ℕ → ℕ → Content → Content
-pruned stamp number c = record c {
-  events = filter (λ (e : Event). nat_lt number e.number) c.events;
-  kept = filter (λ (k : Kept). nat_lt stamp k.stamp) c.kept;
-}
 
 -- a place up to which records and events may go: it isn't above the archive's last ones, and there the archive's moment changes
 pub record IsPlace (a : Content) (stamp number : ℕ) : Type 0 where
