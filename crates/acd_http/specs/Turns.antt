@@ -8,7 +8,7 @@ use Rattle.acd_desk.specs.declared.taken.Taken.TheVariants.{Reply, InvokeReused,
 use Rattle.acd_desk.specs.Ran.{Standing, standing}
 use Rattle.acd_io.specs.declared.sending.Stopped.{Stopped}
 use Rattle.acd_io.specs.Sent.{WasSent}
-use Rattle.acd_desk.specs.Clock.{Looked}
+use Rattle.acd_desk.specs.Clock.{Looked, DeskLooked}
 use Rattle.acd_http.specs.declared.serving.Span.{Span}
 use Rattle.acd_http.specs.Listening.{Outcome, PrintsText, outcome_line, AnsweredOne}
 
@@ -97,11 +97,14 @@ module _ {D : Type 0} (stands : D → Standing) where
 abbrev pub Serves : {B : Type 0} → Ghosts B → Span → Desk B → Desk B → (List ℕ → Type 0) → Type 0
 Serves book span d e WentOut = TurnsUntil (standing book) (is_some span.step) span.connections d e WentOut
 
+-- for private clauses: the line of a look was written, or none
+abbrev pub TellsLook : Option Taken → Result (Unit {0}) Stopped × Result (Unit {0}) Stopped → Option (List ℕ) × Option (List ℕ) → Type 0
+TellsLook taken printed output = (told : Bool) × PrintsText (turn_line 0 (looked taken told)) printed.0 output printed.1
+
 -- for private clauses: it was looked at once
 abbrev pub LookedOnce : {B : Type 0} → Ghosts B → Desk B × Desk B → Result (Unit {0}) Stopped × Result (Unit {0}) Stopped → Option (List ℕ) × Option (List ℕ) → Type 0
 LookedOnce book desks printed output =
-    (moment : ℕ) × (taken : Option Taken) × (told : Bool) × Looked moment (standing book desks.0) taken (standing book desks.1)
-    × PrintsText (turn_line 0 (looked taken told)) printed.0 output printed.1
+    (moment : ℕ) × (taken : Option Taken) × DeskLooked book moment desks.0 taken desks.1 × TellsLook taken printed output
 
 -- for private clauses: it was looked at, in its turns
 abbrev pub LooksAt : {B : Type 0} → Ghosts B → Span → Desk B × Desk B → Result (Unit {0}) Stopped × Result (Unit {0}) Stopped → Option (List ℕ) × Option (List ℕ) → Type 0

@@ -32,7 +32,10 @@ module _ {D : Type 0} (stands : D → Standing) (looks : Bool) where
   abbrev pub answers_handed : (d : D) (xs : List Turn) (e : D) → TurnedEach stands looks d xs e → List Taken
   answers_handed d xs e h = map (λ (p : Arrival × Taken). p.1) (all_handed d xs e h)
 
--- they are one run, in the order in which the desk took them
+  -- they are one run, in the order in which the desk took them
+  abbrev pub AreOneRun : Type 0
+  AreOneRun = (d e : D) (xs : List Turn) (h : TurnedEach stands looks d xs e) → Attended (stands d) (requests_handed d xs e h) (answers_handed d xs e h) (stands e)
+
+-- so it is with looks, and without
 abbrev pub TurnsLeadToTheRun : {D : Type 0} → (D → Standing) → Type 0
-TurnsLeadToTheRun {D} stands =
-    (looks : Bool) (d e : D) (xs : List Turn) (h : TurnedEach stands looks d xs e) → Attended (stands d) (requests_handed stands looks d xs e h) (answers_handed stands looks d xs e h) (stands e)
+TurnsLeadToTheRun stands = (looks : Bool) → AreOneRun stands looks
