@@ -21,6 +21,10 @@ pub record IsGone (a old new : Content) (gone : Archive) : Type 0 where
   pub carried : Content
   pub cut : IsCut a (joined left gone) carried
 
+-- a content that its newer requests make of the carried part begins with the archive's last records
+abbrev pub LedHoldsArchive : Type 0
+LedHoldsArchive = (a c : Content) → IsLedFrom a c → HoldsArchive a c
+
 -- nothing is gone but what the archive has
 abbrev pub PruneLosesNothing : Type 0
 PruneLosesNothing = (a c : Content) (stamp number : ℕ) → StandsInTime a → IsPlace a stamp number → HoldsArchive a c → (gone : Archive) × IsGone a c (pruned stamp number c) gone

@@ -12,7 +12,7 @@ ghost use Rattle.acd_desk.specs.NameLaws.{ContentIgnoresNames, AnswersIgnoreName
 ghost use Rattle.acd_desk.specs.CarriedLaws.{CarriedGoesOn, CarriedIsRunOfAll, CarriedAgain, CarriedOpens, CarriedRuns};
 ghost use Rattle.acd_desk.specs.WithArchive.{SoundIsLed, LedIsSound, AuditsWithArchive, AuditsLinkByLink};
 ghost use Rattle.acd_desk.specs.AuditWith.{SoundStandsInTime};
-ghost use Rattle.acd_desk.specs.Pruning.{PruneLosesNothing, PruneStaysSound, PruneStaysLed, PruneStaysSentAgain, PruneCarriesFurther};
+ghost use Rattle.acd_desk.specs.Pruning.{LedHoldsArchive, PruneLosesNothing, PruneStaysSound, PruneStaysLed, PruneStaysSentAgain, PruneCarriesFurther};
 
 use acd_book::Book;
 
@@ -139,9 +139,11 @@ pub fn audits_alike_when_pruned()
     ensures again { PruneStaysSentAgain }
 {}
 
-/// Nothing is gone from it that the archive hasn't, in one piece; and with that piece among the older records it is
-/// what it was, and as sound.
+/// Where an audit with the archive found it sound or sent again, it begins with the archive's last records; then nothing
+/// is gone from it that the archive hasn't, in one piece; and with that piece among the older records it is what it was,
+/// and as sound.
 pub fn pruned_is_carried()
+    ensures holds { LedHoldsArchive }
     ensures gone { PruneLosesNothing }
     ensures further { PruneCarriesFurther }
 {}
