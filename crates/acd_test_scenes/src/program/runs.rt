@@ -127,10 +127,10 @@ help: Help, version and toolchain, and two refusals. Of the help of the other co
 < once its store has failed. A file that isn't there, or has no bytes, is made.
 
 0 acd --version
-< acd 1.15 (rattle-kit-13b)
+< acd 1.16 (rattle-kit-13f)
 
 0 acd -V
-< acd 1.15 (rattle-kit-13b)
+< acd 1.16 (rattle-kit-13f)
 
 2 acd report
 ! error: the following required arguments were not provided:
