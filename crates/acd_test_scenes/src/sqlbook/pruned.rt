@@ -12,7 +12,7 @@ use crate::fused::{closed, closed_files, connected, copied, empty_files, opened_
 use crate::look_ups::same;
 use crate::shelf::{book_in, changed, take};
 use acd_book::{Book, BookFault};
-use acd_desk::Audit;
+use acd_desk::ArchiveAudit;
 use acd_sqlbook::SqlBook;
 use acd_terms::{Invoke, Requester};
 use sqlite::{Alter, Connection, Files};
@@ -90,7 +90,7 @@ fn a_pruned_book_continues_its_archive(rt: HostRuntime) {
     let mut book = book_in(&rt, alloc, whole(&rt, alloc), None);
     same(&rt, &book.prune(STAMP, NUMBER), &Ok(()));
     let found = audit_with_archive(&rt, alloc, archive(&rt, alloc), book.into_connection());
-    same(&rt, &found, &Ok(Audit::Sound));
+    same(&rt, &found, &Ok(ArchiveAudit::Sound));
 }
 
 // How a prune over files that may stop has ended.
