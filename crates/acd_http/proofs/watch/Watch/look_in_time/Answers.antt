@@ -9,5 +9,5 @@ pub returns : goal.returns
 returns g c =
     let done = c.look.ensures in
     look_more (standing g.B.Book) (is_some c.args.span.step) (is_none c.args.span.connections) c.args.desk.now c.look.new.desk c.args.self.now.printed c.look.new.self.printed
-    (g.E.Write.contents c.args.errors.now) (g.E.Write.contents c.look.new.errors) done.1 done.3
-    (ap is_some c.in-Some.is) (record { moment = done.0; working = sym c.has_failed.ensures ∙ c.if-has_failed.false; looked = done.2 }) done.4
+    (g.E.Write.contents c.args.errors.now) (g.E.Write.contents c.look.new.errors) done.1 done.3.0
+    (ap is_some c.in-Some.is) (record { moment = done.0; working = sym c.has_failed.ensures ∙ c.if-has_failed.false; looked = done.2 }) done.3.1
