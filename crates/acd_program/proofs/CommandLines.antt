@@ -189,6 +189,13 @@ number_given bits id options n h = by (find (λ (r : Row). bytes_eq r.id id) opt
         none_some : (t : Text) → ◌≡◌ {A = Option Text} None (Some t) → ⊥
         none_some t e = cc
 
+-- an option that has no text has none
+pub some_text : (options : List Row) (id : Text) (text : Bor Text) → HasNone id options → ¬ IsText id options text
+some_text options id text none some = apart_options (sym none ∙ some)
+  where
+    apart_options : ◌≡◌ {A = Option Text} None (Some text.now) → ⊥
+    apart_options e = cc
+
 -- neither of both is named, or both are
 pub no_address : (options : List Row) → ((n : ℕ) → IsNumber 16 (codes "port") options n → HasNone (codes "socket") options → ⊥)
     → ((path : Bor Text) → IsText (codes "socket") options path → has_option (codes "port") options ≡ false → ⊥) → (address : Address) → ¬ IsAddress options address

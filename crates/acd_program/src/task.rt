@@ -2,7 +2,7 @@
 
 ghost use Rattle.std.specs.Prelude.{◌≡◌, [], false, codes, map, IsTrue, IfOk, IfErr};
 ghost use Rattle.clap.specs.Words.{app_of, found_of, kind_of, rows_of, subcommand_rows_of};
-ghost use Rattle.acd_program.specs.CommandLine.{HasApp, HasRule, IsTaskWith, FindsTask, FindsTaskIn, FindsAddress, FindsSpan, IsTaskOf, IsRefusedBy, AddsCommand, acd, command_of, export_shape, file_rule, flag_rule, import_shape, is_given, lines_shape, number_rule, option_rule, report_shape, audit_shape, serve_shape};
+ghost use Rattle.acd_program.specs.CommandLine.{HasApp, HasRule, IsTaskWith, FindsTask, FindsTaskIn, FindsAddress, FindsConnections, FindsSeconds, FindsSpan, IsTaskOf, IsRefusedBy, AddsCommand, acd, command_of, export_shape, file_rule, flag_rule, import_shape, is_given, lines_shape, number_rule, option_rule, report_shape, audit_shape, serve_shape};
 ghost use Rattle.acd_program.specs.Statuses.{IsHelp};
 
 use crate::asked::{Address, Task};
@@ -300,13 +300,15 @@ fn lines_of<'a>(options: &ArgMatches<'a>) -> Task<'a>
 fn address_of<'a>(options: &ArgMatches<'a>) -> Option<Address<'a>>
     ensures { FindsAddress (rows_of (found_of options.now)) result }
 {
-    let Some(path) = options.get_str(SOCKET) else {
-        return Some(Address::Port(options.get_one(PORT)?));
-    };
-    if options.contains_id(PORT) {
-        return None;
+    match options.get_str(SOCKET) {
+        Some(path) => {
+            if options.contains_id(PORT) {
+                return None;
+            }
+            Some(Address::Socket(path))
+        }
+        None => Some(Address::Port(options.get_one(PORT)?)),
     }
-    Some(Address::Socket(path))
 }
 
 // How many connections, or no end of them: one of both is asked for.
