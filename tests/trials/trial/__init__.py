@@ -1,4 +1,8 @@
-"""What the trials stand on: cases of unittest whose checks are counted, a desk that is started and ended, a connection to it, and the requests of an office."""
+"""What the trials stand on: cases of unittest whose checks are counted, a desk that is started and ended, a connection to it, and the requests of an office. From here on a trial
+finds the modules of the folder that has its name, and those of tests/."""
+import sys
+from pathlib import Path
+
 from .connections import ANY, Connection, Reply, bytes_back, connected, free_port, free_ports, is_refused, until, until_listening
 from .counting import TOP, Trial, command, main, missing, planted
 from .desks import Desk, Done, Lines, at_a_terminal, growths_in, limited, ran, refusing, running
