@@ -24,6 +24,7 @@ pub mod Updates
 pub mod Puts
 pub mod Sets
 pub mod Removals
+pub mod UpTo
 pub mod Frames
 pub mod Decoded
 pub mod Seen

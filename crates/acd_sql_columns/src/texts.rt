@@ -39,6 +39,13 @@ macro_rules! delete {
     };
 }
 
+// the rows up to a number
+macro_rules! delete_up_to {
+    ($table:literal $made:tt, $first:literal $of:tt $key:literal $kind:literal $(, $value:literal $field:tt $column:literal $type:literal)*) => {
+        concat!("DELETE FROM ", $table, " WHERE ", $key, " <= ?1")
+    };
+}
+
 macro_rules! select {
     ($table:literal $made:tt, $first:literal $of:tt $key:literal $kind:literal $(, $value:literal $field:tt $column:literal $type:literal)*) => {
         concat!("SELECT ", $key $(, ", ", $column)*, " FROM ", $table, " ORDER BY ", $key)
@@ -222,6 +229,8 @@ pub const CREATE_EVENTS: &str = events!(create);
 
 pub const INSERT_EVENT: &str = events!(insert);
 
+pub const DELETE_EVENTS_UP_TO: &str = events!(delete_up_to);
+
 pub const SELECT_EVENTS_AFTER: &str = events!(page);
 
 pub const SELECT_EVENTS_AT_DEVICE: &str = events!(page_at_device);
@@ -233,6 +242,8 @@ pub const SELECT_LOW_EVENT: &str = events!(low);
 pub const CREATE_KEPT: &str = kept!(create_of_request);
 
 pub const INSERT_KEPT: &str = kept!(insert);
+
+pub const DELETE_KEPT_UP_TO: &str = kept!(delete_up_to);
 
 pub const SELECT_KEPT_AFTER: &str = kept!(page);
 
