@@ -18,3 +18,4 @@ mod Unconnected
 mod TheTexts
 mod SeveralPut
 mod SeveralValues
+mod UpTo
