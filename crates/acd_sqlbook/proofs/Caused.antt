@@ -86,7 +86,7 @@ module _ (asked : BookCall) (old new : State) (Stops : Content → Type 0) (free
   each_cause c is e store (inl (inr (inr (inr out)))) = unreadable (bad (λ range. out (subst IsInRange is range)))
   each_cause c is e store (inr stops) = stopped c is stops
 
-  commit_caused : (r : Result (Unit {0}) Error) (answer : Result (Unit {0}) BookFault) → answer ≡ answered r → IsCausedByReadOr Stops old new r → HasCleanDisk new → IsSoundState old → answer ≡ Err Store → StoreCause asked old new
+  pub commit_caused : (r : Result (Unit {0}) Error) (answer : Result (Unit {0}) BookFault) → answer ≡ answered r → IsCausedByReadOr Stops old new r → HasCleanDisk new → IsSoundState old → answer ≡ Err Store → StoreCause asked old new
   commit_caused (Ok a) answer is h clean sound store = absurd (let apart = sym store ∙ is in cc)
   commit_caused (Err e) answer is h clean sound store =
       let fault : fault_of e ≡ Store = cc in

@@ -54,7 +54,7 @@ module _ {A : Type 0} (R Stops All : Content → Type 0) (IsAnswer : Content →
   undone c e counts live so (inr (inl (inr shut))) = absurd (let apart = sym live ∙ shut in cc)
   undone c e counts live so (inr (inr stops)) = inr (so stops)
 
-  undone_after : (r : Result (Unit {0}) Error) → HasRead old mid (Ok a) IsAnswer → HasReadCauseOr R old mid (Ok a) → (HasCleanDisk new → HasCleanDisk mid) → IsUndone Stops mid new r
+  pub undone_after : (r : Result (Unit {0}) Error) → HasRead old mid (Ok a) IsAnswer → HasReadCauseOr R old mid (Ok a) → (HasCleanDisk new → HasCleanDisk mid) → IsUndone Stops mid new r
       → ((c : Content) → IsAnswer c a → Stops c → All c) → IsCausedByReadOr All old new r
   undone_after (Ok x) read h clean fails so = λ k c held. tt
   undone_after (Err e) read h clean fails so =

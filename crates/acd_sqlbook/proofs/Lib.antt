@@ -17,3 +17,4 @@ pub mod Followed
 mod ReadAhead
 mod Unmet
 mod Ranging
+mod Pruning

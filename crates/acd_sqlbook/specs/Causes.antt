@@ -23,6 +23,7 @@ use Rattle.acd_sqlbook.specs.State.{IsSoundState}
 use Rattle.acd_sqlbook.specs.View.{BookView, book_of}
 use Rattle.acd_sqlbook.specs.Commit.{counted}
 use Rattle.acd_sqlbook.specs.Stopping.{AllNumbersFit, AreCounted, Drops, HasAbove, IsUncounted, RefusesInAll}
+use Rattle.acd_sqlbook.specs.Pruning.{IsUnfitPrune, RefusesPrune}
 
 -- the calls of a book
 pub data BookCall : Type 0 where
@@ -30,6 +31,7 @@ pub data BookCall : Type 0 where
   read : BookCall
   change : List Change → List Event → Kept → BookCall
   replace : Rows → List Event → Kept → BookCall
+  prune : ℕ → ℕ → BookCall
 
 -- a number of it, of a change that it makes, or of the counters after it, doesn't fit its column or its range, or an event or the kept record isn't as each has to be
 abbrev pub IsUnfit : BookCall → State → Type 0
@@ -39,6 +41,7 @@ IsUnfit (change changes events kept) s =
     IsUncounted changes (length events) kept (content_of s.committed.trees) ⊎ (¬ (AllNumbersFit changes events))
 IsUnfit (replace rows events kept) s =
     (¬ (AreCounted rows kept)) ⊎ (¬ (AllNumbersFit (rows_differences (content_of s.committed.trees).rows rows) events))
+IsUnfit (prune stamp number) s = IsUnfitPrune stamp number
 
 -- it asks for a content with a value out of its range, which `adopt` would refuse
 abbrev pub IsUnreadable : BookCall → State → Type 0
@@ -46,6 +49,7 @@ IsUnreadable (create limits) s = ⊥
 IsUnreadable read s = ¬ (IsInRange (content_of s.committed.trees))
 IsUnreadable (change changes events kept) s = ¬ (IsInRange (content_of s.committed.trees))
 IsUnreadable (replace rows events kept) s = ¬ (IsInRange (content_of s.committed.trees))
+IsUnreadable (prune stamp number) s = ¬ (IsInRange (content_of s.committed.trees))
 
 -- it makes tables, and the database has some
 abbrev pub IsOccupied : BookCall → State → Type 0
@@ -53,6 +57,7 @@ IsOccupied (create limits) s = s.now.schema ≢ no_schema
 IsOccupied read s = ⊥
 IsOccupied (change changes events kept) s = ⊥
 IsOccupied (replace rows events kept) s = ⊥
+IsOccupied (prune stamp number) s = ⊥
 
 -- it would drop a group, a station or an agent
 abbrev pub IsDropping : BookCall → State → Type 0
@@ -60,18 +65,20 @@ IsDropping (create limits) s = ⊥
 IsDropping read s = ⊥
 IsDropping (change changes events kept) s = ⊥
 IsDropping (replace rows events kept) s = Drops rows (content_of s.committed.trees)
+IsDropping (prune stamp number) s = ⊥
 
 -- of a commit of changes, with the counters that go on from the content's
 abbrev pub RefusesToCommit : List Change → List Event → Kept → Content → Type 0
 RefusesToCommit changes events kept c = RefusesInAll (HasAbove (Some c.rows.last_call) c) changes events kept (counted (meta_of c.rows) changes (length events) kept) c
 
--- by what it says of such tables, the store refuses the row of the limits; it refuses no query, and no table of a book; of a commit it refuses a statement, on
--- what those before it made
+-- by what it says of such tables, the store refuses the row of the limits; it refuses no query, and no table of a book; of a commit or a prune it refuses a
+-- statement, on what those before it made
 abbrev pub IsRefusedByStore : BookCall → State → Type 0
 IsRefusedByStore (create limits) s = IsUnstarted None limits
 IsRefusedByStore read s = ⊥
 IsRefusedByStore (change changes events kept) s = RefusesToCommit changes events kept (content_of s.committed.trees)
 IsRefusedByStore (replace rows events kept) s = RefusesInAll ⊥ (rows_differences (content_of s.committed.trees).rows rows) events kept (meta_of rows) (content_of s.committed.trees)
+IsRefusedByStore (prune stamp number) s = RefusesPrune stamp number (content_of s.committed.trees)
 
 -- between these two states of its connection
 pub data StoreCause (asked : BookCall) (old new : State) : Type 0 where

@@ -13,3 +13,4 @@ pub mod Counters
 pub mod Caching
 pub mod OverReady
 pub mod Opening
+pub mod Pruning

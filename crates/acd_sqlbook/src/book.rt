@@ -8,13 +8,15 @@ ghost use Rattle.acd_sqlbook.specs.Caching.{IsBlank};
 ghost use Rattle.acd_sqlbook.specs.Opening.{HasCreateCause, HasNoTables, IfHandedBack, IsNewOver};
 ghost use Rattle.acd_sqlbook.specs.View.{book_of, SqlReads, SqlFinds, SqlLists, SqlCommits};
 ghost use Rattle.acd_sql_schema.specs.SettingUp.{MayMake};
-ghost use Rattle.acd_sqlbook.specs.Causes.{IsCaused, IsCausedIfSound, read as reading, change as changing, replace as replacing};
+ghost use Rattle.acd_sqlbook.specs.Causes.{IsCaused, IsCausedIfSound, read as reading, change as changing, prune as pruning, replace as replacing};
 ghost use Rattle.acd_book.specs.Content.{IsNextKept, events_page, kept_under, monitor_page, records_page, commit_by, commit_of};
+ghost use Rattle.acd_book.specs.Pruned.{prune_by};
 
 use crate::cache::Cache;
 use crate::following::kept_followed;
 use crate::index::index_after;
 use crate::page::page_followed;
+use crate::prune::prune_ready;
 use crate::ready::{Ready, limits_fit};
 use crate::transition::commit_rows;
 use acd_book::{Book, BookFault, Kept};
@@ -131,6 +133,18 @@ impl<S: Alter> SqlBook<S> {
             }),
             Err(error) => Err((fault_of(error), conn)),
         }
+    }
+
+    /// Takes out the kept records up to a stamp and the events up to a number, all or none. Rows and counters stay.
+    ///
+    /// A stamp or a number that no INTEGER column can hold is [`BookFault::Store`].
+    pub fn prune(&mut self, stamp: u64, number: u64) -> Result<(), BookFault>
+        ensures commits { SqlCommits S.Store self.old self.new result (prune_by stamp number) }
+        ensures caused { IsCaused (pruning stamp number) S.Store self.old self.new result }
+    {
+        self.cache.forget();
+        let done = prune_ready(&mut self.ready, stamp, number);
+        recorded(done, &mut self.ready.known_open, &mut self.failures)
     }
 
     /// Gives the connection up. It takes no memory.

@@ -4,7 +4,7 @@
 //! [`SqlBook::create`] makes the tables of a new book, in one transaction. A [`SqlBook`] is a [`Book`](acd_book::Book)
 //! that keeps its connection, whether its last call succeeded and how often its store has failed: each read asks the
 //! database, but that kept records are read ahead, and the numbers of the events of running monitors are indexed. A
-//! commit counts on from the counters of the one before.
+//! commit counts on from the counters of the one before. [`SqlBook::prune`] takes out the oldest kept records and events.
 //!
 //! Each statement is a function of `acd_sql_statements`, which works inside a transaction and adds no stop; the end
 //! of the transaction alone adds the commit.
@@ -26,6 +26,7 @@ mod following;
 mod index;
 pub mod laws;
 mod page;
+mod prune;
 mod ready;
 mod transition;
 
