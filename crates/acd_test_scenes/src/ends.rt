@@ -36,7 +36,8 @@ fn compare_loaded(rt: &impl Abort, alloc: Global, rows: &Rows) {
     Reference::of_rows(rt, alloc, rows).compare(rt, rows);
 }
 
-fn stamp_after<B: Book>(rt: &impl Abort, book: &mut B, stamp: u64) -> Option<u64> {
+/// The stamp of the first record above a stamp.
+pub fn stamp_after<B: Book>(rt: &impl Abort, book: &mut B, stamp: u64) -> Option<u64> {
     match book.kept_after(stamp).expect(rt, "memory") {
         Some(kept) => Some(kept.stamp),
         None => None,

@@ -143,18 +143,18 @@ fn ends_whole(rt: &impl Abort, alloc: Global, files: Files<Fuse<Memory>>, scene:
     ended.replied == arrivals.len() as u64 && ended.is_closed
 }
 
-// No session stops for good: after so many calls of a file the scene has ended.
-const CALLS: u64 = 1000;
+/// Nothing stops for good: after so many calls of a file it has ended.
+pub const CALLS: u64 = 1000;
 
-// Which of the two files stops.
+/// Which of the two files stops.
 #[derive(Clone, Copy)]
-enum Stops {
+pub enum Stops {
     Log,
     Database,
 }
 
-// A copy of the files, of which one stops after so many calls.
-fn stopping(
+/// A copy of the files, of which one stops after so many calls.
+pub fn stopping(
     rt: &impl Abort,
     alloc: Global,
     files: &Files<Fuse<Memory>>,

@@ -1,4 +1,4 @@
-//! A book in SQLite: new ones, those that are adopted, and commits. A text of SQL gives the content of a database.
+//! A book in SQLite: new ones, those that are adopted, commits and prunes. A text of SQL gives the content of a database.
 
 mod adopted;
 mod carried;
@@ -7,6 +7,7 @@ mod commits;
 mod further;
 mod migrated;
 mod numbers;
+mod pruned;
 mod several;
 mod watching;
 

@@ -46,15 +46,15 @@ changes: The stamp that the audit says, which of both is changed, and how: recor
 10 file UPDATE kept SET invoke = 1, request = '{"call":1,"device":"0301234","invoke":1,"requester":"pbx","service":"clearConnection"}', body = '{"invoke":1,"requester":"pbx","result":{}}' WHERE stamp = 10"#
 }
 
-// The archive that an older program left, in tables of version 2.
-fn archive(rt: &impl Abort, alloc: Global) -> Connection<MemStore> {
+/// The archive that an older program left, in tables of version 2.
+pub fn archive(rt: &impl Abort, alloc: Global) -> Connection<MemStore> {
     let conn = changed(rt, database(rt, alloc), old_tables(rt));
     let conn = changed(rt, conn, left(rt));
     book_in(rt, alloc, conn, None).into_connection()
 }
 
-// A book after the archive, and after newer requests.
-fn whole(rt: &impl Abort, alloc: Global) -> Connection<MemStore> {
+/// A book after the archive, and after newer requests.
+pub fn whole(rt: &impl Abort, alloc: Global) -> Connection<MemStore> {
     after_session(rt, alloc, archive(rt, alloc), part_of(rt, parts(), "newer"))
 }
 
@@ -67,8 +67,8 @@ fn carried(rt: &impl Abort, alloc: Global) -> Connection<MemStore> {
     )
 }
 
-// What an audit of the file with the archive finds.
-fn audit_with_archive(
+/// What an audit of the file with the archive finds.
+pub fn audit_with_archive(
     rt: &impl Abort,
     alloc: Global,
     archive: Connection<MemStore>,
