@@ -5,7 +5,7 @@ use Rattle.acd_book.specs.State.{BookState, IfHonest}
 use Rattle.acd_book.specs.declared.fault.BookFault.{BookFault}
 use Rattle.acd_book.specs.declared.fault.BookFault.TheVariants as faults
 use Rattle.acd_book.proofs.BookSteps.{step_so}
-use Rattle.acd_desk.specs.declared.audit.Audit.{Audit}
+use Rattle.acd_desk.specs.declared.audit.ArchiveAudit.{ArchiveAudit}
 use Rattle.acd_desk.specs.declared.fault.DeskFault.{DeskFault}
 use Rattle.acd_desk.specs.declared.fault.DeskFault.TheVariants.{NoMemory, StoreFault}
 use Rattle.acd_desk.specs.declared.working.Working.{Working}
@@ -47,16 +47,16 @@ pub other_failed : {T S : Type 0} (b d : BookState) (w : Working) → ReadsIfOpe
 other_failed {S = S} b d w read working = without_memory b d w (Anything {T = S}) read.step read.unchanged (λ h. (let same = same_error h in absurd cc)) working
 
 -- neither answered anything: the consequence for the desk, and for the archive
-pub both_failed : (a e b d : BookState) (w : Working) (f : PairFault) (P : Content → Content → Audit → Type 0) → ReadsBoth a e b d (Err f) P → is_failed w ≡ false
-    → ReadDone {A = Audit} (stands b w) (stands d (left_by_pair f w)) (desk_part (Err (audit_fault f))) Anything
-both_failed a e b d w (pair.Current f) P read working = read_failed {T = Audit} b d w f read.current working
-both_failed a e b d w (pair.Archive f) P read working = other_failed {T = Audit} b d w read.current working
+pub both_failed : (a e b d : BookState) (w : Working) (f : PairFault) (P : Content → Content → ArchiveAudit → Type 0) → ReadsBoth a e b d (Err f) P → is_failed w ≡ false
+    → ReadDone {A = ArchiveAudit} (stands b w) (stands d (left_by_pair f w)) (desk_part (Err (audit_fault f))) Anything
+both_failed a e b d w (pair.Current f) P read working = read_failed {T = ArchiveAudit} b d w f read.current working
+both_failed a e b d w (pair.Archive f) P read working = other_failed {T = ArchiveAudit} b d w read.current working
 
-pub archive_neither : (a e b d : BookState) (f : PairFault) (P : Content → Content → Audit → Type 0) → ReadsBoth a e b d (Err f) P → ReadsIfOpen {A = Audit} a e (archive_part (Err (audit_fault f))) Anything
+pub archive_neither : (a e b d : BookState) (f : PairFault) (P : Content → Content → ArchiveAudit → Type 0) → ReadsBoth a e b d (Err f) P → ReadsIfOpen {A = ArchiveAudit} a e (archive_part (Err (audit_fault f))) Anything
 archive_neither a e b d (pair.Current f) P read = read.archive
 archive_neither a e b d (pair.Archive f) P read = read.archive
 
 -- the audit is that of both contents
-pub audited_both : (a e b d : BookState) (found : Audit) → ReadsBoth a e b d (Ok found) AuditsInOrder → IsAuditedWith a e b d (Ok found)
-audited_both a e b d found read = λ clean sound current_clean current_sound opened current_opened stands ordered.
+pub audited_both : (a e b d : BookState) (answer : ArchiveAudit) → ReadsBoth a e b d (Ok answer) AuditsInOrder → IsAuditedWith a e b d (Ok answer)
+audited_both a e b d answer read = λ clean sound current_clean current_sound opened current_opened stands ordered.
     read.value clean sound current_clean current_sound opened current_opened (record { archive = stands; current = ordered })

@@ -216,3 +216,7 @@ if_archive {T = T} P (Err fault) found is holds = absurd (other found (Archive (
 pub archive_if_open : {T : Type 0} {P : Content → T → Type 0} (a b c : BookState) (r : Result T BookFault) (result known : Result T PairFault) → ReadsIfOpen a b r P → result ≡ of_archive r → result ≡ known
     → ReadsBoth a b c c known (λ (x z : Content) (y : T). P x y)
 archive_if_open {T = T} {P = P} a b c r result known read is found = both_archive (λ (x z : Content) (y : T). P x y) a b c r known read (sym found ∙ is) (λ x z y holds. holds)
+
+pub current_if_open : {T : Type 0} {P : Content → T → Type 0} (a c d : BookState) (r : Result T BookFault) (result known : Result T PairFault) → ReadsIfOpen c d r P → result ≡ of_current r → result ≡ known
+    → ReadsBoth a a c d known (λ (x z : Content) (y : T). P z y)
+current_if_open {T = T} {P = P} a c d r result known read is found = both_current (λ (x z : Content) (y : T). P z y) a c d r known read (sym found ∙ is) (λ x z y holds. holds)

@@ -47,6 +47,9 @@ pub mod NamesInert
 pub mod NextRecords
 pub mod SharedLists
 pub mod BothReads
+pub mod LookUps
+pub mod Growing
+pub mod LedFrom
 pub mod NewerRuns
 pub mod Overlaps
 pub mod StepsWith

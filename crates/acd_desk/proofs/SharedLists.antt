@@ -43,6 +43,10 @@ pub every_back : {T : Type 0} (P : T → Type 0) (xs ys : List T) → Every P (x
 every_back P [] ys h = h
 every_back P (x ∷ xs) ys h = every_back P xs ys h.1
 
+pub every_each : {T : Type 0} (P Q : T → Type 0) (xs : List T) → ((x : T) → P x → Q x) → Every P xs → Every Q xs
+every_each P Q [] more h = tt
+every_each P Q (x ∷ xs) more h = (more x h.0, every_each P Q xs more h.1)
+
 pub every_upto : {T : Type 0} (f : T → ℕ) (m n : ℕ) (xs : List T) → m ≤ n → Every (λ (x : T). f x ≤ m) xs → Every (λ (x : T). f x ≤ n) xs
 every_upto f m n [] le h = tt
 every_upto f m n (x ∷ xs) le h = (within (f x) m n h.0 le, every_upto f m n xs le h.1)

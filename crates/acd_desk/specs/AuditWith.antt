@@ -1,5 +1,5 @@
 -- The answer of an audit of a content with its archive.
-use Rattle.std.specs.Prelude.{◌≡◌, ◌≢◌, ℕ, ◌+◌, ◌<◌, ◌≤◌, List, [], ◌∷◌, ◌++◌, length, Option, Some, None, Result, IfOk}
+use Rattle.std.specs.Prelude.{◌≡◌, ◌≢◌, ℕ, ◌+◌, ◌<◌, ◌≤◌, List, [], ◌∷◌, ◌++◌, length, find, Option, Some, is_some, option_map}
 use Rattle.acd_terms.specs.Lists.{Every}
 use Rattle.acd_terms.specs.declared.rows.Rows.{Rows}
 use Rattle.acd_terms.specs.declared.event.Event.{Event}
@@ -8,13 +8,13 @@ use Rattle.acd_book.specs.Content.{Content, kept_of, IsKeptAfter, IsCounted, GoO
 use Rattle.acd_book.specs.Memory.{stamp_of, number_of}
 use Rattle.acd_book.specs.Order.{Rises, IsOrdered}
 use Rattle.acd_book.specs.State.{BookState, IfHonest}
-use Rattle.acd_desk.specs.declared.audit.Audit.{Audit}
-use Rattle.acd_desk.specs.declared.audit.Audit.TheVariants.{Sound, Differs}
+use Rattle.acd_desk.specs.declared.audit.ArchiveAudit.{ArchiveAudit}
+use Rattle.acd_desk.specs.declared.audit.ArchiveAudit.TheVariants.{Sound, SentAgain, Differs}
 use Rattle.acd_desk.specs.Stands.{arrivals_of, IsSound}
 use Rattle.acd_desk.specs.Leads.{led}
 use Rattle.acd_desk.specs.Replay.{Matches}
 use Rattle.acd_desk.specs.Carried.{Archive, together}
-use Rattle.acd_desk.specs.WithArchive.{IsCut, IsSoundWith}
+use Rattle.acd_desk.specs.WithArchive.{IsCut, IsSoundWith, IsLedFrom}
 
 -- no moment is before the one that precedes it
 abbrev pub Ascends : {T : Type 0} → (T → ℕ) → ℕ → List T → Type 0
@@ -47,14 +47,14 @@ pub record HoldsArchive (a c : Content) : Type 0 where
   pub kept_rise : Rises stamp_of a.rows.last_stamp kept_left
   pub events_rise : Rises number_of a.rows.last_event events_left
 
--- the content is what a run of its first newer requests makes of the archive, without the part left there, and then the rest
+-- the content is what a run of its first newer requests makes of the carried part, and then the rest
 pub record RunsOn (a c r : Content) (kept_left : List Kept) (events_left : List Event) : Type 0 where
   pub left : Archive
   pub carried : Content
   pub cut : IsCut a left carried
   pub newer : List Kept
   pub ran : r.kept ≡ carried.kept ++ newer
-  pub made : together left r ≡ led a (arrivals_of newer)
+  pub made : r ≡ led carried (arrivals_of newer)
   pub kept : c.kept ≡ r.kept ++ kept_left
   pub events : c.events ≡ r.events ++ events_left
   pub counted : IsCounted r
@@ -69,27 +69,33 @@ pub record RunsTo (a c : Content) (s : Rows) : Type 0 where
   pub runs : RunsOn a c ran kept_left events_left
   pub rows : s ≡ ran.rows
 
--- the record is the one that a step from these rows keeps of its request, its events are there, and no earlier record of either has its key
-pub record MatchesWith (a c : Content) (s : Rows) (k : Kept) : Type 0 where
-  pub matches : Matches c s k
-  pub older : kept_of a.kept k.request.requester k.request.invoke ≡ None
-
 -- all up to this stamp is as it has to be, and the record there, where there is one and a request is left, isn't
 pub record IsNewerDifference (a c : Content) (n : ℕ) : Type 0 where
   pub rows : Rows
   pub before : RunsTo a c rows
   pub place : n ≡ rows.last_stamp + 1
-  pub differs : (k : Kept) → IsKeptAfter c.kept rows.last_stamp (Some k) → rows.last_stamp < rows.limits.requests → ¬ MatchesWith a c rows k
+  pub differs : (k : Kept) → IsKeptAfter c.kept rows.last_stamp (Some k) → rows.last_stamp < rows.limits.requests → ¬ Matches c rows k
 
--- the stamp at which the content differs from the archive's records and what its newer requests make of the archive's state
-pub record IsDifferenceWith (a c : Content) (n : ℕ) : Type 0 where
+-- the first of these records whose key an older one has
+abbrev pub first_sent_again : Archive → List Kept → Option Kept
+first_sent_again p newer = find (λ (k : Kept). is_some (kept_of p.kept k.request.requester k.request.invoke)) newer
+
+-- the content is what its newer requests make of the carried part, and the first of them whose key was left in the archive has this stamp
+pub record IsSentAgain (a c : Content) (n : ℕ) : Type 0 where
   pub unsound : ¬ IsSoundWith a c
+  pub led : IsLedFrom a c
+  pub first : option_map stamp_of (first_sent_again led.left led.newer) ≡ Some n
+
+-- the stamp at which the content differs from the archive's records and what its newer requests make of the carried part
+pub record IsDifferenceWith (a c : Content) (n : ℕ) : Type 0 where
+  pub unled : ¬ IsLedFrom a c
   -- up to the archive's last stamp: its records aren't the archive's, or some of their events aren't
   pub older : n ≤ a.rows.last_stamp → ¬ HoldsArchive a c
   pub newer : a.rows.last_stamp < n → IsNewerDifference a c n
 
-abbrev pub IsAuditWith : Content → Content → Audit → Type 0
+abbrev pub IsAuditWith : Content → Content → ArchiveAudit → Type 0
 IsAuditWith a c Sound = IsSoundWith a c
+IsAuditWith a c (SentAgain n) = IsSentAgain a c n
 IsAuditWith a c (Differs n) = IsDifferenceWith a c n
 
 -- a content that is sound, by itself or with its archive, keeps to time

@@ -5,7 +5,7 @@ use Rattle.acd_book.specs.Order.{IsOrdered}
 use Rattle.acd_book.specs.State.{BookState}
 use Rattle.acd_book.specs.declared.fault.BookFault.{BookFault}
 use Rattle.acd_book.specs.declared.fault.BookFault.TheVariants as book
-use Rattle.acd_desk.specs.declared.audit.Audit.{Audit}
+use Rattle.acd_desk.specs.declared.audit.ArchiveAudit.{ArchiveAudit}
 use Rattle.acd_desk.specs.declared.audit.AuditFault.{AuditFault}
 use Rattle.acd_desk.specs.declared.audit.AuditFault.TheVariants.{Desk, Archive}
 use Rattle.acd_desk.specs.declared.fault.DeskFault.{DeskFault}
@@ -39,9 +39,9 @@ left_by_pair (pair.Current fault) w = left_by fault w
 left_by_pair (pair.Archive fault) w = w
 
 -- the audit of a content with its archive's: where this one stands in time, and the content in order
-abbrev pub AuditsInTime : Content → Content → Audit → Type 0
+abbrev pub AuditsInTime : Content → Content → ArchiveAudit → Type 0
 AuditsInTime a c found = StandsInTime a → IsOrdered c → IsAuditWith a c found
 
 -- an answer is the audit of the open book's content, with that of the open archive: an archive that keeps to time, and a content in order
-abbrev pub IsAuditedWith : BookState → BookState → BookState → BookState → Result Audit AuditFault → Type 0
+abbrev pub IsAuditedWith : BookState → BookState → BookState → BookState → Result ArchiveAudit AuditFault → Type 0
 IsAuditedWith old_archive new_archive old new result = IfBothOpen old_archive new_archive old new (IfOk result (AuditsInTime old_archive.content old.content))

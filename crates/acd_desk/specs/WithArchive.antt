@@ -26,6 +26,23 @@ pub record IsSoundWith (a c : Content) : Type 0 where
   pub kept : c.kept ≡ carried.kept ++ newer
   pub made : together left c ≡ led a (arrivals_of newer)
 
+-- the content has the archive's last records as they are, and what its newer requests make of these, of the archive's rows and of its counters, whatever keys were left in the archive
+pub record IsLedFrom (a c : Content) : Type 0 where
+  pub left : Archive
+  pub carried : Content
+  pub cut : IsCut a left carried
+  pub newer : List Kept
+  pub kept : c.kept ≡ carried.kept ++ newer
+  pub made : c ≡ led carried (arrivals_of newer)
+
+-- a content that is sound with its archive is what its newer requests make of the carried part
+abbrev pub SoundIsLed : Type 0
+SoundIsLed = (a c : Content) → IsSoundWith a c → IsLedFrom a c
+
+-- where none of these has a key that was left in the archive, the other way round too
+abbrev pub LedIsSound : Type 0
+LedIsSound = (a c : Content) (goes : IsLedFrom a c) → NoneSentAgain goes.left (arrivals_of goes.newer) → IsSoundWith a c
+
 -- where the archive is sound, both together are
 abbrev pub AuditsWithArchive : Type 0
 AuditsWithArchive = (a c : Content) (goes : IsSoundWith a c) → IsSound a → IsSound (together goes.left c)

@@ -27,6 +27,21 @@ pub enum Audit {
     Differs(u64),
 }
 
+/// The answer of an audit with an archive.
+#[derive(Clone, Copy, Debug, PartialEq, Eq)]
+pub enum ArchiveAudit {
+    /// The book begins with the archive's last records, and the rest is what its newer requests make of the archive's
+    /// state.
+    Sound,
+    /// The same, but that requests were sent again whose records were left in the archive: they were executed once more.
+    /// The stamp of the first of these.
+    SentAgain(u64),
+    /// A stamp at which the book is neither: up to the archive's last one, its records or events are not the archive's;
+    /// above it, the first whose record or events are not what its request gives, or the stamp after the last one, where
+    /// only the tables or events that belong to none are not.
+    Differs(u64),
+}
+
 /// Why an audit with an archive gave no answer.
 #[derive(Clone, Copy, Debug, PartialEq, Eq, Error)]
 pub enum AuditFault {
@@ -60,7 +75,7 @@ impl<B: Book> Desk<B> {
     /// The same for a desk that was carried over, with the archive that it goes on from: up to the archive's last stamp
     /// its records have to be those of the archive, and the newer ones are run again from the archive's state on. It
     /// changes nothing in either.
-    pub fn audit_with<A: Book>(&mut self, archive: &mut A) -> Result<Audit, AuditFault>
+    pub fn audit_with<A: Book>(&mut self, archive: &mut A) -> Result<ArchiveAudit, AuditFault>
         ensures read { DeskRead B.Book self.old self.new (desk_part result) Anything }
         ensures archive { MayRead A.state archive.old archive.new (archive_part result) Anything }
         ensures audited { IsAuditedWith (A.state archive.old) (A.state archive.new)

@@ -10,7 +10,7 @@ ghost use Rattle.acd_desk.specs.Rebuilding.{PagesRebuild};
 ghost use Rattle.acd_desk.specs.PageSizes.{PagesAreShort, SoundIsReplied};
 ghost use Rattle.acd_desk.specs.NameLaws.{ContentIgnoresNames, AnswersIgnoreNames};
 ghost use Rattle.acd_desk.specs.CarriedLaws.{CarriedGoesOn, CarriedIsRunOfAll, CarriedAgain, CarriedOpens, CarriedRuns};
-ghost use Rattle.acd_desk.specs.WithArchive.{AuditsWithArchive, AuditsLinkByLink};
+ghost use Rattle.acd_desk.specs.WithArchive.{SoundIsLed, LedIsSound, AuditsWithArchive, AuditsLinkByLink};
 ghost use Rattle.acd_desk.specs.AuditWith.{SoundStandsInTime};
 
 use acd_book::Book;
@@ -117,4 +117,15 @@ pub fn audits_with_archive()
     ensures one { AuditsWithArchive }
     ensures links { AuditsLinkByLink }
     ensures in_time { SoundStandsInTime }
+{}
+
+/// A content that is sound with its archive is what its newer requests make of the part that was carried over.
+pub fn sound_is_led()
+    ensures { SoundIsLed }
+{}
+
+/// A content that is what its newer requests make of the part that was carried over is sound with its archive, where
+/// none of these requests has a key that was left there.
+pub fn led_is_sound()
+    ensures { LedIsSound }
 {}

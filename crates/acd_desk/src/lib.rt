@@ -4,7 +4,8 @@
 //! abstract switch run once over each request's first arrival. [`Taken`] is an answer, an [`AnswerText`] says it in
 //! text, and [`OpenFault`] says why a book makes no desk. `specs/ReadAnswers` says what it answers to a [`Question`], or it
 //! answers a [`DeskFault`]. An [`Audit`] says whether all that its book holds is what the kept requests give, run
-//! again, or where it first differs (`specs/Audit`).
+//! again, or where it first differs (`specs/Audit`); an [`ArchiveAudit`] says so of a book beside the archive that it
+//! continues (`specs/AuditWith`).
 //!
 //! ```ignore
 //! let mut desk = Desk::open(alloc, MemoryBook::new(alloc, Limits::GREATEST))?;
@@ -41,7 +42,7 @@ mod taken;
 mod working;
 
 pub use answer_text::AnswerText;
-pub use audit::{Audit, AuditFault};
+pub use audit::{ArchiveAudit, Audit, AuditFault};
 pub use desk::Desk;
 pub use fault::DeskFault;
 pub use open_fault::OpenFault;

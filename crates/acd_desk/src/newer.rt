@@ -4,17 +4,34 @@ ghost use Rattle.std.specs.Prelude.{◌≡◌, ◌+◌, ◌<◌, IfOk};
 ghost use Rattle.acd_book.specs.State.{BookFinds};
 ghost use Rattle.acd_desk.specs.BookReading.{MayRead};
 ghost use Rattle.acd_desk.specs.Pairs.{BothRead, across, by_opening};
-ghost use Rattle.acd_desk.specs.Replay.{CountsOne, StepsOn};
-ghost use Rattle.acd_desk.specs.ReplayWith.{is_kept, IsSwitchOf, PlaysWith, IsStepWith, AuditsFrom, AuditsInOrder};
+ghost use Rattle.acd_desk.specs.ReplayWith.{is_kept, IsSwitchOf, Notes, first_of_both, with_first, PlaysWith, StepsOnWith, answer_at_end, IsStepWith, CountsOneWith, AuditsFrom, AuditsInOrder};
 
-use crate::audit::Audit;
+use crate::audit::ArchiveAudit;
 use crate::open_fault::OpenFault;
 use crate::overlap::{Cut, other_place};
 use crate::pair::{PairFault, of_archive, of_current, of_opening};
-use crate::replay::{Course, Step, coursed, is_all, is_whole, last_step, replayed};
+use crate::replay::{Course, coursed, is_all, is_whole, replayed};
 use crate::working::LoadedSwitch;
 use acd_book::{Book, BookFault, Kept};
+use acd_terms::Request;
 use std::alloc::Global;
+
+/// How far a replay from an archive on has come, and the stamp of the first request that was sent again: of the first
+/// record whose key was left in the archive.
+#[derive(Drop)]
+pub(crate) struct NewerCourse {
+    pub(crate) course: Course,
+    pub(crate) sent_again: Option<u64>,
+}
+
+/// The result of a step of such a replay.
+#[derive(Drop)]
+pub(crate) enum NewerStep {
+    /// The next record and its events are what its request gives.
+    Replayed(NewerCourse),
+    /// They aren't, or no record is left: the answer of the audit.
+    Ended(ArchiveAudit),
+}
 
 // Whether the archive has a record of this key.
 fn is_known<A: Book>(archive: &mut A, kept: &Kept) -> Result<bool, BookFault>
@@ -24,46 +41,57 @@ fn is_known<A: Book>(archive: &mut A, kept: &Kept) -> Result<bool, BookFault>
     Ok(found.is_some())
 }
 
-// Replays a record, which is another one where the archive has its key.
+// The course, to which a key that the archive has counts as seen: whether it is new to the book is asked there.
+fn noted(course: Course, known: bool, request: &Request) -> Course
+    ensures { Notes course known request.now result }
+{
+    let mut course = course;
+    if known {
+        course.keys.insert(request);
+    }
+    course
+}
+
+// The stamp of the first request that was sent again: the one before, or this one where the archive has its key.
+fn first_of_both(first: Option<u64>, known: bool, stamp: u64) -> Option<u64>
+    ensures { result ≡ first_of_both first known stamp }
+{
+    match first {
+        Some(first) => Some(first),
+        None if known => Some(stamp),
+        None => None,
+    }
+}
+
+// A course that was continued, with the stamp of the first request that was sent again.
+fn with_first(played: Option<Course>, sent_again: Option<u64>) -> Option<NewerCourse>
+    ensures { result ≡ with_first sent_again played }
+{
+    match played {
+        Some(course) => Some(NewerCourse { course, sent_again }),
+        None => None,
+    }
+}
+
+// Replays a record, and looks whether its key was left in the archive.
 fn replayed_with<A: Book, B: Book>(
     alloc: Global,
     archive: &mut A,
     book: &mut B,
-    course: Course,
+    newer: NewerCourse,
     kept: &Kept,
-) -> Result<Option<Course>, PairFault>
-    requires { course.loaded.switch.value.last_stamp < course.loaded.switch.value.limits.requests }
+) -> Result<Option<NewerCourse>, PairFault>
+    requires { newer.course.loaded.switch.value.last_stamp
+        < newer.course.loaded.switch.value.limits.requests }
     ensures read { BothRead (across A.state archive.old archive.new)
-        (across B.state book.old book.new) result (PlaysWith course kept.now) }
-    ensures stepped { IfOk result (StepsOn course.loaded.switch.value kept.now) }
+        (across B.state book.old book.new) result (PlaysWith newer kept.now) }
+    ensures stepped { IfOk result (StepsOnWith newer.course.loaded.switch.value kept.now) }
 {
     let known = of_archive(is_known(archive, kept))?;
-    if known {
-        return Ok(None);
-    }
-    of_current(replayed(alloc, book, course, kept))
-}
-
-// Replays the next record, where one is left.
-fn next_newer<A: Book, B: Book>(
-    alloc: Global,
-    archive: &mut A,
-    book: &mut B,
-    course: Course,
-) -> Result<Step, PairFault>
-    requires { course.loaded.switch.value.last_stamp < course.loaded.switch.value.limits.requests }
-    ensures read { BothRead (across A.state archive.old archive.new)
-        (across B.state book.old book.new) result (λ a c found. IsStepWith a c course found) }
-    ensures counts { IfOk result (CountsOne course.loaded.switch.value) }
-{
-    let Some(kept) = of_current(book.kept_after(course.loaded.switch.last_stamp()))? else {
-        let whole = of_current(is_whole(book, &course.loaded.switch))?;
-        return Ok(last_step(whole));
-    };
-    match replayed_with(alloc, archive, book, course, &kept)? {
-        Some(next) => Ok(Step::Replayed(next)),
-        None => Ok(Step::Differs),
-    }
+    let NewerCourse { course, sent_again } = newer;
+    let course = noted(course, known, &kept.request);
+    let played = of_current(replayed(alloc, book, course, kept))?;
+    Ok(with_first(played, first_of_both(sent_again, known, kept.stamp)))
 }
 
 // The stamp after the last one. The limit of requests is far below the end of its type.
@@ -73,32 +101,68 @@ fn next_stamp(loaded: &LoadedSwitch) -> u64
     loaded.switch.last_stamp() + 1
 }
 
+// The answer where no record is left: whether all else is as it has to be is known.
+fn answer_at_end(newer: &NewerCourse, whole: bool) -> ArchiveAudit
+    ensures { result ≡ answer_at_end newer.now whole }
+{
+    if !whole {
+        return ArchiveAudit::Differs(next_stamp(&newer.course.loaded));
+    }
+    match newer.sent_again {
+        Some(first) => ArchiveAudit::SentAgain(first),
+        None => ArchiveAudit::Sound,
+    }
+}
+
+// Replays the next record, where one is left.
+fn next_newer<A: Book, B: Book>(
+    alloc: Global,
+    archive: &mut A,
+    book: &mut B,
+    newer: NewerCourse,
+) -> Result<NewerStep, PairFault>
+    requires { newer.course.loaded.switch.value.last_stamp
+        < newer.course.loaded.switch.value.limits.requests }
+    ensures read { BothRead (across A.state archive.old archive.new)
+        (across B.state book.old book.new) result (λ a c found. IsStepWith a c newer found) }
+    ensures counts { IfOk result (CountsOneWith newer.course.loaded.switch.value) }
+{
+    let next = next_stamp(&newer.course.loaded);
+    let last = newer.course.loaded.switch.last_stamp();
+    let Some(kept) = of_current(book.kept_after(last))? else {
+        let whole = of_current(is_whole(book, &newer.course.loaded.switch))?;
+        return Ok(NewerStep::Ended(answer_at_end(&newer, whole)));
+    };
+    match replayed_with(alloc, archive, book, newer, &kept)? {
+        Some(newer) => Ok(NewerStep::Replayed(newer)),
+        None => Ok(NewerStep::Ended(ArchiveAudit::Differs(next))),
+    }
+}
+
 // Replays all that is newer than the archive, from its state on.
 fn audited_newer<A: Book, B: Book>(
     alloc: Global,
     archive: &mut A,
     book: &mut B,
     first: Course,
-) -> Result<Audit, PairFault>
+) -> Result<ArchiveAudit, PairFault>
     ensures { BothRead (across A.state archive.old archive.new)
         (across B.state book.old book.new) result (AuditsFrom first) }
 {
     let start = first.loaded.switch.last_stamp();
     let most = first.loaded.switch.tables().limits().requests;
-    let mut course = first;
-    for count in start..most {
-        match next_newer(alloc, archive, book, course)? {
-            Step::Replayed(next) => course = next,
-            Step::Differs => return Ok(Audit::Differs(count + 1)),
-            Step::Ended => return Ok(Audit::Sound),
+    let mut newer = NewerCourse {
+        course: first,
+        sent_again: None,
+    };
+    for _ in start..most {
+        match next_newer(alloc, archive, book, newer)? {
+            NewerStep::Replayed(next) => newer = next,
+            NewerStep::Ended(found) => return Ok(found),
         }
     }
-    let all = of_current(is_all(book, &course.loaded.switch))?;
-    if all {
-        Ok(Audit::Sound)
-    } else {
-        Ok(Audit::Differs(next_stamp(&course.loaded)))
-    }
+    let all = of_current(is_all(book, &newer.course.loaded.switch))?;
+    Ok(answer_at_end(&newer, all))
 }
 
 // A switch of the archive's rows, which break no rule.
@@ -132,14 +196,14 @@ pub(crate) fn audited_with<A: Book, B: Book>(
     alloc: Global,
     archive: &mut A,
     book: &mut B,
-) -> Result<Audit, PairFault>
+) -> Result<ArchiveAudit, PairFault>
     ensures { BothRead (across A.state archive.old archive.new)
         (across B.state book.old book.new) result AuditsInOrder }
 {
     let loaded = of_opening(archive_switch(alloc, archive))?;
     let other = other_place(alloc, archive, book, last_of(&loaded))?;
     if let Some(place) = other {
-        return Ok(Audit::Differs(place));
+        return Ok(ArchiveAudit::Differs(place));
     }
     let first = coursed(alloc, loaded)?;
     audited_newer(alloc, archive, book, first)

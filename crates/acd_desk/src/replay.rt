@@ -34,14 +34,14 @@ pub(crate) struct Course {
     pub(crate) page: Page,
 }
 
-/// The result of a step of a replay.
+// The result of a step of a replay.
 #[derive(Drop)]
-pub(crate) enum Step {
-    /// The next record and its events are what its request gives.
+enum Step {
+    // The next record and its events are what its request gives.
     Replayed(Course),
-    /// They aren't; or no record is left, but some event is, or the tables differ.
+    // They aren't; or no record is left, but some event is, or the tables differ.
     Differs,
-    /// No record and no event is left, and the tables are the same.
+    // No record and no event is left, and the tables are the same.
     Ended,
 }
 
@@ -191,8 +191,8 @@ pub(crate) fn is_whole<B: Book>(book: &mut B, switch: &Switch) -> Result<bool, B
     }
 }
 
-/// The step at which no record is left.
-pub(crate) fn last_step(is_whole: bool) -> Step
+// The step at which no record is left.
+fn last_step(is_whole: bool) -> Step
     ensures { result ≡ cond is_whole Step.Ended Step.Differs }
 {
     if is_whole { Step::Ended } else { Step::Differs }

@@ -1,63 +1,51 @@
 use Rattle.std.proofs.Common.{◌≡◌, ◌+◌, ◌≤◌, ◌∙◌, ℕ, Ok, Err, ap, sym, subst, refl, rules, arith}
 use Rattle.acd_terms.specs.declared.rows.Limits.{Limits}
 use Rattle.acd_terms.specs.declared.rows.Rows.{Rows}
-use Rattle.acd_desk.specs.Replay.{CountsOne}
-use Rattle.acd_desk.specs.ReplayWith.{AuditsFrom}
+use Rattle.acd_desk.specs.ReplayWith.{CountsOneWith, AuditsFrom}
 use Rattle.acd_desk.proofs.BothReads.{both_then_fault, current_read}
-use Rattle.acd_desk.proofs.StepsWith.{newer_begun, newer_more, newer_differs, newer_ended, newer_all, newer_left}
+use Rattle.acd_desk.proofs.StepsWith.{newer_begun, newer_more, newer_ended, newer_left}
 use Rattle.acd_desk.proofs.newer.audited_newer.Goals as goal
 
-pub loop-count-init : goal.loop-count-init
-loop-count-init g c = record {
+pub loop-init : goal.loop-init
+loop-init g c = record {
   stamp = sym (c.last_stamp-start.ensures ∙ ap (λ (r : Rows). r.last_stamp) c.deref.ensures);
   limit = sym (ap (λ (l : Limits). l.requests) (c.limits-most.ensures ∙ ap (λ (r : Rows). r.limits) (c.tables.ensures ∙ c.deref-2.ensures)));
   seen = newer_begun (g.A.Book.state c.args.archive.now) (g.B.Book.state c.args.book.now) c.args.first;
 }
 
-pub loop-count-preserved : goal.loop-count-preserved
-loop-count-preserved g c =
-    let counts = subst (CountsOne c.loop-count.course.loaded.switch.value) c.in-Replayed.is c.in_ok-next.ensures.counts in
+pub loop-preserved : goal.loop-preserved
+loop-preserved g c =
+    let counts = subst (CountsOneWith c.loop.newer.course.loaded.switch.value) c.in-Replayed.is c.in_ok-next.ensures.counts in
     record {
-      stamp = counts.1 ∙ ap (λ (n : ℕ). n + 1) c.loop-count.invariant.stamp;
-      limit = ap (λ (l : Limits). l.requests) counts.0 ∙ c.loop-count.invariant.limit;
-      seen = newer_more (g.A.Book.state c.args.archive.now) (g.A.Book.state c.loop-count.archive) (g.A.Book.state c.next_newer.new.archive) (g.B.Book.state c.args.book.now) (g.B.Book.state c.loop-count.book) (g.B.Book.state c.next_newer.new.book)
-          c.args.first c.loop-count.course c.in_ok-next.field-0 c.in-Replayed.next c.in-Replayed.is c.loop-count.invariant.seen c.in_ok-next.ensures.read;
+      stamp = counts.1 ∙ ap (λ (n : ℕ). n + 1) c.loop.invariant.stamp;
+      limit = ap (λ (l : Limits). l.requests) counts.0 ∙ c.loop.invariant.limit;
+      seen = newer_more (g.A.Book.state c.args.archive.now) (g.A.Book.state c.loop.archive) (g.A.Book.state c.next_newer.new.archive) (g.B.Book.state c.args.book.now) (g.B.Book.state c.loop.book) (g.B.Book.state c.next_newer.new.book)
+          c.args.first c.loop.newer c.in_ok-next.field-0 c.in-Replayed.next c.in-Replayed.is c.loop.invariant.seen c.in_ok-next.ensures.read;
     }
-
-pub returns-in-Differs : goal.returns-in-Differs
-returns-in-Differs g c =
-    newer_differs (g.A.Book.state c.args.archive.now) (g.A.Book.state c.loop-count.archive) (g.A.Book.state c.next_newer.new.archive) (g.B.Book.state c.args.book.now) (g.B.Book.state c.loop-count.book) (g.B.Book.state c.next_newer.new.book)
-    c.args.first c.loop-count.course c.in_ok-next.field-0 c.loop-count.count c.in-Differs.is c.loop-count.invariant.stamp c.loop-count.invariant.seen c.in_ok-next.ensures.read
 
 pub returns-in-Ended : goal.returns-in-Ended
 returns-in-Ended g c =
-    newer_ended (g.A.Book.state c.args.archive.now) (g.A.Book.state c.loop-count.archive) (g.A.Book.state c.next_newer.new.archive) (g.B.Book.state c.args.book.now) (g.B.Book.state c.loop-count.book) (g.B.Book.state c.next_newer.new.book)
-    c.args.first c.loop-count.course c.in_ok-next.field-0 c.in-Ended.is c.loop-count.invariant.seen c.in_ok-next.ensures.read
+    newer_ended (g.A.Book.state c.args.archive.now) (g.A.Book.state c.loop.archive) (g.A.Book.state c.next_newer.new.archive) (g.B.Book.state c.args.book.now) (g.B.Book.state c.loop.book) (g.B.Book.state c.next_newer.new.book)
+    c.args.first c.loop.newer c.in_ok-next.field-0 c.in-Ended.found c.in-Ended.is c.loop.invariant.seen c.in_ok-next.ensures.read
 
 pub returns-in_err-next : goal.returns-in_err-next
 returns-in_err-next g c =
-    both_then_fault (AuditsFrom c.args.first) (g.A.Book.state c.args.archive.now) (g.A.Book.state c.loop-count.archive) (g.A.Book.state c.next_newer.new.archive) (g.B.Book.state c.args.book.now) (g.B.Book.state c.loop-count.book)
-    (g.B.Book.state c.next_newer.new.book) tt c.in_err-next.field-0.0 c.from_residual.result c.loop-count.invariant.seen c.in_err-next.ensures.read (search rules)
+    both_then_fault (AuditsFrom c.args.first) (g.A.Book.state c.args.archive.now) (g.A.Book.state c.loop.archive) (g.A.Book.state c.next_newer.new.archive) (g.B.Book.state c.args.book.now) (g.B.Book.state c.loop.book)
+    (g.B.Book.state c.next_newer.new.book) tt c.in_err-next.field-0.0 c.from_residual.result c.loop.invariant.seen c.in_err-next.ensures.read (search rules)
 
 pub returns-in_err-all : goal.returns-in_err-all
 returns-in_err-all g c =
-    both_then_fault (AuditsFrom c.args.first) (g.A.Book.state c.args.archive.now) (g.A.Book.state c.loop-count.archive) (g.A.Book.state c.loop-count.archive) (g.B.Book.state c.args.book.now) (g.B.Book.state c.loop-count.book)
-    (g.B.Book.state c.is_all.new.book) tt c.in_err-all.field-0.0 c.from_residual-in_err-all.result c.loop-count.invariant.seen
-    (current_read (g.A.Book.state c.loop-count.archive) (g.B.Book.state c.loop-count.book) (g.B.Book.state c.is_all.new.book) c.is_all.result (Err c.in_err-all.field-0.0) (Err c.in_err-all.field-0.0) c.is_all.ensures c.in_err-all.ensures refl)
+    both_then_fault (AuditsFrom c.args.first) (g.A.Book.state c.args.archive.now) (g.A.Book.state c.loop.archive) (g.A.Book.state c.loop.archive) (g.B.Book.state c.args.book.now) (g.B.Book.state c.loop.book)
+    (g.B.Book.state c.is_all.new.book) tt c.in_err-all.field-0.0 c.from_residual-in_err-all.result c.loop.invariant.seen
+    (current_read (g.A.Book.state c.loop.archive) (g.B.Book.state c.loop.book) (g.B.Book.state c.is_all.new.book) c.is_all.result (Err c.in_err-all.field-0.0) (Err c.in_err-all.field-0.0) c.is_all.ensures c.in_err-all.ensures refl)
     (search rules)
-
-pub returns-then-all : goal.returns-then-all
-returns-then-all g c =
-    newer_all (g.A.Book.state c.args.archive.now) (g.A.Book.state c.loop-count.archive) (g.A.Book.state c.loop-count.archive) (g.B.Book.state c.args.book.now) (g.B.Book.state c.loop-count.book) (g.B.Book.state c.is_all.new.book)
-    c.args.first c.loop-count.course _ c.in_ok-all.all c.deref-3.ensures c.if-all.true c.loop-count.invariant.seen
-    (current_read (g.A.Book.state c.loop-count.archive) (g.B.Book.state c.loop-count.book) (g.B.Book.state c.is_all.new.book) c.is_all.result (Ok c.in_ok-all.all) (Ok c.in_ok-all.all) c.is_all.ensures c.in_ok-all.ensures refl)
 
 at_limit : (s : Rows) (count most : ℕ) → s.last_stamp ≡ count → s.limits.requests ≡ most → most ≤ count → s.limits.requests ≤ s.last_stamp
 at_limit s count most stamp limit le = omega (arith, stamp, limit, le)
 
 pub returns : goal.returns
 returns g c =
-    newer_left (g.A.Book.state c.args.archive.now) (g.A.Book.state c.loop-count.archive) (g.A.Book.state c.loop-count.archive) (g.B.Book.state c.args.book.now) (g.B.Book.state c.loop-count.book) (g.B.Book.state c.is_all.new.book)
-    c.args.first c.loop-count.course _ c.in_ok-all.all c.next_stamp.result c.deref-3.ensures c.if-all.false c.next_stamp.ensures
-    (at_limit c.loop-count.course.loaded.switch.value c.loop-count.count _ c.loop-count.invariant.stamp c.loop-count.invariant.limit c.loop-count-test.false) c.loop-count.invariant.seen
-    (current_read (g.A.Book.state c.loop-count.archive) (g.B.Book.state c.loop-count.book) (g.B.Book.state c.is_all.new.book) c.is_all.result (Ok c.in_ok-all.all) (Ok c.in_ok-all.all) c.is_all.ensures c.in_ok-all.ensures refl)
+    newer_left (g.A.Book.state c.args.archive.now) (g.A.Book.state c.loop.archive) (g.A.Book.state c.loop.archive) (g.B.Book.state c.args.book.now) (g.B.Book.state c.loop.book) (g.B.Book.state c.is_all.new.book)
+    c.args.first c.loop.newer _ c.in_ok-all.all c.answer_at_end.result c.deref-3.ensures c.answer_at_end.ensures
+    (at_limit c.loop.newer.course.loaded.switch.value c.loop.counter _ c.loop.invariant.stamp c.loop.invariant.limit c.loop-test.false) c.loop.invariant.seen
+    (current_read (g.A.Book.state c.loop.archive) (g.B.Book.state c.loop.book) (g.B.Book.state c.is_all.new.book) c.is_all.result (Ok c.in_ok-all.all) (Ok c.in_ok-all.all) c.is_all.ensures c.in_ok-all.ensures refl)

@@ -3,9 +3,9 @@ use Rattle.acd_desk.specs.Pairs.{ReadsBoth}
 use Rattle.acd_desk.proofs.StepsWith.{SeenWith}
 use Rattle.acd_desk.proofs.newer.audited_newer.Given as goal
 
-abbrev pub invariant-loop-count : goal.invariant-loop-count
-invariant-loop-count g l = record {
-  stamp : l.course.loaded.switch.value.last_stamp ≡ l.count;
-  limit : l.course.loaded.switch.value.limits.requests ≡ l.most;
-  seen : ReadsBoth (g.A.Book.state l.fn.archive) (g.A.Book.state l.archive) (g.B.Book.state l.fn.book) (g.B.Book.state l.book) (Ok tt) (SeenWith l.fn.first l.course);
+abbrev pub invariant-loop : goal.invariant-loop
+invariant-loop g l = record {
+  stamp : l.newer.course.loaded.switch.value.last_stamp ≡ l.counter;
+  limit : l.newer.course.loaded.switch.value.limits.requests ≡ l.most;
+  seen : ReadsBoth (g.A.Book.state l.fn.archive) (g.A.Book.state l.archive) (g.B.Book.state l.fn.book) (g.B.Book.state l.book) (Ok tt) (SeenWith l.fn.first l.newer);
 }

@@ -1,12 +1,12 @@
-use Rattle.std.proofs.Common.{◌≡◌, ℕ, Option, Ok, Err, refl, rules}
+use Rattle.std.proofs.Common.{◌≡◌, ℕ, Option, Ok, Err, rules}
 use Rattle.acd_book.specs.Content.{Content}
 use Rattle.acd_book.specs.declared.fault.BookFault.TheVariants as book
-use Rattle.acd_desk.specs.declared.audit.Audit.{Audit}
+use Rattle.acd_desk.specs.declared.audit.ArchiveAudit.{ArchiveAudit}
 use Rattle.acd_desk.specs.declared.pair.PairFault.TheVariants.{Current}
 use Rattle.acd_desk.specs.declared.working.LoadedSwitch.{LoadedSwitch}
 use Rattle.acd_desk.specs.ReplayWith.{AuditsInOrder}
 use Rattle.acd_desk.proofs.BothReads.{both_opening, both_ok, both_then, both_fault, both_then_fault, both_no_memory}
-use Rattle.acd_desk.proofs.StepsWith.{IsLoaded, both_then_ok, whole_differs, whole_newer}
+use Rattle.acd_desk.proofs.StepsWith.{IsLoaded, whole_differs, whole_newer}
 use Rattle.acd_desk.proofs.newer.audited_with.Goals as goal
 
 pub returns-in_err-loaded : goal.returns-in_err-loaded
@@ -38,7 +38,7 @@ returns-in_err-first g c =
     (g.B.Book.state c.other_place.new.book) c.in_ok-loaded.loaded (Ok c.in_ok-other.other)
     (both_opening (λ (x z : Content) (y : LoadedSwitch). y.switch.value ≡ x.rows) (g.A.Book.state c.args.archive.now) (g.A.Book.state c.archive_switch.new.archive) (g.B.Book.state c.args.book.now) c.archive_switch.result
     (Ok c.in_ok-loaded.loaded) c.archive_switch.ensures c.in_ok-loaded.ensures (λ x z y holds. holds)) c.in_ok-other.ensures (λ p q u y v. tt))
-    (both_no_memory {T = Audit} (λ (p q : Content) (y : Audit). Unit {0}) (g.A.Book.state c.other_place.new.archive) (g.B.Book.state c.other_place.new.book)) (search rules)
+    (both_no_memory {T = ArchiveAudit} (λ (p q : Content) (y : ArchiveAudit). Unit {0}) (g.A.Book.state c.other_place.new.archive) (g.B.Book.state c.other_place.new.book)) (search rules)
 
 pub returns : goal.returns
 returns g c =

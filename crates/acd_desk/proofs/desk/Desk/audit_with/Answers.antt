@@ -1,6 +1,6 @@
 use Rattle.std.proofs.Common.{Ok, Err, sym, subst, ◌∙◌}
 use Rattle.acd_book.specs.Content.{Content}
-use Rattle.acd_desk.specs.declared.audit.Audit.{Audit}
+use Rattle.acd_desk.specs.declared.audit.ArchiveAudit.{ArchiveAudit}
 use Rattle.acd_desk.specs.declared.audit.AuditFault.{AuditFault}
 use Rattle.acd_desk.specs.AuditedWith.{desk_part, archive_part, audit_fault}
 use Rattle.acd_desk.specs.Pages.{ReadsIfOpen}
@@ -22,12 +22,12 @@ returns-in-Ok-clause-audited g c =
 
 pub returns-in-Err-clause-read : goal.returns-in-Err-clause-read
 returns-in-Err-clause-read g c =
-    subst (λ (x : AuditFault). ReadDone {A = Audit} (standing g.B.Book c.args.self.now) (standing g.B.Book c.pair_failed.new.self) (desk_part (Err x)) (λ (k : Content) (found : Audit). Unit {0})) (sym c.pair_failed.ensures.fault)
-    (subst (λ (d : _). ReadDone {A = Audit} (standing g.B.Book c.args.self.now) (standing g.B.Book d) (desk_part (Err (audit_fault c.in-Err.fault))) (λ (k : Content) (found : Audit). Unit {0})) (sym c.pair_failed.ensures.left)
+    subst (λ (x : AuditFault). ReadDone {A = ArchiveAudit} (standing g.B.Book c.args.self.now) (standing g.B.Book c.pair_failed.new.self) (desk_part (Err x)) (λ (k : Content) (found : ArchiveAudit). Unit {0})) (sym c.pair_failed.ensures.fault)
+    (subst (λ (d : _). ReadDone {A = ArchiveAudit} (standing g.B.Book c.args.self.now) (standing g.B.Book d) (desk_part (Err (audit_fault c.in-Err.fault))) (λ (k : Content) (found : ArchiveAudit). Unit {0})) (sym c.pair_failed.ensures.left)
     (both_failed (g.A.Book.state c.args.archive.now) (g.A.Book.state c.audited_with.new.archive) (g.B.Book.state c.args.self.now.book) (g.B.Book.state c.audited_with.new.book) c.args.self.now.working c.in-Err.fault AuditsInOrder c.in-Err.ensures
     (sym c.has_failed.ensures ∙ c.if-has_failed.false)))
 
 pub returns-in-Err-clause-archive : goal.returns-in-Err-clause-archive
 returns-in-Err-clause-archive g c =
-    subst (λ (x : AuditFault). ReadsIfOpen {A = Audit} (g.A.Book.state c.args.archive.now) (g.A.Book.state c.audited_with.new.archive) (archive_part (Err x)) (λ (k : Content) (found : Audit). Unit {0})) (sym c.pair_failed.ensures.fault)
+    subst (λ (x : AuditFault). ReadsIfOpen {A = ArchiveAudit} (g.A.Book.state c.args.archive.now) (g.A.Book.state c.audited_with.new.archive) (archive_part (Err x)) (λ (k : Content) (found : ArchiveAudit). Unit {0})) (sym c.pair_failed.ensures.fault)
     (archive_neither (g.A.Book.state c.args.archive.now) (g.A.Book.state c.audited_with.new.archive) (g.B.Book.state c.args.self.now.book) (g.B.Book.state c.audited_with.new.book) c.in-Err.fault AuditsInOrder c.in-Err.ensures)
