@@ -5,19 +5,20 @@ use Rattle.acd_terms.specs.Lists.{Every}
 use Rattle.acd_terms.specs.declared.rows.Rows.{Rows}
 use Rattle.acd_terms.specs.declared.event.Event.{Event}
 use Rattle.acd_terms.specs.declared.command.Arrival.{Arrival}
+use Rattle.acd_lemmas.proofs.Lists.{every-append}
 use Rattle.acd_book.specs.declared.kept.Kept.{Kept}
 use Rattle.acd_book.specs.Content.{Content, kept_of, IsCounted}
 use Rattle.acd_book.specs.Memory.{stamp_of, number_of}
 use Rattle.acd_book.specs.Order.{Rises}
 use Rattle.acd_desk.specs.Stands.{arrivals_of}
 use Rattle.acd_desk.specs.Leads.{led}
-use Rattle.acd_desk.specs.Carried.{Archive, together, NoneSentAgain}
-use Rattle.acd_desk.specs.WithArchive.{IsCut, IsSoundWith, IsLedFrom}
+use Rattle.acd_desk.specs.Carried.{Archive, together, joined, NoneSentAgain}
+use Rattle.acd_desk.specs.WithArchive.{ComeBefore, IsCut, IsSoundWith, IsLedFrom}
 use Rattle.acd_desk.specs.AuditWith.{first_sent_again}
 use Rattle.acd_desk.proofs.Audits.{same_content}
-use Rattle.acd_desk.proofs.Carrying.{goes_on}
+use Rattle.acd_desk.proofs.Carrying.{goes_on, cut_again}
 use Rattle.acd_desk.proofs.Growing.{Grows, led_grows, led_counted, all_new}
-use Rattle.acd_desk.proofs.LookUps.{none_front}
+use Rattle.acd_desk.proofs.LookUps.{none_front, only_front}
 use Rattle.acd_desk.proofs.SharedLists.{every_back, every_each, split_once}
 use Rattle.acd_desk.proofs.Sound.{length-arrivals}
 
@@ -108,7 +109,7 @@ none_left_again a c goes =
     new_front goes.left.kept goes.carried.kept (arrivals_of goes.newer)
     (subst (λ (l : List Kept). AreNewTo l (arrivals_of goes.newer)) (kept_whole a goes.left goes.carried goes.cut) (none_sent_again a c goes))
 
-sound_made : (a c : Content) (goes : IsSoundWith a c) → c ≡ led goes.carried (arrivals_of goes.newer)
+pub sound_made : (a c : Content) (goes : IsSoundWith a c) → c ≡ led goes.carried (arrivals_of goes.newer)
 sound_made a c goes =
     let list : List Arrival = arrivals_of goes.newer in
     same_rest goes.left c (led goes.carried list)
@@ -164,3 +165,52 @@ sent_again_unsound a c goes n counted first = λ sound.
   where
     none_some : (n : ℕ) → ◌≡◌ {A = Option ℕ} None (Some n) → ⊥
     none_some n is = cc
+
+-- ---- a part goes from the front ----
+
+-- of the content, and of what was carried over
+pub cut_without : (a : Content) (left q : Archive) (old carried : Content) → IsCut a left old → old ≡ together q carried → ComeBefore q.events carried.kept → IsCut a (joined left q) carried
+cut_without a left q old carried cut is clean = record {
+  whole = cut.whole ∙ ap (together left) is ∙ (cut_again left q carried).content;
+  events = every-append (λ (e : Event). Every (λ (k : Kept). e.moment < k.moment) carried.kept) left.events q.events
+      (every_each (λ (e : Event). Every (λ (k : Kept). e.moment < k.moment) old.kept) (λ (e : Event). Every (λ (k : Kept). e.moment < k.moment) carried.kept) left.events
+      (λ e before. every_back (λ (k : Kept). e.moment < k.moment) q.kept carried.kept (subst (λ (x : Content). Every (λ (k : Kept). e.moment < k.moment) x.kept) is before)) cut.events)
+      clean;
+}
+
+kept_without : (c old carried : Content) (q : Archive) (newer : List Kept) → q.kept ++ c.kept ≡ old.kept ++ newer → old ≡ together q carried → c.kept ≡ carried.kept ++ newer
+kept_without c old carried q newer kept is =
+    append_cancel_left q.kept c.kept (carried.kept ++ newer) (kept ∙ ap (λ (x : Content). x.kept ++ newer) is ∙ append_assoc q.kept carried.kept newer)
+
+pub sound_without : (a c : Content) (q : Archive) (carried : Content) (goes : IsSoundWith a (together q c)) → goes.carried ≡ together q carried → ComeBefore q.events carried.kept → IsSoundWith a c
+sound_without a c q carried goes is clean = record {
+  left = joined goes.left q;
+  carried = carried;
+  cut = cut_without a goes.left q goes.carried carried goes.cut is clean;
+  newer = goes.newer;
+  kept = kept_without c goes.carried carried q goes.newer goes.kept is;
+  made = sym (cut_again goes.left q c).content ∙ goes.made;
+}
+
+-- what was left in the archive and this part have the key of none that what was left there doesn't
+first_without : (left q : Archive) (newer : List Kept) → NoneSentAgain q (arrivals_of newer) → first_sent_again (joined left q) newer ≡ first_sent_again left newer
+first_without left q [] new = refl
+first_without left q (k ∷ newer) new =
+    ap₂ (λ (o f : Option Kept). cond (is_some o) (Some k) f) (only_front left.kept q.kept k.request.requester k.request.invoke new.0) (first_without left q newer new.1)
+
+pub led_without : (a c : Content) (q : Archive) (carried : Content) (goes : IsLedFrom a (together q c)) → goes.carried ≡ together q carried → ComeBefore q.events carried.kept
+    → (on : IsLedFrom a c) × (first_sent_again on.left on.newer ≡ first_sent_again goes.left goes.newer)
+led_without a c q carried goes is clean =
+    let list : List Arrival = arrivals_of goes.newer in
+    let new : NoneSentAgain q list
+    = new_front q.kept carried.kept list (subst (λ (x : Content). AreNewTo x.kept list) is (all_made goes.carried (together q c) goes.newer goes.made goes.kept)) in (
+      record {
+        left = joined goes.left q;
+        carried = carried;
+        cut = cut_without a goes.left q goes.carried carried goes.cut is clean;
+        newer = goes.newer;
+        kept = kept_without c goes.carried carried q goes.newer goes.kept is;
+        made = same_rest q c (led carried list) (goes.made ∙ ap (λ (x : Content). led x list) is ∙ sym (goes_on q carried list new).content);
+      },
+      first_without goes.left q goes.newer new,
+    )

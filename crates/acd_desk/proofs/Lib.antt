@@ -56,3 +56,5 @@ pub mod StepsWith
 pub mod CleanCuts
 pub mod InTime
 pub mod AuditedWith
+pub mod Ticking
+pub mod Pruning

@@ -222,12 +222,12 @@ split_there {T = T} f last archived current past (x ∷ carried) rest whole mine
 
 -- ---- what comes next ----
 
-none_above : {T : Type 0} (f : T → ℕ) (n : ℕ) (xs : List T) → Every (λ (x : T). f x ≤ n) xs → filter (λ (x : T). nat_lt n (f x)) xs ≡ []
+pub none_above : {T : Type 0} (f : T → ℕ) (n : ℕ) (xs : List T) → Every (λ (x : T). f x ≤ n) xs → filter (λ (x : T). nat_lt n (f x)) xs ≡ []
 none_above f n [] low = refl
 none_above {T = T} f n (x ∷ xs) low =
     ap (λ (b : Bool). cond b (x ∷ filter (λ (y : T). nat_lt n (f y)) xs) (filter (λ (y : T). nat_lt n (f y)) xs)) (le-ltb n (f x) low.0) ∙ none_above f n xs low.1
 
-all_above : {T : Type 0} (f : T → ℕ) (n m : ℕ) (xs : List T) → n ≤ m → Rises f m xs → filter (λ (x : T). nat_lt n (f x)) xs ≡ xs
+pub all_above : {T : Type 0} (f : T → ℕ) (n m : ℕ) (xs : List T) → n ≤ m → Rises f m xs → filter (λ (x : T). nat_lt n (f x)) xs ≡ xs
 all_above f n m [] le up = refl
 all_above {T = T} f n m (x ∷ xs) le up =
     ap (λ (b : Bool). cond b (x ∷ filter (λ (y : T). nat_lt n (f y)) xs) (filter (λ (y : T). nat_lt n (f y)) xs)) (lt-ltb n (f x) (below n m (f x) le up.0))

@@ -42,3 +42,6 @@ pub mod Pairs
 pub mod Overlap
 pub mod ReplayWith
 pub mod AuditedWith
+pub mod Clock
+pub mod Clocked
+pub mod Pruning

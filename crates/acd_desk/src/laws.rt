@@ -12,6 +12,7 @@ ghost use Rattle.acd_desk.specs.NameLaws.{ContentIgnoresNames, AnswersIgnoreName
 ghost use Rattle.acd_desk.specs.CarriedLaws.{CarriedGoesOn, CarriedIsRunOfAll, CarriedAgain, CarriedOpens, CarriedRuns};
 ghost use Rattle.acd_desk.specs.WithArchive.{SoundIsLed, LedIsSound, AuditsWithArchive, AuditsLinkByLink};
 ghost use Rattle.acd_desk.specs.AuditWith.{SoundStandsInTime};
+ghost use Rattle.acd_desk.specs.Pruning.{LedHoldsArchive, PruneLosesNothing, PruneStaysSound, PruneStaysLed, PruneStaysSentAgain, PruneCarriesFurther};
 
 use acd_book::Book;
 
@@ -128,4 +129,21 @@ pub fn sound_is_led()
 /// none of these requests has a key that was left there.
 pub fn led_is_sound()
     ensures { LedIsSound }
+{}
+
+/// A content that continues an archive, and from which records are taken that the archive has, up to a place where the
+/// moment changes: an audit with the archive says afterwards what it said before, sound or sent again.
+pub fn audits_alike_when_pruned()
+    ensures sound { PruneStaysSound }
+    ensures led { PruneStaysLed }
+    ensures again { PruneStaysSentAgain }
+{}
+
+/// Where an audit with the archive found it sound or sent again, it begins with the archive's last records; then nothing
+/// is gone from it that the archive hasn't, in one piece; and with that piece among the older records it is what it was,
+/// and as sound.
+pub fn pruned_is_carried()
+    ensures holds { LedHoldsArchive }
+    ensures gone { PruneLosesNothing }
+    ensures further { PruneCarriesFurther }
 {}

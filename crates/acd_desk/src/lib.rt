@@ -43,6 +43,7 @@ mod working;
 
 pub use answer_text::AnswerText;
 pub use audit::{ArchiveAudit, Audit, AuditFault};
+pub use clock::clock_tick;
 pub use desk::Desk;
 pub use fault::DeskFault;
 pub use open_fault::OpenFault;
