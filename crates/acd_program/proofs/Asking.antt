@@ -17,7 +17,7 @@ use Rattle.acd_desk.specs.ReadDone.{ReadDone}
 use Rattle.acd_desk.proofs.AuditLaws.{one_audit}
 use Rattle.acd_desk.proofs.ReadsDone.{read_nothing, read_twice}
 use Rattle.acd_program.specs.declared.auditing.Finding.{Finding}
-use Rattle.acd_program.specs.declared.auditing.Finding.TheVariants.{Sound, Counted, Differs}
+use Rattle.acd_program.specs.declared.auditing.Finding.TheVariants.{Sound, Counted, SentAgain, SentAgainCounted, Differs}
 use Rattle.acd_program.specs.Ended.{OnlyAsked}
 use Rattle.acd_program.specs.Found.{IsFinding, IsFindingOf}
 use Rattle.acd_program.specs.Work.{WasAsked, IsFindingIfOrdered}
@@ -127,4 +127,6 @@ audited_by old d e x o t found =
     of_desk : (x : Finding) → (IsSound d.book.content → Starts d) → IsFinding d x → IsFindingIfOrdered d.book.content x
     of_desk Sound starts h = h
     of_desk (Counted count) starts h = λ ordered. let whole = (h ordered).0 in (whole, (h ordered).1 (starts whole).2)
+    of_desk (SentAgain stamp) starts h = absurd h
+    of_desk (SentAgainCounted stamp count) starts h = absurd h
     of_desk (Differs place) starts h = λ ordered. (h ordered, unsound d.book.content place (h ordered))

@@ -1,5 +1,5 @@
 -- An audit with an archive: what it leaves, by what its desk and the archive's book left.
-use Rattle.std.proofs.Common.{◌≡◌, ◌⊎◌, inl, inr, ℕ, Bool, false, List, Option, Result, Ok, Err, IfOk, IfErr, OnOk, OnErr, refl, sym, ap, subst, ◌∙◌}
+use Rattle.std.proofs.Common.{◌≡◌, ◌⊎◌, inl, inr, ℕ, Bool, true, false, List, Option, Result, Ok, Err, IfOk, IfErr, OnOk, OnErr, refl, sym, ap, subst, ◌∙◌}
 use Rattle.std.specs.Io.KnownBytes.{Appends}
 use Rattle.sqlite.specs.Held.{Held}
 use Rattle.sqlite.specs.State.{State, HasCleanDisk}
@@ -10,29 +10,31 @@ use Rattle.acd_book.specs.Content.{Content, IsCounted}
 use Rattle.acd_book.specs.Order.{IsOrdered}
 use Rattle.acd_book.specs.State.{BookState}
 use Rattle.acd_book.proofs.BookSteps.{step_so, step_then}
+use Rattle.acd_desk.specs.declared.audit.ArchiveAudit.{ArchiveAudit}
+use Rattle.acd_desk.specs.declared.audit.ArchiveAudit.TheVariants as audit
 use Rattle.acd_desk.specs.declared.audit.AuditFault.{AuditFault}
 use Rattle.acd_book.specs.declared.fault.BookFault.{BookFault}
-use Rattle.acd_desk.specs.AuditedWith.{archive_part, desk_part}
+use Rattle.acd_desk.specs.AuditedWith.{archive_part, desk_part, IsAuditedWith}
 use Rattle.acd_desk.specs.BookReading.{Anything}
-use Rattle.acd_desk.specs.AuditWith.{StandsInTime}
+use Rattle.acd_desk.specs.AuditWith.{StandsInTime, IsAuditWith}
 use Rattle.acd_desk.specs.Opening.{Opened}
 use Rattle.acd_desk.specs.Pages.{ReadsIfOpen}
 use Rattle.acd_desk.specs.Standing.{Standing, InStep}
 use Rattle.acd_desk.specs.Stands.{IsSound}
 use Rattle.acd_desk.specs.Carried.{Archive, together}
-use Rattle.acd_desk.specs.WithArchive.{IsSoundWith}
+use Rattle.acd_desk.specs.WithArchive.{IsLedFrom}
 use Rattle.acd_desk.specs.ReadDone.{ReadDone}
-use Rattle.acd_desk.proofs.NewerRuns.{counted_with}
+use Rattle.acd_desk.proofs.LedFrom.{counted_led, sound_is_led}
 use Rattle.acd_log.specs.declared.ending.Ending.{Ending}
 use Rattle.acd_sqlbook.specs.Adopting.{IsUntouched}
 use Rattle.acd_sqlbook.specs.declared.cache.Cache.{Cache}
 use Rattle.acd_sqlbook.specs.Caching.{followed}
 use Rattle.acd_sqlbook.specs.State.{book_state}
 use Rattle.acd_program.specs.declared.auditing.Finding.{Finding}
-use Rattle.acd_program.specs.declared.auditing.Finding.TheVariants.{Sound, Counted, Differs}
+use Rattle.acd_program.specs.declared.auditing.Finding.TheVariants.{Sound, Counted, SentAgain, SentAgainCounted, Differs}
 use Rattle.acd_program.specs.declared.desk.Done.{Done}
 use Rattle.acd_program.specs.declared.desk.Done.TheVariants as left
-use Rattle.acd_program.specs.WithArchive.{IsFindingWith, IsDeskFindingWith, IsFindingIn, IsFindingInOrder, IsFoundWithArchive, FindsWithArchive, WasRead, WereAsked, AskedOver, AskedIn, InArchive, AskedWithArchive, BookAskedWithArchive, AuditsWithArchive, AuditedWithArchive, LeavesBeside}
+use Rattle.acd_program.specs.WithArchive.{uncounted_with, counted_with, IsFindingWith, IsDeskFindingWith, IsFindingIn, IsFindingInOrder, IsFoundWithArchive, FindsWithArchive, WasRead, WereAsked, AskedOver, AskedIn, InArchive, AskedWithArchive, BookAskedWithArchive, AuditsWithArchive, AuditedWithArchive, LeavesBeside}
 use Rattle.acd_program.specs.Found.{HasCount, finding_line}
 use Rattle.acd_io.specs.Sent.{Begins}
 use Rattle.acd_program.specs.Ended.{IsShut, OnlyAsked}
@@ -67,6 +69,49 @@ archive_read old mid new found of read =
       answer = λ clean is. tt;
       stops = λ clean is c at. of.stops (read.step.clean clean) is c (read.unchanged.stops clean (sound clean is) c at);
     }
+
+-- the finding of a desk, without a count
+finds_uncounted : (a : Content) (s : Standing) (x : ArchiveAudit) → IsAuditWith a s.book.content x → IsDeskFindingWith a s (uncounted_with x)
+finds_uncounted a s audit.Sound h = h
+finds_uncounted a s (audit.SentAgain stamp) h = h
+finds_uncounted a s (audit.Differs place) h = h
+
+pub found_uncounted : (old_archive new_archive : BookState) (d e : Standing) (x : ArchiveAudit) (found : Finding) → found ≡ uncounted_with x → IsAuditedWith old_archive new_archive d.book e.book (Ok x)
+    → IsFoundWithArchive old_archive new_archive d e (Ok found)
+found_uncounted old_archive new_archive d e x found is audited = λ clean sound current_clean current_sound opened current_opened stands ordered.
+    subst (IsDeskFindingWith old_archive.content d) (sym is) (finds_uncounted old_archive.content d x (audited clean sound current_clean current_sound opened current_opened stands ordered))
+
+pub has_no_count : (counts : Bool) (x : ArchiveAudit) (found : Finding) → found ≡ uncounted_with x → counts ≡ false → HasCount counts found
+has_no_count counts x found is none = subst (HasCount counts) (sym is) (without x)
+  where
+    without : (x : ArchiveAudit) → HasCount counts (uncounted_with x)
+    without audit.Sound = none
+    without (audit.SentAgain stamp) = none
+    without (audit.Differs place) = tt
+
+-- with one
+finds_counted : (a : Content) (s : Standing) (x : ArchiveAudit) (count : ℕ) → IsAuditWith a s.book.content x → (InStep s → count ≡ s.book.content.rows.last_stamp) → IsDeskFindingWith a s (counted_with x count)
+finds_counted a s audit.Sound count h is = (h, is)
+finds_counted a s (audit.SentAgain stamp) count h is = (h, is)
+finds_counted a s (audit.Differs place) count h is = h
+
+pub found_counted : (old_archive new_archive : BookState) (d m e : Standing) (x : ArchiveAudit) (count : ℕ) (found : Finding) → found ≡ counted_with x count → IsAuditedWith old_archive new_archive d.book m.book (Ok x) → ReadDone d m (Ok x) Anything
+    → ReadDone m e (Ok count) (λ (c : Content) (n : ℕ). n ≡ c.rows.last_stamp) → IsFoundWithArchive old_archive new_archive d e (Ok found)
+found_counted old_archive new_archive d m e x count found is audited read counted = λ clean sound current_clean current_sound opened current_opened stands ordered.
+    let before : m.book.is_clean = counted.step.clean current_clean in
+    let up : m.book.is_open = read.stays before current_sound current_opened in
+    let same : m.book.content ≡ d.book.content = (read.unchanged.same before current_sound up).1 in
+    let of_step : InStep d → count ≡ d.book.content.rows.last_stamp
+    = λ step. counted.value current_clean (read.step.sound before current_sound) (read.desk.in_step before current_sound step) up ∙ ap (λ (c : Content). c.rows.last_stamp) same in
+    subst (IsDeskFindingWith old_archive.content d) (sym is) (finds_counted old_archive.content d x count (audited clean sound before current_sound opened current_opened stands ordered) of_step)
+
+pub has_a_count : (counts : Bool) (x : ArchiveAudit) (count : ℕ) (found : Finding) → found ≡ counted_with x count → counts ≡ true → HasCount counts found
+has_a_count counts x count found is some = subst (HasCount counts) (sym is) (with_count x)
+  where
+    with_count : (x : ArchiveAudit) → HasCount counts (counted_with x count)
+    with_count audit.Sound = some
+    with_count (audit.SentAgain stamp) = some
+    with_count (audit.Differs place) = tt
 
 -- what was found after the book that came of another was found after that one
 found_of : (old mid new : BookState) (d e : Standing) (found : Finding) → IsOf old mid → ReadsIfOpen mid new (Ok found) Anything → IsFoundWithArchive mid new d e (Ok found) → FindsWithArchive old new d e found
@@ -118,9 +163,11 @@ module _ {D : Type 0} (disk : Ghosts D) (IsFresh : Bool → D → Type 0) where
 
   -- ---- a desk over a book ----
 
-  plainly : (a : Content) (s : Standing) (x : Finding) → (IsSoundWith a s.book.content → InStep s) → IsDeskFindingWith a s x → IsFindingWith a s.book.content x
+  plainly : (a : Content) (s : Standing) (x : Finding) → (IsLedFrom a s.book.content → InStep s) → IsDeskFindingWith a s x → IsFindingWith a s.book.content x
   plainly a s Sound steps h = h
-  plainly a s (Counted count) steps h = (h.0, h.1 (steps h.0))
+  plainly a s (Counted count) steps h = (h.0, h.1 (steps (sound_is_led a s.book.content h.0)))
+  plainly a s (SentAgain stamp) steps h = h
+  plainly a s (SentAgainCounted stamp count) steps h = (h.0, h.1 (steps h.0.led))
   plainly a s (Differs place) steps h = h
 
   asked_both : (old_archive new_archive old : BookState) (d e : Standing) (found : Finding) → Opened old d → ReadDone d e (Ok found) Anything → WasRead old_archive new_archive × FindsWithArchive old_archive new_archive d e found
@@ -134,7 +181,7 @@ module _ {D : Type 0} (disk : Ghosts D) (IsFresh : Bool → D → Type 0) where
         let a : Content = old_archive.content in
         let finds : IsDeskFindingWith a d found = both.1 clean sound current_clean (o.step.sound before current_sound) at.1 stands (subst IsOrdered (sym at.2) ordered) in
         subst (λ (c : Content). IsFindingWith a c found) at.2
-        (plainly a d found (λ goes. o.in_step before current_sound (subst IsCounted at.2 (counted_with a d.book.content stands.counted goes))) finds);
+        (plainly a d found (λ goes. o.in_step before current_sound (subst IsCounted at.2 (counted_led a d.book.content stands.counted goes))) finds);
   }
 
   pub book_asked_with_archive : (old : BookState) (d e : Standing) (found : Finding) → Opened old d → AskedWithArchive disk IsFresh d e found → BookAskedWithArchive disk IsFresh IsFindingInOrder old e.book found

@@ -22,7 +22,7 @@ use Rattle.acd_program.specs.declared.fault.ArchiveFault.TheVariants as archive
 use Rattle.acd_program.specs.declared.fault.Fault.{Fault}
 use Rattle.acd_program.specs.declared.fault.Fault.TheVariants as fault
 use Rattle.acd_program.specs.declared.status.Status.{Status}
-use Rattle.acd_program.specs.declared.status.Status.TheVariants.{Success, Differs, EndsEarly}
+use Rattle.acd_program.specs.declared.status.Status.TheVariants.{Success, Differs, EndsEarly, SentAgain}
 use Rattle.acd_program.specs.declared.status.Exit.{Exit}
 use Rattle.acd_program.specs.declared.status.Exit.TheVariants.{Done, Failed, Refused, OpenElsewhere}
 
@@ -59,19 +59,23 @@ done_elsewhere status P is = absurd (other_done status is)
 
 -- ---- numbers
 
-pub at_most_five : (n : ℕ) (e : Exit) → n ≡ exit_number e → n ≤ 5
-at_most_five n (Done Success) is = omega (arith, is)
-at_most_five n (Done Differs) is = omega (arith, is)
-at_most_five n (Done EndsEarly) is = omega (arith, is)
-at_most_five n Failed is = omega (arith, is)
-at_most_five n Refused is = omega (arith, is)
-at_most_five n OpenElsewhere is = omega (arith, is)
+pub at_most_six : (n : ℕ) (e : Exit) → n ≡ exit_number e → n ≤ 6
+at_most_six n (Done Success) is = omega (arith, is)
+at_most_six n (Done Differs) is = omega (arith, is)
+at_most_six n (Done EndsEarly) is = omega (arith, is)
+at_most_six n (Done SentAgain) is = omega (arith, is)
+at_most_six n Failed is = omega (arith, is)
+at_most_six n Refused is = omega (arith, is)
+at_most_six n OpenElsewhere is = omega (arith, is)
 
 apart_three : ◌≡◌ {A = Status} Differs Success → ⊥
 apart_three is = cc
 
 apart_five : ◌≡◌ {A = Status} EndsEarly Success → ⊥
 apart_five is = cc
+
+apart_six : ◌≡◌ {A = Status} SentAgain Success → ⊥
+apart_six is = cc
 
 -- ---- a task
 
@@ -81,6 +85,7 @@ module _ (errors : Output) (n : ℕ) where
   task_success (Done Success) is (inr prints) none = inr prints.1
   task_success (Done Differs) is printed none = absurd (omega (arith, is, none))
   task_success (Done EndsEarly) is printed none = absurd (omega (arith, is, none))
+  task_success (Done SentAgain) is printed none = absurd (omega (arith, is, none))
   task_success Failed is printed none = absurd (omega (arith, is, none))
   task_success Refused is printed none = absurd (omega (arith, is, none))
   task_success OpenElsewhere is printed none = absurd (omega (arith, is, none))
@@ -90,6 +95,7 @@ module _ (errors : Output) (n : ℕ) where
   task_differs (Done Differs) is (inr prints) three = absurd (apart_three prints.0)
   task_differs (Done Success) is printed three = absurd (omega (arith, is, three))
   task_differs (Done EndsEarly) is printed three = absurd (omega (arith, is, three))
+  task_differs (Done SentAgain) is printed three = absurd (omega (arith, is, three))
   task_differs Failed is printed three = absurd (omega (arith, is, three))
   task_differs Refused is printed three = absurd (omega (arith, is, three))
   task_differs OpenElsewhere is printed three = absurd (omega (arith, is, three))
@@ -99,15 +105,27 @@ module _ (errors : Output) (n : ℕ) where
   task_early (Done EndsEarly) is (inr prints) five = absurd (apart_five prints.0)
   task_early (Done Success) is printed five = absurd (omega (arith, is, five))
   task_early (Done Differs) is printed five = absurd (omega (arith, is, five))
+  task_early (Done SentAgain) is printed five = absurd (omega (arith, is, five))
   task_early Failed is printed five = absurd (omega (arith, is, five))
   task_early Refused is printed five = absurd (omega (arith, is, five))
   task_early OpenElsewhere is printed five = absurd (omega (arith, is, five))
+
+  pub task_again : (e : Exit) → n ≡ exit_number e → IfDone e (PrintsOnSuccess errors) → n ≡ 6 → errors.unwritten
+  task_again (Done SentAgain) is (inl unwritten) six = unwritten
+  task_again (Done SentAgain) is (inr prints) six = absurd (apart_six prints.0)
+  task_again (Done Success) is printed six = absurd (omega (arith, is, six))
+  task_again (Done Differs) is printed six = absurd (omega (arith, is, six))
+  task_again (Done EndsEarly) is printed six = absurd (omega (arith, is, six))
+  task_again Failed is printed six = absurd (omega (arith, is, six))
+  task_again Refused is printed six = absurd (omega (arith, is, six))
+  task_again OpenElsewhere is printed six = absurd (omega (arith, is, six))
 
   pub task_elsewhere : (P : Type 0) (e : Exit) → n ≡ exit_number e → (e ≡ OpenElsewhere → P) → n ≡ 4 → P
   task_elsewhere P OpenElsewhere is h four = h refl
   task_elsewhere P (Done Success) is h four = absurd (omega (arith, is, four))
   task_elsewhere P (Done Differs) is h four = absurd (omega (arith, is, four))
   task_elsewhere P (Done EndsEarly) is h four = absurd (omega (arith, is, four))
+  task_elsewhere P (Done SentAgain) is h four = absurd (omega (arith, is, four))
   task_elsewhere P Failed is h four = absurd (omega (arith, is, four))
   task_elsewhere P Refused is h four = absurd (omega (arith, is, four))
 
@@ -131,6 +149,7 @@ module _ {S : Type 0} {host : calls.Ghosts Host} {known : start.Ghosts S} (disk 
   task_refused P (Done Success) is h two = absurd (omega (arith, is, two))
   task_refused P (Done Differs) is h two = absurd (omega (arith, is, two))
   task_refused P (Done EndsEarly) is h two = absurd (omega (arith, is, two))
+  task_refused P (Done SentAgain) is h two = absurd (omega (arith, is, two))
   task_refused P Failed is h two = absurd (omega (arith, is, two))
   task_refused P OpenElsewhere is h two = absurd (omega (arith, is, two))
 
@@ -141,12 +160,14 @@ module _ {S : Type 0} {host : calls.Ghosts Host} {known : start.Ghosts S} (disk 
       by : n ≡ 1 → IsDone n → ⊥
       by one (inl none) = omega (arith, one, none)
       by one (inr (inl three)) = omega (arith, one, three)
-      by one (inr (inr five)) = omega (arith, one, five)
+      by one (inr (inr (inl five))) = omega (arith, one, five)
+      by one (inr (inr (inr six))) = omega (arith, one, six)
 
       other_by : n ≡ 4 → IsDone n → ⊥
       other_by four (inl none) = omega (arith, four, none)
       other_by four (inr (inl three)) = omega (arith, four, three)
-      other_by four (inr (inr five)) = omega (arith, four, five)
+      other_by four (inr (inr (inl five))) = omega (arith, four, five)
+      other_by four (inr (inr (inr six))) = omega (arith, four, six)
 
   pub task_done : (e : Exit) → n ≡ exit_number e → ExitsTask disk task io errors e → DoneOrHelp disk words io errors n
   task_done e is (inl h) = λ done. inr (task, named, h.0, is ∙ ap exit_number h.1, h.2)
@@ -159,6 +180,8 @@ module _ {S : Type 0} {host : calls.Ghosts Host} {known : start.Ghosts S} (disk 
   sound Differs is (inr one) = omega (arith, is, one)
   sound EndsEarly is (inl four) = omega (arith, is, four)
   sound EndsEarly is (inr one) = omega (arith, is, one)
+  sound SentAgain is (inl four) = omega (arith, is, four)
+  sound SentAgain is (inr one) = omega (arith, is, one)
 
   pub task_ended : (e : Exit) → n ≡ exit_number e → ExitsTask disk task io errors e → FaultEnded disk words io errors.before n
   task_ended e is (inl h) = (λ four. absurd (sound h.0 (is ∙ ap exit_number h.1) (inl four)), λ one. absurd (sound h.0 (is ∙ ap exit_number h.1) (inr one)))
@@ -185,13 +208,16 @@ module _ (words : List Text) (kind : ErrorKind) (refused : IsRefusedBy words kin
   done_number : (status : Status) → status ≡ Success → n ≡ exit_number (Done status) → n ≡ 0
   done_number status success is = is ∙ ap (λ (s : Status). exit_number (Done s)) success
 
-  pub none_odd : (P : Type 0) (e : Exit) → n ≡ exit_number e → ExitsWithoutTask kind out errors e → (n ≡ 3) ⊎ (n ≡ 5) → P
+  pub none_odd : (P : Type 0) (e : Exit) → n ≡ exit_number e → ExitsWithoutTask kind out errors e → (n ≡ 3) ⊎ ((n ≡ 5) ⊎ (n ≡ 6)) → P
   none_odd P (Done status) is h (inl three) = let none = done_number status h.0 is in absurd (omega (arith, none, three))
-  none_odd P (Done status) is h (inr five) = let none = done_number status h.0 is in absurd (omega (arith, none, five))
+  none_odd P (Done status) is h (inr (inl five)) = let none = done_number status h.0 is in absurd (omega (arith, none, five))
+  none_odd P (Done status) is h (inr (inr six)) = let none = done_number status h.0 is in absurd (omega (arith, none, six))
   none_odd P Failed is h (inl three) = absurd (omega (arith, is, three))
-  none_odd P Failed is h (inr five) = absurd (omega (arith, is, five))
+  none_odd P Failed is h (inr (inl five)) = absurd (omega (arith, is, five))
+  none_odd P Failed is h (inr (inr six)) = absurd (omega (arith, is, six))
   none_odd P Refused is h (inl three) = absurd (omega (arith, is, three))
-  none_odd P Refused is h (inr five) = absurd (omega (arith, is, five))
+  none_odd P Refused is h (inr (inl five)) = absurd (omega (arith, is, five))
+  none_odd P Refused is h (inr (inr six)) = absurd (omega (arith, is, six))
   none_odd P OpenElsewhere is h odd = absurd h
 
   pub none_refused : (e : Exit) → n ≡ exit_number e → ExitsWithoutTask kind out errors e → n ≡ 2 → io.unread × out.unwritten
@@ -213,13 +239,15 @@ module _ (words : List Text) (kind : ErrorKind) (refused : IsRefusedBy words kin
       by : IsDone n → ⊥
       by (inl none) = omega (arith, is, none)
       by (inr (inl three)) = omega (arith, is, three)
-      by (inr (inr five)) = omega (arith, is, five)
+      by (inr (inr (inl five))) = omega (arith, is, five)
+      by (inr (inr (inr six))) = omega (arith, is, six)
   none_done disk Refused is h = λ done. absurd (by done)
     where
       by : IsDone n → ⊥
       by (inl none) = omega (arith, is, none)
       by (inr (inl three)) = omega (arith, is, three)
-      by (inr (inr five)) = omega (arith, is, five)
+      by (inr (inr (inl five))) = omega (arith, is, five)
+      by (inr (inr (inr six))) = omega (arith, is, six)
   none_done disk OpenElsewhere is h = absurd h
 
   pub none_ended : {S : Type 0} {host : calls.Ghosts Host} {known : start.Ghosts S} (disk : Ghosts (Modelled Host S host known)) (e : Exit) → n ≡ exit_number e → ExitsWithoutTask kind out errors e → FaultEnded disk words io errors.before n

@@ -13,17 +13,19 @@ use Rattle.acd_desk.specs.Stands.{IsSound}
 use Rattle.acd_log.specs.declared.ending.Ending.{Ending}
 use Rattle.acd_log.specs.declared.ending.Ending.TheVariants.{Plain, Early, Headless}
 use Rattle.acd_program.specs.declared.auditing.Finding.{Finding}
-use Rattle.acd_program.specs.declared.auditing.Finding.TheVariants.{Sound, Counted, Differs}
+use Rattle.acd_program.specs.declared.auditing.Finding.TheVariants.{Sound, Counted, SentAgain, SentAgainCounted, Differs}
 
 -- an audit, without a count
 abbrev pub uncounted : Audit → Finding
 uncounted audit.Sound = Sound
 uncounted (audit.Differs place) = Differs place
 
--- it is the audit of a content that is in order; a desk that is in step with it counts its kept records
+-- it is the audit of a content that is in order; a desk that is in step with it counts its kept records. Without an archive it is not known which request was sent again
 abbrev pub IsFinding : Standing → Finding → Type 0
 IsFinding s Sound = IsOrdered s.book.content → IsSound s.book.content
 IsFinding s (Counted count) = IsOrdered s.book.content → IsSound s.book.content × (InStep s → count ≡ length s.book.content.kept)
+IsFinding s (SentAgain stamp) = ⊥
+IsFinding s (SentAgainCounted stamp count) = ⊥
 IsFinding s (Differs place) = IsOrdered s.book.content → IsFirstDifference s.book.content place
 
 -- an audit of a desk finds it
@@ -34,12 +36,16 @@ AuditsDesk book old new result = IfHonest (standing book old).book (standing boo
 abbrev pub IsFindingOf : Content → Finding → Type 0
 IsFindingOf c Sound = IsSound c
 IsFindingOf c (Counted count) = IsSound c × (count ≡ length c.kept)
+IsFindingOf c (SentAgain stamp) = ⊥
+IsFindingOf c (SentAgainCounted stamp count) = ⊥
 IsFindingOf c (Differs place) = IsFirstDifference c place × (¬ IsSound c)
 
 -- a sound content has a count where one is asked for
 abbrev pub HasCount : Bool → Finding → Type 0
 HasCount counts Sound = counts ≡ false
 HasCount counts (Counted count) = counts ≡ true
+HasCount counts (SentAgain stamp) = counts ≡ false
+HasCount counts (SentAgainCounted stamp count) = counts ≡ true
 HasCount counts (Differs place) = ⊤
 
 -- the line of a sound content, by how the log of its file ended
@@ -48,10 +54,22 @@ sound_line Plain = codes "sound\n"
 sound_line Early = codes "sound, but its log ends early\n"
 sound_line Headless = codes "sound, but the head of its log can't be read\n"
 
+-- a number between two texts
+abbrev pub number_between : List ℕ → ℕ → List ℕ → List ℕ
+number_between front number back = front ++ (decimal number ++ back)
+
+-- the line of a content that is sound but for a request that was sent again; a log that ends early comes first
+abbrev pub again_line : Ending → ℕ → List ℕ
+again_line Plain stamp = number_between (codes "sound, but request ") stamp (codes " was sent again\n")
+again_line Early stamp = sound_line Early
+again_line Headless stamp = sound_line Headless
+
 -- as it is printed
 abbrev pub finding_line : Ending → Finding → List ℕ
 finding_line ending Sound = sound_line ending
 finding_line ending (Counted count) = sound_line ending ++ (codes "executed " ++ (decimal count ++ 10 ∷ []))
+finding_line ending (SentAgain stamp) = again_line ending stamp
+finding_line ending (SentAgainCounted stamp count) = again_line ending stamp ++ (codes "executed " ++ (decimal count ++ 10 ∷ []))
 finding_line ending (Differs place) = codes "differs at request " ++ (decimal place ++ 10 ∷ [])
 
 -- a line that ends in a number
@@ -61,3 +79,7 @@ number_line front number = front ++ (decimal number ++ 10 ∷ [])
 -- the lines of a sound content of which so many requests were executed
 abbrev pub counted_line : Ending → ℕ → List ℕ
 counted_line ending count = finding_line ending (Counted count)
+
+-- and of one that is sound but for a request that was sent again
+abbrev pub again_counted_line : Ending → ℕ → ℕ → List ℕ
+again_counted_line ending stamp count = finding_line ending (SentAgainCounted stamp count)

@@ -6,7 +6,7 @@ use Rattle.acd_io.specs.Sent.{Begins}
 use Rattle.acd_log.specs.declared.ending.Ending.{Ending}
 use Rattle.acd_log.specs.declared.ending.Ending.TheVariants as log
 use Rattle.acd_program.specs.declared.auditing.Finding.{Finding}
-use Rattle.acd_program.specs.declared.auditing.Finding.TheVariants.{Sound, Counted}
+use Rattle.acd_program.specs.declared.auditing.Finding.TheVariants.{Sound, Counted, SentAgainCounted}
 use Rattle.acd_program.specs.declared.auditing.Finding.TheVariants as finding
 use Rattle.acd_program.specs.declared.fault.LookFault.{LookFault}
 use Rattle.acd_program.specs.declared.fault.LookFault.TheVariants as look
@@ -17,7 +17,7 @@ use Rattle.acd_program.specs.declared.fault.ArchiveFault.TheVariants as archive
 use Rattle.acd_program.specs.declared.fault.Fault.{Fault}
 use Rattle.acd_program.specs.declared.fault.Fault.TheVariants as fault
 use Rattle.acd_program.specs.declared.status.Status.{Status}
-use Rattle.acd_program.specs.declared.status.Status.TheVariants.{Success, Differs, EndsEarly}
+use Rattle.acd_program.specs.declared.status.Status.TheVariants.{Success, Differs, EndsEarly, SentAgain}
 use Rattle.acd_program.specs.declared.status.Exit.{Exit}
 use Rattle.acd_program.specs.declared.status.Exit.TheVariants as exit
 use Rattle.acd_http.specs.Listening.{Outcome, outcome_lines}
@@ -27,15 +27,16 @@ use Rattle.acd_program.specs.Output.{Output}
 abbrev pub IsHelp : ErrorKind → Type 0
 IsHelp kind = (kind ≡ DisplayHelp) ⊎ (kind ≡ DisplayVersion)
 
--- no fault: success, the difference that an audit found, or that a sound desk's log ends early
+-- no fault: success, the difference that an audit found, that a sound desk's log ends early, or that requests were sent again to one
 abbrev pub IsDone : ℕ → Type 0
-IsDone status = (status ≡ 0) ⊎ ((status ≡ 3) ⊎ (status ≡ 5))
+IsDone status = (status ≡ 0) ⊎ ((status ≡ 3) ⊎ ((status ≡ 5) ⊎ (status ≡ 6)))
 
 -- the number of a task's status
 abbrev pub status_number : Status → ℕ
 status_number Success = 0
 status_number Differs = 3
 status_number EndsEarly = 5
+status_number SentAgain = 6
 
 -- the number that the process ends with
 abbrev pub exit_number : Exit → ℕ
@@ -50,10 +51,18 @@ sound_status log.Plain = Success
 sound_status log.Early = EndsEarly
 sound_status log.Headless = EndsEarly
 
+-- and of one that is sound but for a request that was sent again
+abbrev pub again_status : Ending → Status
+again_status log.Plain = SentAgain
+again_status log.Early = EndsEarly
+again_status log.Headless = EndsEarly
+
 -- the status for what an audit found
 abbrev pub finding_status : Ending → Finding → Status
 finding_status ending Sound = sound_status ending
 finding_status ending (Counted count) = sound_status ending
+finding_status ending (finding.SentAgain stamp) = again_status ending
+finding_status ending (SentAgainCounted stamp count) = again_status ending
 finding_status ending (finding.Differs place) = Differs
 
 -- how a command ends by a fault: another program has the file, or not

@@ -1,5 +1,5 @@
 -- What an audit of a desk with the archive that it goes on from finds, from the desk on to the database.
-use Rattle.std.specs.Prelude.{◌≡◌, Bool, false, Result, Ok, IfOk}
+use Rattle.std.specs.Prelude.{◌≡◌, ℕ, Bool, false, Result, Ok, IfOk}
 use Rattle.sqlite.specs.State.{State}
 use Rattle.sqlite.specs.Held.{Held, state}
 use Rattle.sqlite.specs.Files.{file_state}
@@ -9,8 +9,10 @@ use Rattle.acd_book.specs.declared.book.Book as book
 use Rattle.acd_book.specs.Content.{Content}
 use Rattle.acd_book.specs.Order.{IsOrdered}
 use Rattle.acd_book.specs.State.{BookState, IfHonest}
+use Rattle.acd_desk.specs.declared.audit.ArchiveAudit.{ArchiveAudit}
+use Rattle.acd_desk.specs.declared.audit.ArchiveAudit.TheVariants as audit
 use Rattle.acd_desk.specs.declared.audit.AuditFault.{AuditFault}
-use Rattle.acd_desk.specs.AuditWith.{StandsInTime, IsDifferenceWith}
+use Rattle.acd_desk.specs.AuditWith.{StandsInTime, IsSentAgain, IsDifferenceWith}
 use Rattle.acd_desk.specs.BookReading.{Anything}
 use Rattle.acd_desk.specs.declared.desk.Desk.{Desk}
 use Rattle.acd_desk.specs.Standing.{Standing, InStep, standing}
@@ -18,7 +20,7 @@ use Rattle.acd_desk.specs.ReadDone.{ReadDone}
 use Rattle.acd_desk.specs.WithArchive.{IsSoundWith}
 use Rattle.acd_log.specs.declared.ending.Ending.{Ending}
 use Rattle.acd_program.specs.declared.auditing.Finding.{Finding}
-use Rattle.acd_program.specs.declared.auditing.Finding.TheVariants.{Sound, Counted, Differs}
+use Rattle.acd_program.specs.declared.auditing.Finding.TheVariants.{Sound, Counted, SentAgain, SentAgainCounted, Differs}
 use Rattle.acd_program.specs.declared.desk.Done.{Done}
 use Rattle.acd_program.specs.declared.desk.Done.TheVariants as left
 use Rattle.acd_program.specs.declared.fault.ArchiveFault.{ArchiveFault}
@@ -31,17 +33,32 @@ use Rattle.acd_program.specs.InFiles.{OfFiles, IsLaidIn, IsOpenedFrom, LeavesUno
 use Rattle.acd_program.specs.Over.{Database, OverConnection, Unserved}
 use Rattle.acd_program.specs.Work.{WasAsked}
 
--- the content continues that of the archive, with so many executed requests in both; or it doesn't, and this is the stamp of a
+-- an audit with an archive, without a count, and with one
+abbrev pub uncounted_with : ArchiveAudit → Finding
+uncounted_with audit.Sound = Sound
+uncounted_with (audit.SentAgain stamp) = SentAgain stamp
+uncounted_with (audit.Differs place) = Differs place
+
+abbrev pub counted_with : ArchiveAudit → ℕ → Finding
+counted_with audit.Sound count = Counted count
+counted_with (audit.SentAgain stamp) count = SentAgainCounted stamp count
+counted_with (audit.Differs place) count = Differs place
+
+-- the content continues that of the archive, also where a request that was left there was sent again, with so many executed requests in both; or it doesn't, and this is the stamp of a
 -- difference
 abbrev pub IsFindingWith : Content → Content → Finding → Type 0
 IsFindingWith a c Sound = IsSoundWith a c
 IsFindingWith a c (Counted count) = IsSoundWith a c × (count ≡ c.rows.last_stamp)
+IsFindingWith a c (SentAgain stamp) = IsSentAgain a c stamp
+IsFindingWith a c (SentAgainCounted stamp count) = IsSentAgain a c stamp × (count ≡ c.rows.last_stamp)
 IsFindingWith a c (Differs place) = IsDifferenceWith a c place
 
 -- the same of a desk: one that is in step counts its executed requests
 abbrev pub IsDeskFindingWith : Content → Standing → Finding → Type 0
 IsDeskFindingWith a s Sound = IsSoundWith a s.book.content
 IsDeskFindingWith a s (Counted count) = IsSoundWith a s.book.content × (InStep s → count ≡ s.book.content.rows.last_stamp)
+IsDeskFindingWith a s (SentAgain stamp) = IsSentAgain a s.book.content stamp
+IsDeskFindingWith a s (SentAgainCounted stamp count) = IsSentAgain a s.book.content stamp × (InStep s → count ≡ s.book.content.rows.last_stamp)
 IsDeskFindingWith a s (Differs place) = IsDifferenceWith a s.book.content place
 
 -- of an archive that keeps to time, as each sound one does, this is found

@@ -4,11 +4,11 @@ ghost use Rattle.std.specs.Prelude.{◌≡◌, IfOk};
 ghost use Rattle.acd_desk.specs.AuditedWith.{desk_part, archive_part};
 ghost use Rattle.acd_desk.specs.BookReading.{Anything, MayRead};
 ghost use Rattle.acd_desk.specs.ReadDone.{DeskRead};
-ghost use Rattle.acd_program.specs.WithArchive.{FindsWith};
+ghost use Rattle.acd_program.specs.WithArchive.{uncounted_with, counted_with, FindsWith};
 ghost use Rattle.acd_program.specs.Found.{uncounted, AuditsDesk, HasCount};
 
 use acd_book::Book;
-use acd_desk::{Audit, AuditFault, Desk, DeskFault};
+use acd_desk::{ArchiveAudit, Audit, AuditFault, Desk, DeskFault};
 
 /// The finding of an audit.
 #[derive(Clone, Copy, Debug, PartialEq, Eq)]
@@ -16,6 +16,10 @@ pub(crate) enum Finding {
     Sound,
     /// Sound, and how many requests were executed.
     Counted(u64),
+    /// Sound beside its archive, but that requests were sent again which were left there: the stamp of the first of them.
+    SentAgain(u64),
+    /// The same, and how many requests were executed.
+    SentAgainCounted(u64, u64),
     /// The first request whose record or events differ.
     Differs(u64),
 }
@@ -45,6 +49,26 @@ pub(crate) fn audited<B: Book>(desk: &mut Desk<B>, counts: bool) -> Result<Findi
     }
 }
 
+fn uncounted_with(audit: ArchiveAudit) -> Finding
+    ensures { result ≡ uncounted_with audit }
+{
+    match audit {
+        ArchiveAudit::Sound => Finding::Sound,
+        ArchiveAudit::SentAgain(stamp) => Finding::SentAgain(stamp),
+        ArchiveAudit::Differs(place) => Finding::Differs(place),
+    }
+}
+
+fn counted_with(audit: ArchiveAudit, count: u64) -> Finding
+    ensures { result ≡ counted_with audit count }
+{
+    match audit {
+        ArchiveAudit::Sound => Finding::Counted(count),
+        ArchiveAudit::SentAgain(stamp) => Finding::SentAgainCounted(stamp, count),
+        ArchiveAudit::Differs(place) => Finding::Differs(place),
+    }
+}
+
 /// Audits what the desk's book holds with the archive that it goes on from.
 pub(crate) fn audited_with_archive<A: Book, B: Book>(
     desk: &mut Desk<B>,
@@ -57,11 +81,11 @@ pub(crate) fn audited_with_archive<A: Book, B: Book>(
     ensures counted { IfOk result (HasCount counts) }
 {
     let read = desk.audit_with(archive)?;
-    match read {
-        Audit::Sound if counts => match desk.executed() {
-            Ok(count) => Ok(Finding::Counted(count)),
-            Err(fault) => Err(AuditFault::Desk(fault)),
-        },
-        read => Ok(uncounted(read)),
+    if !counts {
+        return Ok(uncounted_with(read));
+    }
+    match desk.executed() {
+        Ok(count) => Ok(counted_with(read, count)),
+        Err(fault) => Err(AuditFault::Desk(fault)),
     }
 }

@@ -2,9 +2,9 @@
 
 ghost use Rattle.std.specs.Prelude.{◌≡◌, OnOk, OnErr, IfOk};
 ghost use Rattle.acd_io.specs.Sent.{Sends};
-ghost use Rattle.acd_program.specs.Found.{sound_line, number_line, counted_line, finding_line};
+ghost use Rattle.acd_program.specs.Found.{number_between, sound_line, number_line, counted_line, again_line, again_counted_line, finding_line};
 ghost use Rattle.acd_program.specs.Output.{output};
-ghost use Rattle.acd_program.specs.Statuses.{sound_status, finding_status};
+ghost use Rattle.acd_program.specs.Statuses.{sound_status, again_status, finding_status};
 ghost use Rattle.acd_program.specs.Work.{text_left, status_left, PrintsAll, PrintsPart};
 
 use crate::auditing::Finding;
@@ -19,6 +19,23 @@ use std::io::Write;
 // How often the writer is called at most.
 const CALLS: u64 = u64::MAX;
 
+// Writes a number between two texts.
+fn send_between<W: Write>(
+    writer: &mut W,
+    front: &[u8],
+    number: u64,
+    back: &[u8],
+) -> Result<(), Stopped>
+    ensures { Sends W.contents writer.old writer.new result
+        (number_between front.now number back.now) }
+{
+    let mut calls = CALLS;
+    let mut digits = Buffer::new();
+    send(writer, &mut calls, front)?;
+    send(writer, &mut calls, digits.format(number).as_bytes())?;
+    send(writer, &mut calls, back)
+}
+
 /// Writes a line that ends in a number.
 pub(crate) fn send_number<W: Write>(
     writer: &mut W,
@@ -27,11 +44,7 @@ pub(crate) fn send_number<W: Write>(
 ) -> Result<(), Stopped>
     ensures { Sends W.contents writer.old writer.new result (number_line front.now number) }
 {
-    let mut calls = CALLS;
-    let mut digits = Buffer::new();
-    send(writer, &mut calls, front)?;
-    send(writer, &mut calls, digits.format(number).as_bytes())?;
-    send(writer, &mut calls, b"\n")
+    send_between(writer, front, number, b"\n")
 }
 
 // The line of a sound desk, of whose file the log ended so.
@@ -54,6 +67,32 @@ fn send_counted<W: Write>(ending: Ending, count: u64, writer: &mut W) -> Result<
     send_number(writer, b"executed ", count)
 }
 
+// Writes the line of a desk that is sound but for a request that was sent again; a log that ends early comes first.
+fn send_again<W: Write>(ending: Ending, stamp: u64, writer: &mut W) -> Result<(), Stopped>
+    ensures { Sends W.contents writer.old writer.new result (again_line ending stamp) }
+{
+    let mut calls = CALLS;
+    match ending {
+        Ending::Plain => send_between(writer, b"sound, but request ", stamp, b" was sent again\n"),
+        Ending::Early => send(writer, &mut calls, sound_line(ending).as_bytes()),
+        Ending::Headless => send(writer, &mut calls, sound_line(ending).as_bytes()),
+    }
+}
+
+// Writes that, and how many requests were executed.
+fn send_again_counted<W: Write>(
+    ending: Ending,
+    stamp: u64,
+    count: u64,
+    writer: &mut W,
+) -> Result<(), Stopped>
+    ensures { Sends W.contents writer.old writer.new result
+        (again_counted_line ending stamp count) }
+{
+    send_again(ending, stamp, writer)?;
+    send_number(writer, b"executed ", count)
+}
+
 // Writes the finding of an audit, as a line or two.
 fn send_finding<W: Write>(found: Finding, ending: Ending, writer: &mut W) -> Result<(), Stopped>
     ensures { Sends W.contents writer.old writer.new result (finding_line ending found) }
@@ -62,6 +101,10 @@ fn send_finding<W: Write>(found: Finding, ending: Ending, writer: &mut W) -> Res
     match found {
         Finding::Sound => send(writer, &mut calls, sound_line(ending).as_bytes()),
         Finding::Counted(count) => send_counted(ending, count, writer),
+        Finding::SentAgain(stamp) => send_again(ending, stamp, writer),
+        Finding::SentAgainCounted(stamp, count) => {
+            send_again_counted(ending, stamp, count, writer)
+        }
         Finding::Differs(place) => send_number(writer, b"differs at request ", place),
     }
 }
@@ -88,6 +131,17 @@ fn sound_status(ending: Ending) -> Status
     }
 }
 
+// The exit status of one that is sound but for a request that was sent again.
+fn again_status(ending: Ending) -> Status
+    ensures { result ≡ again_status ending }
+{
+    match ending {
+        Ending::Plain => Status::SentAgain,
+        Ending::Early => sound_status(ending),
+        Ending::Headless => sound_status(ending),
+    }
+}
+
 // The exit status of an audit's finding. A difference is no fault.
 fn status_of(found: Finding, ending: Ending) -> Status
     ensures { result ≡ finding_status ending found }
@@ -95,6 +149,8 @@ fn status_of(found: Finding, ending: Ending) -> Status
     match found {
         Finding::Sound => sound_status(ending),
         Finding::Counted(_) => sound_status(ending),
+        Finding::SentAgain(_) => again_status(ending),
+        Finding::SentAgainCounted(_, _) => again_status(ending),
         Finding::Differs(_) => Status::Differs,
     }
 }

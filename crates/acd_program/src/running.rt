@@ -370,7 +370,8 @@ fn print_error<W: Write, E: Write>(
 
 /// Does what the words ask for; the first is the program's name. It answers the exit status: 0 for success, 1 for a
 /// fault, which is one line on `errors`, 2 for a command line that it refuses, 3 for an audit that finds a difference,
-/// 4, with a fault's line, where the file is open elsewhere, and 5 where a sound desk's log is damaged.
+/// 4, with a fault's line, where the file is open elsewhere, 5 where a sound desk's log is damaged, and 6 where an audit
+/// with an archive finds that requests were sent again.
 pub fn program<S: AsStr, R: Read, W: Write, E: Write>(
     rt: &HostRuntime,
     words: &[S],
@@ -385,11 +386,13 @@ pub fn program<S: AsStr, R: Read, W: Write, E: Write>(
     ensures differs { result ≡ 3 → errors.new ≡ errors.old }
     // nor does a log that ends early
     ensures early { result ≡ 5 → errors.new ≡ errors.old }
+    // nor do requests that were sent again
+    ensures again { result ≡ 6 → errors.new ≡ errors.old }
     // for a command line that is refused nothing is read, and nothing is written but why
     ensures refused { result ≡ 2 → (reader.new ≡ reader.old) × (writer.new ≡ writer.old) }
     // and it is one that the library of command lines doesn't take, or that names no task
     ensures untaken { result ≡ 2 → IsRefused (map S.text words.now) }
-    ensures known { result ≤ 5 }
+    ensures known { result ≤ 6 }
     // such a status is that of the task which the words name, done so, or help was asked for, and nothing was read
     ensures done { DoneOrHelp ⟦<File as Disk>⟧ (map S.text words.now)
         (streams R.remaining W.contents (reader.old, reader.new) (writer.old, writer.new))

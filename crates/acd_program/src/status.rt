@@ -11,6 +11,8 @@ pub(crate) enum Status {
     Differs,
     /// An audit found the desk sound, and its log damaged.
     EndsEarly,
+    /// An audit with the archive found the desk sound, but that requests were sent again.
+    SentAgain,
 }
 
 /// How a command ended.
@@ -34,6 +36,7 @@ impl Status {
             Status::Success => 0,
             Status::Differs => 3,
             Status::EndsEarly => 5,
+            Status::SentAgain => 6,
         }
     }
 }

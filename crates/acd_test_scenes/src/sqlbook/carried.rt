@@ -8,7 +8,7 @@ use crate::altered::database;
 use crate::look_ups::same;
 use crate::shelf::{book_in, changed};
 use crate::texts::{halves, number, part_of};
-use acd_desk::{Audit, AuditFault, Desk, OpenFault};
+use acd_desk::{ArchiveAudit, AuditFault, Desk, OpenFault};
 use acd_terms::Rule;
 use sqlite::{Connection, MemStore};
 use std::alloc::Global;
@@ -23,7 +23,7 @@ fn parts() -> &'static [u8] {
 < 200 {"invoke":1,"requester":"clock","result":{}}
 = 11 SELECT max(stamp) FROM kept
 
-changes: The stamp that the audit says, which of both is changed, and how: records and events that both have, first of all and last; newer ones; tables, counters and limits; and a key that only the archive has.
+changes: The stamp that the audit says, which of both is changed, and how: records and events that both have, first of all and last; newer ones; tables, counters and limits; and what comes after a request that was sent again.
 9 file UPDATE kept SET status = 409 WHERE stamp = 9
 9 archive UPDATE kept SET status = 409 WHERE stamp = 9
 8 file UPDATE kept SET moment = 17 WHERE stamp = 8
@@ -43,7 +43,13 @@ changes: The stamp that the audit says, which of both is changed, and how: recor
 12 archive UPDATE meta SET last_call = 2
 12 file UPDATE meta SET max_calls = 1999
 12 archive UPDATE meta SET max_calls = 1999
-10 file UPDATE kept SET invoke = 1, request = '{"call":1,"device":"0301234","invoke":1,"requester":"pbx","service":"clearConnection"}', body = '{"invoke":1,"requester":"pbx","result":{}}' WHERE stamp = 10"#
+11 file UPDATE kept SET invoke = 1, request = '{"call":1,"device":"0301234","invoke":1,"requester":"pbx","service":"clearConnection"}', body = '{"invoke":1,"requester":"pbx","result":{}}' WHERE stamp = 10; UPDATE kept SET status = 409 WHERE stamp = 11
+12 file UPDATE kept SET invoke = 1, request = '{"call":1,"device":"0301234","invoke":1,"requester":"pbx","service":"clearConnection"}', body = '{"invoke":1,"requester":"pbx","result":{}}' WHERE stamp = 10; UPDATE acd_groups SET name = 'Bills'
+
+again: The same of keys that only the archive has: the first request that was sent again.
+10 file UPDATE kept SET invoke = 1, request = '{"call":1,"device":"0301234","invoke":1,"requester":"pbx","service":"clearConnection"}', body = '{"invoke":1,"requester":"pbx","result":{}}' WHERE stamp = 10
+11 file UPDATE kept SET requester = 'desk', request = '{"invoke":1,"requester":"desk","service":"tick"}', body = '{"invoke":1,"requester":"desk","result":{}}' WHERE stamp = 11
+10 file UPDATE kept SET invoke = 1, request = '{"call":1,"device":"0301234","invoke":1,"requester":"pbx","service":"clearConnection"}', body = '{"invoke":1,"requester":"pbx","result":{}}' WHERE stamp = 10; UPDATE kept SET requester = 'desk', request = '{"invoke":1,"requester":"desk","service":"tick"}', body = '{"invoke":1,"requester":"desk","result":{}}' WHERE stamp = 11"#
 }
 
 /// The archive that an older program left, in tables of version 2.
@@ -73,7 +79,7 @@ pub fn audit_with_archive(
     alloc: Global,
     archive: Connection<MemStore>,
     file: Connection<MemStore>,
-) -> Result<Audit, AuditFault> {
+) -> Result<ArchiveAudit, AuditFault> {
     let mut archive = book_in(rt, alloc, archive, None);
     match Desk::open(alloc, book_in(rt, alloc, file, None)) {
         Ok(mut desk) => desk.audit_with(&mut archive),
@@ -87,9 +93,24 @@ fn audit_after_changes(
     alloc: Global,
     first: &str,
     second: &str,
-) -> Result<Audit, AuditFault> {
+) -> Result<ArchiveAudit, AuditFault> {
     let archive = changed(rt, archive(rt, alloc), first);
     audit_with_archive(rt, alloc, archive, changed(rt, carried(rt, alloc), second))
+}
+
+// A line of changes: the stamp that the audit has to say, and what it says.
+fn audit_after_line(
+    rt: &impl Abort,
+    alloc: Global,
+    line: &str,
+) -> (u64, Result<ArchiveAudit, AuditFault>) {
+    let (place, change) = halves(rt, line);
+    let (of, sql) = halves(rt, change);
+    let (first, second) = if of == "file" { ("", sql) } else { (sql, "") };
+    (
+        number(rt, place),
+        audit_after_changes(rt, alloc, first, second),
+    )
 }
 
 #[test]
@@ -98,14 +119,20 @@ fn differences_from_an_archive(rt: HostRuntime) {
     same(
         &rt,
         &audit_after_changes(&rt, alloc, "", ""),
-        &Ok(Audit::Sound),
+        &Ok(ArchiveAudit::Sound),
     );
     for line in part_of(&rt, parts(), "changes").lines() {
-        let (place, change) = halves(&rt, line);
-        let (of, sql) = halves(&rt, change);
-        let (first, second) = if of == "file" { ("", sql) } else { (sql, "") };
-        let found = audit_after_changes(&rt, alloc, first, second);
-        same(&rt, &found, &Ok(Audit::Differs(number(&rt, place))));
+        let (place, found) = audit_after_line(&rt, alloc, line);
+        same(&rt, &found, &Ok(ArchiveAudit::Differs(place)));
+    }
+}
+
+#[test]
+fn requests_that_were_sent_again(rt: HostRuntime) {
+    let alloc = rt.alloc();
+    for line in part_of(&rt, parts(), "again").lines() {
+        let (place, found) = audit_after_line(&rt, alloc, line);
+        same(&rt, &found, &Ok(ArchiveAudit::SentAgain(place)));
     }
 }
 
@@ -114,12 +141,12 @@ fn differences_from_an_archive(rt: HostRuntime) {
 fn wrong_archives(rt: HostRuntime) {
     let alloc = rt.alloc();
     let found = audit_with_archive(&rt, alloc, archive(&rt, alloc), whole(&rt, alloc));
-    same(&rt, &found, &Ok(Audit::Sound));
+    same(&rt, &found, &Ok(ArchiveAudit::Sound));
     let found = audit_with_archive(&rt, alloc, carried(&rt, alloc), archive(&rt, alloc));
-    same(&rt, &found, &Ok(Audit::Differs(1)));
+    same(&rt, &found, &Ok(ArchiveAudit::Differs(1)));
     let new = created(&rt, alloc, database(&rt, alloc)).into_connection();
     let found = audit_with_archive(&rt, alloc, new, carried(&rt, alloc));
-    same(&rt, &found, &Ok(Audit::Differs(1)));
+    same(&rt, &found, &Ok(ArchiveAudit::Differs(1)));
     let broken = "UPDATE acd_groups SET entered = 0";
     let found = audit_after_changes(&rt, alloc, broken, "");
     let rows = OpenFault::Rows(Rule::Counters);

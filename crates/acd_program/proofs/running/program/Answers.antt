@@ -1,7 +1,7 @@
 use Rattle.std.proofs.Common.{inl, inr, refl, map, ap}
 use Rattle.acd_lines.specs.Lines.{streams}
 use Rattle.acd_program.specs.Output.{output}
-use Rattle.acd_program.proofs.Exits.{at_most_five, task_success, task_differs, task_early, task_refused, task_elsewhere, task_done, task_ended, none_success, none_odd, none_refused, none_untaken, none_done, none_ended, none_elsewhere}
+use Rattle.acd_program.proofs.Exits.{at_most_six, task_success, task_differs, task_early, task_again, task_refused, task_elsewhere, task_done, task_ended, none_success, none_odd, none_refused, none_untaken, none_done, none_ended, none_elsewhere}
 use Rattle.acd_program.proofs.running.program.Goals as goal
 
 pub returns-in-Ok-clause-success : goal.returns-in-Ok-clause-success
@@ -13,6 +13,9 @@ returns-in-Ok-clause-differs g c = task_differs (output g.E.Write.contents c.arg
 pub returns-in-Ok-clause-early : goal.returns-in-Ok-clause-early
 returns-in-Ok-clause-early g c = task_early (output g.E.Write.contents c.args.errors.now c.run.new.errors) c.number.result c.run.result c.number.ensures c.run.ensures.printed
 
+pub returns-in-Ok-clause-again : goal.returns-in-Ok-clause-again
+returns-in-Ok-clause-again g c = task_again (output g.E.Write.contents c.args.errors.now c.run.new.errors) c.number.result c.run.result c.number.ensures c.run.ensures.printed
+
 pub returns-in-Ok-clause-refused : goal.returns-in-Ok-clause-refused
 returns-in-Ok-clause-refused g c = task_refused _ (map g.S.AsStr.text c.args.words.now) c.in-Ok.task c.in-Ok.ensures.task (streams g.R.Read.remaining g.W.Write.contents (c.args.reader.now, c.run.new.reader) (c.args.writer.now, c.run.new.writer)) (output g.E.Write.contents c.args.errors.now c.run.new.errors) c.number.result _ c.run.result c.number.ensures c.run.ensures.exits
 
@@ -20,7 +23,7 @@ pub returns-in-Ok-clause-untaken : goal.returns-in-Ok-clause-untaken
 returns-in-Ok-clause-untaken g c = task_refused _ (map g.S.AsStr.text c.args.words.now) c.in-Ok.task c.in-Ok.ensures.task (streams g.R.Read.remaining g.W.Write.contents (c.args.reader.now, c.run.new.reader) (c.args.writer.now, c.run.new.writer)) (output g.E.Write.contents c.args.errors.now c.run.new.errors) c.number.result _ c.run.result c.number.ensures c.run.ensures.exits
 
 pub returns-in-Ok-clause-known : goal.returns-in-Ok-clause-known
-returns-in-Ok-clause-known g c = at_most_five c.number.result c.run.result c.number.ensures
+returns-in-Ok-clause-known g c = at_most_six c.number.result c.run.result c.number.ensures
 
 pub returns-in-Ok-clause-done : goal.returns-in-Ok-clause-done
 returns-in-Ok-clause-done g c = task_done _ (map g.S.AsStr.text c.args.words.now) c.in-Ok.task c.in-Ok.ensures.task (streams g.R.Read.remaining g.W.Write.contents (c.args.reader.now, c.run.new.reader) (c.args.writer.now, c.run.new.writer)) (output g.E.Write.contents c.args.errors.now c.run.new.errors) c.number.result c.run.result c.number.ensures c.run.ensures.exits
@@ -38,7 +41,10 @@ pub returns-in-Err-clause-differs : goal.returns-in-Err-clause-differs
 returns-in-Err-clause-differs g c = λ three. none_odd (map g.S.AsStr.text c.args.words.now) _ c.in-Err.ensures.refused (streams g.R.Read.remaining g.W.Write.contents (c.args.reader.now, c.args.reader.now) (c.args.writer.now, c.print_error.new.writer)) refl (output g.W.Write.contents c.args.writer.now c.print_error.new.writer) (output g.E.Write.contents c.args.errors.now c.print_error.new.errors) (λ same. same) c.number-in-Err.result _ c.print_error.result c.number-in-Err.ensures c.print_error.ensures (inl three)
 
 pub returns-in-Err-clause-early : goal.returns-in-Err-clause-early
-returns-in-Err-clause-early g c = λ five. none_odd (map g.S.AsStr.text c.args.words.now) _ c.in-Err.ensures.refused (streams g.R.Read.remaining g.W.Write.contents (c.args.reader.now, c.args.reader.now) (c.args.writer.now, c.print_error.new.writer)) refl (output g.W.Write.contents c.args.writer.now c.print_error.new.writer) (output g.E.Write.contents c.args.errors.now c.print_error.new.errors) (λ same. same) c.number-in-Err.result _ c.print_error.result c.number-in-Err.ensures c.print_error.ensures (inr five)
+returns-in-Err-clause-early g c = λ five. none_odd (map g.S.AsStr.text c.args.words.now) _ c.in-Err.ensures.refused (streams g.R.Read.remaining g.W.Write.contents (c.args.reader.now, c.args.reader.now) (c.args.writer.now, c.print_error.new.writer)) refl (output g.W.Write.contents c.args.writer.now c.print_error.new.writer) (output g.E.Write.contents c.args.errors.now c.print_error.new.errors) (λ same. same) c.number-in-Err.result _ c.print_error.result c.number-in-Err.ensures c.print_error.ensures (inr (inl five))
+
+pub returns-in-Err-clause-again : goal.returns-in-Err-clause-again
+returns-in-Err-clause-again g c = λ six. none_odd (map g.S.AsStr.text c.args.words.now) _ c.in-Err.ensures.refused (streams g.R.Read.remaining g.W.Write.contents (c.args.reader.now, c.args.reader.now) (c.args.writer.now, c.print_error.new.writer)) refl (output g.W.Write.contents c.args.writer.now c.print_error.new.writer) (output g.E.Write.contents c.args.errors.now c.print_error.new.errors) (λ same. same) c.number-in-Err.result _ c.print_error.result c.number-in-Err.ensures c.print_error.ensures (inr (inr six))
 
 pub returns-in-Err-clause-refused : goal.returns-in-Err-clause-refused
 returns-in-Err-clause-refused g c = none_refused (map g.S.AsStr.text c.args.words.now) _ c.in-Err.ensures.refused (streams g.R.Read.remaining g.W.Write.contents (c.args.reader.now, c.args.reader.now) (c.args.writer.now, c.print_error.new.writer)) refl (output g.W.Write.contents c.args.writer.now c.print_error.new.writer) (output g.E.Write.contents c.args.errors.now c.print_error.new.errors) (λ same. same) c.number-in-Err.result c.print_error.result c.number-in-Err.ensures c.print_error.ensures
@@ -47,7 +53,7 @@ pub returns-in-Err-clause-untaken : goal.returns-in-Err-clause-untaken
 returns-in-Err-clause-untaken g c = none_untaken (map g.S.AsStr.text c.args.words.now) _ c.in-Err.ensures.refused (streams g.R.Read.remaining g.W.Write.contents (c.args.reader.now, c.args.reader.now) (c.args.writer.now, c.print_error.new.writer)) refl (output g.W.Write.contents c.args.writer.now c.print_error.new.writer) (output g.E.Write.contents c.args.errors.now c.print_error.new.errors) (λ same. same) c.number-in-Err.result c.print_error.result c.number-in-Err.ensures c.print_error.ensures
 
 pub returns-in-Err-clause-known : goal.returns-in-Err-clause-known
-returns-in-Err-clause-known g c = at_most_five c.number-in-Err.result c.print_error.result c.number-in-Err.ensures
+returns-in-Err-clause-known g c = at_most_six c.number-in-Err.result c.print_error.result c.number-in-Err.ensures
 
 pub returns-in-Err-clause-done : goal.returns-in-Err-clause-done
 returns-in-Err-clause-done g c = none_done (map g.S.AsStr.text c.args.words.now) _ c.in-Err.ensures.refused (streams g.R.Read.remaining g.W.Write.contents (c.args.reader.now, c.args.reader.now) (c.args.writer.now, c.print_error.new.writer)) refl (output g.W.Write.contents c.args.writer.now c.print_error.new.writer) (output g.E.Write.contents c.args.errors.now c.print_error.new.errors) (λ same. same) c.number-in-Err.result _ c.print_error.result c.number-in-Err.ensures c.print_error.ensures
