@@ -1,5 +1,5 @@
 -- How long a call rings, and how long after-call work lasts, after a tick.
-use Rattle.std.specs.Prelude.{◌≡◌, ◌+◌, ◌-◌, ◌<◌, ◌≤◌, true, List, [], ◌∷◌, ◌++◌, Some}
+use Rattle.std.specs.Prelude.{◌≡◌, ◌+◌, ◌-◌, ◌<◌, ◌≤◌, true, false, List, [], ◌∷◌, ◌++◌, Some}
 use Rattle.acd_terms.specs.Lists.{Among}
 use Rattle.acd_terms.specs.Groups.{least_group}
 use Rattle.acd_terms.specs.States.{is_alerting, is_working_after_call}
@@ -12,9 +12,10 @@ use Rattle.acd_terms.specs.declared.record.ConnectionRecord.{ConnectionRecord}
 use Rattle.acd_terms.specs.declared.command.Command.TheVariants.{Tick}
 use Rattle.acd_model.specs.Scans.{group_of}
 use Rattle.acd_model.specs.Tick.{ring_of, wrap_of}
-use Rattle.acd_model.specs.Step.{step}
+use Rattle.acd_model.specs.Step.{step, executed_moment}
 use Rattle.acd_model.specs.Run.{TimedCommand, run}
 use Rattle.acd_model.specs.Rules.First.{BreaksNoRule}
+use Rattle.acd_laws.specs.Due.{is_due}
 
 -- at the last moment of s what began at `since` is younger than a time and what has passed since the tick; a time of 0 means never
 abbrev pub IsYoung : Rows → Rows → Seconds → Moment → Type 0
@@ -42,3 +43,7 @@ tick_at moment = record { moment = moment; command = Tick }
 abbrev pub RunBoundsAnswers : Type 0
 RunBoundsAnswers = (limits : Limits) (commands more : List TimedCommand) (moment : Moment)
     → IsInTime (run (empty_rows limits) (commands ++ tick_at moment ∷ [])).rows (run (empty_rows limits) (commands ++ tick_at moment ∷ more)).rows
+
+-- a tick of rows that break no rule leaves nothing that is due at the moment at which it was executed
+abbrev pub TickLeavesNone : Type 0
+TickLeavesNone = (s : Rows) (moment : Moment) → BreaksNoRule s → is_due (step s moment Tick).rows (executed_moment s moment) ≡ false

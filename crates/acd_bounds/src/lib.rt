@@ -1,11 +1,11 @@
 //! The time limits of ticks and the effect of priorities: after a tick no call rings longer than its ring time, and a
 //! call of low priority may wait for ever.
 //!
-//! Each law is the contract of a function with an empty body, stated in `specs/`. Nothing depends on this crate.
+//! Each law is the contract of a function with an empty body, stated in `specs/`.
 #![tactic(auto)]
 
 ghost use Rattle.acd_bounds.specs.StarvingLaws.{LowPriorityMayStarve};
-ghost use Rattle.acd_bounds.specs.TimeLaws.{TickBoundsAnswers, RunBoundsAnswers};
+ghost use Rattle.acd_bounds.specs.TimeLaws.{TickBoundsAnswers, RunBoundsAnswers, TickLeavesNone};
 
 /// After a tick of rows that break no rule each offer is younger than the ring of its group at that tick, and the time
 /// since it; so is after-call work, by the wrap of the agent's least group. A time of 0 means never.
@@ -22,4 +22,10 @@ pub fn run_bounds_answers()
 /// request, while an agent of both groups answers a call of the other in each round.
 pub fn low_priority_may_starve()
     ensures { LowPriorityMayStarve }
+{}
+
+/// After a tick nothing is due: at the moment at which it was executed no offer has rung its group's ring, and no
+/// after-call work has lasted its group's wrap.
+pub fn tick_leaves_none()
+    ensures { TickLeavesNone }
 {}

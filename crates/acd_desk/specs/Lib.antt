@@ -44,4 +44,3 @@ pub mod ReplayWith
 pub mod AuditedWith
 pub mod Clock
 pub mod Clocked
-pub mod Pruning

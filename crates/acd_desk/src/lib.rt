@@ -18,6 +18,7 @@
 
 mod answer_text;
 mod audit;
+mod clock;
 mod desk;
 mod executing;
 mod export;
@@ -42,7 +43,7 @@ mod taken;
 mod working;
 
 pub use answer_text::AnswerText;
-pub use audit::{ArchiveAudit, Audit, AuditFault};
+pub use audit::{Audit, AuditFault};
 pub use clock::clock_tick;
 pub use desk::Desk;
 pub use fault::DeskFault;

@@ -17,11 +17,12 @@ ghost use Rattle.acd_switch.specs.Kept.{figures_at, IsRefused};
 ghost use Rattle.acd_switch.specs.CarryingOut.{Carries, RecordsGrowth};
 ghost use Rattle.acd_switch.specs.Executing.{IsMadeBy};
 ghost use Rattle.acd_laws.specs.RefusalLaws.{ChangesNothing};
+ghost use Rattle.acd_laws.specs.Due.{is_due_by};
 
 use crate::distribution::distribute;
 use crate::journal::Journal;
 use crate::row_fault::RowFault;
-use crate::tick::tick;
+use crate::tick::{is_due, tick};
 use acd_model::Change;
 use acd_rules::first_broken;
 use acd_services::decide;
@@ -144,6 +145,14 @@ impl Switch {
         ensures { result ≡ nat_le self.now.limits.requests self.now.last_stamp }
     {
         self.tables.limits().requests <= self.tables.last_stamp()
+    }
+
+    /// Whether a tick at the moment would end some offer or after-call work; a moment before the last one counts as the
+    /// last one. It looks at the offers that ring and the agents in after-call work, and takes no memory.
+    pub fn is_due(&self, moment: u32) -> bool
+        ensures { result ≡ is_due_by self.now moment }
+    {
+        is_due(&self.tables, moment.max(self.tables.last_moment()))
     }
 
     /// The counts of the group, where it is planned.

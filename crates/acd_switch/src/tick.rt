@@ -1,8 +1,10 @@
 //! tick: offers that rang too long go back, and after-call work that lasted long enough ends.
 
 ghost use Rattle.std.specs.Prelude.{◌≡◌, OnOk, IfOk, filter};
+ghost use Rattle.std.specs.List.{list_any};
 ghost use Rattle.acd_model.specs.Scans.{group_of};
 ghost use Rattle.acd_model.specs.Tick.{is_over, ring_of, wrap_of, is_overdue, overdue_in, return_moves, is_rested, rested_in, rest_moves, returns, rests, tick};
+ghost use Rattle.acd_laws.specs.Due.{is_due};
 ghost use Rattle.acd_switch.specs.CarryingOut.{Carries, CarriesAt};
 
 use crate::journal::Journal;
@@ -63,6 +65,42 @@ fn is_rested(tables: &Tables, moment: u32, agent: &AgentRecord) -> bool
         None => false,
         Some(group) => is_over(wrap_of(tables, group), agent.since, moment),
     }
+}
+
+// Some offer rang too long. It looks at those that ring, and takes no memory.
+fn has_overdue(tables: &Tables, moment: u32) -> bool
+    ensures { result ≡ list_any (is_overdue tables.now moment) tables.now.connections }
+{
+    for key in tables.ringing_keys() {
+        if let Some(connection) = tables.connection(key.0, key.1) {
+            if is_overdue(tables, moment, &connection) {
+                return true;
+            }
+        }
+    }
+    false
+}
+
+// Some agent's after-call work lasted long enough. It looks at those in after-call work, and takes no memory.
+fn has_rested(tables: &Tables, moment: u32) -> bool
+    ensures { result ≡ list_any (is_rested tables.now moment) tables.now.agents }
+{
+    for number in tables.working_keys() {
+        if let Some(agent) = tables.agent(*number) {
+            if is_rested(tables, moment, &agent) {
+                return true;
+            }
+        }
+    }
+    false
+}
+
+/// Whether a tick at the moment would end some offer or after-call work.
+#[tactic(auto, unfolding(acd_laws::specs::Due::is_due))]
+pub fn is_due(tables: &Tables, moment: u32) -> bool
+    ensures { result ≡ is_due tables.now moment }
+{
+    has_overdue(tables, moment) || has_rested(tables, moment)
 }
 
 // Those of the offers that rang too long.

@@ -20,7 +20,7 @@ use acd_model::Offer;
 use acd_terms::{AgentId, AgentRecord, ConnectionRecord, DeviceId};
 use std::alloc::AllocError;
 use std::collections::BTreeSet;
-use std::collections::btree_set::Range;
+use std::collections::btree_set::{Iter, Range};
 
 impl Tables {
     /// The agent logged on at the station.
@@ -217,6 +217,22 @@ impl Tables {
             }
         }
         None
+    }
+
+    /// Call and device of the offers that ring, in ascending order.
+    pub fn ringing_keys(&self) -> Iter<'_, (u64, DeviceId)>
+        ensures { filter_map (λ p. kept is_ringing (connection_of self.now p.0 p.1)) result
+            ≡ filter is_ringing self.now.connections }
+    {
+        self.indexes.ringing.iter()
+    }
+
+    /// The numbers of the agents in after-call work, in ascending order.
+    pub fn working_keys(&self) -> Iter<'_, AgentId>
+        ensures { filter_map (λ n. kept is_working (agent_of self.now n)) result
+            ≡ filter is_working self.now.agents }
+    {
+        self.indexes.working.iter()
     }
 
     // The connection of the call at the device, if it is an offer that rings.
