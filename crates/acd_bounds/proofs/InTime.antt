@@ -1,6 +1,7 @@
 -- After a tick nothing is overdue by the rings and wraps of that tick: a tick ends what is, and what begins later begins later.
-use Rattle.std.proofs.Common.{◌≡◌, ℕ, ◌+◌, ◌<◌, ◌≤◌, ◌⊎◌, inl, inr, true, false, not, ◌&&◌, cond, map, List, [], ◌∷◌, ◌++◌, Option, Some, None, refl, sym, ◌∙◌, ap, subst, arith}
-use Rattle.std.specs.Prelude.{◌==◌, option_map}
+use Rattle.std.proofs.Common.{◌≡◌, ℕ, ◌+◌, ◌<◌, ◌≤◌, ◌⊎◌, inl, inr, Bool, true, false, not, ◌&&◌, cond, map, List, [], ◌∷◌, ◌++◌, Option, Some, None, refl, sym, ◌∙◌, ap, subst, arith}
+use Rattle.std.specs.Prelude.{◌==◌, ◌||◌, option_map}
+use Rattle.std.specs.List.{list_any}
 use Rattle.std.proofs.lemmas.Bool.{and_right, cases_Bool, not-true, and_parts, eqb-true, false_from_ne_true}
 use Rattle.std.proofs.lemmas.Bool.Decides.{nat_tests}
 use Rattle.acd_terms.specs.Groups.{least_group, is_choice}
@@ -18,7 +19,7 @@ use Rattle.acd_model.specs.Services.{next_call, clear_other, release_other}
 use Rattle.acd_model.specs.Figures.{counting, with_figures}
 use Rattle.acd_model.specs.Distribution.{distribution}
 use Rattle.acd_model.specs.Tick.{is_over, ring_of, wrap_of, is_overdue_offer, is_overdue, overdue_in, return_to, return_moves, is_over_in, is_rested, rested_in, rest_moves, each, returns as all_returns, rests as all_rests, tick}
-use Rattle.acd_model.specs.Step.{step, next_turn}
+use Rattle.acd_model.specs.Step.{step, next_turn, executed_moment}
 use Rattle.acd_model.specs.Run.{TimedCommand, run}
 use Rattle.acd_model.proofs.MoveLemmas.{moved_append}
 use Rattle.acd_lemmas.proofs.Facts.{Rules, AgentRule, IsPlannedStation, ArePlannedGroups, SeatedAs, ConnectionRule, HasColumns, AlertingColumns}
@@ -34,7 +35,8 @@ use Rattle.acd_laws.proofs.Rules.KeptEnds.{kept_return_to}
 use Rattle.acd_laws.proofs.Rules.KeptPlan.{kept_rest_moves}
 use Rattle.acd_laws.proofs.Rules.Ended.{rules_step, rules_first}
 use Rattle.acd_laws.proofs.Rules.DecidedAll.{rules_are_kept}
-use Rattle.acd_bounds.specs.TimeLaws.{IsYoung, IsInTime, tick_at, TickBoundsAnswers, RunBoundsAnswers}
+use Rattle.acd_laws.specs.Due.{is_due}
+use Rattle.acd_bounds.specs.TimeLaws.{IsYoung, IsInTime, tick_at, TickBoundsAnswers, RunBoundsAnswers, TickLeavesNone}
 
 -- work that begins at the moment or later isn't over then
 begun_later : (n since moment : ℕ) → moment ≤ since → is_over n since moment ≡ false
@@ -497,6 +499,20 @@ bounds s moment more r = let u : Rows = ticked s moment in in_time u (run u more
 
 pub tick_bounds_answers : TickBoundsAnswers
 tick_bounds_answers s moment more kept = bounds s moment more (rules_are_kept s kept)
+
+-- so nothing is due
+
+none_passes : {T : Type 0} (test : T → Bool) (xs : List T) → Every (λ x. test x ≡ false) xs → list_any test xs ≡ false
+none_passes test [] h = refl
+none_passes test (x ∷ xs) h = ap (λ b. b || list_any test xs) h.0 ∙ none_passes test xs h.1
+
+not_due : (s : Rows) (t : ℕ) → Holds s t s → is_due s t ≡ false
+unfolding is_due
+not_due s t h = ap (λ b. b || list_any (is_rested s t) s.agents) (none_passes (is_overdue s t) s.connections h.0) ∙ none_passes (is_rested s t) s.agents h.1
+
+pub tick_leaves_none : TickLeavesNone
+unfolding step with_last with_figures
+tick_leaves_none s moment kept = not_due (ticked s moment) (executed_moment s moment) (since_tick s moment (rules_are_kept s kept)).holds
 
 -- a run of two lists
 run_append : (s : Rows) (xs ys : List TimedCommand) → (run s (xs ++ ys)).rows ≡ (run (run s xs).rows ys).rows
