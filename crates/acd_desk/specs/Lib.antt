@@ -44,3 +44,4 @@ pub mod ReplayWith
 pub mod AuditedWith
 pub mod Clock
 pub mod Clocked
+pub mod Pruning

@@ -3,7 +3,7 @@
 ghost use Rattle.std.specs.Prelude.{◌≡◌, ◌++◌, codes, decimal};
 ghost use Rattle.acd_desk.specs.Standing.{standing};
 ghost use Rattle.acd_desk.specs.Clock.{clock_requester, clock_tick, may_be_due, DeskLooked};
-ghost use Rattle.acd_desk.specs.Clocked.{DeskLooksUp};
+ghost use Rattle.acd_desk.specs.Clocked.{DeskBrings};
 
 use crate::desk::Desk;
 use crate::fault::DeskFault;
@@ -50,25 +50,30 @@ impl<B: Book> Desk<B> {
         }
     }
 
-    // Loads the switch, where it isn't in memory, and looks whether something is due.
-    fn look_for_due(&mut self, moment: u32) -> Result<bool, DeskFault>
-        ensures { DeskLooksUp B.Book moment self.old result self.new }
+    // Loads the switch, where it isn't in memory.
+    fn bring_switch(&mut self) -> Result<(), DeskFault>
+        ensures { DeskBrings B.Book self.old result self.new }
     {
+        if let Working::Loaded(_) = self.working {
+            return Ok(());
+        }
         let loaded = self.switch_out()?;
-        let due = loaded.switch.is_due(moment);
         self.working = Working::Loaded(loaded);
-        Ok(due)
+        Ok(())
     }
 
     /// Takes the clock's tick ([`clock_tick`]) where something is due ([`Desk::is_due`]), and answers what was taken. None
-    /// where nothing is due. A switch that isn't in memory is loaded first.
+    /// where nothing is due. A switch that isn't in memory is loaded first; where it can't be, the fault is the answer.
     pub fn tick_if_due(&mut self, moment: u32) -> Option<Taken>
         ensures { DeskLooked B.Book moment self.old result self.new }
     {
-        match self.look_for_due(moment) {
-            Ok(false) => None,
-            Ok(true) => Some(self.take(moment, &clock_tick(moment))),
-            Err(fault) => Some(Taken::from(fault)),
+        if let Err(fault) = self.bring_switch() {
+            return Some(Taken::from(fault));
+        }
+        if self.is_due(moment) {
+            Some(self.take(moment, &clock_tick(moment)))
+        } else {
+            None
         }
     }
 }

@@ -43,7 +43,7 @@ mod taken;
 mod working;
 
 pub use answer_text::AnswerText;
-pub use audit::{Audit, AuditFault};
+pub use audit::{ArchiveAudit, Audit, AuditFault};
 pub use clock::clock_tick;
 pub use desk::Desk;
 pub use fault::DeskFault;
