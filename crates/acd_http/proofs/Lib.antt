@@ -8,5 +8,7 @@ pub mod SmallBodies
 pub mod AskLaws
 pub mod Exchanges
 pub mod Visits
+pub mod Turning
 pub mod Attending
+pub mod TurnsAttending
 pub mod ReadingLines

@@ -15,3 +15,5 @@ pub mod Listening
 pub mod Attending
 pub mod ReadingLines
 pub mod Routed
+pub mod Turns
+pub mod TurnsAttended

@@ -31,10 +31,9 @@ unfoldable pub outcome_lines : ℕ → List Outcome → List ℕ
 outcome_lines number [] = []
 outcome_lines number (x ∷ xs) = outcome_line number x ++ outcome_lines (suc number) xs
 
--- for private clauses: after lines that were sent as `before` says, the line of a connection was sent, as `result` says
-abbrev pub PrintsLine : ℕ → Outcome → Result (Unit {0}) Stopped → Option (List ℕ) × Option (List ℕ) → Result (Unit {0}) Stopped → Type 0
-PrintsLine number outcome before output result =
-    (first : Option (List ℕ)) (text : List ℕ) → WasSent before first output.0 text → WasSent result first output.1 (text ++ outcome_line number outcome)
+-- for private clauses: after lines that were sent as `before` says, this text was sent, as `result` says
+abbrev pub PrintsText : List ℕ → Result (Unit {0}) Stopped → Option (List ℕ) × Option (List ℕ) → Result (Unit {0}) Stopped → Type 0
+PrintsText more before output result = (first : Option (List ℕ)) (text : List ℕ) → WasSent before first output.0 text → WasSent result first output.1 (text ++ more)
 
 module _ {D : Type 0} (stands : D → Standing) where
   -- something was asked at some moment, and answered

@@ -1,7 +1,7 @@
 -- Whether there was memory for the routes of a service.
 use Rattle.std.specs.Prelude.{◌≡◌, ◌≢◌, Result, Err}
-use Rattle.acd_http.specs.declared.listening.ServeFault.{ServeFault}
-use Rattle.acd_http.specs.declared.listening.ServeFault.TheVariants.{NoMemory}
+use Rattle.acd_http.specs.declared.serving.ServeFault.{ServeFault}
+use Rattle.acd_http.specs.declared.serving.ServeFault.TheVariants.{NoMemory}
 
 -- this is said where there was
 abbrev pub IfRouted : Result (Unit {0}) ServeFault → Type 0 → Type 0

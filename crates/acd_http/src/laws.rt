@@ -3,6 +3,7 @@
 ghost use Rattle.acd_desk.specs.Standing.{standing};
 ghost use Rattle.acd_http.specs.Laws.{AsksOneThing, AsksByABeginning, PhrasesAreCanonical};
 ghost use Rattle.acd_http.specs.Attending.{LeadsToTheRun};
+ghost use Rattle.acd_http.specs.TurnsAttended.{TurnsLeadToTheRun};
 ghost use Rattle.acd_http.specs.ReadingLines.{LinesLeadToTheRun, ReadsAnswerByTheContent, ReadsAnswerByTheRun};
 
 use acd_book::Book;
@@ -27,6 +28,12 @@ pub fn phrases_are_canonical()
 /// holds, and what a stop leaves of it.
 pub fn connections_lead_to_the_run<B: Book>()
     ensures { LeadsToTheRun (standing B.Book) }
+{}
+
+/// So do connections with looks at the clock between them: the requests that came, and the ticks that the desk added, are
+/// one run, in the order in which it took them.
+pub fn turns_lead_to_the_run<B: Book>()
+    ensures { TurnsLeadToTheRun (standing B.Book) }
 {}
 
 /// Lines leave the desk as a run of the requests among them leaves it, whatever was read between these; and a read

@@ -9,6 +9,7 @@ use std::process::Abort;
 
 mod listening;
 mod scenes;
+mod turns;
 
 fn group() -> &'static [u8] {
     b"POST /csta HTTP/1.1\r\nHost: desk\r\nContent-Length: 104\r\n\r\n{\"requester\":\"plan\",\"invoke\":1,\"service\":\"addGroup\",\"device\":\"100\",\"name\":\"Billing\",\"ring\":20,\"wrap\":30}"

@@ -2,7 +2,7 @@ use Rattle.std.proofs.Common.{◌≢◌, ◌∙◌, inl, inr, ℕ, Err, refl, ap
 use Rattle.acd_desk.specs.Standing.{standing}
 use Rattle.acd_io.specs.Sent.{Begins}
 use Rattle.acd_http.specs.Listening.{AnsweredAll}
-use Rattle.acd_http.specs.declared.listening.ServeFault.TheVariants.{NoMemory}
+use Rattle.acd_http.specs.declared.serving.ServeFault.TheVariants.{NoMemory}
 use Rattle.acd_program.proofs.ServeDone.{begins_all}
 use Rattle.acd_program.proofs.serving.answer_some.Goals as goal
 

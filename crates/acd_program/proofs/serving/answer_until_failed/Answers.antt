@@ -1,6 +1,6 @@
 use Rattle.std.proofs.Common.{◌≢◌, ◌∙◌, inl, inr, Ok, Err, refl, ap, sym}
 use Rattle.acd_desk.specs.Standing.{standing}
-use Rattle.acd_http.specs.declared.listening.ServeFault.TheVariants.{NoMemory}
+use Rattle.acd_http.specs.declared.serving.ServeFault.TheVariants.{NoMemory}
 use Rattle.acd_program.proofs.ServeDone.{begins_until}
 use Rattle.acd_program.proofs.serving.answer_until_failed.Goals as goal
 
