@@ -8,12 +8,12 @@ _acd() {
         mapfile -t COMPREPLY < <(compgen -f -- "$word")
         compopt -o filenames 2>/dev/null
         return
-    elif [[ $before == --port || $before == --connections ]]; then
+    elif [[ $before == --port || $before == --connections || $before == --tick || $before == --patience ]]; then
         return
     else
         case $command in
             lines) offered='--file --reads --end-on-store-fault --help' ;;
-            serve) offered='--file --port --connections --endless --help' ;;
+            serve) offered='--file --port --connections --endless --tick --patience --help' ;;
             import) offered='--file --plan --help' ;;
             report | export) offered='--file --help' ;;
             audit) offered='--file --archive --count --whole --help' ;;

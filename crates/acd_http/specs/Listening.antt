@@ -1,5 +1,5 @@
 -- The state after connections were answered, one after another.
-use Rattle.std.specs.Prelude.{◌≡◌, ◌⊎◌, ℕ, suc, length, true, false, List, [], ◌∷◌, ◌++◌, Option, Some, None, Result, Ok, Err, codes, decimal}
+use Rattle.std.specs.Prelude.{◌≡◌, ◌⊎◌, ℕ, suc, length, true, false, List, [], ◌∷◌, ◌++◌, Option, Result, Ok, Err, codes, decimal}
 use Rattle.acd_book.specs.declared.book.Book.{Ghosts}
 use Rattle.acd_desk.specs.declared.desk.Desk.{Desk}
 use Rattle.acd_desk.specs.Ran.{Standing, standing}
@@ -81,11 +81,6 @@ module _ {D : Type 0} (stands : D → Standing) where
   -- connections were answered until the desk failed, or as many as 64 bits count
   abbrev pub AnsweredUntilFailed : D → D → (List ℕ → Type 0) → Type 0
   AnsweredUntilFailed d e WentOut = (many : ℕ) × AnsweredWell many d e WentOut × (((stands e).failed ≡ true) ⊎ (many ≡ 18446744073709551615))
-
-  -- so many, or until the desk failed
-  abbrev pub AnsweredFor : Option ℕ → D → D → (List ℕ → Type 0) → Type 0
-  AnsweredFor (Some many) d e WentOut = AnsweredAll many d e WentOut
-  AnsweredFor None d e WentOut = AnsweredUntilFailed d e WentOut
 
 -- connections were answered until the desk of a book failed
 abbrev pub UntilFailed : {B : Type 0} → Ghosts B → Desk B → Desk B → (List ℕ → Type 0) → Type 0

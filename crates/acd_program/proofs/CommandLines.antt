@@ -6,6 +6,7 @@ use Rattle.std.specs.Borrow.{Bor}
 use Rattle.std.specs.Str.{bytes_eq}
 use Rattle.std.specs.Str.Parse.{IsNumeral, ParsesBool, digits_value, true_text, without_leading_plus}
 use Rattle.std.proofs.lemmas.Slice.Eq.{bytes_eq-Decides}
+use Rattle.std.specs.declared.time.Duration.{Duration}
 use Rattle.clap.specs.Matches.{ReadsOne, first_value, matched_of, one_text}
 use Rattle.clap.specs.Built.{AddsArg, AddsSubcommand}
 use Rattle.clap.specs.Walk.{row_text}
@@ -20,8 +21,9 @@ use Rattle.clap.specs.declared.error.kind.ErrorKind.TheVariants.{ArgumentConflic
 use Rattle.clap.specs.declared.parser.matches.ArgMatches.{ArgMatches}
 use Rattle.clap.specs.declared.parser.matches.Found.{Found}
 use Rattle.clap.proofs.WalkLemmas.{first_value-rows, one_text-rows, find_row}
+use Rattle.acd_http.specs.declared.serving.Span.{Span}
 use Rattle.acd_log.specs.declared.ending.Ending.TheVariants.{Plain}
-use Rattle.acd_program.specs.CommandLine.{HasApp, HasNone, HasRule, IsNumber, IsRefusedBy, IsSpan, IsTaskIn, IsTaskWith, IsText, NamesNoTask, acd, command_of, has_option, is_given, required}
+use Rattle.acd_program.specs.CommandLine.{HasApp, HasNone, HasRule, IsConnections, IsNumber, IsRefusedBy, IsSeconds, IsSpan, IsTaskIn, IsTaskWith, IsText, NamesNoTask, acd, command_of, has_option, is_given, required}
 use Rattle.acd_program.specs.Statuses.{IsHelp}
 use Rattle.acd_program.specs.declared.asked.Task.{Task}
 use Rattle.acd_program.specs.declared.asked.Task.TheVariants.{Lines, Serve, Import, AuditWhole, AuditWithArchive, Read}
@@ -142,9 +144,9 @@ apart : (a b : Text) → bytes_eq a b ≡ false → a ≢ b
 apart a b differ same = true≢false (sym ((bytes_eq-Decides a b).1 same) ∙ differ)
 
 module _ (options : List Row) where
-  pub no_service : ((file : Bor Text) (port : ℕ) (connections : Option ℕ) → IsText (codes "file") options file → IsNumber 16 (codes "port") options port → IsSpan options connections → ⊥)
+  pub no_service : ((file : Bor Text) (port : ℕ) (span : Span) → IsText (codes "file") options file → IsNumber 16 (codes "port") options port → IsSpan options span → ⊥)
       → (task : Task) → ¬ IsTaskWith (codes "serve") options task
-  no_service none (Serve file port connections) h = none file port connections h.1 h.2 h.3
+  no_service none (Serve file port span) h = none file port span h.1 h.2 h.3
   no_service none (Lines file reads ends) h = apart (codes "serve") (codes "lines") refl h.0
   no_service none (Import file plan) h = apart (codes "serve") (codes "import") refl h.0
   no_service none (AuditWhole file counts) h = apart (codes "serve") (codes "audit") refl h.0.0
@@ -157,7 +159,7 @@ module _ (options : List Row) where
   pub no_import : ((file plan : Bor Text) → IsText (codes "file") options file → IsText (codes "plan") options plan → ⊥) → (task : Task) → ¬ IsTaskWith (codes "import") options task
   no_import none (Import file plan) h = none file plan h.1 h.2
   no_import none (Lines file reads ends) h = apart (codes "import") (codes "lines") refl h.0
-  no_import none (Serve file port connections) h = apart (codes "import") (codes "serve") refl h.0
+  no_import none (Serve file port span) h = apart (codes "import") (codes "serve") refl h.0
   no_import none (AuditWhole file counts) h = apart (codes "import") (codes "audit") refl h.0.0
   no_import none (AuditWithArchive file archive counts whole) h = apart (codes "import") (codes "audit") refl h.0.0
   no_import none (Read file (kind.Print Report)) h = apart (codes "import") (codes "report") refl h.1
@@ -168,7 +170,7 @@ module _ (options : List Row) where
   -- a printout, or an audit, of no file
   pub no_file : ((file : Bor Text) → ¬ IsText (codes "file") options file) → (command : Text) → bytes_eq command (codes "lines") ≡ false → (task : Task) → ¬ IsTaskWith command options task
   no_file none command other (Lines file reads ends) h = apart command (codes "lines") other h.0
-  no_file none command other (Serve file port connections) h = none file h.1
+  no_file none command other (Serve file port span) h = none file h.1
   no_file none command other (Import file plan) h = none file h.1
   no_file none command other (AuditWhole file counts) h = none file h.0.1
   no_file none command other (AuditWithArchive file archive counts whole) h = none file h.0.1
@@ -186,13 +188,18 @@ number_given bits id options n h = by (find (λ (r : Row). bytes_eq r.id id) opt
         none_some t e = cc
 
 -- neither of both is asked for, or both are
-pub no_span : (options : List Row) → ((n : ℕ) → IsNumber 32 (codes "connections") options n → is_given (codes "endless") options ≡ false → ⊥)
-    → (has_option (codes "connections") options ≡ false → is_given (codes "endless") options ≡ true → ⊥) → (span : Option ℕ) → ¬ IsSpan options span
-no_span options number endless (Some n) h = number n h.0 h.1
-no_span options number endless None h = endless h.0 h.1
+pub no_connections : (options : List Row) → ((n : ℕ) → IsNumber 32 (codes "connections") options n → is_given (codes "endless") options ≡ false → ⊥)
+    → (has_option (codes "connections") options ≡ false → is_given (codes "endless") options ≡ true → ⊥) → (many : Option ℕ) → ¬ IsConnections options many
+no_connections options number endless (Some n) h = number n h.0 h.1
+no_connections options number endless None h = endless h.0 h.1
 
-pub unnumbered : (options : List Row) (n : ℕ) → has_option (codes "connections") options ≡ false → ¬ IsNumber 32 (codes "connections") options n
-unnumbered options n none h = true≢false (sym (number_given 32 (codes "connections") options n h) ∙ none)
+-- neither a time is given nor none
+pub no_seconds : (id : Text) (options : List Row) → ((n : ℕ) → ¬ IsNumber 16 id options n) → (has_option id options ≡ false → ⊥) → (time : Option Duration) → ¬ IsSeconds id options time
+no_seconds id options number none (Some time) h = number h.0 h.1
+no_seconds id options number none None h = none h
+
+pub unnumbered : (bits : ℕ) (id : Text) (options : List Row) (n : ℕ) → has_option id options ≡ false → ¬ IsNumber bits id options n
+unnumbered bits id options n none h = true≢false (sym (number_given bits id options n h) ∙ none)
 
 pub printout_apart : (printout : Printout) → bytes_eq (command_of printout) (codes "lines") ≡ false
 printout_apart Report = refl
@@ -202,7 +209,7 @@ printout_apart Export = refl
 pub no_other : (command : Text) (options : List Row) → command ≢ codes "lines" → command ≢ codes "serve" → command ≢ codes "import" → command ≢ codes "report" → command ≢ codes "export" → command ≢ codes "audit"
     → (task : Task) → ¬ IsTaskWith command options task
 no_other command options a b c d e f (Lines file reads ends) h = a h.0
-no_other command options a b c d e f (Serve file port connections) h = b h.0
+no_other command options a b c d e f (Serve file port span) h = b h.0
 no_other command options a b c d e f (Import file plan) h = c h.0
 no_other command options a b c d e f (AuditWhole file counts) h = f h.0.0
 no_other command options a b c d e f (AuditWithArchive file archive counts whole) h = f h.0.0

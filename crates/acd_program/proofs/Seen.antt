@@ -1,5 +1,5 @@
 -- A desk over a book, as it is seen from outside; over that of a database, each book is called sound where the first was.
-use Rattle.std.proofs.Common.{◌≡◌, inl, inr, ℕ, Bool, true, List, [], ◌∷◌, Option, Some, None, Result, Ok, Err, sym, ap, subst, ◌∙◌, ◌&&◌, refl}
+use Rattle.std.proofs.Common.{◌≡◌, inl, inr, ℕ, Bool, true, List, [], ◌∷◌, Option, Some, None, is_some, Result, Ok, Err, sym, ap, subst, ◌∙◌, ◌&&◌, refl}
 use Rattle.std.proofs.lemmas.Result.{on_ok_weaker}
 use Rattle.sqlite.specs.Held.{Held, state}
 use Rattle.sqlite.specs.State.{State, HasCleanDisk}
@@ -14,6 +14,7 @@ use Rattle.acd_desk.specs.declared.desk.Desk.{Desk}
 use Rattle.acd_desk.specs.declared.fault.DeskFault.{DeskFault}
 use Rattle.acd_desk.specs.declared.taken.Taken.{Taken}
 use Rattle.acd_desk.specs.Carried.{together}
+use Rattle.acd_desk.specs.Clock.{Looked}
 use Rattle.acd_desk.specs.Opening.{Opened}
 use Rattle.acd_desk.specs.Ran.{DeskStep, EndsUp, Ran, Took}
 use Rattle.acd_desk.specs.Standing.{Standing, Starts, standing, switch_of, is_failed}
@@ -30,7 +31,10 @@ use Rattle.acd_http.specs.declared.asked.Asked.{Asked}
 use Rattle.acd_http.specs.declared.asked.Asked.TheVariants as ask
 use Rattle.acd_http.specs.declared.exchanging.ExchangeFault.TheVariants as fault
 use Rattle.acd_http.specs.Exchanging.{Replies, AnswersAsked}
-use Rattle.acd_http.specs.Listening.{Outcome, Visited, AnsweredOne, AnsweredEach, EachWell, AnsweredFor}
+use Rattle.acd_http.specs.declared.serving.Span.{Span}
+use Rattle.acd_http.specs.Listening.{Outcome, Visited, AnsweredOne}
+use Rattle.acd_http.specs.Turns.{Turn, LookedAt, Turned, TurnedEach, TurnedWell, EndsAt}
+use Rattle.acd_http.specs.Turns as turn
 use Rattle.acd_http.specs.ReadingLines.{ReadingLine, plain, get, reading_line_of, ReadingAnswers}
 use Rattle.acd_io.specs.Sent.{Begins}
 use Rattle.acd_program.specs.Answered.{in_memory}
@@ -39,7 +43,7 @@ use Rattle.acd_program.specs.Faults.{command_result}
 use Rattle.acd_program.specs.Over.{held, unmade, LeavesBooks}
 use Rattle.acd_program.specs.LinesOver.{in_turn, Whole, LinesEnded}
 use Rattle.acd_program.specs.Seen.{Seen, seen, SeenNew, InDatabase, left_of, SeenOver, SeenIn}
-use Rattle.acd_program.specs.Serving.{ServeEnded, ends_failed}
+use Rattle.acd_program.specs.Serving.{TurnsOf, ServeEnded, ends_failed}
 use Rattle.acd_program.specs.Taking.{IsOf}
 use Rattle.acd_program.specs.declared.fault.WorkFault.{WorkFault}
 use Rattle.acd_program.proofs.Called.{called, leaves_books, leads_called, holds_called}
@@ -110,6 +114,17 @@ module _ (Sound : Type 0) where
           loads = h.loads;
         }
 
+    pub looked_called : (moment : ℕ) (taken : Option Taken) → Looked moment s taken t → Looked moment (recast s) taken (recast t)
+    looked_called moment None h = record { look = h.look; read = read_called _ _ h.read }
+    looked_called moment (Some x) h =
+        let hon : t.book.is_clean → Sound → s.book.is_sound = λ clean sound. k (h.took.step.clean clean) sound in
+        record {
+          took = took_called _ x h.took;
+          look = h.look;
+          due = λ fine clean sound. h.due fine clean (hon clean sound);
+          leaves = λ reply clean sound. h.leaves reply clean (hon clean sound);
+        }
+
     pub ran_called : (l : List Arrival) (ts : List Taken) → Ran s l ts t → Ran (recast s) l ts (recast t)
     ran_called l ts h =
         let hon : t.book.is_clean → Sound → s.book.is_sound = λ clean sound. k (h.step.clean clean) sound in
@@ -173,6 +188,7 @@ pub record Views {D T : Type 0} (stands : D → Standing) (stood : T → Standin
   pub failed : (d : D) → (stood (view d)).failed ≡ (stands d).failed
   pub took : (d e : D) (a : Arrival) (x : Taken) → Kept d → Took (stands d) a x (stands e) → Kept e × Took (stood (view d)) a x (stood (view e))
   pub read : (d e : D) (r : Result (Option (List ℕ)) DeskFault) (P : Content → Option (List ℕ) → Type 0) → Kept d → ReadDone (stands d) (stands e) r P → Kept e × ReadDone (stood (view d)) (stood (view e)) r P
+  pub looked : (d e : D) (moment : ℕ) (taken : Option Taken) → Kept d → Looked moment (stands d) taken (stands e) → Kept e × Looked moment (stood (view d)) taken (stood (view e))
   pub ran : (d e : D) (l : List Arrival) (ts : List Taken) → Kept d → Ran (stands d) l ts (stands e) → Ran (stood (view d)) l ts (stood (view e))
 
 module _ {D T : Type 0} (stands : D → Standing) (stood : T → Standing) (view : D → T) (Kept : D → Type 0) (v : Views stands stood view Kept) where
@@ -247,43 +263,55 @@ module _ {D T : Type 0} (stands : D → Standing) (stood : T → Standing) (view
   one_seen d (Err fault.Read) e k h = (same_kept d e h k, ap view h)
   one_seen d (Err fault.NoMemory) e k h = (same_kept d e h k, ap view h)
 
-  each_seen : (d : D) (xs : List Outcome) (e : D) → Kept d → AnsweredEach stands d xs e → Kept e × AnsweredEach stood (view d) xs (view e)
-  each_seen d [] e k h = (same_kept d e h k, ap view h)
-  each_seen d (x ∷ xs) e k h =
-      let one = one_seen d x h.0 k h.1 in
-      let rest = each_seen h.0 xs e one.0 h.2 in
-      (rest.0, (view h.0, one.1, rest.1))
+  look_seen : (d : D) (taken : Option Taken) (e : D) → Kept d → LookedAt stands taken d e → Kept e × LookedAt stood taken (view d) (view e)
+  look_seen d taken e k h =
+      let look = v.looked d e h.moment taken k h.looked in
+      (look.0, record { moment = h.moment; working = v.failed d ∙ h.working; looked = look.1 })
 
-  well_seen : (d : D) (xs : List Outcome) (e : D) (k : Kept d) (h : AnsweredEach stands d xs e) → EachWell stands d xs e h → EachWell stood (view d) xs (view e) (each_seen d xs e k h).1
-  unfolding each_seen one_seen
-  well_seen d [] e k h w = w
-  well_seen d (x ∷ xs) e k h w = (v.failed d ∙ w.0, well_seen h.0 xs e (one_seen d x h.0 k h.1).0 h.2 w.1)
+  module _ (looks : Bool) where
+    turn_seen : (d : D) (x : Turn) (e : D) → Kept d → Turned stands looks d x e → Kept e × Turned stood looks (view d) x (view e)
+    turn_seen d (turn.answered x) e k h = one_seen d x e k h
+    turn_seen d (turn.looked taken told) e k h = let look = look_seen d taken e k h.1 in (look.0, (h.0, look.1))
+
+    turns_seen : (d : D) (xs : List Turn) (e : D) → Kept d → TurnedEach stands looks d xs e → Kept e × TurnedEach stood looks (view d) xs (view e)
+    turns_seen d [] e k h = (same_kept d e h k, ap view h)
+    turns_seen d (x ∷ xs) e k h =
+        let one = turn_seen d x h.0 k h.1 in
+        let rest = turns_seen h.0 xs e one.0 h.2 in
+        (rest.0, (view h.0, one.1, rest.1))
+
+    well_seen : (d : D) (xs : List Turn) (e : D) (k : Kept d) (h : TurnedEach stands looks d xs e) → TurnedWell stands looks d xs e h → TurnedWell stood looks (view d) xs (view e) (turns_seen d xs e k h).1
+    unfolding turns_seen
+    well_seen d [] e k h w = w
+    well_seen d (x ∷ xs) e k h w = (v.failed d ∙ w.0, well_seen h.0 xs e (turn_seen d x h.0 k h.1).0 h.2 w.1)
 
   module _ (d e : D) (k : Kept d) where
     still_failed : (b : Bool) → (stands e).failed ≡ b → (stood (view e)).failed ≡ b
     still_failed b is = v.failed e ∙ is
 
-    answered_for_seen : (span : Option ℕ) (W : List ℕ → Type 0) → AnsweredFor stands span d e W → Kept e × AnsweredFor stood span (view d) (view e) W
-    answered_for_seen (Some many) W h =
-        let each = each_seen d h.outcomes e k h.answered in
-        (each.0, record { outcomes = h.outcomes; count = h.count; answered = each.1; out = h.out })
-    answered_for_seen None W h =
-        let each = each_seen d h.1.outcomes e k h.1.answered in (
+    ends_seen : (span : Option ℕ) (many : ℕ) → EndsAt stands span many e → EndsAt stood span many (view e)
+    ends_seen (Some most) many h = h
+    ends_seen None many h = elim h [ inl failed ↦ inl (still_failed true failed) | inr most ↦ inr most ]
+
+    taken_seen : (span : Span) (W : List ℕ → Type 0) → TurnsOf stands span d e W → Kept e × TurnsOf stood span (view d) (view e) W
+    taken_seen span W h =
+        let looks : Bool = is_some span.step in
+        let each = turns_seen looks d h.1.turns e k h.1.turned in (
           each.0,
           (
             h.0,
-            record { outcomes = h.1.outcomes; count = h.1.count; answered = each.1; well = well_seen d h.1.outcomes e k h.1.answered h.1.well; out = h.1.out },
-            elim h.2 [ inl failed ↦ inl (still_failed true failed) | inr most ↦ inr most ],
+            record { turns = h.1.turns; count = h.1.count; turned = each.1; well = λ is. well_seen looks d h.1.turns e k h.1.turned (h.1.well is); out = h.1.out },
+            ends_seen span.connections h.0 h.2,
           ),
         )
 
-    pub serve_seen : (span : Option ℕ) (old_errors new_errors : Option (List ℕ)) (port : ℕ) (old_output new_output : Option (List ℕ)) (r : Result (Unit {0}) WorkFault) → ServeEnded span old_errors new_errors port old_output new_output stands r d e
+    pub serve_seen : (span : Span) (old_errors new_errors : Option (List ℕ)) (port : ℕ) (old_output new_output : Option (List ℕ)) (r : Result (Unit {0}) WorkFault) → ServeEnded span old_errors new_errors port old_output new_output stands r d e
         → Kept e × ServeEnded span old_errors new_errors port old_output new_output stood r (view d) (view e)
     serve_seen span old_errors new_errors port old_output new_output r (inl h) =
         (same_kept d e h.0.same k, inl (record { why = h.0.why; ended = h.0.ended; same = ap view h.0.same; quiet = h.0.quiet }, h.1))
     serve_seen span old_errors new_errors port old_output new_output r (inr h) =
-        let each = answered_for_seen span (Begins old_errors new_errors) h.0.answered in
-        (each.0, inr (record { answered = each.1; ended = h.0.ended ∙ ap (λ (b : Bool). command_result (Ok tt) (ends_failed span b)) (sym (v.failed e)) }, h.1))
+        let each = taken_seen span (Begins old_errors new_errors) h.0.taken in
+        (each.0, inr (record { taken = each.1; ended = h.0.ended ∙ ap (λ (b : Bool). command_result (Ok tt) (ends_failed span.connections b)) (sym (v.failed e)) }, h.1))
 
 -- ---- over a new book in memory
 
@@ -291,7 +319,7 @@ abbrev pub new_view : Desk Content → Seen Content
 new_view d = record { book = d.book; switch = switch_of d.working; failed = is_failed d.working }
 
 pub new_views : Views (standing in_memory) (seen unfailing) new_view (λ (d : Desk Content). Unit {0})
-new_views = record { failed = λ d. refl; took = λ d e a x k h. (tt, h); read = λ d e r P k h. (tt, h); ran = λ d e l ts k h. h }
+new_views = record { failed = λ d. refl; took = λ d e a x k h. (tt, h); read = λ d e r P k h. (tt, h); looked = λ d e moment taken k h. (tt, h); ran = λ d e l ts k h. h }
 
 pub seen_new : (Did : Desk Content → Desk Content → Type 0) (DidSeen : (Seen Content → Standing) → Seen Content → Seen Content → Type 0) → ((d e : Desk Content) → Did d e → DidSeen (seen unfailing) (new_view d) (new_view e)) → OverNewDesk Did → SeenNew DidSeen
 seen_new Did DidSeen see h = record { first = new_view h.first; final = new_view h.final; opened = h.opened; did = see h.first h.final h.did }
@@ -311,11 +339,16 @@ module _ {S : Type 0} (store : Ghosts S) where
   abbrev pub IsKept : Type 0 → BookState → OfBook → Type 0
   IsKept Clean began d = SoundBy began.is_sound (stands_in d).book × ((stands_in d).book.is_clean → Clean)
 
+  kept_after_look : (Clean : Type 0) (began : BookState) (d e : OfBook) (moment : ℕ) (taken : Option Taken) → IsKept Clean began d → Looked moment (stands_in d) taken (stands_in e) → IsKept Clean began e
+  kept_after_look Clean began d e moment None k h = still_clean began.is_sound Clean (stands_in d).book (stands_in e).book k h.read.step
+  kept_after_look Clean began d e moment (Some x) k h = still_clean began.is_sound Clean (stands_in d).book (stands_in e).book k h.took.step
+
   pub views : (Clean : Type 0) (began : BookState) → Views stands_in (seen (left_of store began)) view (IsKept Clean began)
   views Clean began = record {
     failed = λ d. refl;
     took = λ d e a x k h. (still_clean began.is_sound Clean (stands_in d).book (stands_in e).book k h.step, took_called began.is_sound (stands_in d) (stands_in e) k.0 a x h);
     read = λ d e r P k h. (still_clean began.is_sound Clean (stands_in d).book (stands_in e).book k h.step, read_called began.is_sound (stands_in d) (stands_in e) k.0 r P h);
+    looked = λ d e moment taken k h. (kept_after_look Clean began d e moment taken k h, looked_called began.is_sound (stands_in d) (stands_in e) k.0 moment taken h);
     ran = λ d e l ts k h. ran_called began.is_sound (stands_in d) (stands_in e) k.0 l ts h;
   }
 

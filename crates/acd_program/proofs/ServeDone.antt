@@ -12,15 +12,16 @@ use Rattle.acd_desk.specs.Standing.{Standing, standing}
 use Rattle.acd_io.specs.Sent.{Begins, WasSent}
 use Rattle.acd_io.proofs.Sends.{begins_so}
 use Rattle.acd_lines.specs.Lines.{Streams}
-use Rattle.acd_http.specs.Listening.{AnsweredAll, AnsweredUntilFailed, AnsweredFor, outcome_lines}
+use Rattle.acd_http.specs.declared.serving.Span.{Span}
+use Rattle.acd_http.specs.Turns.{turn_lines}
 use Rattle.acd_terms.proofs.Results.{ok_err}
 use Rattle.acd_program.specs.Desks.{in_database}
 use Rattle.acd_program.specs.Faults.{open_fault, command_result}
 use Rattle.acd_program.specs.Over.{Unserved}
 use Rattle.acd_program.specs.Seen.{Seen, seen, InDatabase, left_of, SeenIn}
 use Rattle.acd_program.specs.Taking.{IsTaken}
-use Rattle.acd_program.specs.Statuses.{PrintsConnectionFaults}
-use Rattle.acd_program.specs.Serving.{ServeDone, listening_line, ends_failed, ListenEnded, ServeEnded, ServeOver, ServeIn}
+use Rattle.acd_program.specs.Statuses.{PrintsServiceFaults}
+use Rattle.acd_program.specs.Serving.{TurnsOf, ServeDone, listening_line, ends_failed, ListenEnded, ServeEnded, ServeOver, ServeIn}
 use Rattle.acd_program.specs.declared.fault.WorkFault.{WorkFault}
 use Rattle.acd_program.specs.declared.asked.Task.{Task}
 use Rattle.acd_program.specs.declared.asked.Task.TheVariants as task
@@ -40,16 +41,13 @@ begun : {E : Type 0} (r : Result (Unit {0}) E) (a b : Option (List ℕ)) (text :
 begun (Ok u) a b text h = begins_whole a b text h
 begun (Err e) a b text h = begins_so a b text h
 
-pub begins_all : {D E : Type 0} (stands : D → Standing) (many : ℕ) (d e : D) (r : Result (Unit {0}) E) (a b : Option (List ℕ)) → AnsweredAll stands many d e (WasSent r a b) → AnsweredAll stands many d e (Begins a b)
-begins_all stands many d e r a b h = record { outcomes = h.outcomes; count = h.count; answered = h.answered; out = begun r a b (outcome_lines 1 h.outcomes) h.out }
+-- and so after the turns of a service
+pub begins_turns : {D E : Type 0} (stands : D → Standing) (span : Span) (d e : D) (r : Result (Unit {0}) E) (a b : Option (List ℕ)) → TurnsOf stands span d e (WasSent r a b) → TurnsOf stands span d e (Begins a b)
+begins_turns stands span d e r a b h =
+    (h.0, record { turns = h.1.turns; count = h.1.count; turned = h.1.turned; well = h.1.well; out = begun r a b (turn_lines 1 h.1.turns) h.1.out }, h.2)
 
--- and so after an endless service
-pub begins_until : {D E : Type 0} (stands : D → Standing) (d e : D) (r : Result (Unit {0}) E) (a b : Option (List ℕ)) → AnsweredUntilFailed stands d e (WasSent r a b) → AnsweredUntilFailed stands d e (Begins a b)
-begins_until stands d e r a b h = (h.0, record { outcomes = h.1.outcomes; count = h.1.count; answered = h.1.answered; well = h.1.well; out = begun r a b (outcome_lines 1 h.1.outcomes) h.1.out }, h.2)
-
-printed_for : {D : Type 0} (stands : D → Standing) (span : Option ℕ) (d e : D) (a b : Option (List ℕ)) → AnsweredFor stands span d e (Begins a b) → PrintsConnectionFaults a b
-printed_for stands (Some many) d e a b h = (h.outcomes, h.out)
-printed_for stands None d e a b h = (h.1.outcomes, h.1.out)
+printed_for : {D : Type 0} (stands : D → Standing) (span : Span) (d e : D) (a b : Option (List ℕ)) → TurnsOf stands span d e (Begins a b) → PrintsServiceFaults a b
+printed_for stands span d e a b h = (h.1.turns, h.1.out)
 
 -- an endless service without a fault is by a desk that hasn't failed
 well_for : (u : Unit {0}) (span : Option ℕ) (failed : Bool) → ◌≡◌ {A = Result (Unit {0}) WorkFault} (Ok u) (command_result (Ok tt) (ends_failed span failed)) → span ≡ None → failed ≡ false
@@ -57,7 +55,7 @@ well_for u span false outcome is = refl
 well_for u None true outcome is = absurd (ok_err outcome)
 well_for u (Some many) true outcome is = absurd (cc is)
 
-module _ (span : Option ℕ) (a b : Option (List ℕ)) (port : ℕ) (old_output new_output : Option (List ℕ)) where
+module _ (span : Span) (a b : Option (List ℕ)) (port : ℕ) (old_output new_output : Option (List ℕ)) where
   module _ {D : Type 0} (stands : D → Standing) where
     -- connections are waited for once the whole line is written
     pub serve_ended : (r : Result (Unit {0}) WorkFault) (d e : D) → Appends old_output new_output (listening_line port) → ListenEnded span a b stands r d e → ServeEnded span a b port old_output new_output stands r d e
@@ -67,7 +65,7 @@ module _ (span : Option ℕ) (a b : Option (List ℕ)) (port : ℕ) (old_output 
     -- without a fault the connections were answered as was asked for
     serve_done : (u : Unit {0}) (d e : D) → ServeEnded span a b port old_output new_output stands (Ok u) d e → ServeDone stands span a b d e
     serve_done u d e (inl none) = absurd (ok_err none.0.ended)
-    serve_done u d e (inr some) = record { answered = some.0.answered; well = well_for u span (stands e).failed some.0.ended }
+    serve_done u d e (inr some) = record { taken = some.0.taken; well = well_for u span.connections (stands e).failed some.0.ended }
 
   module _ {S : Type 0} (store : Ghosts S) (s : State) (r : Result (Unit {0}) WorkFault) (conn : Held S) where
     -- over the book that was opened in the database
@@ -100,8 +98,8 @@ module _ (span : Option ℕ) (a b : Option (List ℕ)) (port : ℕ) (old_output 
       seen_so store (λ (stands : Seen (InDatabase S) → Standing). ServeEnded span a b port old_output new_output stands (Ok u)) (λ (stands : Seen (InDatabase S) → Standing). ServeDone stands span a b)
       (λ stands d e h. serve_done stands u d e h) makes s conn some
 
-pub file_prints : {D : Type 0} {g : disk.Ghosts D} (IsFresh : Bool → D → Type 0) (span : Option ℕ) (a b : Option (List ℕ)) → ServeDoneIn g IsFresh span a b → PrintsConnectionFaults a b
+pub file_prints : {D : Type 0} {g : disk.Ghosts D} (IsFresh : Bool → D → Type 0) (span : Span) (a b : Option (List ℕ)) → ServeDoneIn g IsFresh span a b → PrintsServiceFaults a b
 file_prints IsFresh span a b h = elim h.answered [
-  | inl found ↦ printed_for _ span found.1.first found.1.final a b found.1.did.answered
-  | inr made ↦ printed_for _ span made.2.first made.2.final a b made.2.did.answered
+  | inl found ↦ printed_for _ span found.1.first found.1.final a b found.1.did.taken
+  | inr made ↦ printed_for _ span made.2.first made.2.final a b made.2.did.taken
 ]

@@ -1,5 +1,5 @@
 -- The commands with their options, and the task that the words of a command line name.
-use Rattle.std.specs.Prelude.{◌≡◌, ◌≢◌, ◌⊎◌, ◌<◌, ◌^◌, ℕ, ◌∷◌, [], Bool, true, false, List, Option, Some, None, Result, IfOk, MatchOption, is_some, find, codes, option_map}
+use Rattle.std.specs.Prelude.{◌≡◌, ◌≢◌, ◌⊎◌, ◌<◌, ◌^◌, ◌*◌, ℕ, ◌∷◌, [], Bool, true, false, List, Option, Some, None, Result, IfOk, MatchOption, is_some, find, codes, option_map}
 use Rattle.std.specs.Option.{option_map_or}
 use Rattle.std.specs.Str.{bytes_eq}
 use Rattle.std.specs.Str.Parse.{IsNumeral, digits_value, without_leading_plus}
@@ -13,6 +13,9 @@ use Rattle.clap.specs.declared.builder.action.ArgAction.TheVariants.{Set, SetTru
 use Rattle.clap.specs.declared.builder.value_parser.ValueParser.TheVariants.{Unsigned}
 use Rattle.clap.specs.declared.error.kind.ErrorKind.{ErrorKind}
 use Rattle.clap.specs.declared.error.kind.ErrorKind.TheVariants.{OutOfMemory}
+use Rattle.std.specs.Duration.{as_nanos}
+use Rattle.std.specs.declared.time.Duration.{Duration}
+use Rattle.acd_http.specs.declared.serving.Span.{Span}
 use Rattle.acd_log.specs.declared.ending.Ending.TheVariants.{Plain}
 use Rattle.acd_program.specs.Statuses.{IsHelp}
 use Rattle.acd_program.specs.declared.desk.Work.{Work}
@@ -49,7 +52,8 @@ lines_shape = with_rules (codes "lines") (file_rule ∷ flag_rule (codes "reads"
 
 abbrev pub serve_shape : Shape
 serve_shape = with_rules (codes "serve")
-    (required file_rule ∷ required (number_rule (codes "port") 65535) ∷ number_rule (codes "connections") 1000000 ∷ flag_rule (codes "endless") ∷ [])
+    (required file_rule ∷ required (number_rule (codes "port") 65535) ∷ number_rule (codes "connections") 1000000 ∷ flag_rule (codes "endless") ∷ number_rule (codes "tick") 3600
+    ∷ number_rule (codes "patience") 3600 ∷ [])
 
 abbrev pub import_shape : Shape
 import_shape = with_rules (codes "import") (required file_rule ∷ required (option_rule (codes "plan")) ∷ [])
@@ -112,9 +116,18 @@ IsNumber bits name options n =
     (text : Text) × (one_of name options ≡ Some text) × IsNumeral 10 (without_leading_plus text) × (digits_value 10 (without_leading_plus text) ≡ n) × (n < 2 ^ bits)
 
 -- so many connections or, where none is named, no end of them: one of both was asked for
-abbrev pub IsSpan : List Row → Option ℕ → Type 0
-IsSpan options (Some n) = IsNumber 32 (codes "connections") options n × (is_given (codes "endless") options ≡ false)
-IsSpan options None = (has_option (codes "connections") options ≡ false) × (is_given (codes "endless") options ≡ true)
+abbrev pub IsConnections : List Row → Option ℕ → Type 0
+IsConnections options (Some n) = IsNumber 32 (codes "connections") options n × (is_given (codes "endless") options ≡ false)
+IsConnections options None = (has_option (codes "connections") options ≡ false) × (is_given (codes "endless") options ≡ true)
+
+-- the option has a text that is so many seconds, or it was not given
+abbrev pub IsSeconds : Text → List Row → Option Duration → Type 0
+IsSeconds name options (Some time) = (n : ℕ) × IsNumber 16 name options n × (as_nanos time ≡ n * 1000000000)
+IsSeconds name options None = has_option name options ≡ false
+
+-- so many connections, a look each time that `--tick` names, and the patience that is asked for
+abbrev pub IsSpan : List Row → Span → Type 0
+IsSpan options span = IsConnections options span.connections × IsSeconds (codes "tick") options span.step × IsSeconds (codes "patience") options span.patience
 
 -- the command that prints it
 abbrev pub command_of : Printout → Text
@@ -136,8 +149,8 @@ IsAuditOf command options file counts whole = (command ≡ codes "audit") × IsT
 abbrev pub IsTaskWith : Text → List Row → Task → Type 0
 IsTaskWith command options (Lines file reads ends) =
     (command ≡ codes "lines") × IsFileIfGiven options file × IsFlag (codes "reads") options reads × IsFlag (codes "end-on-store-fault") options ends
-IsTaskWith command options (Serve file port connections) =
-    (command ≡ codes "serve") × IsText (codes "file") options file × IsNumber 16 (codes "port") options port × IsSpan options connections
+IsTaskWith command options (Serve file port span) =
+    (command ≡ codes "serve") × IsText (codes "file") options file × IsNumber 16 (codes "port") options port × IsSpan options span
 IsTaskWith command options (Import file plan) = (command ≡ codes "import") × IsText (codes "file") options file × IsText (codes "plan") options plan
 IsTaskWith command options (AuditWhole file counts) = IsAuditOf command options file counts true × HasNone (codes "archive") options
 IsTaskWith command options (AuditWithArchive file archive counts whole) = IsAuditOf command options file counts whole × IsText (codes "archive") options archive
@@ -177,9 +190,19 @@ FindsTask command options found = MatchOption found ((task : Task) → ¬ IsTask
 abbrev pub FindsTaskIn : Option (Text × List Row) → Option Task → Type 0
 FindsTaskIn matches found = MatchOption found ((task : Task) → ¬ IsTaskIn matches task) (IsTaskIn matches)
 
--- and of how many connections are asked for
-abbrev pub FindsSpan : List Row → Option (Option ℕ) → Type 0
-FindsSpan options found = MatchOption found ((span : Option ℕ) → ¬ IsSpan options span) (IsSpan options)
+-- and of how many connections are asked for, of a time, and of all that says how long a service lasts and waits
+abbrev pub FindsConnections : List Row → Option (Option ℕ) → Type 0
+FindsConnections options found = MatchOption found ((many : Option ℕ) → ¬ IsConnections options many) (IsConnections options)
+
+abbrev pub FindsSeconds : Text → List Row → Option (Option Duration) → Type 0
+FindsSeconds name options found = MatchOption found ((time : Option Duration) → ¬ IsSeconds name options time) (IsSeconds name options)
+
+abbrev pub FindsSpan : List Row → Option Span → Type 0
+FindsSpan options found = MatchOption found ((span : Span) → ¬ IsSpan options span) (IsSpan options)
+
+-- the command's options have this flag
+abbrev pub asks_for : Text → Option (Text × List Row) → Bool
+asks_for flag matches = option_map_or (λ (found : Text × List Row). is_given flag found.1) matches false
 
 -- there is no task, with an error of this kind: there was no memory; or the words aren't a command line, as where help is asked for; or they name no task
 abbrev pub IsRefusedBy : List Text → ErrorKind → Type 0

@@ -1,5 +1,5 @@
 -- Answering connections over the book of a database: what it leaves, and how that ended.
-use Rattle.std.specs.Prelude.{◌≡◌, ◌⊎◌, ℕ, Bool, false, List, [], ◌∷◌, ◌++◌, codes, decimal, Option, Some, None, Result, Ok, Err}
+use Rattle.std.specs.Prelude.{◌≡◌, ◌⊎◌, ℕ, Bool, false, List, [], ◌∷◌, ◌++◌, codes, decimal, Option, Some, None, is_some, Result, Ok, Err}
 use Rattle.std.specs.Io.KnownBytes.{Appends}
 use Rattle.sqlite.specs.State.{State}
 use Rattle.sqlite.specs.Held.{Held, state}
@@ -11,7 +11,8 @@ use Rattle.acd_desk.specs.declared.open_fault.OpenFault.{OpenFault}
 use Rattle.acd_desk.specs.Opening.{Refused}
 use Rattle.acd_desk.specs.Standing.{Standing, standing}
 use Rattle.acd_io.specs.Sent.{Begins}
-use Rattle.acd_http.specs.Listening.{AnsweredFor}
+use Rattle.acd_http.specs.declared.serving.Span.{Span}
+use Rattle.acd_http.specs.Turns.{TurnsUntil}
 use Rattle.acd_program.specs.Desks.{OverDesk}
 use Rattle.acd_program.specs.Faults.{open_fault, command_result}
 use Rattle.acd_program.specs.Output.{Output}
@@ -19,11 +20,15 @@ use Rattle.acd_program.specs.Over.{Database, Unserved}
 use Rattle.acd_program.specs.Seen.{Seen, InDatabase, SeenIn}
 use Rattle.acd_program.specs.declared.fault.WorkFault.{WorkFault}
 
--- connections were answered, one after another, so many or until the desk failed; the lines of their faults were written, or a beginning of them
-pub record ServeDone {D : Type 0} (stands : D → Standing) (span : Option ℕ) (old_output new_output : Option (List ℕ)) (d e : D) : Type 0 where
-  pub answered : AnsweredFor stands span d e (Begins old_output new_output)
+-- turns were taken, one after another, with looks between connections where there is a step: so many connections, or until the desk failed
+abbrev pub TurnsOf : {D : Type 0} → (D → Standing) → Span → D → D → (List ℕ → Type 0) → Type 0
+TurnsOf stands span d e WentOut = TurnsUntil stands (is_some span.step) span.connections d e WentOut
+
+-- they were; the lines of their faults were written, or a beginning of them
+pub record ServeDone {D : Type 0} (stands : D → Standing) (span : Span) (old_output new_output : Option (List ℕ)) (d e : D) : Type 0 where
+  pub taken : TurnsOf stands span d e (Begins old_output new_output)
   -- an endless service doesn't end so where its store has failed
-  pub well : span ≡ None → (stands e).failed ≡ false
+  pub well : span.connections ≡ None → (stands e).failed ≡ false
 
 -- the line that says where the program waits for connections
 abbrev pub listening_line : ℕ → List ℕ
@@ -35,7 +40,7 @@ ends_failed (Some many) failed = false
 ends_failed None failed = failed
 
 -- `old_errors` was written of the faults of connections before, and `new_errors` is written after
-module _ (span : Option ℕ) (old_errors new_errors : Option (List ℕ)) where
+module _ (span : Span) (old_errors new_errors : Option (List ℕ)) where
   module _ {D : Type 0} (stands : D → Standing) where
     -- nothing was asked of the desk
     pub record Unasked (result : Result (Unit {0}) WorkFault) (d e : D) : Type 0 where
@@ -46,8 +51,8 @@ module _ (span : Option ℕ) (old_errors new_errors : Option (List ℕ)) where
 
     -- so many connections were answered, or until the desk failed
     pub record Answered (result : Result (Unit {0}) WorkFault) (d e : D) : Type 0 where
-      pub answered : AnsweredFor stands span d e (Begins old_errors new_errors)
-      pub ended : result ≡ command_result (Ok tt) (ends_failed span (stands e).failed)
+      pub taken : TurnsOf stands span d e (Begins old_errors new_errors)
+      pub ended : result ≡ command_result (Ok tt) (ends_failed span.connections (stands e).failed)
 
     -- what answering connections left, and the command gets how it ended
     abbrev pub ListenEnded : Result (Unit {0}) WorkFault → D → D → Type 0
@@ -89,19 +94,19 @@ module _ (span : Option ℕ) (old_errors new_errors : Option (List ℕ)) where
 
 -- ---- of a call
 
--- what a service is to do, and where it writes: so many connections or no end of them, a port, the output, and the stream of errors
+-- what a service is to do, and where it writes: how long it lasts and waits, a port, the output, and the stream of errors
 pub record Service : Type 1 where
-  pub span : Option ℕ
+  pub span : Span
   pub port : ℕ
   pub said : Output
   pub errors : Output
 
 -- it is made of these
-abbrev pub service : Option ℕ → ℕ → Output → Output → Service
+abbrev pub service : Span → ℕ → Output → Output → Service
 service span port said errors = record { span = span; port = port; said = said; errors = errors }
 
 -- a desk answered connections, from what it was to what it is then
-abbrev pub EndsListening : {B : Type 0} → Ghosts B → Desk B × Desk B → Result (Unit {0}) WorkFault → Option ℕ → Output → Type 0
+abbrev pub EndsListening : {B : Type 0} → Ghosts B → Desk B × Desk B → Result (Unit {0}) WorkFault → Span → Output → Type 0
 EndsListening books desks result span errors = ListenEnded span errors.before errors.after (standing books) result desks.0 desks.1
 
 -- it did after the line that says where was written

@@ -20,7 +20,7 @@ use Rattle.acd_program.specs.declared.status.Status.{Status}
 use Rattle.acd_program.specs.declared.status.Status.TheVariants.{Success, Differs, EndsEarly, SentAgain}
 use Rattle.acd_program.specs.declared.status.Exit.{Exit}
 use Rattle.acd_program.specs.declared.status.Exit.TheVariants as exit
-use Rattle.acd_http.specs.Listening.{Outcome, outcome_lines}
+use Rattle.acd_http.specs.Turns.{Turn, turn_lines}
 use Rattle.acd_program.specs.Output.{Output}
 
 -- help or the version was asked for
@@ -85,17 +85,17 @@ fault_exit (fault.Opening why) = opening_exit why
 fault_exit (fault.Work why) = exit.Failed
 fault_exit (fault.Archive why) = archive_exit why
 
--- the lines of the faults of connections were written, or a beginning of them
-abbrev pub PrintsConnectionFaults : Option (List ℕ) → Option (List ℕ) → Type 0
-PrintsConnectionFaults old_output new_output = (outcomes : List Outcome) × Begins old_output new_output (outcome_lines 1 outcomes)
+-- the lines of the faults of connections and ticks were written, or a beginning of them
+abbrev pub PrintsServiceFaults : Option (List ℕ) → Option (List ℕ) → Type 0
+PrintsServiceFaults old_output new_output = (turns : List Turn) × Begins old_output new_output (turn_lines 1 turns)
 
 -- nothing was printed on the stream of errors but these, if anything
 abbrev pub PrintsAtMostFaults : Output → Type 0
-PrintsAtMostFaults errors = errors.unwritten ⊎ PrintsConnectionFaults errors.before errors.after
+PrintsAtMostFaults errors = errors.unwritten ⊎ PrintsServiceFaults errors.before errors.after
 
 -- and these only where it succeeded
 abbrev pub PrintsOnSuccess : Output → Status → Type 0
-PrintsOnSuccess errors status = errors.unwritten ⊎ ((status ≡ Success) × PrintsConnectionFaults errors.before errors.after)
+PrintsOnSuccess errors status = errors.unwritten ⊎ ((status ≡ Success) × PrintsServiceFaults errors.before errors.after)
 
 -- this holds of the status of a task that no fault ended
 abbrev pub IfDone : Exit → (Status → Type 0) → Type 0

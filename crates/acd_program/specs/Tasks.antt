@@ -19,6 +19,7 @@ use Rattle.acd_program.specs.Found.{IsFindingOf, HasCount, finding_line}
 use Rattle.acd_program.specs.Statuses.{finding_status}
 use Rattle.acd_program.specs.Work.{WasAsked, IsTextOf, ImportsOver}
 use Rattle.acd_program.specs.InFiles.{OfFiles, IsLaidIn, WorkedOver, IsOpenedFrom, InFile}
+use Rattle.acd_http.specs.declared.serving.Span.{Span}
 use Rattle.acd_program.specs.Serving.{ServeDone}
 use Rattle.acd_program.specs.declared.auditing.Finding.{Finding}
 use Rattle.acd_program.specs.declared.desk.Work.{Work}
@@ -55,7 +56,7 @@ module _ {D : Type 0} (disk : Ghosts D) (IsFresh : Bool → D → Type 0) where
       (bytes : List ℕ) × (requests : List Request) × (plan_requests bytes ≡ Ok requests) × InFile disk IsFresh (λ old new. ImportsOver requests old old_output new_output new) true × (status ≡ Success)
 
   -- a database in files was opened, a desk of its book answered connections, and it was closed into its file
-  pub record ServeDoneIn (span : Option ℕ) (old_output new_output : Option (List ℕ)) : Type 0 where
+  pub record ServeDoneIn (span : Span) (old_output new_output : Option (List ℕ)) : Type 0 where
     pub conn : OfFiles disk
     pub last : OfFiles disk
     pub opened : IsOpenedFrom disk IsFresh conn
@@ -101,7 +102,7 @@ module _ {D : Type 0} (disk : Ghosts D) (IsFresh : Bool → D → Type 0) where
   -- status
   abbrev pub TaskDone : Task → Streams → Option (List ℕ) → Option (List ℕ) → Status → Type 0
   TaskDone (Lines file reads ends) io old_errors new_errors status = InputAnswered file reads ends io status
-  TaskDone (Serve file port connections) io old_errors new_errors status = ServeDoneIn connections old_errors new_errors × (status ≡ Success)
+  TaskDone (Serve file port span) io old_errors new_errors status = ServeDoneIn span old_errors new_errors × (status ≡ Success)
   TaskDone (Import file plan) io old_errors new_errors status = ImportedIn io.old_output io.new_output status
   TaskDone (Read file (kind.Import requests)) io old_errors new_errors status = InFile disk IsFresh (λ old new. ImportsOver requests.now old io.old_output io.new_output new) false × (status ≡ Success)
   TaskDone (Read file (kind.Print printout)) io old_errors new_errors status =

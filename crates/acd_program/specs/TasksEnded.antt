@@ -12,6 +12,7 @@ use Rattle.acd_program.specs.Faults.{lines_fault}
 use Rattle.acd_program.specs.Found.{HasCount, finding_line}
 use Rattle.acd_program.specs.InFiles.{OfFiles, IsOpenedFrom, LeavesUnopened}
 use Rattle.acd_program.specs.Over.{OverConnection, Unserved}
+use Rattle.acd_http.specs.declared.serving.Span.{Span}
 use Rattle.acd_program.specs.Serving.{ServeIn}
 use Rattle.acd_program.specs.Sessions.{DatabaseEnded, MemoryEnded}
 use Rattle.acd_program.specs.Tasks.{IsSomeEnding, IsReadEnding}
@@ -43,7 +44,7 @@ module _ {D : Type 0} (disk : Ghosts D) (IsFresh : Bool → D → Type 0) where
     pub why : EndsBy ended fault
 
   -- the service ended, or closing its file did, and the connection was shut
-  pub record ServiceLeft (span : Option ℕ) (port : ℕ) (old_output new_output old_errors new_errors : Option (List ℕ)) (fault : WorkFault) (conn : OfFiles disk) : Type 0 where
+  pub record ServiceLeft (span : Span) (port : ℕ) (old_output new_output old_errors new_errors : Option (List ℕ)) (fault : WorkFault) (conn : OfFiles disk) : Type 0 where
     pub last : OfFiles disk
     pub shut : IsShut last
     pub ended : Result (Unit {0}) WorkFault
@@ -87,7 +88,7 @@ module _ {D : Type 0} (disk : Ghosts D) (IsFresh : Bool → D → Type 0) where
       (conn : OfFiles disk) × IsOpenedFrom disk IsFresh conn × (left : AuditShut conn) × (Unwritten ⊎ AuditCut counts whole old_output new_output conn left.last)
   AuditWithArchiveEnded counts whole old_output new_output Unwritten (Archive why) = (conn : OfFiles disk) × IsOpenedFrom disk IsFresh conn × AuditShut conn × Unwritten × LeavesArchive disk IsFresh why
 
-  abbrev pub ServiceEnded : Option ℕ → ℕ → Option (List ℕ) → Option (List ℕ) → Option (List ℕ) → Option (List ℕ) → Type 0 → Fault → Type 0
+  abbrev pub ServiceEnded : Span → ℕ → Option (List ℕ) → Option (List ℕ) → Option (List ℕ) → Option (List ℕ) → Type 0 → Fault → Type 0
   ServiceEnded span port old_output new_output old_errors new_errors Unwritten fault = EndedIn fault (Unwritten × (new_errors ≡ old_errors)) (ServiceLeft span port old_output new_output old_errors new_errors)
 
   -- the lines of an input, over a desk in memory or over a file that was named
@@ -99,7 +100,7 @@ module _ {D : Type 0} (disk : Ghosts D) (IsFresh : Bool → D → Type 0) where
   -- service prints anything there.
   abbrev pub TaskEnded : Task → Streams → Option (List ℕ) → Option (List ℕ) → Fault → Type 0
   TaskEnded (Lines file reads ends) io old_errors new_errors fault = (new_errors ≡ old_errors) × InputEnded file reads ends io fault
-  TaskEnded (Serve file port connections) io old_errors new_errors fault = io.unread × ServiceEnded connections port io.old_output io.new_output old_errors new_errors io.unwritten fault
+  TaskEnded (Serve file port span) io old_errors new_errors fault = io.unread × ServiceEnded span port io.old_output io.new_output old_errors new_errors io.unwritten fault
   TaskEnded (Import file plan) io old_errors new_errors fault = io.unread × (new_errors ≡ old_errors) × PlanEnded io.old_output io.new_output io.unwritten fault
   TaskEnded (Read file work) io old_errors new_errors fault = io.unread × (new_errors ≡ old_errors) × WorkEndedIn false work io.old_output io.new_output io.unwritten fault
   TaskEnded (AuditWithArchive file archive counts whole) io old_errors new_errors fault = io.unread × (new_errors ≡ old_errors) × AuditWithArchiveEnded counts whole io.old_output io.new_output io.unwritten fault

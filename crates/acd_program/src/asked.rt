@@ -1,6 +1,7 @@
 //! The task of a command line.
 
 use crate::desk::Work;
+use acd_http::Span;
 
 /// The task of a command line, with the paths that it names.
 #[derive(Clone, Copy)]
@@ -12,11 +13,11 @@ pub(crate) enum Task<'a> {
         reads: bool,
         ends: bool,
     },
-    /// Answer connections over HTTP: so many, or until the store has failed.
+    /// Answer connections over HTTP: so many, or until the store has failed; and tick between them, where that is asked for.
     Serve {
         file: &'a str,
         port: u16,
-        connections: Option<u32>,
+        span: Span,
     },
     /// Take the requests of a plan.
     Import {

@@ -1,6 +1,7 @@
 //! The progress of long work, shown where standard error is a terminal.
 
 ghost use Rattle.std.specs.Prelude.{◌≡◌};
+ghost use Rattle.std.specs.Option.{option_map_or};
 
 use acd_book::{Book, BookFault, Kept};
 use acd_log::Ending;
@@ -96,7 +97,9 @@ impl<'a> Progress<'a> {
 }
 
 // The stamp of a record, or 0.
-fn stamp_of(found: &Option<Kept>) -> u64 {
+fn stamp_of(found: &Option<Kept>) -> u64
+    ensures { result ≡ option_map_or (λ kept. kept.stamp) found.now 0 }
+{
     match found {
         Some(kept) => kept.stamp,
         None => 0,

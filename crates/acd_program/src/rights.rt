@@ -1,7 +1,8 @@
 //! Whether a file can be written, as far as that shows without an attempt.
 
 ghost use Rattle.std.specs.Prelude.{◌≡◌};
-ghost use Rattle.acd_program.specs.Rights.{writing_bits};
+ghost use Rattle.std.specs.List.{list_all};
+ghost use Rattle.acd_program.specs.Rights.{writing_bits, is_shown_plain};
 
 use crate::logs::all_bytes;
 use crate::looking::Looks;
@@ -78,8 +79,12 @@ fn is_in_read_only(mounts: &str, path: &str) -> bool {
 }
 
 // Whether a path is written as it is where it is mounted: blanks and backslashes aren't.
-fn is_plain(path: &str) -> bool {
-    path.bytes().all(|byte| byte > b' ' && byte != b'\\')
+fn is_plain(path: &str) -> bool
+    ensures { result ≡ list_all is_shown_plain path.now }
+{
+    path.as_bytes()
+        .iter()
+        .all(|byte| *byte > b' ' && *byte != b'\\')
 }
 
 /// Whether a path surely is on a disk that can't be written.

@@ -30,7 +30,7 @@ use crate::status::{Exit, Status};
 use crate::task::parse;
 use crate::with_archive::over_archive;
 use acd_book::{BookFault, MemoryBook};
-use acd_http::RequestsAndReads;
+use acd_http::{RequestsAndReads, Span};
 use acd_lines::laws::requests_run;
 use acd_lines::{LinesFault, Requests};
 use acd_log::Ending;
@@ -249,16 +249,16 @@ fn serve_file<'a, S: Start, W: Write, E: Write>(
     start: S,
     file: &'a str,
     port: u16,
-    connections: Option<u32>,
+    span: Span,
     writer: &mut W,
     errors: &mut E,
 ) -> Result<(), Fault<'a>>
     ensures { EndsFileService ⟦<FileFrom<S> as Disk>⟧
-        (service connections port (output W.contents writer.old writer.new)
+        (service span port (output W.contents writer.old writer.new)
         (output E.contents errors.old errors.new)) result }
 {
     let (conn, is_new) = connect(rt, file, true, start)?;
-    let (done, conn) = serve(rt, conn, is_new, port, connections, writer, errors);
+    let (done, conn) = serve(rt, conn, is_new, port, span, writer, errors);
     match done_and_closed(done, close_connection(conn)) {
         Ok(()) => Ok(()),
         Err(fault) => Err(Fault::Work(fault)),
@@ -287,11 +287,9 @@ fn execute<'a, S: Start, R: Read, W: Write, E: Write>(
         Task::Lines { file, reads, ends } => {
             answer_lines(rt, start, file, reads, ends, reader, writer)
         }
-        Task::Serve {
-            file,
-            port,
-            connections,
-        } => match serve_file(rt, start, file, port, connections, writer, errors) {
+        Task::Serve { file, port, span } => match serve_file(
+            rt, start, file, port, span, writer, errors,
+        ) {
             Ok(()) => Ok(Status::Success),
             Err(fault) => Err(fault),
         },

@@ -1,10 +1,12 @@
 //! The desk of a database, over HTTP.
 
-ghost use Rattle.std.specs.Prelude.{◌≡◌, false, Some, None};
+ghost use Rattle.std.specs.Prelude.{◌≡◌, false, Ok};
 ghost use Rattle.acd_io.specs.Sent.{Sends};
+ghost use Rattle.acd_desk.specs.Standing.{standing};
+ghost use Rattle.acd_program.specs.Faults.{command_result};
 ghost use Rattle.acd_program.specs.Output.{output};
 ghost use Rattle.acd_program.specs.Over.{database};
-ghost use Rattle.acd_program.specs.Serving.{listening_line, service, EndsListening, EndsService, EndsServiceOver, EndsServiceIn};
+ghost use Rattle.acd_program.specs.Serving.{ends_failed, listening_line, service, EndsListening, EndsService, EndsServiceOver, EndsServiceIn};
 
 use crate::connection::book_over;
 use crate::fault::WorkFault;
@@ -12,14 +14,13 @@ use crate::printing::send_number;
 use crate::session::unless_failed;
 use acd_book::Book;
 use acd_desk::Desk;
-use acd_http::{ServeFault, serve_on, serve_until_failed};
+use acd_http::{Door, Port, ServeFault, Span};
 use sqlite::{Alter, Connection};
 use std::io::{ErrorKind, Write};
-use std::net::{Ipv4Addr, SocketAddr, TcpListener};
 
-fn listen(rt: &HostRuntime, port: u16) -> Result<TcpListener, WorkFault> {
-    match TcpListener::bind(rt, SocketAddr::from((Ipv4Addr::LOCALHOST, port))) {
-        Ok(listener) => Ok(listener),
+fn listen(rt: &HostRuntime, port: u16) -> Result<Port, WorkFault> {
+    match Port::listen(rt, rt.alloc(), port) {
+        Ok(door) => Ok(door),
         Err(error) if error.kind() == ErrorKind::OutOfMemory => Err(WorkFault::NoMemory),
         Err(_) => Err(WorkFault::CannotListen(port)),
     }
@@ -33,61 +34,33 @@ fn say<W: Write>(port: u16, writer: &mut W) -> Result<(), WorkFault>
     Ok(())
 }
 
-// Answers so many connections. A line of one of them that could not be written is no fault of the command.
-fn answer_some<B: Book, E: Write>(
-    rt: &HostRuntime,
-    listener: &TcpListener,
-    desk: &mut Desk<B>,
-    connections: u32,
-    errors: &mut E,
-) -> Result<(), WorkFault>
-    ensures { EndsListening B.Book (desk.old, desk.new) result (Some connections)
-        (output E.contents errors.old errors.new) }
-{
-    match serve_on(
-        rt,
-        rt.alloc(),
-        listener,
-        desk,
-        u64::from(connections),
-        errors,
-    ) {
-        Ok(()) => Ok(()),
-        Err(ServeFault::Write) => Ok(()),
-        Err(ServeFault::NoMemory) => Err(WorkFault::NoMemory),
-    }
-}
-
-// Answers connections until the store has failed, so that whoever started the command may start it again.
-fn answer_until_failed<B: Book, E: Write>(
-    rt: &HostRuntime,
-    listener: &TcpListener,
-    desk: &mut Desk<B>,
-    errors: &mut E,
-) -> Result<(), WorkFault>
-    ensures { EndsListening B.Book (desk.old, desk.new) result None
-        (output E.contents errors.old errors.new) }
-{
-    match serve_until_failed(rt, rt.alloc(), listener, desk, errors) {
-        Ok(()) => unless_failed(desk),
-        Err(ServeFault::Write) => unless_failed(desk),
-        Err(ServeFault::NoMemory) => Err(WorkFault::NoMemory),
-    }
-}
-
-fn answer<B: Book, E: Write>(
-    rt: &HostRuntime,
-    listener: &TcpListener,
-    desk: &mut Desk<B>,
-    connections: Option<u32>,
-    errors: &mut E,
-) -> Result<(), WorkFault>
-    ensures { EndsListening B.Book (desk.old, desk.new) result connections
-        (output E.contents errors.old errors.new) }
+// A store that has failed is a fault of a service that has no other end, so that whoever started the command may start
+// it again.
+fn unless_endless<B: Book>(desk: &Desk<B>, connections: Option<u64>) -> Result<(), WorkFault>
+    ensures { result ≡ command_result (Ok tt)
+        (ends_failed connections (standing B.Book desk.now).failed) }
 {
     match connections {
-        Some(connections) => answer_some(rt, listener, desk, connections, errors),
-        None => answer_until_failed(rt, listener, desk, errors),
+        Some(_) => Ok(()),
+        None => unless_failed(desk),
+    }
+}
+
+// Answers connections. A line of one of them that could not be written is no fault of the command.
+fn answer<D: Door, B: Book, E: Write>(
+    rt: &HostRuntime,
+    door: &mut D,
+    desk: &mut Desk<B>,
+    span: Span,
+    errors: &mut E,
+) -> Result<(), WorkFault>
+    ensures { EndsListening B.Book (desk.old, desk.new) result span
+        (output E.contents errors.old errors.new) }
+{
+    match acd_http::serve(rt, rt.alloc(), door, desk, span, errors) {
+        Ok(()) => unless_endless(desk, span.connections),
+        Err(ServeFault::Write) => unless_endless(desk, span.connections),
+        Err(ServeFault::NoMemory) => Err(WorkFault::NoMemory),
     }
 }
 
@@ -95,60 +68,61 @@ fn serve_desk<B: Book, W: Write, E: Write>(
     rt: &HostRuntime,
     desk: &mut Desk<B>,
     port: u16,
-    connections: Option<u32>,
+    span: Span,
     writer: &mut W,
     errors: &mut E,
 ) -> Result<(), WorkFault>
     ensures { EndsService B.Book (desk.old, desk.new) result
-        (service connections port (output W.contents writer.old writer.new)
+        (service span port (output W.contents writer.old writer.new)
         (output E.contents errors.old errors.new)) }
 {
-    let listener = listen(rt, port)?;
+    let mut door = listen(rt, port)?;
     say(port, writer)?;
-    answer(rt, &listener, desk, connections, errors)
+    answer(rt, &mut door, desk, span, errors)
 }
 
 fn serve_book<B: Book, W: Write, E: Write>(
     rt: &HostRuntime,
     book: B,
     port: u16,
-    connections: Option<u32>,
+    span: Span,
     writer: &mut W,
     errors: &mut E,
 ) -> (Result<(), WorkFault>, B)
     ensures { EndsServiceOver B.Book book result
-        (service connections port (output W.contents writer.old writer.new)
+        (service span port (output W.contents writer.old writer.new)
         (output E.contents errors.old errors.new)) }
 {
     let mut desk = match Desk::open(rt.alloc(), book) {
         Ok(desk) => desk,
         Err((fault, book)) => return (Err(WorkFault::from(fault)), book),
     };
-    let done = serve_desk(rt, &mut desk, port, connections, writer, errors);
+    let done = serve_desk(rt, &mut desk, port, span, writer, errors);
     (done, desk.close())
 }
 
-/// Answers connections, so many or until the store has failed, over the desk of a database, which is made where there
-/// is none and one is to be made. The faults of connections are lines on `errors`.
+/// Answers connections, so many or until the store has failed, and ticks between them where that is asked for. The desk
+/// is that of a database, which is made where there is none and one is to be made. The faults of connections are lines
+/// on `errors`.
 pub(crate) fn serve<S: Alter, W: Write, E: Write>(
     rt: &HostRuntime,
     conn: Connection<S>,
     makes: bool,
     port: u16,
-    connections: Option<u32>,
+    span: Span,
     writer: &mut W,
     errors: &mut E,
 ) -> (Result<(), WorkFault>, Connection<S>)
     requires { conn.in_transaction ≡ false }
     ensures idle { result.1.in_transaction ≡ false }
     ensures ended { EndsServiceIn (database S.Store makes conn) result
-        (service connections port (output W.contents writer.old writer.new)
+        (service span port (output W.contents writer.old writer.new)
         (output E.contents errors.old errors.new)) }
 {
     let book = match book_over(rt.alloc(), conn, makes) {
         Ok(book) => book,
         Err((fault, conn)) => return (Err(WorkFault::from(fault)), conn),
     };
-    let (done, book) = serve_book(rt, book, port, connections, writer, errors);
+    let (done, book) = serve_book(rt, book, port, span, writer, errors);
     (done, book.into_connection())
 }

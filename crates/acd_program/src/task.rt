@@ -2,17 +2,19 @@
 
 ghost use Rattle.std.specs.Prelude.{◌≡◌, [], false, codes, map, IsTrue, IfOk, IfErr};
 ghost use Rattle.clap.specs.Words.{app_of, found_of, kind_of, rows_of, subcommand_rows_of};
-ghost use Rattle.acd_program.specs.CommandLine.{HasApp, HasRule, IsTaskWith, FindsTask, FindsTaskIn, FindsSpan, IsTaskOf, IsRefusedBy, AddsCommand, acd, command_of, export_shape, file_rule, flag_rule, import_shape, is_given, lines_shape, number_rule, option_rule, report_shape, audit_shape, serve_shape};
+ghost use Rattle.acd_program.specs.CommandLine.{HasApp, HasRule, IsTaskWith, FindsTask, FindsTaskIn, FindsSpan, IsTaskOf, IsRefusedBy, AddsCommand, acd, asks_for, command_of, export_shape, file_rule, flag_rule, import_shape, is_given, lines_shape, number_rule, option_rule, report_shape, audit_shape, serve_shape};
 ghost use Rattle.acd_program.specs.Statuses.{IsHelp};
 
 use crate::asked::Task;
 use crate::desk::{Printout, Work};
+use acd_http::Span;
 use acd_log::Ending;
 use clap::builder::ValueParser;
 use clap::error::ErrorKind;
 use clap::{Arg, ArgAction, ArgMatches, Command, Error};
 use std::alloc::{AllocError, Global};
 use std::convert::AsStr;
+use std::time::Duration;
 
 /// The text that `acd --version` prints after the program's name: the version, and the toolchain that proved it.
 const VERSION: &str = "1.15 (rattle-kit-13b)";
@@ -28,6 +30,10 @@ const CONNECTIONS: &str = "connections";
 const ENDLESS: &str = "endless";
 
 const READS: &str = "reads";
+
+const TICK: &str = "tick";
+
+const PATIENCE: &str = "patience";
 
 const END_ON_STORE_FAULT: &str = "end-on-store-fault";
 
@@ -46,6 +52,9 @@ const BOTH: &str = "the argument '--connections <N>' cannot be used with '--endl
 
 /// How many connections are answered at most.
 const MOST_CONNECTIONS: u64 = 1_000_000;
+
+/// How many seconds a service waits at most.
+const MOST_SECONDS: u64 = 3600;
 
 fn file_option<'a>(alloc: Global) -> Arg<'a>
     ensures { HasRule file_rule result }
@@ -142,12 +151,28 @@ fn serve_command<'a>(alloc: Global) -> Result<Command<'a>, AllocError>
         "How many connections to serve, from 1 to 1000000",
         MOST_CONNECTIONS,
     );
+    let tick = number_option(
+        alloc,
+        TICK,
+        "SECONDS",
+        "How often to look for what rings too long, and tick, from 1 to 3600",
+        MOST_SECONDS,
+    );
+    let patience = number_option(
+        alloc,
+        PATIENCE,
+        "SECONDS",
+        "How long to wait for a client's request, and for its reply to be read, from 1 to 3600",
+        MOST_SECONDS,
+    );
     Command::new(alloc, "serve")
         .about("Answer requests over HTTP on 127.0.0.1")
         .after_help(
-            "Example:\n  acd serve --file desk.db --port 8080 --connections 1000\n\nConnections are served one after the other, each with one request; behind the last one\nthe command ends. With --endless in the place of --connections it ends, with status 1,\nonce its store has failed. A file that isn't there, or has no bytes, is made.",
+            "Example:\n  acd serve --file desk.db --port 8080 --connections 1000\n\nConnections are served one after the other, each with one request; behind the last one\nthe command ends. With --endless in the place of --connections it ends, with status 1,\nonce its store has failed. A file that isn't there, or has no bytes, is made.\n\nWithout --tick nothing that rings is taken back unless a client sends tick. Without\n--patience a client that says nothing is waited for without end.",
         )
-        .override_usage("acd serve --file <F> --port <P> <--connections <N>|--endless>")
+        .override_usage(
+            "acd serve --file <F> --port <P> <--connections <N>|--endless> [--tick <SECONDS>] [--patience <SECONDS>]",
+        )
         .arg(file_option(alloc).required(true))?
         .arg(port.required(true))?
         .arg(connections)?
@@ -155,7 +180,9 @@ fn serve_command<'a>(alloc: Global) -> Result<Command<'a>, AllocError>
             alloc,
             ENDLESS,
             "Serve until the store fails, or the command is ended",
-        ))
+        ))?
+        .arg(tick)?
+        .arg(patience)
 }
 
 fn import_command<'a>(alloc: Global) -> Result<Command<'a>, AllocError>
@@ -253,8 +280,8 @@ fn lines_of<'a>(options: &ArgMatches<'a>) -> Task<'a>
 }
 
 // How many connections, or no end of them: one of both is asked for.
-fn span_of(options: &ArgMatches<'_>) -> Option<Option<u32>>
-    ensures { FindsSpan (rows_of (found_of options.now)) result }
+fn connections_of(options: &ArgMatches<'_>) -> Option<Option<u32>>
+    ensures { FindsConnections (rows_of (found_of options.now)) result }
 {
     let endless = is_given(options, ENDLESS);
     if !options.contains_id(CONNECTIONS) {
@@ -266,13 +293,47 @@ fn span_of(options: &ArgMatches<'_>) -> Option<Option<u32>>
     Some(Some(options.get_one(CONNECTIONS)?))
 }
 
+// A time in seconds, where the option was given.
+fn seconds_of(options: &ArgMatches<'_>, name: &str) -> Option<Option<Duration>>
+    ensures { FindsSeconds name.now (rows_of (found_of options.now)) result }
+{
+    if !options.contains_id(name) {
+        return Some(None);
+    }
+    let seconds: u16 = options.get_one(name)?;
+    Some(Some(Duration::from_secs(u64::from(seconds))))
+}
+
+fn widened(connections: Option<u32>) -> Option<u64>
+    ensures { result ≡ connections }
+{
+    match connections {
+        Some(connections) => Some(u64::from(connections)),
+        None => None,
+    }
+}
+
+// How long a service lasts, and how long it waits.
+fn span_of(options: &ArgMatches<'_>) -> Option<Span>
+    ensures { FindsSpan (rows_of (found_of options.now)) result }
+{
+    let connections = connections_of(options)?;
+    let step = seconds_of(options, TICK)?;
+    let patience = seconds_of(options, PATIENCE)?;
+    Some(Span {
+        connections: widened(connections),
+        step,
+        patience,
+    })
+}
+
 fn serve_of<'a>(options: &ArgMatches<'a>) -> Option<Task<'a>>
     ensures { FindsTask (codes "serve") (rows_of (found_of options.now)) result }
 {
     Some(Task::Serve {
         file: options.get_str(FILE)?,
         port: options.get_one(PORT)?,
-        connections: span_of(options)?,
+        span: span_of(options)?,
     })
 }
 
@@ -354,7 +415,9 @@ fn task_in<'a>(matches: &ArgMatches<'a>) -> Option<Task<'a>>
 }
 
 // Whether a service is asked for that has no end.
-fn is_endless(matches: &ArgMatches<'_>) -> bool {
+fn is_endless(matches: &ArgMatches<'_>) -> bool
+    ensures { result ≡ asks_for (codes "endless") (subcommand_rows_of matches.now) }
+{
     match matches.subcommand() {
         Some((_, options)) => is_given(options, ENDLESS),
         None => false,

@@ -1,13 +1,28 @@
-use Rattle.std.proofs.Common.{ℕ, Option, sym, subst}
+use Rattle.std.proofs.Common.{◌≢◌, ◌∙◌, inl, inr, Ok, Err, refl, ap, sym}
 use Rattle.acd_desk.specs.Standing.{standing}
-use Rattle.acd_program.specs.Serving.{ListenEnded}
+use Rattle.acd_http.specs.declared.serving.ServeFault.TheVariants.{NoMemory}
+use Rattle.acd_program.proofs.ServeDone.{begins_turns}
 use Rattle.acd_program.proofs.serving.answer.Goals as goal
 
-pub returns-in-Some : goal.returns-in-Some
-returns-in-Some g c =
-    subst (λ (x : Option ℕ). ListenEnded x (g.E.Write.contents c.args.errors.now) (g.E.Write.contents c.answer_some.new.errors) (standing g.B.Book) c.answer_some.result c.args.desk.now c.answer_some.new.desk) (sym c.in-Some.is) c.answer_some.ensures
+pub returns-in-Ok : goal.returns-in-Ok
+returns-in-Ok g c =
+    let some : c.serve.result ≢ Err NoMemory = λ e. cc (sym c.in-Ok.is ∙ e) in
+    inr (record {
+      taken = begins_turns (standing g.B.Book) c.args.span c.args.desk.now c.serve.new.desk c.serve.result (g.E.Write.contents c.args.errors.now) (g.E.Write.contents c.serve.new.errors)
+          (c.serve.ensures.answered some);
+      ended = c.unless_endless.ensures;
+    })
 
-pub returns-in-None : goal.returns-in-None
-returns-in-None g c =
-    subst (λ (x : Option ℕ). ListenEnded x (g.E.Write.contents c.args.errors.now) (g.E.Write.contents c.answer_until_failed.new.errors) (standing g.B.Book) c.answer_until_failed.result c.args.desk.now c.answer_until_failed.new.desk)
-    (sym c.in-None.is) c.answer_until_failed.ensures
+pub returns-in-Err-Write : goal.returns-in-Err-Write
+returns-in-Err-Write g c =
+    let some : c.serve.result ≢ Err NoMemory = λ e. cc (sym (c.in-Err-Write.is ∙ ap Err c.in-Err-Write.field-0-is) ∙ e) in
+    inr (record {
+      taken = begins_turns (standing g.B.Book) c.args.span c.args.desk.now c.serve.new.desk c.serve.result (g.E.Write.contents c.args.errors.now) (g.E.Write.contents c.serve.new.errors)
+          (c.serve.ensures.answered some);
+      ended = c.unless_endless-in-Err-Write.ensures;
+    })
+
+pub returns-in-Err-NoMemory : goal.returns-in-Err-NoMemory
+returns-in-Err-NoMemory g c =
+    let none = c.serve.ensures.memory (c.in-Err-NoMemory.is ∙ ap Err c.in-Err-NoMemory.field-0-is) in
+    inl (record { why = _; ended = refl; same = none.0; quiet = ap g.E.Write.contents none.1 })

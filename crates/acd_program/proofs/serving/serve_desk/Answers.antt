@@ -19,5 +19,5 @@ returns-in_err-say g c = inl (
 
 pub returns : goal.returns
 returns g c =
-    serve_ended c.args.connections (g.E.Write.contents c.args.errors.now) (g.E.Write.contents c.answer.new.errors) c.args.port (g.W.Write.contents c.args.writer.now) (g.W.Write.contents c.say.new.writer)
+    serve_ended c.args.span (g.E.Write.contents c.args.errors.now) (g.E.Write.contents c.answer.new.errors) c.args.port (g.W.Write.contents c.args.writer.now) (g.W.Write.contents c.say.new.writer)
     (standing g.B.Book) c.answer.result c.args.desk.now c.answer.new.desk c.in_ok-say.ensures c.answer.ensures

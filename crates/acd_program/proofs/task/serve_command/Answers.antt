@@ -15,4 +15,6 @@ returns c =
     let one = app_more _ _ c.override_usage.result c.in_ok-arg.field-0 c.required.result used file c.in_ok-arg.ensures in
     let two = app_more _ _ c.in_ok-arg.field-0 c.in_ok-arg-2.field-0 c.required-2.result one port c.in_ok-arg-2.ensures in
     let three = app_more _ _ c.in_ok-arg-2.field-0 c.in_ok-arg-3.field-0 c.number_option-connections.result two c.number_option-connections.ensures c.in_ok-arg-3.ensures in
-    IfOk-weaker c.arg-4.result _ _ (λ new adds. app_more _ _ c.in_ok-arg-3.field-0 new c.flag.result three c.flag.ensures adds) c.arg-4.ensures
+    let four = app_more _ _ c.in_ok-arg-3.field-0 c.in_ok-arg-4.field-0 c.flag.result three c.flag.ensures c.in_ok-arg-4.ensures in
+    let five = app_more _ _ c.in_ok-arg-4.field-0 c.in_ok-arg-5.field-0 c.number_option-tick.result four c.number_option-tick.ensures c.in_ok-arg-5.ensures in
+    IfOk-weaker c.arg-6.result _ _ (λ new adds. app_more _ _ c.in_ok-arg-5.field-0 new c.number_option-patience.result five c.number_option-patience.ensures adds) c.arg-6.ensures
