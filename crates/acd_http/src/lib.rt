@@ -37,12 +37,13 @@ mod refused;
 mod reply;
 mod routes;
 mod serving;
+mod socket_file;
 mod target;
 mod wanted;
 mod watch;
 
 pub use asked::Asked;
-pub use door::{Door, Port};
+pub use door::{Accept, Door, Polled};
 pub use exchanging::{ExchangeFault, exchange};
 pub use listening::{serve_on, serve_until_failed};
 pub use peer::Peer;

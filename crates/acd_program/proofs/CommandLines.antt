@@ -23,8 +23,10 @@ use Rattle.clap.specs.declared.parser.matches.Found.{Found}
 use Rattle.clap.proofs.WalkLemmas.{first_value-rows, one_text-rows, find_row}
 use Rattle.acd_http.specs.declared.serving.Span.{Span}
 use Rattle.acd_log.specs.declared.ending.Ending.TheVariants.{Plain}
-use Rattle.acd_program.specs.CommandLine.{HasApp, HasNone, HasRule, IsConnections, IsNumber, IsRefusedBy, IsSeconds, IsSpan, IsTaskIn, IsTaskWith, IsText, NamesNoTask, acd, command_of, has_option, is_given, required}
+use Rattle.acd_program.specs.CommandLine.{HasApp, HasNone, HasRule, IsAddress, IsConnections, IsNumber, IsRefusedBy, IsSeconds, IsSpan, IsTaskIn, IsTaskWith, IsText, NamesNoTask, acd, command_of, has_option, is_given, required}
 use Rattle.acd_program.specs.Statuses.{IsHelp}
+use Rattle.acd_program.specs.declared.asked.Address.{Address}
+use Rattle.acd_program.specs.declared.asked.Address.TheVariants.{Port, Socket}
 use Rattle.acd_program.specs.declared.asked.Task.{Task}
 use Rattle.acd_program.specs.declared.asked.Task.TheVariants.{Lines, Serve, Import, AuditWhole, AuditWithArchive, Read}
 use Rattle.acd_program.specs.declared.desk.Printout.{Printout}
@@ -144,9 +146,9 @@ apart : (a b : Text) → bytes_eq a b ≡ false → a ≢ b
 apart a b differ same = true≢false (sym ((bytes_eq-Decides a b).1 same) ∙ differ)
 
 module _ (options : List Row) where
-  pub no_service : ((file : Bor Text) (port : ℕ) (span : Span) → IsText (codes "file") options file → IsNumber 16 (codes "port") options port → IsSpan options span → ⊥)
+  pub no_service : ((file : Bor Text) (address : Address) (span : Span) → IsText (codes "file") options file → IsAddress options address → IsSpan options span → ⊥)
       → (task : Task) → ¬ IsTaskWith (codes "serve") options task
-  no_service none (Serve file port span) h = none file port span h.1 h.2 h.3
+  no_service none (Serve file address span) h = none file address span h.1 h.2 h.3
   no_service none (Lines file reads ends) h = apart (codes "serve") (codes "lines") refl h.0
   no_service none (Import file plan) h = apart (codes "serve") (codes "import") refl h.0
   no_service none (AuditWhole file counts) h = apart (codes "serve") (codes "audit") refl h.0.0
@@ -159,7 +161,7 @@ module _ (options : List Row) where
   pub no_import : ((file plan : Bor Text) → IsText (codes "file") options file → IsText (codes "plan") options plan → ⊥) → (task : Task) → ¬ IsTaskWith (codes "import") options task
   no_import none (Import file plan) h = none file plan h.1 h.2
   no_import none (Lines file reads ends) h = apart (codes "import") (codes "lines") refl h.0
-  no_import none (Serve file port span) h = apart (codes "import") (codes "serve") refl h.0
+  no_import none (Serve file address span) h = apart (codes "import") (codes "serve") refl h.0
   no_import none (AuditWhole file counts) h = apart (codes "import") (codes "audit") refl h.0.0
   no_import none (AuditWithArchive file archive counts whole) h = apart (codes "import") (codes "audit") refl h.0.0
   no_import none (Read file (kind.Print Report)) h = apart (codes "import") (codes "report") refl h.1
@@ -170,7 +172,7 @@ module _ (options : List Row) where
   -- a printout, or an audit, of no file
   pub no_file : ((file : Bor Text) → ¬ IsText (codes "file") options file) → (command : Text) → bytes_eq command (codes "lines") ≡ false → (task : Task) → ¬ IsTaskWith command options task
   no_file none command other (Lines file reads ends) h = apart command (codes "lines") other h.0
-  no_file none command other (Serve file port span) h = none file h.1
+  no_file none command other (Serve file address span) h = none file h.1
   no_file none command other (Import file plan) h = none file h.1
   no_file none command other (AuditWhole file counts) h = none file h.0.1
   no_file none command other (AuditWithArchive file archive counts whole) h = none file h.0.1
@@ -186,6 +188,19 @@ number_given bits id options n h = by (find (λ (r : Row). bytes_eq r.id id) opt
       where
         none_some : (t : Text) → ◌≡◌ {A = Option Text} None (Some t) → ⊥
         none_some t e = cc
+
+-- an option that has no text has none
+pub some_text : (options : List Row) (id : Text) (text : Bor Text) → HasNone id options → ¬ IsText id options text
+some_text options id text none some = apart_options (sym none ∙ some)
+  where
+    apart_options : ◌≡◌ {A = Option Text} None (Some text.now) → ⊥
+    apart_options e = cc
+
+-- neither of both is named, or both are
+pub no_address : (options : List Row) → ((n : ℕ) → IsNumber 16 (codes "port") options n → HasNone (codes "socket") options → ⊥)
+    → ((path : Bor Text) → IsText (codes "socket") options path → has_option (codes "port") options ≡ false → ⊥) → (address : Address) → ¬ IsAddress options address
+no_address options port socket (Port n) h = port n h.0 h.1
+no_address options port socket (Socket path) h = socket path h.0 h.1
 
 -- neither of both is asked for, or both are
 pub no_connections : (options : List Row) → ((n : ℕ) → IsNumber 32 (codes "connections") options n → is_given (codes "endless") options ≡ false → ⊥)
@@ -209,7 +224,7 @@ printout_apart Export = refl
 pub no_other : (command : Text) (options : List Row) → command ≢ codes "lines" → command ≢ codes "serve" → command ≢ codes "import" → command ≢ codes "report" → command ≢ codes "export" → command ≢ codes "audit"
     → (task : Task) → ¬ IsTaskWith command options task
 no_other command options a b c d e f (Lines file reads ends) h = a h.0
-no_other command options a b c d e f (Serve file port span) h = b h.0
+no_other command options a b c d e f (Serve file address span) h = b h.0
 no_other command options a b c d e f (Import file plan) h = c h.0
 no_other command options a b c d e f (AuditWhole file counts) h = f h.0.0
 no_other command options a b c d e f (AuditWithArchive file archive counts whole) h = f h.0.0

@@ -46,6 +46,7 @@ use Rattle.acd_program.specs.Seen.{Seen, seen, SeenNew, InDatabase, left_of, See
 use Rattle.acd_program.specs.Serving.{TurnsOf, ServeEnded, ends_failed}
 use Rattle.acd_program.specs.Taking.{IsOf}
 use Rattle.acd_program.specs.declared.fault.WorkFault.{WorkFault}
+use Rattle.acd_program.specs.declared.asked.Address.{Address}
 use Rattle.acd_program.proofs.Called.{called, leaves_books, leads_called, holds_called}
 
 -- a book that is called sound says this of one that came of it
@@ -305,11 +306,11 @@ module _ {D T : Type 0} (stands : D → Standing) (stood : T → Standing) (view
           ),
         )
 
-    pub serve_seen : (span : Span) (old_errors new_errors : Option (List ℕ)) (port : ℕ) (old_output new_output : Option (List ℕ)) (r : Result (Unit {0}) WorkFault) → ServeEnded span old_errors new_errors port old_output new_output stands r d e
-        → Kept e × ServeEnded span old_errors new_errors port old_output new_output stood r (view d) (view e)
-    serve_seen span old_errors new_errors port old_output new_output r (inl h) =
+    pub serve_seen : (span : Span) (old_errors new_errors : Option (List ℕ)) (address : Address) (old_output new_output : Option (List ℕ)) (r : Result (Unit {0}) WorkFault) → ServeEnded span old_errors new_errors address old_output new_output stands r d e
+        → Kept e × ServeEnded span old_errors new_errors address old_output new_output stood r (view d) (view e)
+    serve_seen span old_errors new_errors address old_output new_output r (inl h) =
         (same_kept d e h.0.same k, inl (record { why = h.0.why; ended = h.0.ended; same = ap view h.0.same; quiet = h.0.quiet }, h.1))
-    serve_seen span old_errors new_errors port old_output new_output r (inr h) =
+    serve_seen span old_errors new_errors address old_output new_output r (inr h) =
         let each = taken_seen span (Begins old_errors new_errors) h.0.taken in
         (each.0, inr (record { taken = each.1; ended = h.0.ended ∙ ap (λ (b : Bool). command_result (Ok tt) (ends_failed span.connections b)) (sym (v.failed e)) }, h.1))
 

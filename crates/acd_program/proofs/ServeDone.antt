@@ -26,6 +26,7 @@ use Rattle.acd_program.specs.declared.fault.WorkFault.{WorkFault}
 use Rattle.acd_program.specs.declared.asked.Task.{Task}
 use Rattle.acd_program.specs.declared.asked.Task.TheVariants as task
 use Rattle.acd_program.specs.Tasks.{ServeDoneIn, TaskDone}
+use Rattle.acd_program.specs.declared.asked.Address.{Address}
 use Rattle.acd_program.proofs.Seen.{view, views, IsKept, serve_seen, seen_in, seen_made, seen_so}
 use Rattle.acd_program.proofs.Taking.{unserved_refused, unserved_makes}
 
@@ -55,22 +56,22 @@ well_for u span false outcome is = refl
 well_for u None true outcome is = absurd (ok_err outcome)
 well_for u (Some many) true outcome is = absurd (cc is)
 
-module _ (span : Span) (a b : Option (List ℕ)) (port : ℕ) (old_output new_output : Option (List ℕ)) where
+module _ (span : Span) (a b : Option (List ℕ)) (address : Address) (old_output new_output : Option (List ℕ)) where
   module _ {D : Type 0} (stands : D → Standing) where
     -- connections are waited for once the whole line is written
-    pub serve_ended : (r : Result (Unit {0}) WorkFault) (d e : D) → Appends old_output new_output (listening_line port) → ListenEnded span a b stands r d e → ServeEnded span a b port old_output new_output stands r d e
-    serve_ended r d e line (inl none) = inl (none, begins_whole old_output new_output (listening_line port) line)
+    pub serve_ended : (r : Result (Unit {0}) WorkFault) (d e : D) → Appends old_output new_output (listening_line address) → ListenEnded span a b stands r d e → ServeEnded span a b address old_output new_output stands r d e
+    serve_ended r d e line (inl none) = inl (none, begins_whole old_output new_output (listening_line address) line)
     serve_ended r d e line (inr some) = inr (some, line)
 
     -- without a fault the connections were answered as was asked for
-    serve_done : (u : Unit {0}) (d e : D) → ServeEnded span a b port old_output new_output stands (Ok u) d e → ServeDone stands span a b d e
+    serve_done : (u : Unit {0}) (d e : D) → ServeEnded span a b address old_output new_output stands (Ok u) d e → ServeDone stands span a b d e
     serve_done u d e (inl none) = absurd (ok_err none.0.ended)
     serve_done u d e (inr some) = record { taken = some.0.taken; well = well_for u span.connections (stands e).failed some.0.ended }
 
   module _ {S : Type 0} (store : Ghosts S) (s : State) (r : Result (Unit {0}) WorkFault) (conn : Held S) where
     -- over the book that was opened in the database
     pub serve_in : (makes : Bool) (taken last : BookView S) → ((db : Trees) → IsTrue s.is_open → s.may_leave db → db ≡ s.committed.trees) → IsTaken makes s (book_of store taken) → conn ≡ last.conn
-        → ServeOver span a b port old_output new_output (in_database store) (book_of store taken) r last → ServeIn span a b port old_output new_output store makes s r conn
+        → ServeOver span a b address old_output new_output (in_database store) (book_of store taken) r last → ServeIn span a b address old_output new_output store makes s r conn
     serve_in makes taken last settles of back (inl none) = inl (record {
       why = open_fault none.why;
       ended = none.ended;
@@ -80,22 +81,22 @@ module _ (span : Span) (a b : Option (List ℕ)) (port : ℕ) (old_output new_ou
       unsaid = none.unsaid;
     })
     serve_in makes taken last settles of back (inr some) =
-        inr (seen_in store (ServeEnded span a b port old_output new_output (standing (in_database store)) r) (λ (stands : Seen (InDatabase S) → Standing). ServeEnded span a b port old_output new_output stands r)
-        (λ Clean began d e k h. serve_seen (standing (in_database store)) (seen (left_of store began)) (view store) (IsKept store Clean began) (views store Clean began) d e k span a b port old_output new_output r h) makes s conn (record { taken = taken; last = last; of_old = of; over = some; back = back }))
+        inr (seen_in store (ServeEnded span a b address old_output new_output (standing (in_database store)) r) (λ (stands : Seen (InDatabase S) → Standing). ServeEnded span a b address old_output new_output stands r)
+        (λ Clean began d e k h. serve_seen (standing (in_database store)) (seen (left_of store began)) (view store) (IsKept store Clean began) (views store Clean began) d e k span a b address old_output new_output r h) makes s conn (record { taken = taken; last = last; of_old = of; over = some; back = back }))
 
     -- where it was known whether a new book may be made
-    pub serve_made : (is_new makes : Bool) → (is_new ≡ true → makes ≡ true) → ServeIn span a b port old_output new_output store is_new s r conn → ServeIn span a b port old_output new_output store makes s r conn
+    pub serve_made : (is_new makes : Bool) → (is_new ≡ true → makes ≡ true) → ServeIn span a b address old_output new_output store is_new s r conn → ServeIn span a b address old_output new_output store makes s r conn
     serve_made is_new makes may (inl none) =
         inl (record { why = none.why; ended = none.ended; unserved = unserved_makes is_new makes s (state store conn) may none.unserved; quiet = none.quiet; unsaid = none.unsaid })
     serve_made is_new makes may (inr some) = inr (seen_made store _ is_new makes s conn may some)
 
   -- without a fault the connections were answered as was asked for
-  pub serve_done_in : {S : Type 0} (store : Ghosts S) (s : State) (r : Result (Unit {0}) WorkFault) (conn : Held S) (makes : Bool) → ServeIn span a b port old_output new_output store makes s r conn
+  pub serve_done_in : {S : Type 0} (store : Ghosts S) (s : State) (r : Result (Unit {0}) WorkFault) (conn : Held S) (makes : Bool) → ServeIn span a b address old_output new_output store makes s r conn
       → OnOk r (SeenIn store (λ (stands : Seen (InDatabase S) → Standing). ServeDone stands span a b) makes s conn)
   serve_done_in store s (Err e) conn makes h = tt
   serve_done_in store s (Ok u) conn makes (inl none) = absurd (ok_err none.ended)
   serve_done_in {S} store s (Ok u) conn makes (inr some) =
-      seen_so store (λ (stands : Seen (InDatabase S) → Standing). ServeEnded span a b port old_output new_output stands (Ok u)) (λ (stands : Seen (InDatabase S) → Standing). ServeDone stands span a b)
+      seen_so store (λ (stands : Seen (InDatabase S) → Standing). ServeEnded span a b address old_output new_output stands (Ok u)) (λ (stands : Seen (InDatabase S) → Standing). ServeDone stands span a b)
       (λ stands d e h. serve_done stands u d e h) makes s conn some
 
 pub file_prints : {D : Type 0} {g : disk.Ghosts D} (IsFresh : Bool → D → Type 0) (span : Span) (a b : Option (List ℕ)) → ServeDoneIn g IsFresh span a b → PrintsServiceFaults a b

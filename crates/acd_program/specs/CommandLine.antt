@@ -22,6 +22,8 @@ use Rattle.acd_program.specs.declared.desk.Work.{Work}
 use Rattle.acd_program.specs.declared.desk.Work.TheVariants as kind
 use Rattle.acd_program.specs.declared.desk.Printout.{Printout}
 use Rattle.acd_program.specs.declared.desk.Printout.TheVariants.{Report, Export}
+use Rattle.acd_program.specs.declared.asked.Address.{Address}
+use Rattle.acd_program.specs.declared.asked.Address.TheVariants.{Port, Socket}
 use Rattle.acd_program.specs.declared.asked.Task.{Task}
 use Rattle.acd_program.specs.declared.asked.Task.TheVariants.{Lines, Serve, Import, AuditWhole, AuditWithArchive, Read}
 
@@ -52,8 +54,8 @@ lines_shape = with_rules (codes "lines") (file_rule ∷ flag_rule (codes "reads"
 
 abbrev pub serve_shape : Shape
 serve_shape = with_rules (codes "serve")
-    (required file_rule ∷ required (number_rule (codes "port") 65535) ∷ number_rule (codes "connections") 1000000 ∷ flag_rule (codes "endless") ∷ number_rule (codes "tick") 3600
-    ∷ number_rule (codes "patience") 3600 ∷ [])
+    (required file_rule ∷ number_rule (codes "port") 65535 ∷ option_rule (codes "socket") ∷ number_rule (codes "connections") 1000000 ∷ flag_rule (codes "endless")
+    ∷ number_rule (codes "tick") 3600 ∷ number_rule (codes "patience") 3600 ∷ [])
 
 abbrev pub import_shape : Shape
 import_shape = with_rules (codes "import") (required file_rule ∷ required (option_rule (codes "plan")) ∷ [])
@@ -115,6 +117,11 @@ abbrev pub IsNumber : ℕ → Text → List Row → ℕ → Type 0
 IsNumber bits name options n =
     (text : Text) × (one_of name options ≡ Some text) × IsNumeral 10 (without_leading_plus text) × (digits_value 10 (without_leading_plus text) ≡ n) × (n < 2 ^ bits)
 
+-- the address of a port or, where a path is named, that of a socket: one of both was asked for
+abbrev pub IsAddress : List Row → Address → Type 0
+IsAddress options (Port n) = IsNumber 16 (codes "port") options n × HasNone (codes "socket") options
+IsAddress options (Socket path) = IsText (codes "socket") options path × (has_option (codes "port") options ≡ false)
+
 -- so many connections or, where none is named, no end of them: one of both was asked for
 abbrev pub IsConnections : List Row → Option ℕ → Type 0
 IsConnections options (Some n) = IsNumber 32 (codes "connections") options n × (is_given (codes "endless") options ≡ false)
@@ -149,8 +156,8 @@ IsAuditOf command options file counts whole = (command ≡ codes "audit") × IsT
 abbrev pub IsTaskWith : Text → List Row → Task → Type 0
 IsTaskWith command options (Lines file reads ends) =
     (command ≡ codes "lines") × IsFileIfGiven options file × IsFlag (codes "reads") options reads × IsFlag (codes "end-on-store-fault") options ends
-IsTaskWith command options (Serve file port span) =
-    (command ≡ codes "serve") × IsText (codes "file") options file × IsNumber 16 (codes "port") options port × IsSpan options span
+IsTaskWith command options (Serve file address span) =
+    (command ≡ codes "serve") × IsText (codes "file") options file × IsAddress options address × IsSpan options span
 IsTaskWith command options (Import file plan) = (command ≡ codes "import") × IsText (codes "file") options file × IsText (codes "plan") options plan
 IsTaskWith command options (AuditWhole file counts) = IsAuditOf command options file counts true × HasNone (codes "archive") options
 IsTaskWith command options (AuditWithArchive file archive counts whole) = IsAuditOf command options file counts whole × IsText (codes "archive") options archive
@@ -190,7 +197,10 @@ FindsTask command options found = MatchOption found ((task : Task) → ¬ IsTask
 abbrev pub FindsTaskIn : Option (Text × List Row) → Option Task → Type 0
 FindsTaskIn matches found = MatchOption found ((task : Task) → ¬ IsTaskIn matches task) (IsTaskIn matches)
 
--- and of how many connections are asked for, of a time, and of all that says how long a service lasts and waits
+-- and of an address, of how many connections are asked for, of a time, and of all that says how long a service lasts and waits
+abbrev pub FindsAddress : List Row → Option Address → Type 0
+FindsAddress options found = MatchOption found ((address : Address) → ¬ IsAddress options address) (IsAddress options)
+
 abbrev pub FindsConnections : List Row → Option (Option ℕ) → Type 0
 FindsConnections options found = MatchOption found ((many : Option ℕ) → ¬ IsConnections options many) (IsConnections options)
 
@@ -199,10 +209,6 @@ FindsSeconds name options found = MatchOption found ((time : Option Duration) �
 
 abbrev pub FindsSpan : List Row → Option Span → Type 0
 FindsSpan options found = MatchOption found ((span : Span) → ¬ IsSpan options span) (IsSpan options)
-
--- the command's options have this flag
-abbrev pub asks_for : Text → Option (Text × List Row) → Bool
-asks_for flag matches = option_map_or (λ (found : Text × List Row). is_given flag found.1) matches false
 
 -- there is no task, with an error of this kind: there was no memory; or the words aren't a command line, as where help is asked for; or they name no task
 abbrev pub IsRefusedBy : List Text → ErrorKind → Type 0

@@ -89,7 +89,7 @@ module _ {S : Type 0} {host : calls.Ghosts Host} {known : start.Ghosts S} (disk 
   -- a fault ended a service of so many
   abbrev pub EndsService : Service → Fault → Type 0
   EndsService to_do fault =
-      ServiceEnded disk IsFresh to_do.span to_do.port to_do.said.before to_do.said.after to_do.errors.before to_do.errors.after to_do.said.unwritten fault
+      ServiceEnded disk IsFresh to_do.span to_do.address to_do.said.before to_do.said.after to_do.errors.before to_do.errors.after to_do.said.unwritten fault
 
   -- so a desk of the files answered so many connections, or answered them until it failed; or, where a fault ended it, so
   abbrev pub EndsFileService : Service → Result (Unit {0}) Fault → Type 0

@@ -76,6 +76,9 @@ finding_line ending (Differs place) = codes "differs at request " ++ (decimal pl
 abbrev pub number_line : List ℕ → ℕ → List ℕ
 number_line front number = front ++ (decimal number ++ 10 ∷ [])
 
+abbrev pub text_line : List ℕ → List ℕ → List ℕ
+text_line front text = front ++ (text ++ 10 ∷ [])
+
 -- the lines of a sound content of which so many requests were executed
 abbrev pub counted_line : Ending → ℕ → List ℕ
 counted_line ending count = finding_line ending (Counted count)

@@ -44,7 +44,7 @@ archive_of _ = None
 -- the file of a desk, where a fault can be of no other
 abbrev pub file_of : Task → Option (Bor (List ℕ))
 file_of (Lines file reads ends) = file
-file_of (Serve file port span) = Some file
+file_of (Serve file address span) = Some file
 file_of (Import file plan) = Some file
 file_of (AuditWhole file counts) = Some file
 file_of (AuditWithArchive file archive counts whole) = None

@@ -1,5 +1,5 @@
 -- Answering connections over the book of a database: what it leaves, and how that ended.
-use Rattle.std.specs.Prelude.{◌≡◌, ◌⊎◌, ℕ, Bool, false, List, [], ◌∷◌, ◌++◌, codes, decimal, Option, Some, None, is_some, Result, Ok, Err}
+use Rattle.std.specs.Prelude.{◌≡◌, ◌⊎◌, ℕ, Bool, false, List, [], codes, Option, Some, None, is_some, Result, Ok, Err}
 use Rattle.std.specs.Io.KnownBytes.{Appends}
 use Rattle.sqlite.specs.State.{State}
 use Rattle.sqlite.specs.Held.{Held, state}
@@ -14,6 +14,9 @@ use Rattle.acd_io.specs.Sent.{Begins}
 use Rattle.acd_http.specs.declared.serving.Span.{Span}
 use Rattle.acd_http.specs.Turns.{TurnsUntil}
 use Rattle.acd_program.specs.Desks.{OverDesk}
+use Rattle.acd_program.specs.Found.{number_line, text_line}
+use Rattle.acd_program.specs.declared.asked.Address.{Address}
+use Rattle.acd_program.specs.declared.asked.Address.TheVariants.{Port, Socket}
 use Rattle.acd_program.specs.Faults.{open_fault, command_result}
 use Rattle.acd_program.specs.Output.{Output}
 use Rattle.acd_program.specs.Over.{Database, Unserved}
@@ -31,8 +34,9 @@ pub record ServeDone {D : Type 0} (stands : D → Standing) (span : Span) (old_o
   pub well : span.connections ≡ None → (stands e).failed ≡ false
 
 -- the line that says where the program waits for connections
-abbrev pub listening_line : ℕ → List ℕ
-listening_line port = codes "listening on 127.0.0.1:" ++ (decimal port ++ 10 ∷ [])
+abbrev pub listening_line : Address → List ℕ
+listening_line (Port n) = number_line (codes "listening on 127.0.0.1:") n
+listening_line (Socket path) = text_line (codes "listening on ") path.now
 
 -- a failed desk is a fault of an endless service alone
 abbrev pub ends_failed : Option ℕ → Bool → Bool
@@ -59,12 +63,12 @@ module _ (span : Span) (old_errors new_errors : Option (List ℕ)) where
     ListenEnded result d e = Unasked result d e ⊎ Answered result d e
 
   -- `old_output` was written on the output before, and `new_output` is written after
-  module _ (port : ℕ) (old_output new_output : Option (List ℕ)) where
+  module _ (address : Address) (old_output new_output : Option (List ℕ)) where
     -- connections are answered only after the whole line
     abbrev pub ServeEnded : {D : Type 0} → (D → Standing) → Result (Unit {0}) WorkFault → D → D → Type 0
     ServeEnded stands result d e =
-        (Unasked stands result d e × Begins old_output new_output (listening_line port))
-        ⊎ (Answered stands result d e × Appends old_output new_output (listening_line port))
+        (Unasked stands result d e × Begins old_output new_output (listening_line address))
+        ⊎ (Answered stands result d e × Appends old_output new_output (listening_line address))
 
     module _ {B : Type 0} (says : Ghosts B) where
       -- the book made no desk, and nothing was written
@@ -94,16 +98,16 @@ module _ (span : Span) (old_errors new_errors : Option (List ℕ)) where
 
 -- ---- of a call
 
--- what a service is to do, and where it writes: how long it lasts and waits, a port, the output, and the stream of errors
+-- what a service is to do, and where it writes: how long it lasts and waits, an address, the output, and the stream of errors
 pub record Service : Type 1 where
   pub span : Span
-  pub port : ℕ
+  pub address : Address
   pub said : Output
   pub errors : Output
 
 -- it is made of these
-abbrev pub service : Span → ℕ → Output → Output → Service
-service span port said errors = record { span = span; port = port; said = said; errors = errors }
+abbrev pub service : Span → Address → Output → Output → Service
+service span address said errors = record { span = span; address = address; said = said; errors = errors }
 
 -- a desk answered connections, from what it was to what it is then
 abbrev pub EndsListening : {B : Type 0} → Ghosts B → Desk B × Desk B → Result (Unit {0}) WorkFault → Span → Output → Type 0
@@ -112,14 +116,14 @@ EndsListening books desks result span errors = ListenEnded span errors.before er
 -- it did after the line that says where was written
 abbrev pub EndsService : {B : Type 0} → Ghosts B → Desk B × Desk B → Result (Unit {0}) WorkFault → Service → Type 0
 EndsService books desks result to_do =
-    ServeEnded to_do.span to_do.errors.before to_do.errors.after to_do.port to_do.said.before to_do.said.after (standing books) result desks.0 desks.1
+    ServeEnded to_do.span to_do.errors.before to_do.errors.after to_do.address to_do.said.before to_do.said.after (standing books) result desks.0 desks.1
 
 -- a desk over a book did, with the book that came back
 abbrev pub EndsServiceOver : {B : Type 0} → Ghosts B → B → Result (Unit {0}) WorkFault × B → Service → Type 0
 EndsServiceOver books given result to_do =
-    ServeOver to_do.span to_do.errors.before to_do.errors.after to_do.port to_do.said.before to_do.said.after books (books.state given) result.0 result.1
+    ServeOver to_do.span to_do.errors.before to_do.errors.after to_do.address to_do.said.before to_do.said.after books (books.state given) result.0 result.1
 
 -- a desk over a database that was handed in did, with the connection that came back
 abbrev pub EndsServiceIn : {S : Type 0} → Database S → Result (Unit {0}) WorkFault × Held S → Service → Type 0
 EndsServiceIn db result to_do =
-    ServeIn to_do.span to_do.errors.before to_do.errors.after to_do.port to_do.said.before to_do.said.after db.store db.makes (state db.store db.conn) result.0 result.1
+    ServeIn to_do.span to_do.errors.before to_do.errors.after to_do.address to_do.said.before to_do.said.after db.store db.makes (state db.store db.conn) result.0 result.1

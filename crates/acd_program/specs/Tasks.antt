@@ -102,7 +102,7 @@ module _ {D : Type 0} (disk : Ghosts D) (IsFresh : Bool → D → Type 0) where
   -- status
   abbrev pub TaskDone : Task → Streams → Option (List ℕ) → Option (List ℕ) → Status → Type 0
   TaskDone (Lines file reads ends) io old_errors new_errors status = InputAnswered file reads ends io status
-  TaskDone (Serve file port span) io old_errors new_errors status = ServeDoneIn span old_errors new_errors × (status ≡ Success)
+  TaskDone (Serve file address span) io old_errors new_errors status = ServeDoneIn span old_errors new_errors × (status ≡ Success)
   TaskDone (Import file plan) io old_errors new_errors status = ImportedIn io.old_output io.new_output status
   TaskDone (Read file (kind.Import requests)) io old_errors new_errors status = InFile disk IsFresh (λ old new. ImportsOver requests.now old io.old_output io.new_output new) false × (status ≡ Success)
   TaskDone (Read file (kind.Print printout)) io old_errors new_errors status =

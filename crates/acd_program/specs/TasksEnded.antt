@@ -23,6 +23,7 @@ use Rattle.acd_program.specs.declared.fault.Fault.TheVariants as ended_by
 use Rattle.acd_program.specs.declared.fault.WorkFault.{WorkFault}
 use Rattle.acd_program.specs.declared.desk.Work.{Work}
 use Rattle.acd_program.specs.declared.desk.Work.TheVariants as kind
+use Rattle.acd_program.specs.declared.asked.Address.{Address}
 use Rattle.acd_program.specs.declared.asked.Task.{Task}
 use Rattle.acd_program.specs.declared.asked.Task.TheVariants.{Lines, Serve, Import, AuditWhole, AuditWithArchive, Read}
 
@@ -44,11 +45,11 @@ module _ {D : Type 0} (disk : Ghosts D) (IsFresh : Bool → D → Type 0) where
     pub why : EndsBy ended fault
 
   -- the service ended, or closing its file did, and the connection was shut
-  pub record ServiceLeft (span : Span) (port : ℕ) (old_output new_output old_errors new_errors : Option (List ℕ)) (fault : WorkFault) (conn : OfFiles disk) : Type 0 where
+  pub record ServiceLeft (span : Span) (address : Address) (old_output new_output old_errors new_errors : Option (List ℕ)) (fault : WorkFault) (conn : OfFiles disk) : Type 0 where
     pub last : OfFiles disk
     pub shut : IsShut last
     pub ended : Result (Unit {0}) WorkFault
-    pub answered : ServeIn span old_errors new_errors port old_output new_output over_files true (file_state conn) ended last
+    pub answered : ServeIn span old_errors new_errors address old_output new_output over_files true (file_state conn) ended last
     pub why : EndsBy ended fault
 
   -- an audit with an archive was done, and a beginning of what it found was printed
@@ -88,8 +89,8 @@ module _ {D : Type 0} (disk : Ghosts D) (IsFresh : Bool → D → Type 0) where
       (conn : OfFiles disk) × IsOpenedFrom disk IsFresh conn × (left : AuditShut conn) × (Unwritten ⊎ AuditCut counts whole old_output new_output conn left.last)
   AuditWithArchiveEnded counts whole old_output new_output Unwritten (Archive why) = (conn : OfFiles disk) × IsOpenedFrom disk IsFresh conn × AuditShut conn × Unwritten × LeavesArchive disk IsFresh why
 
-  abbrev pub ServiceEnded : Span → ℕ → Option (List ℕ) → Option (List ℕ) → Option (List ℕ) → Option (List ℕ) → Type 0 → Fault → Type 0
-  ServiceEnded span port old_output new_output old_errors new_errors Unwritten fault = EndedIn fault (Unwritten × (new_errors ≡ old_errors)) (ServiceLeft span port old_output new_output old_errors new_errors)
+  abbrev pub ServiceEnded : Span → Address → Option (List ℕ) → Option (List ℕ) → Option (List ℕ) → Option (List ℕ) → Type 0 → Fault → Type 0
+  ServiceEnded span address old_output new_output old_errors new_errors Unwritten fault = EndedIn fault (Unwritten × (new_errors ≡ old_errors)) (ServiceLeft span address old_output new_output old_errors new_errors)
 
   -- the lines of an input, over a desk in memory or over a file that was named
   abbrev pub InputEnded : {Name : Type 0} → Option Name → Bool → Bool → Streams → Fault → Type 0
@@ -100,7 +101,7 @@ module _ {D : Type 0} (disk : Ghosts D) (IsFresh : Bool → D → Type 0) where
   -- service prints anything there.
   abbrev pub TaskEnded : Task → Streams → Option (List ℕ) → Option (List ℕ) → Fault → Type 0
   TaskEnded (Lines file reads ends) io old_errors new_errors fault = (new_errors ≡ old_errors) × InputEnded file reads ends io fault
-  TaskEnded (Serve file port span) io old_errors new_errors fault = io.unread × ServiceEnded span port io.old_output io.new_output old_errors new_errors io.unwritten fault
+  TaskEnded (Serve file address span) io old_errors new_errors fault = io.unread × ServiceEnded span address io.old_output io.new_output old_errors new_errors io.unwritten fault
   TaskEnded (Import file plan) io old_errors new_errors fault = io.unread × (new_errors ≡ old_errors) × PlanEnded io.old_output io.new_output io.unwritten fault
   TaskEnded (Read file work) io old_errors new_errors fault = io.unread × (new_errors ≡ old_errors) × WorkEndedIn false work io.old_output io.new_output io.unwritten fault
   TaskEnded (AuditWithArchive file archive counts whole) io old_errors new_errors fault = io.unread × (new_errors ≡ old_errors) × AuditWithArchiveEnded counts whole io.old_output io.new_output io.unwritten fault

@@ -3,6 +3,15 @@
 use crate::desk::Work;
 use acd_http::Span;
 
+/// Where a service waits for connections.
+#[derive(Clone, Copy)]
+pub(crate) enum Address<'a> {
+    /// A port of the loopback address.
+    Port(u16),
+    /// The path of a Unix socket.
+    Socket(&'a str),
+}
+
 /// The task of a command line, with the paths that it names.
 #[derive(Clone, Copy)]
 pub(crate) enum Task<'a> {
@@ -16,7 +25,7 @@ pub(crate) enum Task<'a> {
     /// Answer connections over HTTP: so many, or until the store has failed; and tick between them, where that is asked for.
     Serve {
         file: &'a str,
-        port: u16,
+        address: Address<'a>,
         span: Span,
     },
     /// Take the requests of a plan.

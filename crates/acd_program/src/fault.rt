@@ -71,9 +71,9 @@ pub enum WorkFault {
     Read,
     #[error("cannot write")]
     Write,
-    /// The port that is in use, or isn't given to this program.
-    #[error("cannot listen on port {0}")]
-    CannotListen(u16),
+    /// The address of a service is in use, or isn't given to this program.
+    #[error("cannot listen")]
+    CannotListen,
 }
 
 /// Why an audit with an archive ended, once the desk was open.

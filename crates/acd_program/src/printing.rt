@@ -2,7 +2,7 @@
 
 ghost use Rattle.std.specs.Prelude.{◌≡◌, OnOk, OnErr, IfOk};
 ghost use Rattle.acd_io.specs.Sent.{Sends};
-ghost use Rattle.acd_program.specs.Found.{number_between, sound_line, number_line, counted_line, again_line, again_counted_line, finding_line};
+ghost use Rattle.acd_program.specs.Found.{number_between, sound_line, number_line, text_line, counted_line, again_line, again_counted_line, finding_line};
 ghost use Rattle.acd_program.specs.Output.{output};
 ghost use Rattle.acd_program.specs.Statuses.{sound_status, again_status, finding_status};
 ghost use Rattle.acd_program.specs.Work.{text_left, status_left, PrintsAll, PrintsPart};
@@ -45,6 +45,16 @@ pub(crate) fn send_number<W: Write>(
     ensures { Sends W.contents writer.old writer.new result (number_line front.now number) }
 {
     send_between(writer, front, number, b"\n")
+}
+
+/// Writes a line that ends in a text.
+pub(crate) fn send_text<W: Write>(writer: &mut W, front: &[u8], text: &str) -> Result<(), Stopped>
+    ensures { Sends W.contents writer.old writer.new result (text_line front.now text.now) }
+{
+    let mut calls = CALLS;
+    send(writer, &mut calls, front)?;
+    send(writer, &mut calls, text.as_bytes())?;
+    send(writer, &mut calls, b"\n")
 }
 
 // The line of a sound desk, of whose file the log ended so.

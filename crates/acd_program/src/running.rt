@@ -14,7 +14,7 @@ ghost use Rattle.acd_program.specs.Statuses.{ExitsWithoutTask, IfDone, fault_exi
 ghost use Rattle.acd_program.specs.Tasks.{IsReadEnding};
 ghost use Rattle.acd_program.specs.Work.{EndsPrinting};
 
-use crate::asked::Task;
+use crate::asked::{Address, Task};
 use crate::connection::database_lines;
 use crate::desk::{Done, Work, over_database};
 use crate::fault::{Fault, LookFault, WorkFault};
@@ -248,17 +248,17 @@ fn serve_file<'a, S: Start, W: Write, E: Write>(
     rt: &HostRuntime,
     start: S,
     file: &'a str,
-    port: u16,
+    address: Address<'_>,
     span: Span,
     writer: &mut W,
     errors: &mut E,
 ) -> Result<(), Fault<'a>>
     ensures { EndsFileService ⟦<FileFrom<S> as Disk>⟧
-        (service span port (output W.contents writer.old writer.new)
+        (service span address.entry (output W.contents writer.old writer.new)
         (output E.contents errors.old errors.new)) result }
 {
     let (conn, is_new) = connect(rt, file, true, start)?;
-    let (done, conn) = serve(rt, conn, is_new, port, span, writer, errors);
+    let (done, conn) = serve(rt, conn, is_new, address, span, writer, errors);
     match done_and_closed(done, close_connection(conn)) {
         Ok(()) => Ok(()),
         Err(fault) => Err(Fault::Work(fault)),
@@ -287,9 +287,11 @@ fn execute<'a, S: Start, R: Read, W: Write, E: Write>(
         Task::Lines { file, reads, ends } => {
             answer_lines(rt, start, file, reads, ends, reader, writer)
         }
-        Task::Serve { file, port, span } => match serve_file(
-            rt, start, file, port, span, writer, errors,
-        ) {
+        Task::Serve {
+            file,
+            address,
+            span,
+        } => match serve_file(rt, start, file, address, span, writer, errors) {
             Ok(()) => Ok(Status::Success),
             Err(fault) => Err(fault),
         },
@@ -313,6 +315,23 @@ fn fail<E: Write>(fault: Fault<'_>, errors: &mut E) -> Exit
     fault.exit()
 }
 
+// The same of a task that a fault ended; it says which address a service could not have.
+fn fail_task<E: Write>(task: Task<'_>, fault: Fault<'_>, errors: &mut E) -> Exit
+    ensures { result ≡ fault_exit fault.entry }
+{
+    let Fault::Work(WorkFault::CannotListen) = fault else {
+        return fail(fault, errors);
+    };
+    let Task::Serve { address, .. } = task else {
+        return fail(fault, errors);
+    };
+    let _ = match address {
+        Address::Port(port) => writeln!(errors, "acd: {fault} on port {port}"),
+        Address::Socket(path) => writeln!(errors, "acd: {fault} on {path}"),
+    };
+    fault.exit()
+}
+
 // Does the task, says why where a fault ended it, and how the command ends.
 fn run<S: Start, R: Read, W: Write, E: Write>(
     rt: &HostRuntime,
@@ -333,7 +352,7 @@ fn run<S: Start, R: Read, W: Write, E: Write>(
     match execute(rt, start, beside, task, reader, writer, errors) {
         Ok(status) => Exit::Done(status),
         Err(fault) => {
-            let exit = fail(fault, errors);
+            let exit = fail_task(task, fault, errors);
             explain(rt, task, fault);
             exit
         }

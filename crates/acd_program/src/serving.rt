@@ -8,29 +8,34 @@ ghost use Rattle.acd_program.specs.Output.{output};
 ghost use Rattle.acd_program.specs.Over.{database};
 ghost use Rattle.acd_program.specs.Serving.{ends_failed, listening_line, service, EndsListening, EndsService, EndsServiceOver, EndsServiceIn};
 
+use crate::asked::Address;
 use crate::connection::book_over;
 use crate::fault::WorkFault;
-use crate::printing::send_number;
+use crate::printing::{send_number, send_text};
 use crate::session::unless_failed;
 use acd_book::Book;
 use acd_desk::Desk;
-use acd_http::{Door, Port, ServeFault, Span};
+use acd_http::{Door, Polled, ServeFault, Span};
 use sqlite::{Alter, Connection};
-use std::io::{ErrorKind, Write};
+use std::io::{self, ErrorKind, Write};
 
-fn listen(rt: &HostRuntime, port: u16) -> Result<Port, WorkFault> {
-    match Port::listen(rt, rt.alloc(), port) {
+// The listener, where there is one.
+fn listening<D>(door: io::Result<D>) -> Result<D, WorkFault> {
+    match door {
         Ok(door) => Ok(door),
         Err(error) if error.kind() == ErrorKind::OutOfMemory => Err(WorkFault::NoMemory),
-        Err(_) => Err(WorkFault::CannotListen(port)),
+        Err(_) => Err(WorkFault::CannotListen),
     }
 }
 
 // Says that connections are waited for.
-fn say<W: Write>(port: u16, writer: &mut W) -> Result<(), WorkFault>
-    ensures { Sends W.contents writer.old writer.new result (listening_line port) }
+fn say<W: Write>(address: Address<'_>, writer: &mut W) -> Result<(), WorkFault>
+    ensures { Sends W.contents writer.old writer.new result (listening_line address.entry) }
 {
-    send_number(writer, b"listening on 127.0.0.1:", u64::from(port))?;
+    match address {
+        Address::Port(port) => { send_number(writer, b"listening on 127.0.0.1:", u64::from(port))? }
+        Address::Socket(path) => send_text(writer, b"listening on ", path)?,
+    }
     Ok(())
 }
 
@@ -64,40 +69,67 @@ fn answer<D: Door, B: Book, E: Write>(
     }
 }
 
-fn serve_desk<B: Book, W: Write, E: Write>(
+// Answers connections at a listener, where there is one.
+fn serve_at<D: Door + Drop, B: Book, W: Write, E: Write>(
     rt: &HostRuntime,
+    door: io::Result<D>,
     desk: &mut Desk<B>,
-    port: u16,
+    address: Address<'_>,
     span: Span,
     writer: &mut W,
     errors: &mut E,
 ) -> Result<(), WorkFault>
     ensures { EndsService B.Book (desk.old, desk.new) result
-        (service span port (output W.contents writer.old writer.new)
+        (service span address.entry (output W.contents writer.old writer.new)
         (output E.contents errors.old errors.new)) }
 {
-    let mut door = listen(rt, port)?;
-    say(port, writer)?;
+    let mut door = listening(door)?;
+    say(address, writer)?;
     answer(rt, &mut door, desk, span, errors)
+}
+
+fn serve_desk<B: Book, W: Write, E: Write>(
+    rt: &HostRuntime,
+    desk: &mut Desk<B>,
+    address: Address<'_>,
+    span: Span,
+    writer: &mut W,
+    errors: &mut E,
+) -> Result<(), WorkFault>
+    ensures { EndsService B.Book (desk.old, desk.new) result
+        (service span address.entry (output W.contents writer.old writer.new)
+        (output E.contents errors.old errors.new)) }
+{
+    let alloc = rt.alloc();
+    match address {
+        Address::Port(port) => {
+            let door = Polled::at_port(rt, alloc, port);
+            serve_at(rt, door, desk, address, span, writer, errors)
+        }
+        Address::Socket(path) => {
+            let door = Polled::at_path(rt, alloc, path);
+            serve_at(rt, door, desk, address, span, writer, errors)
+        }
+    }
 }
 
 fn serve_book<B: Book, W: Write, E: Write>(
     rt: &HostRuntime,
     book: B,
-    port: u16,
+    address: Address<'_>,
     span: Span,
     writer: &mut W,
     errors: &mut E,
 ) -> (Result<(), WorkFault>, B)
     ensures { EndsServiceOver B.Book book result
-        (service span port (output W.contents writer.old writer.new)
+        (service span address.entry (output W.contents writer.old writer.new)
         (output E.contents errors.old errors.new)) }
 {
     let mut desk = match Desk::open(rt.alloc(), book) {
         Ok(desk) => desk,
         Err((fault, book)) => return (Err(WorkFault::from(fault)), book),
     };
-    let done = serve_desk(rt, &mut desk, port, span, writer, errors);
+    let done = serve_desk(rt, &mut desk, address, span, writer, errors);
     (done, desk.close())
 }
 
@@ -108,7 +140,7 @@ pub(crate) fn serve<S: Alter, W: Write, E: Write>(
     rt: &HostRuntime,
     conn: Connection<S>,
     makes: bool,
-    port: u16,
+    address: Address<'_>,
     span: Span,
     writer: &mut W,
     errors: &mut E,
@@ -116,13 +148,13 @@ pub(crate) fn serve<S: Alter, W: Write, E: Write>(
     requires { conn.in_transaction ≡ false }
     ensures idle { result.1.in_transaction ≡ false }
     ensures ended { EndsServiceIn (database S.Store makes conn) result
-        (service span port (output W.contents writer.old writer.new)
+        (service span address.entry (output W.contents writer.old writer.new)
         (output E.contents errors.old errors.new)) }
 {
     let book = match book_over(rt.alloc(), conn, makes) {
         Ok(book) => book,
         Err((fault, conn)) => return (Err(WorkFault::from(fault)), conn),
     };
-    let (done, book) = serve_book(rt, book, port, span, writer, errors);
+    let (done, book) = serve_book(rt, book, address, span, writer, errors);
     (done, book.into_connection())
 }

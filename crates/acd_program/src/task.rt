@@ -2,10 +2,10 @@
 
 ghost use Rattle.std.specs.Prelude.{◌≡◌, [], false, codes, map, IsTrue, IfOk, IfErr};
 ghost use Rattle.clap.specs.Words.{app_of, found_of, kind_of, rows_of, subcommand_rows_of};
-ghost use Rattle.acd_program.specs.CommandLine.{HasApp, HasRule, IsTaskWith, FindsTask, FindsTaskIn, FindsSpan, IsTaskOf, IsRefusedBy, AddsCommand, acd, asks_for, command_of, export_shape, file_rule, flag_rule, import_shape, is_given, lines_shape, number_rule, option_rule, report_shape, audit_shape, serve_shape};
+ghost use Rattle.acd_program.specs.CommandLine.{HasApp, HasRule, IsTaskWith, FindsTask, FindsTaskIn, FindsAddress, FindsConnections, FindsSeconds, FindsSpan, IsTaskOf, IsRefusedBy, AddsCommand, acd, command_of, export_shape, file_rule, flag_rule, import_shape, is_given, lines_shape, number_rule, option_rule, report_shape, audit_shape, serve_shape};
 ghost use Rattle.acd_program.specs.Statuses.{IsHelp};
 
-use crate::asked::Task;
+use crate::asked::{Address, Task};
 use crate::desk::{Printout, Work};
 use acd_http::Span;
 use acd_log::Ending;
@@ -24,6 +24,8 @@ const FILE: &str = "file";
 const PLAN: &str = "plan";
 
 const PORT: &str = "port";
+
+const SOCKET: &str = "socket";
 
 const CONNECTIONS: &str = "connections";
 
@@ -46,9 +48,13 @@ const ARCHIVE: &str = "archive";
 const GREATEST_PORT: u64 = 65_535;
 
 // Why a service is refused, as the library of command lines says it.
-const NEITHER: &str = "the following required arguments were not provided:\n  --connections <N>";
+const NO_ADDRESS: &str = "the following required arguments were not provided:\n  --port <P>";
 
-const BOTH: &str = "the argument '--connections <N>' cannot be used with '--endless'";
+const TWO_ADDRESSES: &str = "the argument '--port <P>' cannot be used with '--socket <PATH>'";
+
+const NO_END: &str = "the following required arguments were not provided:\n  --connections <N>";
+
+const TWO_ENDS: &str = "the argument '--connections <N>' cannot be used with '--endless'";
 
 /// How many connections are answered at most.
 const MOST_CONNECTIONS: u64 = 1_000_000;
@@ -83,6 +89,16 @@ fn archive_option<'a>(alloc: Global) -> Arg<'a>
         .long(ARCHIVE)
         .value_name("A")
         .help("The archive that the file goes on from, where it was carried over")
+        .action(ArgAction::Set)
+}
+
+fn socket_option<'a>(alloc: Global) -> Arg<'a>
+    ensures { HasRule (option_rule (codes "socket")) result }
+{
+    Arg::new(alloc, SOCKET)
+        .long(SOCKET)
+        .value_name("PATH")
+        .help("The Unix socket to listen on, in place of a port")
         .action(ArgAction::Set)
 }
 
@@ -166,15 +182,16 @@ fn serve_command<'a>(alloc: Global) -> Result<Command<'a>, AllocError>
         MOST_SECONDS,
     );
     Command::new(alloc, "serve")
-        .about("Answer requests over HTTP on 127.0.0.1")
+        .about("Answer requests over HTTP on 127.0.0.1, or on a Unix socket")
         .after_help(
             "Example:\n  acd serve --file desk.db --port 8080 --connections 1000\n\nConnections are served one after the other, each with one request; behind the last one\nthe command ends. With --endless in the place of --connections it ends, with status 1,\nonce its store has failed. A file that isn't there, or has no bytes, is made.\n\nWithout --tick nothing that rings is taken back unless a client sends tick. Without\n--patience a client that says nothing is waited for without end.",
         )
         .override_usage(
-            "acd serve --file <F> --port <P> <--connections <N>|--endless> [--tick <SECONDS>] [--patience <SECONDS>]",
+            "acd serve --file <F> <--port <P>|--socket <PATH>> <--connections <N>|--endless> [--tick <SECONDS>] [--patience <SECONDS>]",
         )
         .arg(file_option(alloc).required(true))?
-        .arg(port.required(true))?
+        .arg(port)?
+        .arg(socket_option(alloc))?
         .arg(connections)?
         .arg(flag(
             alloc,
@@ -279,6 +296,21 @@ fn lines_of<'a>(options: &ArgMatches<'a>) -> Task<'a>
     }
 }
 
+// Where a service listens: at a port or at a socket, and one of both is asked for.
+fn address_of<'a>(options: &ArgMatches<'a>) -> Option<Address<'a>>
+    ensures { FindsAddress (rows_of (found_of options.now)) result }
+{
+    match options.get_str(SOCKET) {
+        Some(path) => {
+            if options.contains_id(PORT) {
+                return None;
+            }
+            Some(Address::Socket(path))
+        }
+        None => Some(Address::Port(options.get_one(PORT)?)),
+    }
+}
+
 // How many connections, or no end of them: one of both is asked for.
 fn connections_of(options: &ArgMatches<'_>) -> Option<Option<u32>>
     ensures { FindsConnections (rows_of (found_of options.now)) result }
@@ -332,7 +364,7 @@ fn serve_of<'a>(options: &ArgMatches<'a>) -> Option<Task<'a>>
 {
     Some(Task::Serve {
         file: options.get_str(FILE)?,
-        port: options.get_one(PORT)?,
+        address: address_of(options)?,
         span: span_of(options)?,
     })
 }
@@ -414,25 +446,33 @@ fn task_in<'a>(matches: &ArgMatches<'a>) -> Option<Task<'a>>
     named(command, options)
 }
 
-// Whether a service is asked for that has no end.
-fn is_endless(matches: &ArgMatches<'_>) -> bool
-    ensures { result ≡ asks_for (codes "endless") (subcommand_rows_of matches.now) }
+// Why words that the library of command lines takes name no task: a service has one address and one end.
+fn refusal(matches: &ArgMatches<'_>) -> (ErrorKind, &'static str)
+    ensures { ¬ IsHelp result.0 }
 {
-    match matches.subcommand() {
-        Some((_, options)) => is_given(options, ENDLESS),
-        None => false,
+    let Some((_, options)) = matches.subcommand() else {
+        return (ErrorKind::MissingRequiredArgument, NO_ADDRESS);
+    };
+    let has_port = options.contains_id(PORT);
+    let has_socket = options.contains_id(SOCKET);
+    if has_port && has_socket {
+        return (ErrorKind::ArgumentConflict, TWO_ADDRESSES);
     }
+    if !has_port && !has_socket {
+        return (ErrorKind::MissingRequiredArgument, NO_ADDRESS);
+    }
+    if is_given(options, ENDLESS) {
+        return (ErrorKind::ArgumentConflict, TWO_ENDS);
+    }
+    (ErrorKind::MissingRequiredArgument, NO_END)
 }
 
-// How a service is refused that has neither a number of connections nor no end of them, or both.
-fn refused_span(alloc: Global, matches: &ArgMatches<'_>) -> Result<Error, AllocError>
+// How they are refused.
+fn refused_service(alloc: Global, matches: &ArgMatches<'_>) -> Result<Error, AllocError>
     ensures { IfOk result (λ error. ¬ IsHelp (kind_of error)) }
 {
-    let mut serve = serve_command(alloc)?;
-    if is_endless(matches) {
-        return serve.error(ErrorKind::ArgumentConflict, BOTH);
-    }
-    serve.error(ErrorKind::MissingRequiredArgument, NEITHER)
+    let (kind, why) = refusal(matches);
+    serve_command(alloc)?.error(kind, why)
 }
 
 // The task of the words.
@@ -449,7 +489,7 @@ fn chosen<'a, S: AsStr>(
     let matches = commands.try_get_matches_from_mut(words)?;
     match task_in(&matches) {
         Some(task) => Ok(task),
-        None => Err(refused_span(alloc, &matches)?),
+        None => Err(refused_service(alloc, &matches)?),
     }
 }
 

@@ -16,12 +16,12 @@ returns-in-Lines-clause-result g c =
 pub returns-in-Ok-clause-result : goal.returns-in-Ok-clause-result
 returns-in-Ok-clause-result g c =
     task_ends _ IsFresh (Ok _) c.args.task (streams g.R.Read.remaining g.W.Write.contents (c.args.reader.now, c.args.reader.now) (c.args.writer.now, c.serve_file.new.writer))
-    (g.E.Write.contents c.args.errors.now) (g.E.Write.contents c.serve_file.new.errors) (task.Serve c.in-Serve.file c.in-Serve.port c.in-Serve.span) c.in-Serve.is (c.in-Ok.ensures, refl)
+    (g.E.Write.contents c.args.errors.now) (g.E.Write.contents c.serve_file.new.errors) (task.Serve c.in-Serve.file c.in-Serve.address c.in-Serve.span) c.in-Serve.is (c.in-Ok.ensures, refl)
 
 pub returns-in-Serve-clause-result : goal.returns-in-Serve-clause-result
 returns-in-Serve-clause-result g c =
     task_ends _ IsFresh (Err c.in-Err.fault) c.args.task (streams g.R.Read.remaining g.W.Write.contents (c.args.reader.now, c.args.reader.now) (c.args.writer.now, c.serve_file.new.writer))
-    (g.E.Write.contents c.args.errors.now) (g.E.Write.contents c.serve_file.new.errors) (task.Serve c.in-Serve.file c.in-Serve.port c.in-Serve.span) c.in-Serve.is (refl, c.in-Err.ensures)
+    (g.E.Write.contents c.args.errors.now) (g.E.Write.contents c.serve_file.new.errors) (task.Serve c.in-Serve.file c.in-Serve.address c.in-Serve.span) c.in-Serve.is (refl, c.in-Err.ensures)
 
 pub returns-in-Ok-clause-printed : goal.returns-in-Ok-clause-printed
 returns-in-Ok-clause-printed g c =

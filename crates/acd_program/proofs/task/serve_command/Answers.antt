@@ -1,7 +1,7 @@
 use Rattle.std.proofs.Common.{codes}
 use Rattle.std.proofs.lemmas.Result.{IfOk-weaker}
 use Rattle.clap.specs.Words.{new_app}
-use Rattle.acd_program.specs.CommandLine.{HasApp, file_rule, number_rule}
+use Rattle.acd_program.specs.CommandLine.{HasApp, file_rule}
 use Rattle.acd_program.proofs.CommandLines.{app_begun, app_used, app_more, rule_required}
 use Rattle.acd_program.proofs.task.serve_command.Goals as goal
 
@@ -11,10 +11,10 @@ returns c =
     = app_begun (codes "serve") c.new.result c.about.result c.after_help.result _ _ c.new.ensures.app c.new.ensures.local c.about.ensures c.after_help.ensures in
     let used = app_used _ c.after_help.result c.override_usage.result _ begun c.override_usage.ensures in
     let file = rule_required file_rule c.file_option.result c.required.result c.file_option.ensures c.required.ensures in
-    let port = rule_required (number_rule (codes "port") 65535) c.number_option-port.result c.required-2.result c.number_option-port.ensures c.required-2.ensures in
     let one = app_more _ _ c.override_usage.result c.in_ok-arg.field-0 c.required.result used file c.in_ok-arg.ensures in
-    let two = app_more _ _ c.in_ok-arg.field-0 c.in_ok-arg-2.field-0 c.required-2.result one port c.in_ok-arg-2.ensures in
-    let three = app_more _ _ c.in_ok-arg-2.field-0 c.in_ok-arg-3.field-0 c.number_option-connections.result two c.number_option-connections.ensures c.in_ok-arg-3.ensures in
-    let four = app_more _ _ c.in_ok-arg-3.field-0 c.in_ok-arg-4.field-0 c.flag.result three c.flag.ensures c.in_ok-arg-4.ensures in
-    let five = app_more _ _ c.in_ok-arg-4.field-0 c.in_ok-arg-5.field-0 c.number_option-tick.result four c.number_option-tick.ensures c.in_ok-arg-5.ensures in
-    IfOk-weaker c.arg-6.result _ _ (λ new adds. app_more _ _ c.in_ok-arg-5.field-0 new c.number_option-patience.result five c.number_option-patience.ensures adds) c.arg-6.ensures
+    let two = app_more _ _ c.in_ok-arg.field-0 c.in_ok-arg-2.field-0 c.number_option-port.result one c.number_option-port.ensures c.in_ok-arg-2.ensures in
+    let three = app_more _ _ c.in_ok-arg-2.field-0 c.in_ok-arg-3.field-0 c.socket_option.result two c.socket_option.ensures c.in_ok-arg-3.ensures in
+    let four = app_more _ _ c.in_ok-arg-3.field-0 c.in_ok-arg-4.field-0 c.number_option-connections.result three c.number_option-connections.ensures c.in_ok-arg-4.ensures in
+    let five = app_more _ _ c.in_ok-arg-4.field-0 c.in_ok-arg-5.field-0 c.flag.result four c.flag.ensures c.in_ok-arg-5.ensures in
+    let six = app_more _ _ c.in_ok-arg-5.field-0 c.in_ok-arg-6.field-0 c.number_option-tick.result five c.number_option-tick.ensures c.in_ok-arg-6.ensures in
+    IfOk-weaker c.arg-7.result _ _ (λ new adds. app_more _ _ c.in_ok-arg-6.field-0 new c.number_option-patience.result six c.number_option-patience.ensures adds) c.arg-7.ensures
