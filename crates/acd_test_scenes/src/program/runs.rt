@@ -108,16 +108,19 @@ help: Help, version and toolchain, and two refusals. Of the help of the other co
 <   acd report --file desk.db
 
 0 acd serve --help
-< Answer requests over HTTP on 127.0.0.1
+< Answer requests over HTTP on 127.0.0.1, or on a Unix socket
 <
-< Usage: acd serve --file <F> --port <P> <--connections <N>|--endless>
+< Usage: acd serve --file <F> <--port <P>|--socket <PATH>> <--connections <N>|--endless> [--tick <SECONDS>] [--patience <SECONDS>]
 <
 < Options:
-<       --file <F>         The file of the desk
-<       --port <P>         The port to listen on, from 1 to 65535
-<       --connections <N>  How many connections to serve, from 1 to 1000000
-<       --endless          Serve until the store fails, or the command is ended
-<   -h, --help             Print help
+<       --file <F>            The file of the desk
+<       --port <P>            The port to listen on, from 1 to 65535
+<       --socket <PATH>       The Unix socket to listen on, in place of a port
+<       --connections <N>     How many connections to serve, from 1 to 1000000
+<       --endless             Serve until the store fails, or the command is ended
+<       --tick <SECONDS>      How often to look for what rings too long, and tick, from 1 to 3600
+<       --patience <SECONDS>  How long to wait for a client's request, and for its reply to be read, from 1 to 3600
+<   -h, --help                Print help
 <
 < Example:
 <   acd serve --file desk.db --port 8080 --connections 1000
@@ -125,12 +128,15 @@ help: Help, version and toolchain, and two refusals. Of the help of the other co
 < Connections are served one after the other, each with one request; behind the last one
 < the command ends. With --endless in the place of --connections it ends, with status 1,
 < once its store has failed. A file that isn't there, or has no bytes, is made.
+<
+< Without --tick nothing that rings is taken back unless a client sends tick. Without
+< --patience a client that says nothing is waited for without end.
 
 0 acd --version
-< acd 1.15 (rattle-kit-13b)
+< acd 1.16 (rattle-kit-13f)
 
 0 acd -V
-< acd 1.15 (rattle-kit-13b)
+< acd 1.16 (rattle-kit-13f)
 
 2 acd report
 ! error: the following required arguments were not provided:
@@ -143,7 +149,7 @@ help: Help, version and toolchain, and two refusals. Of the help of the other co
 2 acd serve --file a.db --port 1 --connections 1 --endless
 ! error: the argument '--connections <N>' cannot be used with '--endless'
 !
-! Usage: acd serve --file <F> --port <P> <--connections <N>|--endless>
+! Usage: acd serve --file <F> <--port <P>|--socket <PATH>> <--connections <N>|--endless> [--tick <SECONDS>] [--patience <SECONDS>]
 !
 ! For more information, try '--help'.
 
@@ -151,7 +157,7 @@ help: Help, version and toolchain, and two refusals. Of the help of the other co
 ! error: the following required arguments were not provided:
 !   --connections <N>
 !
-! Usage: acd serve --file <F> --port <P> <--connections <N>|--endless>
+! Usage: acd serve --file <F> <--port <P>|--socket <PATH>> <--connections <N>|--endless> [--tick <SECONDS>] [--patience <SECONDS>]
 !
 ! For more information, try '--help'.
 
