@@ -7,7 +7,9 @@ from argparse import ArgumentDefaultsHelpFormatter, ArgumentParser, ArgumentType
 from dataclasses import dataclass, field, fields, replace
 from ipaddress import IPv4Address, IPv4Network
 from typing import Any
-from urllib.parse import quote, unquote, urlsplit
+from urllib.parse import SplitResult, quote, unquote, urlsplit
+
+from acd_client import is_socket
 
 from .grammar import Malformed, read_uri
 
@@ -111,14 +113,18 @@ class Settings:
             self.networks
         except ValueError as fault:
             return f"--media: {fault}"
-        if self.desk and (urlsplit(self.desk).scheme not in ("http", "https") or not urlsplit(self.desk).hostname):
-            return ("the desk's address is http://HOST:PORT or https://LOGIN@HOST:PORT, "
+        if self.desk and not is_desk(urlsplit(self.desk)):
+            return ("the desk's address is unix:PATH, http://HOST:PORT or https://LOGIN@HOST:PORT, "
                     f"and not {without_password(self.desk)}")
         try:
             self.context()
         except OSError as fault:
             return f"--ca: no certificates in {self.ca}: {fault}"
         return ""
+
+
+def is_desk(address: SplitResult) -> bool:
+    return is_socket(address) or address.scheme in ("http", "https") and bool(address.hostname)
 
 
 def with_password(address: str, password: str) -> str:

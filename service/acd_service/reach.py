@@ -14,7 +14,7 @@ from collections.abc import Callable
 from typing import Any, TypeVar
 from urllib.parse import quote, urlsplit
 
-from acd_client import Answer, Client, Request, Unanswered
+from acd_client import UNIX, Answer, Client, Request, Unanswered, is_socket
 
 from acd_service.command import Fault
 from acd_service.local import GROUP, USERS
@@ -31,8 +31,8 @@ def address(text: str) -> str:
     """An address of a desk, which names no login."""
     try:
         parts = urlsplit(text)
-        good = bool(parts.scheme in ("http", "https") and parts.hostname and (parts.port is None or parts.port) and
-                    not (parts.query or parts.fragment))
+        good = is_socket(parts) or bool(parts.scheme in ("http", "https") and parts.hostname and
+                                        (parts.port is None or parts.port) and not (parts.query or parts.fragment))
     except ValueError:
         good = False
     if not good or "@" in parts.netloc:
@@ -43,7 +43,8 @@ def address(text: str) -> str:
 
 def add_options(parser: argparse.ArgumentParser) -> None:
     parser.add_argument("--from", dest="address", type=address, metavar="ADDRESS",
-                        help="ask the desk at this address, as http://127.0.0.1:8080 or https://desk.example:8443")
+                        help="ask the desk at this address, as http://127.0.0.1:8080, https://desk.example:8443 or "
+                             "unix:/run/acd/desk")
     add_login_options(parser)
 
 
@@ -62,6 +63,8 @@ def check(parser: argparse.ArgumentParser, options: argparse.Namespace) -> None:
         parser.error("a login has a letter at least, and no colon")
     if options.login and parts.scheme == "http" and parts.hostname not in THIS_MACHINE:
         parser.error("a password goes to another machine over https alone")
+    if options.login and parts.scheme == UNIX:
+        parser.error("a desk at a socket asks nobody for a password")
 
 
 def owner(login: str | None, otherwise: str) -> str:
@@ -113,12 +116,15 @@ def insisted(desk: Client, attempt: Callable[[], Found], patience: float) -> Fou
 
 
 def hint(desk: Client, fault: Unanswered) -> str:
-    """What acd-local does to this user, if the desk's own port was asked: it resets the connection."""
+    """Who is let in, if the desk's own port or socket was asked: acd-local resets the connection of any other."""
     parts = desk.addresses[0]
-    is_reset = isinstance(fault.__cause__, ConnectionError)
-    if parts.scheme != "http" or parts.hostname not in THIS_MACHINE or not is_reset or is_let_in():
+    is_kept_out = (isinstance(fault.__cause__, PermissionError) if parts.scheme == UNIX else
+                   parts.scheme == "http" and parts.hostname in THIS_MACHINE and
+                   isinstance(fault.__cause__, ConnectionError))
+    if not is_kept_out or is_let_in():
         return ""
-    return f"; only root and the group {GROUP} reach this port: be one of them, or use https://.. with --login"
+    place = "socket" if parts.scheme == UNIX else "port"
+    return f"; only root and the group {GROUP} reach this {place}: be one of them, or use https://.. with --login"
 
 
 def is_let_in() -> bool:

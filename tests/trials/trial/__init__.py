@@ -3,7 +3,7 @@ finds the modules of the folder that has its name, and those of tests/."""
 import sys
 from pathlib import Path
 
-from .connections import ANY, Connection, Reply, bytes_back, free_port, free_ports, is_refused, until, until_listening
+from .connections import ANY, Connection, Reply, bytes_back, connected, free_port, free_ports, is_refused, until, until_listening
 from .counting import TOP, Trial, command, main, missing, planted
 from .desks import Desk, Done, Lines, at_a_terminal, growths_in, limited, ran, refusing, running
 from .requests import Plan, Requests, compact, line, lines

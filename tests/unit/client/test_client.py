@@ -6,6 +6,7 @@ from __future__ import annotations
 import json
 import logging
 import os
+import re
 import socket
 import ssl
 import subprocess
@@ -192,22 +193,38 @@ class AgainstADesk(unittest.TestCase):
 
 
 class FalseDesk(threading.Thread):
-    """Answers each connection with the next of some bytes."""
+    """Answers each connection with the next of some bytes; at the socket at a path, if there is one."""
 
-    def __init__(self, answers: list[bytes]):
+    def __init__(self, answers: list[bytes], path: str = ""):
         super().__init__(daemon=True)
-        self.socket, self.answers = socket.create_server(("127.0.0.1", 0)), answers
+        self.answers = answers
         self.asked: list[bytes] = []
-        self.address = f"http://127.0.0.1:{self.socket.getsockname()[1]}"
+        if path:
+            self.socket = socket.socket(socket.AF_UNIX)
+            self.socket.bind(path)
+            self.socket.listen()
+            self.address = f"unix:{path}"
+        else:
+            self.socket = socket.create_server(("127.0.0.1", 0))
+            self.address = f"http://127.0.0.1:{self.socket.getsockname()[1]}"
         self.start()
 
     def run(self) -> None:
         for answer in self.answers:
             connection, _ = self.socket.accept()
-            self.asked.append(connection.recv(65536))
+            self.asked.append(asked_on(connection))
             connection.sendall(answer)
             connection.close()
         self.socket.close()
+
+
+def asked_on(connection: socket.socket) -> bytes:
+    """A request, with all of its body: at a socket, who still writes would else not read the answer."""
+    asked = connection.recv(65536)
+    length = re.search(rb"Content-Length: (\d+)", asked)
+    while length and len(asked.partition(b"\r\n\r\n")[2]) < int(length[1]):
+        asked += connection.recv(65536)
+    return asked
 
 
 def reply(body: object, status: str = "200 OK", length: int = 0) -> bytes:
@@ -233,6 +250,22 @@ class AgainstAFalseDesk(unittest.TestCase):
         client = Client(FalseDesk(answers + [reply(good)]).address, requester="pbx", invoke=4, pause=0.01)
         self.assertEqual(client.ask("tick").body, good)
         client.disconnect()
+
+    def test_at_a_socket(self) -> None:
+        """The path is no part of what is asked; where nobody listens the client waits, and says for whom."""
+        folder = self.enterContext(tempfile.TemporaryDirectory())
+        desk = FalseDesk([reply({"requester": "pbx", "invoke": 5, "result": {}}), reply(SHOWN)], f"{folder}/desk")
+        client = Client(desk.address, requester="pbx", invoke=4)
+        self.assertEqual(client.ask("tick").result, {})
+        self.assertEqual(client.attempt("GET", "/events?after=0").body, SHOWN)
+        client.disconnect()
+        self.assertEqual([asked.split(b" HTTP", 1)[0] for asked in desk.asked], [b"POST /csta", b"GET /events?after=0"])
+        absent = Client(f"unix:{folder}/absent", pause=0.01)
+        with self.assertLogs("acd_client") as told:
+            threading.Timer(0.5, absent.stop).start()
+            with self.assertRaises(Stopped):
+                absent.ask("tick")
+        self.assertIn(f"no answer yet from unix:{folder}/absent", told.output[0])
 
     def test_below_a_path(self) -> None:
         """A proxy may have several desks, each below a path."""
@@ -402,7 +435,8 @@ class AgainstADeskThatCannotAnswer(unittest.TestCase):
                          f"WARNING:acd_client:no answer yet from http://127.0.0.1:{port}: ConnectionRefusedError(111, 'Connection refused'); the client goes on asking")
 
     def test_what_is_no_address(self) -> None:
-        for address in ("desk.example:8080", "127.0.0.1", "ftp://desk", "http://", "http://desk:0", "http://desk:99999", "http://pbx:se/cret@desk:8o80"):
+        for address in ("desk.example:8080", "127.0.0.1", "ftp://desk", "http://", "http://desk:0", "http://desk:99999", "http://pbx:se/cret@desk:8o80", "unix:desk", "unix://run/desk",
+                        "unix:/run/desk?after=1"):
             with self.assertRaisesRegex(ValueError, "is no address like") as refused:
                 self.client(address).ask("tick")
             self.assertFalse("se/" in str(refused.exception))

@@ -37,6 +37,11 @@ class Command(unittest.TestCase):
             fault = Settings(**settings).fault()
             self.assertTrue(wanted in fault and bool(wanted) == bool(fault), (settings, fault))
 
+    def test_a_desk_at_a_socket(self) -> None:
+        for desk, wanted in (("unix:/run/acd/desk", ""), ("unix:desk", "the desk's address is unix:PATH"), ("unix://host/desk", "the desk's address is unix:PATH")):
+            fault = Settings(edge="127.0.0.1:5060", desk=desk).fault()
+            self.assertTrue(wanted in fault and bool(wanted) == bool(fault), (desk, fault))
+
     def test_the_desk_by_the_environment(self) -> None:
         """Its address may have a password; an option of the command line has precedence."""
         cases: list[tuple[dict[str, str], list[str], str]] = [({}, [], "http://127.0.0.1:8080"), ({"EXCHANGE_DESK": "http://pbx:x@h:1"}, [], "http://pbx:x@h:1"),

@@ -46,6 +46,22 @@ class NoAnswer(unittest.TestCase):
             with self.subTest(user=user, groups=groups), self.account(user, groups, has_group):
                 self.assertEqual(self.fault(f"http://127.0.0.1:{port}"), f"no answer: [Errno 111] Connection refused{hint}")
 
+    def test_a_socket(self):
+        """Who may not connect is told who may; where nobody listens, nothing of that."""
+        for fault, hint in ((PermissionError(13, "Permission denied"), HINT.replace("port", "socket")), (FileNotFoundError(2, "No such file or directory"), "")):
+            with self.subTest(fault=fault), self.account("joe", (1000,)), mock.patch("socket.socket.connect", side_effect=fault):
+                self.assertEqual(self.fault("unix:/run/acd/desk"), f"no answer: {fault}{hint}")
+
+    def test_an_address(self):
+        for good in ("unix:/run/acd/desk", "http://127.0.0.1:8080", "https://desk.example:8443/line"):
+            self.assertEqual(reach.address(good), good)
+        for bad in ("unix:desk", "unix:", "http://pbx@desk", "ftp://desk", "http://desk/?a"):
+            with self.assertRaises(argparse.ArgumentTypeError):
+                reach.address(bad)
+        parser = argparse.ArgumentParser(exit_on_error=False)
+        with self.assertRaises(SystemExit), mock.patch("sys.stderr"):
+            reach.check(parser, argparse.Namespace(address="unix:/run/acd/desk", ca=None, login="joe"))
+
     def test_elsewhere(self):
         """Nothing is said of acd-local where another machine, or a proxy, is asked."""
         port = free_port()
