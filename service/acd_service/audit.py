@@ -15,8 +15,8 @@ from acd_service.log import Damaged, Unreadable, look
 from acd_service.pair import holds_something, log_of
 
 SOUND, AGAIN, EARLY, UNSOUND, UNAUDITED = "sound", "again", "early", "unsound", "unaudited"
-# what `acd audit --whole` ends with where the log ends early
-ENDS_EARLY = 5
+# what `acd audit --whole` ends with where the log ends early, and `acd audit --archive` where requests were sent again
+ENDS_EARLY, SENT_AGAIN = 5, 6
 QUIETLY = ["nice", "-n", "19", "acd"]
 NO_MEMORY = "acd: no memory"
 
@@ -45,8 +45,9 @@ def finding(status: int, lines: list[str]) -> Finding:
     if status == ENDS_EARLY:
         return Finding(EARLY, lines[0])
     said = "; ".join(lines)
-    if status == 0 and len(lines) == 2 and lines[0] == "sound" and lines[1].startswith("executed "):
-        return Finding(SOUND, said, int(lines[1].split()[1]))
+    verdict = {0: SOUND, SENT_AGAIN: AGAIN}.get(status)
+    if verdict and re.fullmatch(r"sound(, but request \d+ was sent again)?; executed \d+", said):
+        return Finding(verdict, said, int(said.rpartition(" ")[2]))
     return Finding(UNSOUND, said)
 
 
@@ -54,29 +55,6 @@ def last_stamp(file: Path) -> int:
     with contextlib.closing(sqlite3.connect(chain.immutable(file), uri=True)) as book:
         stamp: int = book.execute("SELECT last_stamp FROM meta").fetchone()[0]
     return stamp
-
-
-def sent_again(said: str, file: Path, archive: Path) -> str | None:
-    """The line where the audit with the archive says that the file differs at a request, and that one has the key of
-    one that the archive alone has: the desk can't know it any more, and did once more what it asks for. Else None.
-    Nobody learns by it who the ticks' requester is."""
-    differs, found = re.fullmatch(r"differs at request (\d+)", said), None
-    if not differs:
-        return None
-    with (contextlib.suppress(sqlite3.Error),
-          contextlib.closing(sqlite3.connect(chain.immutable(file), uri=True)) as book):
-        book.execute("ATTACH ? AS old", (chain.immutable(archive),))
-        found = book.execute("""SELECT requester, invoke, json_extract(new.request, '$.service'), old.kept.stamp
-                                FROM main.kept AS new JOIN old.kept USING (requester, invoke)
-                                WHERE new.stamp = ? AND new.stamp > (SELECT last_stamp FROM old.meta)
-                                    AND old.kept.stamp < (SELECT min(stamp) FROM main.kept)""",
-                             (differs[1],)).fetchone()
-    if not found:
-        return None
-    requester, invoke, service, earlier = found
-    key = f"{service}, requester {re.sub('^clock-[a-z]+$', 'clock-..', requester)}, invoke {invoke}"
-    return (f"sound up to request {int(differs[1]) - 1}; request {differs[1]} ({key}) was sent again after the cut "
-            f"(request {earlier} of {archive.name} has its key), and the requests after it weren't looked at")
 
 
 def carried(file: Path, archive: Path) -> Finding:
@@ -88,11 +66,7 @@ def carried(file: Path, archive: Path) -> Finding:
     if not log_existed and not holds_something(log_of(archive)):
         log_of(archive).unlink(missing_ok=True)
     if audit:
-        found = finding(audit[0], audit[1].splitlines())
-        again = sent_again(found.said, file, archive)
-        if again:
-            return Finding(AGAIN, again, last_stamp(file))
-        return Finding(SOUND, found.said, last_stamp(file)) if found.verdict == SOUND else found
+        return finding(audit[0], audit[1].splitlines())
     if isinstance(look(log_of(file)), (Damaged, Unreadable)):
         return Finding(EARLY, "its log ends early")
     status, lines = run("lines", "--file", file)
@@ -112,9 +86,6 @@ def audited(file: Path, archive: Path | None = None) -> Finding:
     if log.exists():
         shutil.copy2(log, aside)
     found = carried(file, archive) if archive else finding(*run("audit", "--whole", "--count", "--file", file))
-    # of a file that differs the audit doesn't say it
-    if found.verdict == AGAIN and os.path.exists(aside) and isinstance(look(aside), (Damaged, Unreadable)):
-        found = Finding(EARLY, f"{found.said}, and its log ends early")
     if os.path.exists(aside) and found.is_good():
         os.unlink(aside)
     elif os.path.exists(aside):

@@ -24,7 +24,6 @@ from typing import NoReturn, TypedDict
 
 from acd_service import chain, command, held, restoring, settings
 from acd_service.archives import HISTORY, opened
-from acd_service.audit import sent_again
 from acd_service.book import connected, copied_live, is_open
 from acd_service.command import Fault, say
 from acd_service.pair import holds_something, log_of
@@ -235,7 +234,7 @@ def audits(program: str, links: list[Path]) -> str:
             answer = chain.audited([program], file, archive)
             if answer is None:
                 return audit(program, joined(links, scratch))
-            said.append(sent_again(answer[1].strip(), file, archive) or answer[1].strip())
+            said.append(answer[1].strip())
     return ", ".join(said)
 
 

@@ -21,6 +21,7 @@ import tempfile
 from pathlib import Path
 
 from acd_service import chain, command, held, log, pair, restoring, unit
+from acd_service.audit import SENT_AGAIN
 from acd_service.book import connected
 from acd_service.command import Fault, say
 from acd_service.pair import log_of
@@ -63,7 +64,7 @@ def audited(program, new, old):
     if audit is None:
         return None
     status, said = audit[0], "; ".join(audit[1].splitlines()) if audit[0] >= 0 else f"ended by signal {-audit[0]}"
-    if status or said.partition("; ")[0] != "sound":
+    if status not in (0, SENT_AGAIN) or said.partition("; ")[0].partition(",")[0] != "sound":
         raise Fault(f"{new} isn't sound with {old}: the audit says '{said}'; nothing was changed")
     return said
 

@@ -17,8 +17,7 @@ DAY = 86400
 PLANNED = '0 {"requester":"p","invoke":1,"service":"addGroup","device":"100","name":"B","ring":20,"wrap":30}\n'
 ARRIVES = '{"requester":"pbx","invoke":1,"service":"arriveCall","caller":"0301555","called":"100"}'
 TICK = '{"requester":"clock","invoke":1,"service":"tick"}'
-TOLD = (r"sound up to request 3; request 4 \(arriveCall, requester pbx, invoke 1\) was sent again after the cut "
-        r"\(request 2 of desk\.db-1970-01-04-3 has its key\), and the requests after it weren't looked at\n")
+TOLD = r"sound, but request 4 was sent again; executed \d+\n"
 
 
 def moment_of(days, second=0):
@@ -99,19 +98,15 @@ class Again(Part):
         self.expect(f"carried over: {said}{faults}", (status, len(archives)), (0, 2))
         words = [word for archive in archives for word in ("--archive", archive)]
         status, said, faults = office.run(PYTHON, self.script.parent / "acd-forget", "--file", office.file, "--folder", office.copies, "--caller", "0301555", *words)
-        self.expect(f"forgotten: {said}{faults}", (status, bool(re.search(TOLD.rstrip("\\n"), said)), faults), (0, True, ""))
+        self.expect(f"forgotten: {said}{faults}", (status, "sound, but request 4 was sent again" in said, faults), (0, True, ""))
 
     def try_others(self):
-        """What isn't so: another difference, a key that only the file's own requests have, a log that ends early behind it."""
-        for what, statement, wanted in (("a reply that somebody changed", "UPDATE kept SET body = '{\"invoke\":1}' WHERE stamp = 5", None),
-                                        ("a reply before it", "UPDATE kept SET body = '{\"invoke\":1}' WHERE stamp = 3", 3)):
+        """What isn't so: another difference before it or behind it, a log that ends early."""
+        for stamp in (3, 5):
             office = self.carried()
-            self.change(office, statement)
-            if wanted:
-                status, said, faults = office.copy()
-                self.expect(f"{what}: {faults}", (status, f"'differs at request {wanted}'; it lies in {office.copies}/unsound" in faults), (1, True))
-            else:
-                self.copied(what, office)
+            self.change(office, f"UPDATE kept SET body = '{{\"invoke\":1}}' WHERE stamp = {stamp}")
+            status, said, faults = office.copy()
+            self.expect(f"reply {stamp} was changed: {faults}", (status, f"'differs at request {stamp}'; it lies in {office.copies}/unsound" in faults), (1, True))
         office = self.carried()
         with Lines(self.program, office.file) as desk:
             for number in range(9):

@@ -43,9 +43,8 @@ AUDIT = [
     ("that of an unsound copy isn't put back", "if os.path.exists(aside) and found.is_good():", "if os.path.exists(aside) and found.verdict != EARLY:", "try_no_desk"),
     ("the log isn't looked at", '"audit", "--whole", "--count"', '"audit", "--count"', "try_early"),
     ("a log that ends early isn't another thing than an unsound file", "if status == ENDS_EARLY:", "if False:", "try_early"),
-    ("a request that was sent again is a fault", "        if again:\n", "        if False:\n", "try_again"),
-    ("any request was sent again", "AND new.stamp > (SELECT last_stamp FROM old.meta)\n                                    AND old.kept.stamp < (SELECT min(stamp) FROM main.kept)", "", "try_others"),
-    ("behind such a request no log ends early", "if found.verdict == AGAIN and os.path.exists(aside) and isinstance", "if False and isinstance", "try_others"),
+    ("a request that was sent again is a fault", "{0: SOUND, SENT_AGAIN: AGAIN}", "{0: SOUND}", "try_again"),
+    ("a difference is one that was sent again", "    return Finding(UNSOUND, said)", "    return Finding(AGAIN, said)", "try_others"),
     ("all is sound", "    return Finding(UNSOUND, said)", "    return Finding(SOUND, said)", "try_unsound"),
 ]
 HELD = [
@@ -107,5 +106,5 @@ HALT = [
     ("it continues by the pipe alone", "select.select([pipe], [], [], seconds)", "select.select([pipe], [], [])", "try_suspended"),
     ("it is suspended too", "        os.setsid()\n", "", "try_suspended"),
 ]
-FORGET = [("a request that was sent again isn't told", "sent_again(answer[1].strip(), file, archive) or answer[1].strip()", "answer[1].strip()", "try_forgotten")]
+FORGET = [("a request that was sent again isn't told", "said.append(answer[1].strip())", "said.append('sound')", "try_forgotten")]
 FAULTS = {"copy.py": COPY, "forget.py": FORGET, "halt.py": HALT, "audit.py": AUDIT, "held.py": HELD, "restoring.py": RESTORE}

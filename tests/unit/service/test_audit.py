@@ -61,6 +61,9 @@ class Audits(ground.Case):
                                     ("echo sound; echo 'executed 12'; exit 1", audit.UNSOUND, "sound; executed 12"),
                                     ("echo other; echo 'executed 12'; exit 0", audit.UNSOUND, "other; executed 12"),
                                     ("echo sound; echo 'executed 12'; exit 0", audit.SOUND, "sound; executed 12"),
+                                    ("echo 'sound, but request 9 was sent again'; echo 'executed 12'; exit 6", audit.AGAIN, "sound, but request 9 was sent again; executed 12"),
+                                    ("echo 'sound, but request 9 was sent again'; exit 6", audit.UNSOUND, "sound, but request 9 was sent again"),
+                                    ("echo differs; echo 'executed 12'; exit 6", audit.UNSOUND, "differs; executed 12"),
                                     ("echo 'sound, but its log ends early'; exit 5", audit.EARLY, "sound, but its log ends early")):
             with self.subTest(text):
                 self.file.write_bytes(b"x")
@@ -68,7 +71,7 @@ class Audits(ground.Case):
                 self.program("acd", f"exec sh -c {text!r}" if "kill" not in text else text)
                 found = audit.audited(self.file)
                 self.assertEqual((found.verdict, found.said), (verdict, said))
-                self.assertEqual(found.executed, 12 if verdict == audit.SOUND else 0)
+                self.assertEqual(found.executed, 12 if found.is_good() else 0)
 
 
 class WithAnArchive(ground.Case):
@@ -88,21 +91,13 @@ class WithAnArchive(ground.Case):
     def test_a_request_that_was_sent_again(self):
         archive = self.carried(SENT_AGAIN, 5)
         found = audit.audited(self.file, archive)
-        self.assertEqual((found.verdict, found.is_good(), found.executed), (audit.AGAIN, True, 6))
-        self.assertEqual(found.said, "sound up to request 5; request 6 (arriveCall, requester pbx, invoke 1) was sent again after the cut (request 4 of desk.db-1970-01-04-5 has its key), "
-                                     "and the requests after it weren't looked at")
+        self.assertEqual((found, found.is_good()), (audit.Finding(audit.AGAIN, "sound, but request 6 was sent again; executed 6", 6), True))
 
-    def test_of_a_tick_nobody_learns_the_requester(self):
-        archive = self.carried(ground.tick(1, 300100), 5)
-        said = audit.sent_again("differs at request 6", self.file, archive)
-        self.assertIn("request 6 (tick, requester clock-.., invoke 1) was sent again", said)
-
-    def test_what_was_not_sent_again(self):
-        archive = self.carried(ground.arrives(2, "0305678", 300100), 5)
-        for said in ("sound", "differs at request 6", "differs at request 5", "differs at request 99"):
-            self.assertIsNone(audit.sent_again(said, self.file, archive))
-        (self.folder / "none").write_bytes(b"no desk's file")
-        self.assertIsNone(audit.sent_again("differs at request 6", self.folder / "none", archive))
+    def test_one_behind_which_something_was_changed(self):
+        archive = self.carried(SENT_AGAIN + ground.arrives(2, "0305678", 300101), 5)
+        ground.changed(self.file, "UPDATE kept SET body = replace(body, 'result', 'Result') WHERE stamp = 7")
+        pair.log_of(self.file).write_bytes(b"")
+        self.assertEqual(audit.audited(self.file, archive), audit.Finding(audit.UNSOUND, "differs at request 7"))
 
     def test_sent_again_and_a_log_that_ends_early(self):
         archive = self.carried("", 5)
@@ -112,8 +107,7 @@ class WithAnArchive(ground.Case):
         spoil(log, commits_of(log)[-3] + 30)
         before = log.read_bytes()
         found = audit.audited(self.file, archive)
-        self.assertEqual((found.verdict, log.read_bytes()), (audit.EARLY, before))
-        self.assertRegex(found.said, r"log ends early\Z")
+        self.assertEqual((found.verdict, found.said, log.read_bytes()), (audit.EARLY, "sound, but its log ends early", before))
 
     def test_a_program_that_looks_behind_no_archive(self):
         """SQL compares the rows then, once the program has opened the file."""
