@@ -50,6 +50,7 @@ MARKS = {
 # of the process itself; the greatest comes first, so that it ends with the others
 OF_THE_PROGRAM = {
     "sizes": Part("try-sizes", (), ("try-sizes",)),
+    "serving": Part("try-serving", (), ("try-serving",)),
     "statuses": Part("try-statuses", (), ("try-statuses",)),
     "untouched": Part("try-untouched", (), ("try-untouched",)),
     "logs": Part("try-logs", (), ("try-logs",)),

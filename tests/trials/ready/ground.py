@@ -61,7 +61,7 @@ class Served(Desk):
     """A desk that is served by these words, and is killed at the end."""
 
     def __init__(self, words, port, variables):
-        self.port = port
+        self.port = self.place = port
         self.start(*words, variables=variables)
         self.listens = self.process.stdout.readline()
 

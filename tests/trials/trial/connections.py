@@ -27,12 +27,41 @@ class Reply(NamedTuple):
         return json.loads(self.body)
 
 
-class Connection:
-    """A connection that is kept for several exchanges; over TLS if there is a context."""
+def connected(place, seconds=60):
+    """A socket that is connected: to a port of this machine, or to the socket at a path."""
+    if isinstance(place, int):
+        return socket.create_connection(("127.0.0.1", place), timeout=seconds)
+    there = socket.socket(socket.AF_UNIX)
+    there.settimeout(seconds)
+    try:
+        there.connect(str(place))
+    except OSError:
+        there.close()
+        raise
+    return there
 
-    def __init__(self, port, context=None, seconds=60):
-        kind = {"context": context} if context else {}
-        self.connection = (http.client.HTTPSConnection if context else http.client.HTTPConnection)("127.0.0.1", port, timeout=seconds, **kind)
+
+class ToSocket(http.client.HTTPConnection):
+    """To a Unix socket, at a path."""
+
+    def __init__(self, path, timeout):
+        super().__init__("127.0.0.1", timeout=timeout)
+        self.path = path
+
+    def connect(self):
+        self.sock = connected(self.path, self.timeout)
+
+
+class Connection:
+    """A connection that is kept for several exchanges: to a port, over TLS if there is a context, or to the socket at a path."""
+
+    def __init__(self, place, context=None, seconds=60):
+        if context:
+            self.connection = http.client.HTTPSConnection("127.0.0.1", place, timeout=seconds, context=context)
+        elif isinstance(place, int):
+            self.connection = http.client.HTTPConnection("127.0.0.1", place, timeout=seconds)
+        else:
+            self.connection = ToSocket(place, seconds)
 
     def __enter__(self):
         return self

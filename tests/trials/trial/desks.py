@@ -137,12 +137,14 @@ class Lines(Started):
 
 
 class Desk(Started):
-    """`acd serve` over a file, without an end or for so many connections, at a port that is free: it says that it listens."""
+    """`acd serve` over a file, without an end or for so many connections, at a port that is free, or at a socket: it says that it listens. `words` are further options of it."""
 
-    def __init__(self, program, file, connections=None, port=None, **how):
-        self.port = port or free_port()
-        self.address = f"http://127.0.0.1:{self.port}"
-        self.start(program, "serve", "--file", file, "--port", self.port, *(["--connections", connections] if connections else ["--endless"]), **how)
+    def __init__(self, program, file, connections=None, port=None, socket=None, words=(), **how):
+        self.port = None if socket else port or free_port()
+        self.place = socket or self.port
+        self.address = f"unix:{socket}" if socket else f"http://127.0.0.1:{self.port}"
+        where = ["--socket", socket] if socket else ["--port", self.port]
+        self.start(program, "serve", "--file", file, *where, *(["--connections", connections] if connections else ["--endless"]), *words, **how)
         try:
             self.first_line = self.process.stdout.readline()
             if not self.first_line.startswith("listening on "):
@@ -153,7 +155,7 @@ class Desk(Started):
 
     def ask(self, method, target, body=None, fields=(), **how):
         """One exchange over a connection of its own."""
-        with Connection(self.port) as connection:
+        with Connection(self.place) as connection:
             return connection.ask(method, target, body, fields, **how)
 
     def read(self, target):
