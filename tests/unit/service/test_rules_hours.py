@@ -1,4 +1,5 @@
 """When a group is open: by weekday, zone and days that differ, at each quarter of an hour of a year; and days of calendars."""
+import collections
 import datetime
 import importlib.util
 import sys
@@ -86,6 +87,16 @@ def event(*lines):
     return "".join(f"{line}\n" for line in ("BEGIN:VEVENT", "UID:1", "SUMMARY:A day", *lines, "END:VEVENT"))
 
 
+class Event(dict):
+    """An event as the library of calendars hands it out, of values that are read already."""
+    def decoded(self, name, default):
+        return self.get(name, default)
+
+
+Moment = collections.namedtuple("Moment", "dt")
+Excluded = collections.namedtuple("Excluded", "dts")
+
+
 class Calendars(unittest.TestCase):
     def setUp(self):
         self.file = Path(self.enterContext(tempfile.TemporaryDirectory())) / "office.ics"
@@ -101,6 +112,22 @@ class Calendars(unittest.TestCase):
         found, ignored = hours.closings_of(self.file)
         begin = datetime.date(2027, 1, 1)
         return [f"{day}" for day in (begin + number * hours.DAY for number in range(731)) if any(closing.has(day) for closing in found)], ignored
+
+    def test_an_event_that_comes_once(self):
+        first = datetime.date(2027, 12, 24)
+        for fields, wanted in (({}, [0]), ({"DTEND": first + 3 * hours.DAY}, [0, 1, 2]), ({"DURATION": 2 * hours.DAY}, [0, 1]),
+                               ({"DTEND": first}, [0]), ({"EXDATE": Excluded([Moment(first)])}, []),
+                               ({"EXDATE": [Excluded([Moment(first - hours.DAY)]), Excluded([Moment(datetime.datetime(2027, 12, 24, 8))])]}, []),
+                               ({"EXDATE": Excluded([Moment(first + hours.DAY)]), "DTEND": first + 2 * hours.DAY}, [0, 1])):
+            with self.subTest(fields):
+                closing = hours.closing_of(Event({"DTSTART": first, **fields}))
+                self.assertEqual([days for days in range(-2, 5) if closing.has(first + days * hours.DAY)], wanted)
+
+    def test_an_event_of_no_whole_days(self):
+        first = datetime.date(2027, 12, 24)
+        for fields in ({}, {"DTSTART": datetime.datetime(2027, 12, 24, 8)}, {"DTSTART": first, "RDATE": [first]}, {"DTSTART": first, "RRULE": ["FREQ=YEARLY", "FREQ=DAILY"]}):
+            with self.subTest(fields):
+                self.assertIsNone(hours.closing_of(Event(fields)))
 
     @unittest.skipUnless(importlib.util.find_spec("icalendar"), "there is no icalendar (Debian package python3-icalendar)")
     def test_whole_days(self):
