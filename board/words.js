@@ -215,7 +215,7 @@ lost: {group}: {share} gave up, the goal is {goal}
 nobody.one: {group}: {n} caller waits, and nobody is logged on
 nobody.other: {group}: {n} callers wait, and nobody is logged on
 clock: The desk's time is {clock} ahead of the clock
-ticks: Calls ring on without an end, or after-call work: call the administrator (acd-tick is down)
+ticks: Calls ring on without an end, or after-call work: call the administrator (nothing ticks)
 [detail]
 clock: until the clock has come there no ring and no after-call work ends by itself
 ticks: {who} for {clock}, the group gives {given}

@@ -59,9 +59,9 @@ DESCRIPTION = """desk of a help line: an automatic call distributor
  loopback address or in lines of text, reports every event, and keeps what it
  answered in an SQLite file. It is proved to do what its abstract switch does.
  .
- The package runs it as a service, sends it its ticks, and makes a copy each
- night that is audited. It has a supervisor's board and an agent's page for a
- browser, and a gate that says what a login may ask for.
+ The package runs it as a service, and makes a copy each night that is
+ audited. It has a supervisor's board and an agent's page for a browser, and a
+ gate that says what a login may ask for.
  .
 """
 
@@ -323,6 +323,7 @@ def lay_out(root, options, moment):
     lay_out_help(root, put, version, date)
     for name in UNITS:
         put(f"usr/lib/systemd/system/{name}", (SERVICE / "units" / name).read_bytes())
+    put("usr/lib/tmpfiles.d/acd.conf", (SERVICE / "tmpfiles/acd.conf").read_bytes())
     put("usr/share/acd/keep-reads", (PACKAGING / "acd/keep-reads").read_bytes(), 0o755)
     (root / "etc/acd").mkdir(parents=True)
     # records are written behind each copy, so their unit is wanted by that of the copies

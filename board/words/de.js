@@ -70,7 +70,7 @@ export default {
     wait: '{group}: ein Anrufer wartet zu lange', level: '{group}: nur {share} rechtzeitig, das Ziel ist {goal}', lost: '{group}: {share} gaben auf, das Ziel ist {goal}',
     nobody: {one: '{group}: {n} Anrufer wartet, und niemand ist angemeldet', other: '{group}: {n} Anrufer warten, und niemand ist angemeldet'},
     clock: 'Die Zeit der Zentrale ist der Uhr um {clock} voraus',
-    ticks: 'Anrufe klingeln ohne Ende, oder Nachbearbeitung dauert an: den Verwalter rufen (acd-tick läuft nicht)',
+    ticks: 'Anrufe klingeln ohne Ende, oder Nachbearbeitung dauert an: den Verwalter rufen (nichts tickt)',
   },
   detail: {
     clock: 'bis die Uhr dort ist, endet kein Klingeln und keine Nachbearbeitung von selbst', ticks: '{who} seit {clock}, die Gruppe gibt {given}',

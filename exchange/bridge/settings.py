@@ -51,7 +51,7 @@ class Settings:
     file: str = option("exchange.db", "its own file")
     poll: float = option(0.1, "seconds between two looks for events")
     tick: int = option(0, "looks each so many seconds whether a tick ends something, and sends the desk its ticks; "
-                          "with 0 acd-tick does")
+                          "with 0 it leaves them to the desk")
     waiting: str = option("queued", "callers who wait get 182, or are answered with music", choices=("queued", "music"))
     refused: str = option("reject", "offers that a phone refuses are rejected, or wait for the end of their ring",
                           choices=("reject", "wait"))

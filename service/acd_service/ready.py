@@ -367,8 +367,11 @@ def serve(options: argparse.Namespace) -> NoReturn:
     look_at_copies(file)
     write_note(file)
     notify(options.port)
+    words = ["acd", "serve", "--file", options.file, "--port", str(options.port), "--endless"]
+    for name, seconds in (("--tick", options.tick), ("--patience", options.patience)):
+        words += [name, str(seconds)] if seconds else []
     try:
-        os.execvp("acd", ["acd", "serve", "--file", options.file, "--port", str(options.port), "--endless"])
+        os.execvp("acd", words)
     except FileNotFoundError:
         raise to_mend("there is no program acd in the PATH: install it") from None
 
@@ -446,6 +449,9 @@ def parser() -> command.Parser:
     settings.add_file(found)
     found.add_argument("--port", metavar="P", type=port_of, default=8080,
                        help="the port of the loopback address; 8080 unless given")
+    for name, about in (("--tick", "how often the desk looks for what is overdue, and ticks; never unless given"),
+                        ("--patience", "how long the desk waits for a client; without end unless given")):
+        found.add_argument(name, metavar="SECONDS", type=command.whole_number(1, 3600), help=about)
     return found
 
 

@@ -100,11 +100,11 @@ class Settings(Office):
         self.with_lines("ACD_STEP=5")
         warning = f"warning: {self.folder}/acd.env, line {len(ENV.splitlines()) + 1}: ACD_STEP appears twice; the last one counts"
         self.assertEqual(self.said(), (0, [warning, NOTHING]))
-        self.with_lines("ACD_STEP=1")
-        self.finds("ACD_STEP appears twice; the last one counts", "ACD_STEP appears twice; the last one counts", "ACD_STEP must be a whole number from 2 to 3600, and not '1'")
+        self.with_lines("ACD_STEP=0")
+        self.finds("ACD_STEP appears twice; the last one counts", "ACD_STEP appears twice; the last one counts", "ACD_STEP must be a whole number from 1 to 3600, and not '0'")
 
     def test_values(self):
-        for name, value, bounds in (("ACD_PORT", "81", "1024 to 65535"), ("ACD_GATE_PORT", "x", "1024 to 65535"), ("ACD_STEP", "5s", "2 to 3600"), ("ACD_STEP", "1", "2 to 3600"),
+        for name, value, bounds in (("ACD_PORT", "81", "1024 to 65535"), ("ACD_GATE_PORT", "x", "1024 to 65535"), ("ACD_STEP", "5s", "1 to 3600"), ("ACD_STEP", "0", "1 to 3600"), ("ACD_PATIENCE", "61", "1 to 60"),
                                     ("ACD_COPIES", "0", "1 to 999"), ("ACD_HALT", "1000", "0 to 999"), ("ACD_CARRY_DAYS", "0", "1 to 999999999"), ("ACD_TLS_PORT", "65536", "1 to 65535")):
             with self.subTest(name=name, value=value):
                 self.put("acd.env", f"ACD_FILE={self.folder}/desk.db\n{name}={value}\n")

@@ -87,6 +87,12 @@ class Served(Starts):
                 self.assertEqual(desk.stderr.read(), b"")
         self.assertFalse(ready.answers(self.port))
 
+    def test_a_desk_that_ticks(self):
+        """And gives silent clients up."""
+        self.desk()
+        self.assertEqual(self.serve("--tick", "10", "--patience", "30").status, 0)
+        self.became.assert_called_once_with("acd", ["acd", "serve", "--file", str(self.file), "--port", str(self.port), "--endless", "--tick", "10", "--patience", "30"])
+
     def test_without_the_program(self):
         self.desk()
         self.became.side_effect = FileNotFoundError
@@ -425,11 +431,11 @@ class Made(Starts):
 class Words(ground.Case):
     def test_command_lines(self):
         for words in ((), ("--serve", "--make"), ("--serve", "--port", "0"), ("--serve", "--port", "65536"), ("--serve", "--port", "080808"),
-                      ("--serve", "--port", "x"), ("--serve", "x"), ("--none",)):
+                      ("--serve", "--port", "x"), ("--serve", "--tick", "0"), ("--serve", "--patience", "3601"), ("--serve", "x"), ("--none",)):
             self.refused(("ready", *words), WORDS, "")
         done = said("ready", "--help")
         self.assertEqual((done.status, done.faults), (0, ""))
-        for word in ("--serve", "--stopped", "--make", "--file", "--port"):
+        for word in ("--serve", "--stopped", "--make", "--file", "--port", "--tick", "--patience"):
             self.assertIn(word, done.out)
 
 

@@ -20,7 +20,7 @@ class SecondLine(unittest.TestCase):
 
     def test_nothing_is_of_the_first_line(self):
         units = self.units()
-        self.assertEqual(set(units), {f"acd{part}-north" for part in ("", "-tick", "-gate", "-copy", "-records")})
+        self.assertEqual(set(units), {f"acd{part}-north" for part in ("", "-gate", "-copy", "-records")})
         for name, text in units.items():
             said = "\n".join(line for line in text.splitlines() if not line.startswith(("#", "InaccessiblePaths=")))
             with self.subTest(name):
