@@ -18,7 +18,7 @@ from acd_service.command import Fault
 
 # least and greatest value of a setting
 NUMBERS = {"ACD_PORT": (1024, 65535), "ACD_GATE_PORT": (1024, 65535), "ACD_TLS_PORT": (1, 65535), "ACD_STEP": (1, 3600),
-           "ACD_PATIENCE": (1, 60), "ACD_COPIES": (1, 999), "ACD_HALT": (0, 999), "ACD_CARRY_DAYS": (1, 999_999_999)}
+           "ACD_PATIENCE": (1, 60), "ACD_COPIES": (1, 999), "ACD_HALT": (0, 200), "ACD_CARRY_DAYS": (1, 999_999_999)}
 PATHS = ("ACD_FILE", "ACD_COPY_FOLDER")
 # days before the end of a certificate from which on it is a fault
 SOON = 14

@@ -9,7 +9,6 @@ import filecmp
 import os
 import pwd
 import re
-import select
 import shlex
 import shutil
 import socket
@@ -21,9 +20,7 @@ from collections.abc import Iterable
 from pathlib import Path
 from typing import NoReturn
 
-from acd_notify import ready
-
-from acd_service import command, held, pair, put, restoring, settings
+from acd_service import command, held, pair, put, restoring, settings, watch
 from acd_service.command import Fault, report
 from acd_service.log import Damaged, Sound, State, Unreadable, look
 from acd_service.restoring import name_of
@@ -326,37 +323,6 @@ def write_note(file: Path, is_left: bool = False) -> None:
         pair.note_of(file).unlink(missing_ok=True)
 
 
-def answers(port: int) -> bool:
-    try:
-        with socket.create_connection(("127.0.0.1", port), 5) as tried:
-            tried.sendall(b"GET / HTTP/1.1\r\nHost: localhost\r\n\r\n")
-            return bool(tried.recv(1))
-    except OSError:
-        return False
-
-
-def notify(port: int) -> None:
-    """Where systemd waits for it, a process tells it that the desk answers at its port, and ends then, or with this
-    process, which becomes the desk. It is no child of this one, since a desk waits for none."""
-    if "NOTIFY_SOCKET" not in os.environ:
-        return
-    desk = os.pidfd_open(os.getpid())
-    child = os.fork()
-    if child:
-        os.waitpid(child, 0)
-        return os.close(desk)
-    try:
-        if os.fork():
-            return
-        ended = select.poll()
-        ended.register(desk, select.POLLIN)
-        while not ended.poll(PAUSE * 1000):
-            if answers(port):
-                return ready()
-    finally:
-        os._exit(0)
-
-
 def serve(options: argparse.Namespace) -> NoReturn:
     look_at_names(os.environ)
     file = place(options.file)
@@ -366,7 +332,7 @@ def serve(options: argparse.Namespace) -> NoReturn:
     look_for_log(file)
     look_at_copies(file)
     write_note(file)
-    notify(options.port)
+    watch.beside(f"http://127.0.0.1:{options.port}", file, options.tick)
     words = ["acd", "serve", "--file", options.file, "--port", str(options.port), "--endless"]
     for name, seconds in (("--tick", options.tick), ("--patience", options.patience)):
         words += [name, str(seconds)] if seconds else []

@@ -19,30 +19,12 @@ from pathlib import Path
 from typing import Any, NoReturn
 
 import acd_due
-from acd_service import command, held, settings
+from acd_service import command, held, settings, watch
 from acd_service.command import Fault
 
 REQUESTER = "clock-[a-z]{12}"
-MINUTE, HOUR = 60, 3600
-# the greatest invoke and the last moment that a desk accepts; and more bytes than any answer of a desk has
-GREATEST, LAST, MOST = 999_999_999, 4294967295, 1 << 24
-
-
-# Lines on standard error
-
-class Journal:
-    """Says each line on standard error, the same one once an hour at most."""
-
-    def __init__(self) -> None:
-        self.reported_at: dict[str, float] = {}
-
-    def report(self, text: str) -> None:
-        now = time.time()
-        # a line from a time when the clock was ahead keeps no line back
-        if not now - HOUR < self.reported_at.get(text, -HOUR) <= now:
-            self.reported_at = {line: moment for line, moment in self.reported_at.items()
-                                if now - HOUR < moment <= now} | {text: now}
-            command.report(text)
+# the greatest invoke that a desk accepts; and more bytes than any answer of a desk has
+GREATEST, MOST = 999_999_999, 1 << 24
 
 
 # The desk
@@ -95,8 +77,8 @@ def too_late(*_: object) -> NoReturn:
 class Ticker:
     def __init__(self, port: int, step: int, requester: str, file: Path) -> None:
         self.desk, self.step, self.requester, self.file = Desk(port, step), step, requester, file
-        self.journal, self.looked = Journal(), float(-MINUTE)
-        self.silent_since: float | None = None
+        self.journal, self.minutes = watch.Journal(), watch.Minutes()
+        self.silence = watch.Silence(self.journal, f"port {port}", step)
 
     def run(self) -> NoReturn:
         while True:
@@ -113,22 +95,11 @@ class Ticker:
             if self.is_due():
                 self.send(invoke)
         except TimeoutError:
-            return self.look_at_silence()
+            return self.silence.lasts()
         # one that isn't there just now the next step finds
         except (OSError, http.client.HTTPException):
             pass
-        self.silent_since = None
-
-    def look_at_silence(self) -> None:
-        """A desk that takes connections and answers none is told once that has lasted a minute. A step has passed by
-        then; a clock that was put back begins anew."""
-        now = time.time()
-        if self.silent_since is None or now < self.silent_since:
-            self.silent_since = now - self.step
-        if now - self.silent_since >= MINUTE:
-            self.journal.report(f"the desk at port {self.desk.port} has answered nothing for a minute, and is there: "
-                                "it is halted (acdctl copy --continue), or its disk hangs; until it answers no ring "
-                                "and no after-call work ends by a tick")
+        self.silence.ends()
 
     def is_due(self) -> bool:
         """Whether a tick ends something. A desk that refuses to say (an older one has no snapshot) is sent a tick each
@@ -138,20 +109,12 @@ class Ticker:
             return True
         # who isn't one may answer anything
         with contextlib.suppress(LookupError, TypeError, AttributeError):
-            if status == 200 and type(body["moment"]) is int and body["moment"] <= LAST:
+            if status == 200 and type(body["moment"]) is int and body["moment"] <= watch.LAST:
                 due: bool = acd_due.is_due(body, time.time())
-                self.look_at_clock(body["moment"])
+                watch.look_at_clock(self.journal, body["moment"])
                 return due
         self.journal.report(f"who listens at port {self.desk.port} is no desk, and is sent nothing")
         return False
-
-    def look_at_clock(self, moment: int) -> None:
-        """The snapshot's moment is that of the last request; if it is ahead, the desk's time doesn't advance until the
-        clock reaches it."""
-        if moment > int(time.time()) + MINUTE:
-            until = time.strftime("%Y-%m-%d %H:%M:%S UTC", time.gmtime(moment))
-            self.journal.report("the desk's time is over a minute ahead of this machine's clock: "
-                                f"until {until} no ring and no after-call work ends by a tick")
 
     def send(self, invoke: int) -> None:
         """Sends the tick of a step; its answer has to be 200."""
@@ -161,23 +124,18 @@ class Ticker:
             self.journal.report(f"the desk answered a tick with {status}{name_of(body)}")
 
     def look_at_files(self) -> None:
-        """Reports each minute that the file or its log was removed or moved from under the desk: the desk's answers are
-        lost with it."""
-        now = time.time()
-        if self.looked <= now < self.looked + MINUTE:
-            return
-        self.looked = now
-        with contextlib.suppress(OSError):
-            for line in filter(None, (held.moved(process, self.file) for process in held.desks(self.file))):
-                command.report(line)
+        """Each minute, while it waits."""
+        if self.minutes.is_over():
+            with contextlib.suppress(OSError):
+                watch.look_at_files(held.desks(self.file), self.file)
 
     def wait(self) -> None:
         """Until the next step begins."""
         left = self.step - time.time() % self.step
         while left > 0:
             self.look_at_files()
-            time.sleep(min(left, MINUTE))
-            left -= MINUTE
+            time.sleep(min(left, watch.MINUTE))
+            left -= watch.MINUTE
 
 
 # The command

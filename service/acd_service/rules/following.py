@@ -10,7 +10,7 @@ from acd_service.command import INFO, NOTICE, report
 from acd_service.rules.judging import Move, Tried, judged, unfit
 from acd_service.rules.picture import Picture, groups_of
 from acd_service.rules.reading import Rules, When
-from acd_service.tick import MINUTE, Journal
+from acd_service.watch import MINUTE, Journal
 
 # seconds: between two looks, until the next one where there was no answer or the login may not ask, between two looks
 # at the plan, of which no event tells, and of one attempt

@@ -9,7 +9,7 @@ from edges import Edges
 HIGHEST = 2.0
 PROBE = "/usr/local/bin/probe"
 # what a unit's probe goes without: it ends, prints to a file, has no settings, and takes no folder from the unit
-LEFT_OUT = {"Type", "NotifyAccess", "TimeoutStartSec", "Restart", "RestartSec", "RestartPreventExitStatus", "Environment", "EnvironmentFile", "RuntimeDirectory",
+LEFT_OUT = {"Type", "NotifyAccess", "TimeoutStartSec", "Restart", "RestartSec", "RestartPreventExitStatus", "WatchdogSec", "WatchdogSignal", "Environment", "EnvironmentFile", "RuntimeDirectory",
             "ExecStart", "ExecStartPre", "ExecStop", "ExecStopPost", "ExecReload", "ExecCondition", "RemainAfterExit"}
 AS_ROOT = {"User", "Group", "DynamicUser", "AmbientCapabilities", "StateDirectory"}
 

@@ -43,7 +43,7 @@ FAULTS = [
     Fault("a start returns before the desk answers", (DESK, "Type=notify\n", "Type=exec\n"), "starting", ("try_slow_opening",)),
     Fault("a start ends behind 90 seconds", (DESK, "TimeoutStartSec=infinity\n", "TimeoutStartSec=2\n"), "starting", ("try_slow_opening",)),
     Fault("nor whether file and log are of one time", (f"{MODULES}/ready.py", "if pair.is_split(file):", "if False:"), "damage", ("plan", "try_older_file")),
-    Fault("a time that is ahead isn't told", (f"{MODULES}/tick.py", "if moment > int(time.time()) + MINUTE:", "if False:"), "clock", ("plan", "try_ahead")),
+    Fault("a time that is ahead isn't told", (f"{MODULES}/watch.py", "if moment > int(time.time()) + MINUTE:", "if False:"), "clock", ("plan", "try_ahead")),
     Fault("the desk doesn't wait for the clock", (DESK, "After=local-fs.target time-sync.target", "After=local-fs.target"), "clock", ("plan", "try_late_clock")),
     Fault("copies by hand are too many", (COPY, AGAIN, ""), "copies", ("plan", "try_one_behind_the_other")),
     Fault("the ticks' user doesn't see what the desk has open", (TICKS, "User=acd\n", "User=acd-gate\n"), "copies", ("plan", "try_moved_file")),

@@ -1,6 +1,6 @@
 """Faults that are planted in acd-ready and its modules, by the part whose cases find them: where, what each is, the text that it changes, and what it changes it to."""
 
-READY, LOG, PAIR, PUT, SETTINGS, NOTIFY = "ready.py", "log.py", "pair.py", "put.py", "settings.py", "acd_notify.py"
+READY, LOG, PAIR, PUT, SETTINGS, NOTIFY, WATCH = "ready.py", "log.py", "pair.py", "put.py", "settings.py", "acd_notify.py", "watch.py"
 STARTS = [
     (READY, "a lone log isn't seen", "if not is_there(file) and is_there(log):", "if False:"),
     (READY, "a log beside no bytes isn't seen", "if is_there(file) and not os.path.getsize(file) and pair", "if False and pair"),
@@ -18,7 +18,7 @@ STARTS = [
     (READY, "the port stays bound", "with socket.socket() as tried:", "globals()['held'] = tried = socket.socket()\n    tried.set_inheritable(True)\n    if True:"),
     (READY, "it is started again and again", "MEND, AGAIN = 64, 1", "MEND, AGAIN = 1, 1"),
     ("command.py", "two lines", '{name}: {spoken(text)}"', '{name}: {spoken(text)}\\n"'),
-    (READY, "it stays itself", 'os.execvp("acd", ["acd",', 'os.execvp("acd", ["acd-ready",'),
+    (READY, "it stays itself", 'words = ["acd", "serve",', 'words = ["acd-ready", "serve",'),
     (READY, "it ends by itself", '"--endless"', '"--connections", "9"'),
     (READY, "damage isn't looked for", "found = settled(log)", "found = Sound()"),
     (READY, "a torn end is damage", "(Damaged, Unreadable)", "(Damaged, Torn, Unreadable)"),
@@ -31,7 +31,7 @@ STARTS = [
     (READY, "it is kept at each start", "kept_before(file, log) or keep(file, log)", "keep(file, log)"),
     (READY, "anybody reads what is kept", "new.mkdir(mode=0o700)", "new.mkdir(mode=0o755)"),
     (READY, "an earlier half copy stays", 'clear_away(file.parent, ".damaged-")', "pass"),
-    (READY, "nothing is noted", "    write_note(file)\n    notify", "    notify"),
+    (READY, "nothing is noted", "    write_note(file)\n    watch", "    watch"),
     (READY, "a desk that is there is made anew", "    if is_there(file):\n        return print", "    if False:\n        return print"),
     (READY, "a desk is made beside a log", "    if is_there(pair.log_of(file)):\n", "    if False:\n"),
     (READY, "anybody reads a new desk", "os.umask(0o077)", "os.umask(0o022)"),
@@ -85,11 +85,12 @@ NAMES = [
     (READY, "a second help line has the first one's timer", ".replace('acd', 'acd-copy', 1)", ".replace(str(held.unit(0)), 'acd-copy')"),
 ]
 NOTICES = [
-    (READY, "nobody is told", "    notify(options.port)\n", ""),
-    (READY, "it is told at once", "            if answers(port):", "            if True:"),
-    (READY, "it is asked for ever", "        while not ended.poll(PAUSE * 1000):", "        while not ended.poll(PAUSE * 1000) or True:"),
-    (READY, "the desk has a child", "        if os.fork():\n            return\n", ""),
-    (READY, "the desk's descriptor stays", "        return os.close(desk)", "        return os.set_inheritable(desk, True)"),
+    (READY, "nobody is told", '    watch.beside(f"http://127.0.0.1:{options.port}", file, options.tick)\n', ""),
+    (WATCH, "it is told at once", '                self.answer("/", SOON)\n', ""),
+    (WATCH, "it is asked for ever", "        while not self.ends_within(PAUSE):", "        while not self.ends_within(PAUSE) or True:"),
+    (WATCH, "the desk has a child", "        if os.fork():\n            return\n", ""),
+    (WATCH, "the desk's descriptor stays", "        return os.close(ended)", "        return os.set_inheritable(ended, True)"),
+    (WATCH, "one that doesn't tick is watched too", "        if watching.begin() and step:", "        if watching.begin():\n            step = 1"),
     (NOTIFY, "an address without a name isn't known", 'if address.startswith("@")', "if False"),
 ]
 LOGS = [

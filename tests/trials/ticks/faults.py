@@ -1,4 +1,4 @@
-"""Faults that are planted in acd-tick and acd_due.py: what each is, the text that it changes, and what it changes it to."""
+"""Faults that are planted in acd-tick, what it tells and acd_due.py: what each is, the text that it changes, and what it changes it to."""
 
 FAULTS = [
     ("a second too late", "end <= max(", "end < max("),
@@ -19,8 +19,8 @@ FAULTS = [
     ("a name of any letters", 're.fullmatch("[A-Za-z]{1,40}", ', "bool("),
     ("what was told ahead keeps back", "if not now - HOUR < self.reported_at.get(text, -HOUR) <= now:", "if not now - HOUR < self.reported_at.get(text, -HOUR):"),
     ("what was moved is looked for once", "if self.looked <= now < self.looked + MINUTE:", "if self.looked > 0:"),
-    ("a desk that hangs isn't told", "return self.look_at_silence()", "return None"),
-    ("it is told at once", "if now - self.silent_since >= MINUTE:", "if True:"),
-    ("it is told of one that answers now and then", "            pass\n        self.silent_since = None", "            pass"),
+    ("a desk that hangs isn't told", "return self.silence.lasts()", "return None"),
+    ("it is told at once", "if now - self.since >= MINUTE:", "if True:"),
+    ("it is told of one that answers now and then", "            pass\n        self.silence.ends()", "            pass"),
     ("no limit of all reads together", "signal.setitimer(signal.ITIMER_REAL, self.patience)", "connection.timeout = self.patience"),
 ]

@@ -77,15 +77,15 @@ class OfPlayed(played.Handler):
 
 
 class Ground(Trial):
-    """A copy of acd-tick, with what it stands on beside it. `sources` are the two, of which one may have a fault."""
+    """A copy of acd-tick, with what it stands on beside it. `sources` are the modules, of which one may have a fault."""
 
-    sources = PACKAGE / "tick.py", TOP / "client/acd_due.py"
+    sources = PACKAGE / "tick.py", PACKAGE / "watch.py", TOP / "client/acd_due.py"
 
     @classmethod
     def setUpClass(cls):
         super().setUpClass()
-        tick, due = cls.sources
-        cls.ticks = shipped(cls.folder / "service", {"tick.py": tick.read_text(), "held.py": HELD}) / "acd-tick"
+        tick, watch, due = cls.sources
+        cls.ticks = shipped(cls.folder / "service", {"tick.py": tick.read_text(), "watch.py": watch.read_text(), "held.py": HELD}) / "acd-tick"
         shutil.copy(due, cls.folder / "service")
 
     def by_its_own_clock(self, desk, hours, clock=CLOCK, begin=BEGIN, moved="", words=(), step=STEP, jumps=(), patience=None):

@@ -105,7 +105,7 @@ class Settings(Office):
 
     def test_values(self):
         for name, value, bounds in (("ACD_PORT", "81", "1024 to 65535"), ("ACD_GATE_PORT", "x", "1024 to 65535"), ("ACD_STEP", "5s", "1 to 3600"), ("ACD_STEP", "0", "1 to 3600"), ("ACD_PATIENCE", "61", "1 to 60"),
-                                    ("ACD_COPIES", "0", "1 to 999"), ("ACD_HALT", "1000", "0 to 999"), ("ACD_CARRY_DAYS", "0", "1 to 999999999"), ("ACD_TLS_PORT", "65536", "1 to 65535")):
+                                    ("ACD_COPIES", "0", "1 to 999"), ("ACD_HALT", "201", "0 to 200"), ("ACD_CARRY_DAYS", "0", "1 to 999999999"), ("ACD_TLS_PORT", "65536", "1 to 65535")):
             with self.subTest(name=name, value=value):
                 self.put("acd.env", f"ACD_FILE={self.folder}/desk.db\n{name}={value}\n")
                 wanted = [f"{name} must be a whole number from {bounds}, and not '{value}'"]

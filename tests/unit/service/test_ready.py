@@ -81,11 +81,10 @@ class Served(Starts):
             with subprocess.Popen(words, env={**os.environ, "NOTIFY_SOCKET": str(self.folder / "notify")}, stdout=subprocess.DEVNULL, stderr=subprocess.PIPE) as desk:
                 try:
                     self.assertEqual(told.recv(100), b"READY=1")
-                    self.assertEqual((held.is_desk(desk.pid), held.holders(self.file), ready.answers(self.port)), (True, [desk.pid], True))
+                    self.assertEqual((held.is_desk(desk.pid), held.holders(self.file)), (True, [desk.pid]))
                 finally:
                     desk.kill()
                 self.assertEqual(desk.stderr.read(), b"")
-        self.assertFalse(ready.answers(self.port))
 
     def test_a_desk_that_ticks(self):
         """And gives silent clients up."""

@@ -92,9 +92,9 @@ class Due(Ticks):
 
     def test_nobody_listens(self):
         one = tick.Ticker(ground.free_port(), 10, CLOCK, str(self.file))
-        one.silent_since = 5
+        one.silence.since = 5
         one.turn(7)
-        self.assertEqual((self.lines, one.silent_since), ([], None))
+        self.assertEqual((self.lines, one.silence.since), ([], None))
 
 
 class Silence(Ticks):
@@ -130,25 +130,11 @@ class Silence(Ticks):
 
             threading.Thread(target=begin, daemon=True).start()
             one.turn(7)
-        self.assertEqual((self.lines, one.silent_since), ([], None))
+        self.assertEqual((self.lines, one.silence.since), ([], None))
         self.assertEqual(signal.getitimer(signal.ITIMER_REAL), (0, 0))
 
 
-class Journals(Ticks):
-    def test_once_an_hour(self):
-        journal = tick.Journal()
-        for moment, count in ((0, 1), (1, 1), (3599, 1), (3600, 2), (3601, 2), (7199, 2), (7200, 3)):
-            self.now = 1_800_000_000.0 + moment
-            journal.report("a line")
-            self.assertEqual(self.lines.count("a line"), count, moment)
-        journal.report("another")
-        self.assertEqual(self.lines.count("another"), 1)
-        # a line from a time when the clock was ahead keeps none back
-        self.now -= 7200
-        journal.report("a line")
-        self.assertEqual(self.lines.count("a line"), 4)
-        self.assertEqual(set(journal.reported_at), {"a line"})
-
+class Waits(Ticks):
     def test_files_each_minute(self):
         one, looks = tick.Ticker(1, 10, CLOCK, str(self.file)), []
         with mock.patch.multiple(held, desks=lambda file: looks.append(file) or [3, 4], moved=lambda process, _: f"of {process}" if process == 4 else None):
