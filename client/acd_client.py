@@ -358,7 +358,7 @@ def check(address: SplitResult) -> None:
         is_good = False
     if not is_good:
         raise NoAddress(f"{address.geturl().rpartition('@')[2]!r} is no address like http://127.0.0.1:8080, "
-                        "https://desk.example:8443 or unix:/run/acd/desk")
+                        "https://desk.example:8443 or unix:/run/acd/desk.sock")
 
 
 def is_socket(address: SplitResult) -> bool:

@@ -19,7 +19,7 @@ from acd_service.command import Fault
 # least and greatest value of a setting
 NUMBERS = {"ACD_PORT": (1024, 65535), "ACD_GATE_PORT": (1024, 65535), "ACD_TLS_PORT": (1, 65535), "ACD_STEP": (1, 3600),
            "ACD_PATIENCE": (1, 60), "ACD_COPIES": (1, 999), "ACD_HALT": (0, 200), "ACD_CARRY_DAYS": (1, 999_999_999)}
-PATHS = ("ACD_FILE", "ACD_COPY_FOLDER")
+PATHS = ("ACD_FILE", "ACD_COPY_FOLDER", "ACD_SOCKET", "ACD_GATE_SOCKET")
 # days before the end of a certificate from which on it is a fault
 SOON = 14
 MEMBERS = {"title": str, "language": str, "zone": str, "names": dict, "limits": dict}
@@ -66,25 +66,35 @@ def of_settings(file: Path) -> Iterator[str]:
     yield from of_values(file)
 
 
+def values_of(file: Path) -> dict[str, str]:
+    return {**settings.DEFAULTS, **{name: value for name, value in settings.written(file).items() if value}}
+
+
 def of_values(file: Path) -> Iterator[str]:
-    has = {**settings.DEFAULTS, **{name: value for name, value in settings.written(file).items() if value}}
+    has = values_of(file)
     for name, (least, most) in NUMBERS.items():
         try:
-            command.whole_number(least, most)(has[name])
+            command.whole_number(least, most)(has[name] or str(least))
         except argparse.ArgumentTypeError:
             yield f"{file}: {name} must be a whole number from {least} to {most}, and not '{has[name]}'"
-    for port in has["ACD_LOCAL_PORTS"].split(","):
-        if not re.fullmatch("[1-9][0-9]{0,4}", port) or int(port) > 65535:
-            yield f"{file}: ACD_LOCAL_PORTS must be ports with commas between them, and not '{has['ACD_LOCAL_PORTS']}'"
-            break
-    if len({has[name] for name in ("ACD_PORT", "ACD_GATE_PORT", "ACD_TLS_PORT")}) < 3:
-        yield f"{file}: ACD_PORT, ACD_GATE_PORT and ACD_TLS_PORT must be three ports"
     for name in PATHS:
         if name in has and not has[name].startswith("/"):
             yield f"{file}: {name} must begin with /, and not be '{has[name]}'"
+    yield from of_places(file, has)
     with contextlib.suppress(PermissionError):
         if has["ACD_FILE"].startswith("/") and not Path(has["ACD_FILE"]).is_file():
             yield f"{file}: there is no file {has['ACD_FILE']} (ACD_FILE)"
+
+
+def of_places(file: Path, has: dict[str, str]) -> Iterator[str]:
+    """Where desk, gate and nginx listen, and which ports are kept from others."""
+    kept = has["ACD_LOCAL_PORTS"]
+    if kept and not all(re.fullmatch("[1-9][0-9]{0,4}", port) and int(port) <= 65535 for port in kept.split(",")):
+        yield f"{file}: ACD_LOCAL_PORTS must be ports with commas between them, and not '{kept}'"
+    for names in (("ACD_PORT", "ACD_GATE_PORT", "ACD_TLS_PORT"), ("ACD_SOCKET", "ACD_GATE_SOCKET")):
+        named = [has[name] for name in names if has[name]]
+        if len(set(named)) < len(named):
+            yield f"{file}: {', '.join(names[:-1])} and {names[-1]} must differ"
 
 
 # Roles and logins
@@ -172,8 +182,6 @@ def of_nginx(folder: Path, env: Path) -> Iterator[str]:
     requests to the gate."""
     if not folder.exists():
         return
-    has = {**settings.DEFAULTS, **settings.written(env)}
-    ports = {name: has[name] for name in ("ACD_PORT", "ACD_GATE_PORT", "ACD_TLS_PORT")}
     texts = {file: re.sub(r"(^|\s)#.*", "", file.read_text(errors="replace"))
              for file in sorted((*folder.glob("conf.d/*.conf"), *folder.glob("sites-enabled/*")))}
     ours = {file: text for file, text in texts.items() if SECRET in text or "/auth/any" in text}
@@ -181,15 +189,24 @@ def of_nginx(folder: Path, env: Path) -> Iterator[str]:
         yield f"{folder}: no configuration asks the gate; /usr/share/doc/acd/examples/nginx.conf is one"
         return
     whole = "\n".join(ours.values())
-    passed_to, shown_at = r"server\s+127\.0\.0\.1:{}\b", r"listen\s+(\S+:)?{}\b[^;]*\bssl\b"
-    for name, pattern in (("ACD_PORT", passed_to), ("ACD_GATE_PORT", passed_to), ("ACD_TLS_PORT", shown_at)):
-        if not re.search(pattern.format(re.escape(ports[name])), whole):
-            yield (f"{', '.join(map(str, ours))}: the port {ports[name]} of {name} isn't there; change it here or in "
-                   f"{env}")
+    for name, what, pattern in places_in_nginx(values_of(env)):
+        if not re.search(pattern, whole):
+            yield f"{', '.join(map(str, ours))}: the {what} of {name} isn't there; change it here or in {env}"
     for file, text in ours.items():
         if SECRET not in text:
             yield f"{file} is of before 1.15: nginx asks the gate for every stranger"
         yield from of_certificates(file, text)
+
+
+def places_in_nginx(has: dict[str, str]) -> Iterator[tuple[str, str, str]]:
+    """What nginx's configuration must have: the setting, what it names in words, and how that looks there."""
+    for port, path in (("ACD_PORT", "ACD_SOCKET"), ("ACD_GATE_PORT", "ACD_GATE_SOCKET")):
+        if has[port]:
+            yield port, f"port {has[port]}", rf"server\s+127\.0\.0\.1:{re.escape(has[port])}\b"
+        else:
+            yield path, f"socket {has[path]}", rf"server\s+unix:{re.escape(has[path])}[\s;]"
+    shown = has["ACD_TLS_PORT"]
+    yield "ACD_TLS_PORT", f"port {shown}", rf"listen\s+(\S+:)?{re.escape(shown)}\b[^;]*\bssl\b"
 
 
 def of_certificates(file: Path, text: str) -> Iterator[str]:

@@ -43,20 +43,18 @@ def ports_in(text: str) -> list[int]:
     for word in words:
         if not re.fullmatch("[1-9][0-9]{0,4}", word) or int(word) > 65535:
             raise Fault(f"the port '{word}' isn't a whole number from 1 to 65535", status=command.REFUSED)
-    if not words:
-        raise Fault("there is no port to keep", status=command.REFUSED)
     return [int(word) for word in words]
 
 
 def parser() -> command.Parser:
     found = command.Parser("Keeps this machine's other users from the ports of the desk, by a table of nftables. "
                            "Without --remove and --find it loads the table, or loads it anew.")
-    found.add_argument("--ports", metavar="P,P..", type=ports_in, default="8080,8081,2379,2380",
+    found.add_argument("--ports", metavar="P,P..", default="8080,8081,2379,2380",
                        help="the ports; %(default)s unless given")
     for name, do, about in (
             ("--watch", watch, "load it again if the accounts change or the table is gone, and end if acd.env changes"),
             ("--remove", remove, "take the table away"),
-            ("--find", lambda _: None, "tell by the status whether there is nft, which loads it")):
+            ("--find", None, "tell by the status whether there is a port to keep, and nft, which loads the table")):
         found.add_argument(name, dest="do", action="store_const", const=do, default=load, help=about)
     return found
 
@@ -151,11 +149,26 @@ def read(words: list[str]) -> argparse.Namespace:
     return options
 
 
-def act(options: argparse.Namespace) -> None:
-    if not shutil.which("nft"):
+def find(is_needed: bool) -> int:
+    """The status: whether the table is to be loaded. One of before, with ports that nobody has any more, is taken
+    away."""
+    if not is_needed and shutil.which("nft") and is_there():
+        remove([])
+    return 0 if is_needed else command.FAILED
+
+
+def act(options: argparse.Namespace) -> int:
+    is_needed = bool(options.ports.strip(", "))
+    if is_needed and not shutil.which("nft"):
         raise Fault("every user of this machine reaches the desk's ports, and may ask for everything: there is no nft "
                     "(install nftables)")
-    options.do(options.ports)
+    # a port that is none is a fault of the unit, which only its other commands tell
+    if options.do is None:
+        return find(is_needed)
+    if not is_needed and options.do is not remove:
+        raise Fault("there is no port to keep", status=command.REFUSED)
+    options.do(ports_in(options.ports))
+    return 0
 
 
 def main(words: list[str]) -> NoReturn:

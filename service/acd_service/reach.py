@@ -44,7 +44,7 @@ def address(text: str) -> str:
 def add_options(parser: argparse.ArgumentParser) -> None:
     parser.add_argument("--from", dest="address", type=address, metavar="ADDRESS",
                         help="ask the desk at this address, as http://127.0.0.1:8080, https://desk.example:8443 or "
-                             "unix:/run/acd/desk")
+                             "unix:/run/acd/desk.sock")
     add_login_options(parser)
 
 

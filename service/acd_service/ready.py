@@ -20,7 +20,7 @@ from collections.abc import Iterable
 from pathlib import Path
 from typing import NoReturn
 
-from acd_service import command, held, pair, put, restoring, settings, watch
+from acd_service import command, held, pair, put, restoring, settings, sockets, watch
 from acd_service.command import Fault, report
 from acd_service.log import Damaged, Sound, State, Unreadable, look
 from acd_service.restoring import name_of
@@ -190,7 +190,7 @@ def look_for_log(file: Path) -> None:
                f"unless sqlite3 or acd wrote it into {file}, answered requests are lost ({PAGE})")
 
 
-# The port
+# Where it listens
 
 def look_at_port(port: int) -> None:
     with socket.socket() as tried:
@@ -205,6 +205,27 @@ def look_at_port(port: int) -> None:
                 raise to_mend(f"the user {name_of(os.geteuid())} may not use port {port}: choose 1024 or higher, "
                               f"ACD_PORT in {SETTINGS}") from None
             raise Fault(f"port {port}: {fault.strerror}", status=AGAIN) from None
+
+
+def look_at_socket(path: str) -> None:
+    """The desk makes its own one anew where nobody listens; anything else is in its way."""
+    folder, otherwise = os.path.dirname(path), f"or name another socket, ACD_SOCKET in {SETTINGS}"
+    if not path.startswith("/") or len(os.fsencode(path)) > sockets.LONGEST:
+        raise to_mend(f"'{path}' is no path of a socket, which begins with / and has {sockets.LONGEST} bytes at most: "
+                      f"mend ACD_SOCKET in {SETTINGS}")
+    if not os.path.isdir(folder):
+        raise to_mend(f"the folder {folder} isn't there: make it (systemd-tmpfiles --create acd.conf), {otherwise}")
+    if not os.access(folder, os.W_OK | os.X_OK, effective_ids=True):
+        raise to_mend(f"the user {name_of(os.geteuid())} may not write in {folder}: give it to this user "
+                      f"(chown {name_of(os.geteuid())} {shlex.quote(folder)}), {otherwise}")
+    if not os.path.lexists(path):
+        return
+    found = os.lstat(path)
+    if not stat.S_ISSOCK(found.st_mode) or found.st_uid != os.geteuid():
+        raise to_mend(f"{path} is there, and is no socket of the user {name_of(os.geteuid())}: move it away, "
+                      f"{otherwise}")
+    if sockets.is_listened_at(path):
+        raise to_mend(f"{path} is taken: end who listens there (ss -lxp src unix:{shlex.quote(path)}), {otherwise}")
 
 
 # A log that is damaged
@@ -327,13 +348,17 @@ def serve(options: argparse.Namespace) -> NoReturn:
     look_at_names(os.environ)
     file = place(options.file)
     look_at_files(file)
-    look_at_port(options.port)
+    if options.port:
+        look_at_port(options.port)
+    else:
+        look_at_socket(options.socket)
     look_at_log(file)
     look_for_log(file)
     look_at_copies(file)
     write_note(file)
-    watch.beside(f"http://127.0.0.1:{options.port}", file, options.tick)
-    words = ["acd", "serve", "--file", options.file, "--port", str(options.port), "--endless"]
+    watch.beside(settings.address(options.port, options.socket), file, options.tick)
+    listens = ["--port", str(options.port)] if options.port else ["--socket", options.socket]
+    words = ["acd", "serve", "--file", options.file, *listens, "--endless"]
     for name, seconds in (("--tick", options.tick), ("--patience", options.patience)):
         words += [name, str(seconds)] if seconds else []
     try:
@@ -396,7 +421,10 @@ def make(options: argparse.Namespace) -> None:
     return print(f"made {file}")
 
 
-def port_of(text: str) -> int:
+def port_of(text: str) -> int | None:
+    """None where there is no text: a unit's setting that has no value."""
+    if not text:
+        return None
     if not (text.isascii() and text.isdigit() and len(text) < 6 and 1 <= int(text) <= 65535):
         raise argparse.ArgumentTypeError(f"the port {text!r} isn't a whole number from 1 to 65535")
     return int(text)
@@ -407,14 +435,16 @@ def parser() -> command.Parser:
                            "or makes the file of a new desk.")
     act = found.add_mutually_exclusive_group(required=True)
     act.add_argument("--serve", action="store_const", const=serve, dest="act",
-                     help="look, and become acd serve --endless on a port of the loopback address")
+                     help="look, and become acd serve --endless")
     act.add_argument("--stopped", action="store_const", const=stopped, dest="act",
                      help="after a clean stop write the log into the file; note what is left")
     act.add_argument("--make", action="store_const", const=make, dest="act",
                      help="make the file of a new desk; root makes it for the folder's owner")
     settings.add_file(found)
-    found.add_argument("--port", metavar="P", type=port_of, default=8080,
-                       help="the port of the loopback address; 8080 unless given")
+    found.add_argument("--port", metavar="P", type=port_of,
+                       help="the port of the loopback address to listen on; none unless given, and none if it is empty")
+    found.add_argument("--socket", metavar="PATH", default=settings.DEFAULTS["ACD_SOCKET"],
+                       help="the socket to listen on without a port; %(default)s unless given")
     for name, about in (("--tick", "how often the desk looks for what is overdue, and ticks; never unless given"),
                         ("--patience", "how long the desk waits for a client; without end unless given")):
         found.add_argument(name, metavar="SECONDS", type=command.whole_number(1, 3600), help=about)

@@ -9,17 +9,20 @@ from pathlib import Path
 FILE = Path("/etc/acd/acd.env")
 PREFIX = "ACD_"
 # those of all shipped programs and units, since a file may be read by several of them
-NAMES = ("ACD_CARRY_DAYS", "ACD_CLOCK", "ACD_COPIES", "ACD_COPY_FOLDER", "ACD_FILE", "ACD_FOLLOW", "ACD_FOLLOW_OPTIONS",
-         "ACD_GATE_PORT", "ACD_HALT", "ACD_LOCAL_PORTS", "ACD_NODE_CA", "ACD_NODE_CERT", "ACD_NODE_ETCD",
-         "ACD_NODE_ETCD_PASSWORD", "ACD_NODE_ETCD_USER", "ACD_NODE_FOLDER", "ACD_NODE_GONE", "ACD_NODE_KEY",
-         "ACD_NODE_LINE", "ACD_NODE_MACHINES", "ACD_NODE_NAME", "ACD_NODE_UPKEEP_USER", "ACD_PASSWORD", "ACD_PATIENCE",
-         "ACD_PORT", "ACD_PURGE_DESK", "ACD_RULES", "ACD_RULES_OPTIONS", "ACD_STEP", "ACD_TLS_HOST", "ACD_TLS_PORT")
+NAMES = ("ACD_CARRY_DAYS", "ACD_CLOCK", "ACD_COPIES", "ACD_COPY_FOLDER", "ACD_FILE", "ACD_FOLLOW",
+         "ACD_FOLLOW_OPTIONS", "ACD_GATE_PORT", "ACD_GATE_SOCKET", "ACD_HALT", "ACD_LOCAL_PORTS", "ACD_NODE_CA",
+         "ACD_NODE_CERT", "ACD_NODE_ETCD", "ACD_NODE_ETCD_PASSWORD", "ACD_NODE_ETCD_USER", "ACD_NODE_FOLDER",
+         "ACD_NODE_GONE", "ACD_NODE_KEY", "ACD_NODE_LINE", "ACD_NODE_MACHINES", "ACD_NODE_NAME",
+         "ACD_NODE_UPKEEP_USER", "ACD_PASSWORD", "ACD_PATIENCE", "ACD_PORT", "ACD_PURGE_DESK", "ACD_RULES",
+         "ACD_RULES_OPTIONS", "ACD_SOCKET", "ACD_STEP", "ACD_TLS_HOST", "ACD_TLS_PORT")
 # those that only earlier versions had
 EARLIER = ("ACD_CONNECTIONS",)
-# what a setting is where nobody says otherwise; the folder of copies is then beside the file
-DEFAULTS = {"ACD_FILE": "/var/lib/acd/desk.db", "ACD_PORT": "8080", "ACD_GATE_PORT": "8081", "ACD_COPIES": "7",
+# what a setting is where nobody says otherwise; the folder of copies is then beside the file, and desk and gate listen
+# at their sockets, since they have no port
+DEFAULTS = {"ACD_FILE": "/var/lib/acd/desk.db", "ACD_SOCKET": "/run/acd/desk.sock",
+            "ACD_GATE_SOCKET": "/run/acd-gate/gate.sock", "ACD_PORT": "", "ACD_GATE_PORT": "", "ACD_COPIES": "7",
             "ACD_HALT": "20", "ACD_STEP": "10", "ACD_PATIENCE": "30", "ACD_CARRY_DAYS": "2",
-            "ACD_TLS_HOST": "127.0.0.1", "ACD_TLS_PORT": "8443", "ACD_LOCAL_PORTS": "2379,2380"}
+            "ACD_TLS_HOST": "127.0.0.1", "ACD_TLS_PORT": "8443", "ACD_LOCAL_PORTS": ""}
 
 
 def others(names: Iterable[str]) -> list[str]:
@@ -51,6 +54,16 @@ def current() -> dict[str, str]:
     before the defaults."""
     given = {**written(), **{name: value for name, value in os.environ.items() if name in NAMES}}
     return {**DEFAULTS, **{name: value for name, value in given.items() if value}}
+
+
+def address(port: object, path: str) -> str:
+    """The address of a desk that listens on a port of the loopback address, or on a socket, where there is no port."""
+    return f"http://127.0.0.1:{port}" if port else f"unix:{path}"
+
+
+def place(port: object, path: str) -> str:
+    """The same in words."""
+    return f"port {port}" if port else path
 
 
 def desk_file() -> str:

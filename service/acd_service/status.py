@@ -1,9 +1,9 @@
 """Prints how a desk is, and what is around it: a line for each thing that an operator asks first, or JSON. Tested, not
 proved.
 
-It only reads: it asks the desk at its port, looks at names, sizes and notes beside the file, and asks systemd. It opens
-the desk's file only where no desk answers and its log holds nothing, and then as a file that nobody changes. What it
-can't ask, it says, and why."""
+It only reads: it asks the desk where it listens, looks at names, sizes and notes beside the file, and asks systemd. It
+opens the desk's file only where no desk answers and its log holds nothing, and then as a file that nobody changes. What
+it can't ask, it says, and why."""
 import argparse
 import contextlib
 import datetime
@@ -78,9 +78,10 @@ def told(*words: str) -> str:
 
 @dataclass
 class Desk:
-    """A desk by its file and its port, and what is around it."""
+    """A desk by its file and its address, and what is around it. `place` is where it listens, in words."""
     file: Path
-    port: int
+    address: str
+    place: str
     copies: Path
     certificate_at: tuple[str, int]
     now: float
@@ -89,13 +90,13 @@ class Desk:
 
     def read(self, path: str) -> Any:
         if path not in self.answers:
-            client = Client(f"http://127.0.0.1:{self.port}", wait=WAIT)
+            client = Client(self.address, wait=WAIT)
             try:
                 answer = reach.insisted(client, lambda: client.attempt("GET", path), 0)
                 self.answers[path] = (answer.body if answer.status == 200
                                       else Fault(f"the desk answered {answer.status}"))
             except Fault as fault:
-                self.answers[path] = Fault(f"port {self.port}: {fault}")
+                self.answers[path] = Fault(f"{self.place}: {fault}")
         if isinstance(self.answers[path], Fault):
             raise self.answers[path]
         return self.answers[path]
@@ -228,7 +229,7 @@ def asked(desk: Desk) -> list[Answer]:
         except OSError as fault:
             found.append(Answer(member, about, None, command.fault_text(fault)))
         except (LookupError, TypeError, ValueError, AttributeError):
-            found.append(Answer(member, about, None, f"who listens at port {desk.port} is no desk"))
+            found.append(Answer(member, about, None, f"who listens at {desk.place} is no desk"))
     return found
 
 
@@ -250,11 +251,13 @@ def desk_of(options: argparse.Namespace) -> Desk:
     file = held.place(options.file or has["ACD_FILE"])
     copies = None if options.file else has.get("ACD_COPY_FOLDER")
     try:
-        port = options.port or command.whole_number(1, 65535)(has["ACD_PORT"])
+        port = options.port or has["ACD_PORT"] and command.whole_number(1, 65535)(has["ACD_PORT"])
         certificate_at = has["ACD_TLS_HOST"], command.whole_number(1, 65535)(has["ACD_TLS_PORT"])
     except argparse.ArgumentTypeError as fault:
         raise Fault(f"{settings.FILE}: {fault}", status=command.REFUSED) from None
-    return Desk(file, port, Path(copies or file.parent / "copies"), certificate_at, time.time(), {})
+    where = None if options.socket else port, options.socket or has["ACD_SOCKET"]
+    return Desk(file, settings.address(*where), settings.place(*where), Path(copies or file.parent / "copies"),
+                certificate_at, time.time(), {})
 
 
 def parser() -> command.Parser:
@@ -262,7 +265,9 @@ def parser() -> command.Parser:
     found.add_argument("--file", metavar="F", help="the desk's file; that of ACD_FILE, "
                                                    f"else {settings.DEFAULTS['ACD_FILE']}")
     found.add_argument("--port", metavar="P", type=command.whole_number(1, 65535),
-                       help="the desk's port of the loopback address; ACD_PORT, else 8080")
+                       help="the desk's port of the loopback address; ACD_PORT, if that is set")
+    found.add_argument("--socket", metavar="PATH", help="the desk's socket; ACD_SOCKET, else "
+                                                        f"{settings.DEFAULTS['ACD_SOCKET']}")
     found.add_argument("--json", action="store_true", help="print JSON in place of a table")
     return found
 

@@ -10,20 +10,23 @@ from acd_service.gate.exchanges import Answer, error
 # seconds: for the desk's answer to a request, and to a question of the gate itself, so that pages learn that a desk
 # hangs
 PATIENCE, SOON = 60, 5
-# questions that are out at a time; the kernel keeps 128 connections that the desk hasn't taken yet, and drops more
+# questions that are out at a time: those that wait for the desk wait here, in turn
 MOST_OUT = 100
 # bytes of an answer that are read ahead
 AHEAD = 1 << 20
 
 
 class Place(NamedTuple):
-    """Where a desk listens: a port of the loopback address, or the path of a socket."""
+    """Where a desk or the gate listens: a port of the loopback address, or the path of a socket."""
     port: int = 0
     path: str = ""
 
 
-def place(text: str) -> Place:
-    """The place that a word names: `8080`, `http://127.0.0.1:8080` or `unix:/run/acd/desk`."""
+def place(text: str) -> Place | None:
+    """The place that a word names: `8080`, `http://127.0.0.1:8080` or `unix:/run/acd/desk.sock`; None where it is
+    empty, as a unit's setting that has no value."""
+    if not text:
+        return None
     if text.startswith("unix:/"):
         return Place(path=text.removeprefix("unix:"))
     found = re.fullmatch(r"(?:http://127\.0\.0\.1:)?([0-9]{1,5})/?", text)

@@ -7,18 +7,28 @@ from typing import NoReturn
 
 import acd_notify
 
-from acd_service import command
+from acd_service import command, settings
 from acd_service.command import Fault
-from acd_service.gate.desk import Desk, place
+from acd_service.gate.desk import Desk, Place, place
+
+
+def port_of(text: str) -> int | None:
+    """None where there is no text: a unit's setting that has no value."""
+    return int(text) if text else None
 
 
 def parser() -> command.Parser:
     found = command.Parser("Judges logins for the proxy, and lets each ask for no more than its role may.",
                            printed_usage=True, took_beginnings=True)
-    found.add_argument("--port", type=int, default=8081, metavar="P",
-                       help="the port of the loopback address to listen on; 8081 unless given")
-    found.add_argument("--desk", type=place, default="8080", metavar="PLACE",
-                       help="the desk: its port, http://127.0.0.1:PORT or unix:PATH; 8080 unless given")
+    found.add_argument("--port", type=port_of, metavar="P",
+                       help="the port of the loopback address to listen on; none unless given, and none if it is empty")
+    found.add_argument("--socket", default=settings.DEFAULTS["ACD_GATE_SOCKET"], metavar="PATH",
+                       help="the socket to listen on without a port; %(default)s unless given")
+    found.add_argument("--desk", type=place, metavar="PLACE",
+                       help="the desk: its port, http://127.0.0.1:PORT or unix:PATH; its socket unless given, "
+                            "and if it is empty")
+    found.add_argument("--desk-socket", default=settings.DEFAULTS["ACD_SOCKET"], metavar="PATH",
+                       help="the desk's socket; %(default)s unless given")
     found.add_argument("--roles", default="/etc/acd/roles", metavar="FILE",
                        help="the roles; /etc/acd/roles unless given")
     found.add_argument("--users", default="/etc/acd/users", metavar="FILE",
@@ -37,11 +47,11 @@ async def serve(options: argparse.Namespace) -> None:
     from acd_service.gate.server import Server, listening_at
     from acd_service.gate.sessions import secret_of
     try:
-        listening = listening_at(options.port)
+        listening = listening_at(Place(options.port) if options.port else Place(path=options.socket))
     except (OSError, OverflowError):
-        raise Fault(f"cannot listen on port {options.port}") from None
-    gate = Gate(Desk(options.desk), options.roles, options.users, options.sessions, options.records,
-                secret_of(options.secret))
+        raise Fault(f"cannot listen on {settings.place(options.port, options.socket)}") from None
+    desk = Desk(options.desk or Place(path=options.desk_socket))
+    gate = Gate(desk, options.roles, options.users, options.sessions, options.records, secret_of(options.secret))
     acd_notify.ready()
     await Server(gate.answer).listen(listening)
 

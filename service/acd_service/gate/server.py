@@ -13,13 +13,13 @@ from typing import Any
 from aiohttp import web
 from aiohttp.http_exceptions import LineTooLong
 
+from acd_service import sockets
 from acd_service.command import report
+from acd_service.gate.desk import Place
 from acd_service.gate.exchanges import Answer, Left, Question, Refused, error
 
 # connections, beyond which others wait; behind half of these none stays open
 MOST_OPEN = 3000
-# connections that the kernel keeps until they are taken
-BACKLOG = 1024
 # seconds: for a request to come whole, and between two on a connection
 PATIENCE = 60
 # bytes of a line of a head, and how many fields a request may have
@@ -154,8 +154,10 @@ def asked(request: web.BaseRequest) -> Question:
                     has_left)
 
 
-def listening_at(port: int) -> socket.socket:
-    """A socket at a port of the loopback address; OSError or OverflowError where that isn't free, or is none."""
-    found = socket.create_server(("127.0.0.1", port), backlog=BACKLOG)
+def listening_at(where: Place) -> socket.socket:
+    """A socket at a port of the loopback address, or at a path; OSError or OverflowError where that isn't free, or is
+    none."""
+    found = (sockets.listening_at(where.path) if where.path else
+             socket.create_server(("127.0.0.1", where.port), backlog=sockets.BACKLOG))
     found.setblocking(False)
     return found

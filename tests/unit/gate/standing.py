@@ -4,6 +4,7 @@ import contextlib
 import http.client
 import io
 import json
+import socket
 import sys
 import tempfile
 import threading
@@ -11,6 +12,7 @@ import unittest
 from base64 import b64encode
 from http.server import BaseHTTPRequestHandler, ThreadingHTTPServer
 from pathlib import Path
+from socketserver import TCPServer
 from unittest import mock
 
 TOP = Path(__file__).resolve().parents[3]
@@ -92,9 +94,16 @@ class StandIn(BaseHTTPRequestHandler):
 class StandInDesk(ThreadingHTTPServer):
     request_queue_size = 128
 
-    def __init__(self):
-        super().__init__(("127.0.0.1", 0), StandIn)
+    def __init__(self, path=None):
+        if path:
+            self.address_family = socket.AF_UNIX
+        super().__init__(path or ("127.0.0.1", 0), StandIn)
         self.got, self.station, self.known = [], "201", {}
+
+    def server_bind(self):
+        """Without the name of its own host, which a socket has none of."""
+        TCPServer.server_bind(self)
+        self.server_port = self.server_address[1]
 
 
 class Named(unittest.TestCase):
@@ -108,7 +117,7 @@ class Standing:
     """A gate that listens, in a thread with a loop of its own."""
 
     def __init__(self, gate):
-        self.gate, self.listening = gate, listening_at(0)
+        self.gate, self.listening = gate, listening_at(Place(0))
         self.port, self.begun = self.listening.getsockname()[1], threading.Event()
         self.thread = threading.Thread(target=asyncio.run, args=(self.serve(),), daemon=True)
 

@@ -87,9 +87,9 @@ class AskingTest(unittest.IsolatedAsyncioTestCase):
         self.assertIsNone(await self.desk.station_of("7"))
 
     def test_places(self):
-        for text, wanted in (("8080", Place(8080)), ("http://127.0.0.1:8080", Place(8080)), ("http://127.0.0.1:8080/", Place(8080)), ("unix:/run/acd/desk", Place(path="/run/acd/desk"))):
+        for text, wanted in (("8080", Place(8080)), ("http://127.0.0.1:8080", Place(8080)), ("http://127.0.0.1:8080/", Place(8080)), ("unix:/run/acd/desk.sock", Place(path="/run/acd/desk.sock")), ("", None)):
             self.assertEqual(place(text), wanted, text)
-        for text in ("", "x", "65536", "-1", "٣", "http://desk:8080", "https://127.0.0.1:8080", "http://127.0.0.1", "unix:", "unix:run/desk", "8080 "):
+        for text in ("x", "65536", "-1", "٣", "http://desk:8080", "https://127.0.0.1:8080", "http://127.0.0.1", "unix:", "unix:run/desk", "8080 "):
             with self.assertRaises(argparse.ArgumentTypeError):
                 place(text)
 

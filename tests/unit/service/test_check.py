@@ -48,6 +48,7 @@ class Office(unittest.TestCase):
         (self.nginx / "conf.d").mkdir(parents=True)
         (self.nginx / "sites-enabled").mkdir()
         self.proxy = NGINX.replace("/etc/acd/desk", f"{self.keys}/desk")
+        self.at_ports = self.proxy.replace("unix:/run/acd/desk.sock", "127.0.0.1:8080").replace("unix:/run/acd-gate/gate.sock", "127.0.0.1:8081")
         self.put("nginx/conf.d/desk.conf", self.proxy)
         self.put("nginx/sites-enabled/default", "server { listen 80; }\n")
 
@@ -114,10 +115,13 @@ class Settings(Office):
 
     def test_ports_and_places(self):
         self.put("acd.env", f"ACD_FILE={self.folder}/desk.db\nACD_LOCAL_PORTS=2379;2380\nACD_COPY_FOLDER=copies\n")
-        self.finds("ACD_LOCAL_PORTS must be ports with commas between them, and not '2379;2380'", "ACD_COPY_FOLDER must begin with /, and not be 'copies'")
-        self.put("acd.env", "ACD_FILE=/none/desk.db\nACD_GATE_PORT=8080\n")
-        self.put("nginx/conf.d/desk.conf", self.proxy.replace("8081", "8080"))
-        self.finds("ACD_PORT, ACD_GATE_PORT and ACD_TLS_PORT must be three ports", "there is no file /none/desk.db (ACD_FILE)")
+        self.finds("ACD_COPY_FOLDER must begin with /, and not be 'copies'", "ACD_LOCAL_PORTS must be ports with commas between them, and not '2379;2380'")
+        self.put("acd.env", "ACD_FILE=/none/desk.db\nACD_PORT=8080\nACD_GATE_PORT=8080\nACD_GATE_SOCKET=/run/acd/desk.sock\n")
+        self.put("nginx/conf.d/desk.conf", self.at_ports.replace("8081", "8080"))
+        self.finds("ACD_PORT, ACD_GATE_PORT and ACD_TLS_PORT must differ", "ACD_SOCKET and ACD_GATE_SOCKET must differ", "there is no file /none/desk.db (ACD_FILE)")
+        self.put("acd.env", f"ACD_FILE={self.folder}/desk.db\nACD_SOCKET=run/desk\nACD_PORT=\n")
+        self.put("nginx/conf.d/desk.conf", self.proxy.replace("/run/acd/desk.sock", "run/desk"))
+        self.finds("ACD_SOCKET must begin with /, and not be 'run/desk'")
 
     def test_without_the_file(self):
         (self.folder / "acd.env").unlink()
@@ -172,19 +176,30 @@ class Names(Office):
 
 
 class Proxy(Office):
-    def test_ports(self):
-        for old, new, name, port in (("127.0.0.1:8080", "127.0.0.1:8090", "ACD_PORT", 8080), ("127.0.0.1:8081", "127.0.0.1:8091", "ACD_GATE_PORT", 8081),
-                                     ("listen 8443 ssl", "listen 443 ssl", "ACD_TLS_PORT", 8443), ("listen 8443 ssl", "listen 8443", "ACD_TLS_PORT", 8443)):
+    def test_places(self):
+        for old, new, name, what in (("unix:/run/acd/desk.sock", "127.0.0.1:8080", "ACD_SOCKET", "socket /run/acd/desk.sock"), ("desk.sock", "desk.socket", "ACD_SOCKET", "socket /run/acd/desk.sock"),
+                                     ("unix:/run/acd-gate/gate.sock", "127.0.0.1:8081", "ACD_GATE_SOCKET", "socket /run/acd-gate/gate.sock"),
+                                     ("listen 8443 ssl", "listen 443 ssl", "ACD_TLS_PORT", "port 8443"), ("listen 8443 ssl", "listen 8443", "ACD_TLS_PORT", "port 8443")):
             with self.subTest(new):
                 self.put("nginx/conf.d/desk.conf", self.proxy.replace(old, new))
+                self.finds(f"desk.conf: the {what} of {name} isn't there; change it here or in {self.folder}/acd.env")
+
+    def test_ports(self):
+        """Of an office that keeps them."""
+        self.put("acd.env", f"ACD_FILE={self.folder}/desk.db\nACD_PORT=8080\nACD_GATE_PORT=8081\n")
+        self.put("nginx/conf.d/desk.conf", self.at_ports)
+        self.assertEqual(self.said()[0], 0)
+        for old, new, name, port in (("127.0.0.1:8080", "127.0.0.1:8090", "ACD_PORT", 8080), ("127.0.0.1:8081", "unix:/run/acd-gate/gate.sock", "ACD_GATE_PORT", 8081)):
+            with self.subTest(new):
+                self.put("nginx/conf.d/desk.conf", self.at_ports.replace(old, new))
                 self.finds(f"desk.conf: the port {port} of {name} isn't there; change it here or in {self.folder}/acd.env")
 
     def test_a_port_in_a_note_is_none(self):
         self.put("nginx/conf.d/desk.conf", self.proxy.replace("    listen 8443 ssl", "    # listen 8443 ssl;\n    listen 443 ssl"))
         self.finds(f"desk.conf: the port 8443 of ACD_TLS_PORT isn't there; change it here or in {self.folder}/acd.env")
 
-    def test_a_second_line_has_other_ports(self):
-        self.put("nginx/conf.d/north.conf", self.proxy.replace("8080", "8090").replace("8081", "8091").replace("8443", "9443"))
+    def test_a_second_line_has_other_places(self):
+        self.put("nginx/conf.d/north.conf", self.proxy.replace("desk.sock", "north.sock").replace("gate.sock", "north.sock").replace("8443", "9443"))
         self.assertEqual(self.said()[0], 0)
 
     def test_without_a_configuration_of_ours(self):

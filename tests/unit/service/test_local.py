@@ -68,6 +68,19 @@ class Loads(WithNft):
         self.assertEqual(ground.said("local", "--find"), (0, "", ""))
         self.assertEqual(self.given(), [])
 
+    def test_whether_there_is_a_port(self):
+        """Of a unit's settings without a value nothing is left but commas: then a table of before goes. What is no port is told by the other commands."""
+        self.assertEqual(ground.said("local", "--find", "--ports", ",8081,"), (0, "", ""))
+        self.assertEqual(ground.said("local", "--find", "--ports", "80x,,"), (0, "", ""))
+        self.assertEqual(ground.said("local", "--find", "--ports", ",,"), (1, "", ""))
+        self.assertEqual(self.given(), [])
+        (self.folder / "table").touch()
+        self.assertEqual(ground.said("local", "--find", "--ports", ",,"), (1, "", ""))
+        self.assertEqual(self.given(), [REMOVED])
+        (self.bin / "nft").unlink()
+        with mock.patch.dict(os.environ, {"PATH": str(self.bin)}):
+            self.assertEqual(ground.said("local", "--find", "--ports", ",,"), (1, "", ""))
+
     def test_the_last_word_counts(self):
         self.assertEqual(ground.said("local", "--remove", "--find").status, 0)
         self.assertEqual(self.given(), [])
@@ -87,7 +100,7 @@ class Faults(WithNft):
         """In one line, by the old name as by the new one."""
         cases = ((["--ports", "0"], "the port '0' isn't a whole number from 1 to 65535"), (["--ports", "80,65536"], "the port '65536' isn't a whole number from 1 to 65535"),
                  (["--ports", "8080;"], "the port '8080;' isn't a whole number from 1 to 65535"), (["--ports", "08"], "the port '08' isn't a whole number from 1 to 65535"),
-                 (["--ports", ""], "there is no port to keep"), (["--other"], "no such option: --other"), (["a b"], "no such option: a b"))
+                 (["--ports", ""], "there is no port to keep"), (["--ports", ",,", "--watch"], "there is no port to keep"), (["--other"], "no such option: --other"), (["a b"], "no such option: a b"))
         for words, text in cases:
             with self.subTest(words):
                 self.assertEqual(ground.said("local", *words), (2, "", f"acdctl local: {text}\n"))

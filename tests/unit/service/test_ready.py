@@ -218,6 +218,65 @@ class Ports(Starts):
             self.stays(f"port {self.port} is taken")
 
 
+class Sockets(Starts):
+    def setUp(self):
+        super().setUp()
+        self.run = self.folder / "run"
+        self.run.mkdir()
+        self.path = self.run / "desk.sock"
+        self.desk()
+
+    def serve(self, *more):
+        return said("ready", "--serve", "--file", self.file, "--port", "", "--socket", self.path, *more)
+
+    def stays(self, pattern, status=MEND):
+        before = ground.snapshot(self.home)
+        self.refused(("ready", "--serve", "--file", self.file, "--socket", self.path), status, pattern)
+        self.became.assert_not_called()
+        self.assertEqual(ground.snapshot(self.home), before)
+
+    def starts(self):
+        self.assertEqual(self.serve(), (0, "", ""))
+        self.became.assert_called_once_with("acd", ["acd", "serve", "--file", str(self.file), "--socket", str(self.path), "--endless"])
+        self.became.reset_mock()
+
+    def test_one_that_is_free(self):
+        self.starts()
+        with socket.socket(socket.AF_UNIX) as left:
+            left.bind(str(self.path))
+        self.starts()
+        self.assertTrue(self.path.is_socket())
+
+    def test_one_that_is_taken(self):
+        with socket.socket(socket.AF_UNIX) as taken:
+            taken.bind(str(self.path))
+            taken.listen()
+            self.stays(f"{self.path} is taken: end who listens there .ss -lxp src unix:{self.path}., or name another socket, ACD_SOCKET in /etc/acd/acd.env")
+
+    def test_what_is_no_socket(self):
+        told = f"{self.path} is there, and is no socket of the user {self.me}: move it away, or name another socket"
+        for make in (Path.touch, Path.mkdir, lambda path: path.symlink_to("nowhere")):
+            make(self.path)
+            self.stays(told)
+            self.path.rmdir() if self.path.is_dir() else self.path.unlink()
+        if ROOT:
+            with socket.socket(socket.AF_UNIX) as theirs:
+                theirs.bind(str(self.path))
+            os.chown(self.path, 1, 1)
+            self.stays(told)
+
+    def test_its_folder(self):
+        with mock.patch.object(os, "access", lambda path, *_, **__: path != str(self.run)):
+            self.stays(f"the user {self.me} may not write in {self.run}: give it to this user .chown {self.me} {self.run}., or name another socket")
+        self.run.rmdir()
+        self.stays(f"the folder {self.run} isn't there: make it .systemd-tmpfiles --create acd.conf., or name another socket")
+
+    def test_what_is_no_path(self):
+        for path in ("run/desk.sock", "/run/" + "x" * 103):
+            self.path = path
+            self.stays(f"'{path}' is no path of a socket, which begins with / and has 107 bytes at most: mend ACD_SOCKET in /etc/acd/acd.env")
+
+
 class Pairs(Starts):
     """A file and a log that don't belong together."""
 
@@ -434,7 +493,7 @@ class Words(ground.Case):
             self.refused(("ready", *words), WORDS, "")
         done = said("ready", "--help")
         self.assertEqual((done.status, done.faults), (0, ""))
-        for word in ("--serve", "--stopped", "--make", "--file", "--port", "--tick", "--patience"):
+        for word in ("--serve", "--stopped", "--make", "--file", "--port", "--socket", "--tick", "--patience"):
             self.assertIn(word, done.out)
 
 

@@ -2,6 +2,7 @@
 import contextlib
 import datetime
 import hashlib
+import http.server
 import io
 import json
 import os
@@ -9,6 +10,7 @@ import socket
 import subprocess
 import sys
 import tempfile
+import threading
 import time
 import unittest
 from pathlib import Path
@@ -89,6 +91,18 @@ def free_port():
         return one.getsockname()[1]
 
 
+class Plain(http.server.BaseHTTPRequestHandler):
+    """Of a desk that is played: a snapshot with an agent."""
+
+    def do_GET(self):
+        self.send_response(200)
+        self.end_headers()
+        self.wfile.write(b'{"agents":[{"agent":"7","state":"null"}],"calls":[],"moment":5,"last":1}')
+
+    def log_message(self, *_):
+        pass
+
+
 class Served(Machine):
     def test_what_the_desk_tells(self):
         self.plan(*REQUESTS)
@@ -101,6 +115,22 @@ class Served(Machine):
         self.assertEqual(lines["agents"], "1 of 2 logged on: 1 notReady")
         self.assertTrue(lines["last request"].startswith(f"number {EXECUTED}, 7 seconds ago ("))
         self.assertEqual(set(found["unknown"]), {"certificate"})
+
+    def test_at_a_socket(self):
+        """Where the settings name no port; the option comes before the settings."""
+        (self.folder / "acd.env").write_text(f"ACD_FILE={self.file}\nACD_SOCKET={self.folder}/desk.sock\nACD_TLS_PORT={free_port()}\n")
+        self.assertEqual(self.found()["unknown"]["callsWaiting"], f"{self.folder}/desk.sock: no answer: [Errno 2] No such file or directory")
+        for words in ([], ["--port", str(free_port()), "--socket", f"{self.folder}/desk.sock"]):
+            with http.server.HTTPServer(("127.0.0.1", 0), Plain) as desk, self.subTest(words):
+                (self.folder / "desk.sock").unlink(missing_ok=True)
+                with socket.socket(socket.AF_UNIX) as listener:
+                    listener.bind(f"{self.folder}/desk.sock")
+                    listener.listen()
+                    desk.socket.close()
+                    desk.socket = listener
+                    threading.Thread(target=desk.serve_forever, args=(0.02,), daemon=True).start()
+                    self.assertEqual(json.loads(self.said("--json", *words))["agents"]["planned"], 1)
+                    desk.shutdown()
 
     def test_a_plan_alone(self):
         self.plan()
