@@ -95,7 +95,7 @@ export class Front {
     await writeFile(`${file}/roles`, roles.map(([login, ...role]) => `${login} ${role.join(' ')}\n`).join(''));
     await writeFile(`${file}/nginx-secret.conf`, `map "" $acd_session_secret { default "${randomBytes(32).toString('hex')}"; }\n`);
     await writeFile(`${file}/users`, roles.map(([login]) => `${login}:{SHA}5en6G6MezRroT3XKqkdPOmY/BfQ=\n`).join(''));
-    const places = {8080: desk.port, 8081: gate, 8443: `127.0.0.1:${site}`, '/etc/acd': file, '/usr/share/acd': `${file}/share`};
+    const places = {'unix:/run/acd/desk.sock': `127.0.0.1:${desk.port}`, 'unix:/run/acd-gate/gate.sock': `127.0.0.1:${gate}`, 8443: `127.0.0.1:${site}`, '/etc/acd': file, '/usr/share/acd': `${file}/share`};
     const conf = (await readFile(join(TOP, 'service/nginx/nginx.conf'), 'utf8')).replace(new RegExp(Object.keys(places).join('|'), 'g'), named => places[named]);
     await writeFile(`${file}/nginx.conf`, `daemon off; user root; pid ${file}/pid; error_log ${file}/errors; worker_processes 1; events {}
 http { include /etc/nginx/mime.types; access_log off; ${['client_body', 'proxy', 'fastcgi', 'uwsgi', 'scgi'].map(kind => `${kind}_temp_path ${file};`).join(' ')} ${conf} }\n`);

@@ -82,7 +82,7 @@ class Place(Trial):
                         "-keyout", here / "desk.key", "-out", here / "desk.crt"], stderr=subprocess.DEVNULL, check=True)
         (here / "share").mkdir()
         (here / "share/board").symlink_to(TOP / "board")
-        places = {"8080": cls.desk_port, "8081": cls.gate_port, "8443": f"127.0.0.1:{cls.port}", "/etc/acd": here, "/usr/share/acd": here / "share"}
+        places = {"unix:/run/acd/desk.sock": f"127.0.0.1:{cls.desk_port}", "unix:/run/acd-gate/gate.sock": f"127.0.0.1:{cls.gate_port}", "8443": f"127.0.0.1:{cls.port}", "/etc/acd": here, "/usr/share/acd": here / "share"}
         text = re.sub("|".join(places), lambda named: str(places[named[0]]), (TOP / "service/nginx/nginx.conf").read_text())
         temporary = " ".join(f"{kind}_temp_path {here};" for kind in ("client_body", "proxy", "fastcgi", "uwsgi", "scgi"))
         (here / "nginx.conf").write_text(f"daemon off; user root; pid {here}/pid; error_log {here}/errors; worker_processes {cls.WORKERS}; worker_rlimit_nofile 32768;\n"
