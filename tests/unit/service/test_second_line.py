@@ -18,6 +18,29 @@ class SecondLine(unittest.TestCase):
             subprocess.run(["sh", "-ec", lines], check=True)
             return {unit.stem: unit.read_text() for unit in Path(folder).iterdir()}
 
+    def made(self, pattern, files):
+        """What the section's lines that match make of these files, by their places below a folder."""
+        section = (TOP / "docs/OPERATING.md").read_text().partition("\n## A second help line\n")[2].partition("\n## ")[0]
+        lines = re.search(pattern, section, re.MULTILINE | re.DOTALL)[0]
+        with tempfile.TemporaryDirectory() as folder:
+            for place, text in files.items():
+                Path(folder, place).parent.mkdir(parents=True, exist_ok=True)
+                Path(folder, place).write_text(text)
+            subprocess.run(["sh", "-ec", re.sub("(?<= )/etc/(acd|nginx)", rf"{folder}/etc/\1", lines)], check=True)
+            return {str(file.relative_to(folder)): file.read_text() for file in Path(folder).rglob("north*")}
+
+    def test_its_places(self):
+        """Whether the first line has sockets or ports."""
+        env, nginx = (TOP / "service/settings/acd.env").read_text(), (TOP / "service/nginx/nginx.conf").read_text()
+        at_ports = nginx.replace("unix:/run/acd/desk.sock", "127.0.0.1:8080").replace("unix:/run/acd-gate/gate.sock", "127.0.0.1:8081")
+        for settings, proxy in ((env, nginx), (f"{env}ACD_PORT=8080\nACD_GATE_PORT=8081\nACD_LOCAL_PORTS=2379,2380\n", at_ports)):
+            made = self.made(r"^    sed 's#/var/lib/acd/#.*?north\.env\n.*?north\.env\n", {"etc/acd/acd.env": settings})["etc/acd/north.env"]
+            found = [line for line in made.splitlines() if re.match("ACD_[A-Z_]*(PORT|PORTS|SOCKET)=", line)]
+            self.assertEqual(found, ["ACD_TLS_PORT=8443", "ACD_SOCKET=/run/acd/north.sock", "ACD_GATE_SOCKET=/run/acd-gate/north.sock"])
+            self.assertIn("ACD_FILE=/var/lib/acd/north/desk.db\n", made)
+            made = self.made(r"^    sed -E '.*?north\.conf\n", {"etc/nginx/conf.d/desk.conf": proxy})["etc/nginx/conf.d/north.conf"]
+            self.assertEqual(re.findall(r"^    server (\S+) |^    listen (\d+)", made, re.MULTILINE), [("unix:/run/acd/north.sock", ""), ("unix:/run/acd-gate/north.sock", ""), ("", "8453")])
+
     def test_nothing_is_of_the_first_line(self):
         units = self.units()
         self.assertEqual(set(units), {f"acd{part}-north" for part in ("", "-gate", "-copy", "-records")})
