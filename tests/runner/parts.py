@@ -73,7 +73,7 @@ BY_HAND = {
     "board": Part("try-board", (), (), (*NGINX, "curl"), ("browser",)),
     "copies whole": Part("try-copies", (), ("copies/copying.py", "copies/again.py", "copies/halts.py", "copies/restores.py", "copies/kills.py"), ("strace", "util-linux"), ("root",)),
     "cuts": Part("try-cuts", (), ("cuts/commands.py",), ("strace", "util-linux"), ("alone", "loop devices")),
-    "edges": Part("try-edges", (), ("machine/users.py", "machine/units.py", "machine/second.py"), (), ("booted", "browser"), False),
+    "edges": Part("try-edges", (), ("machine/sockets.py", "machine/watched.py", "machine/upgraded.py", "machine/users.py", "machine/units.py", "machine/second.py"), (), ("booted", "browser"), False),
     "exchange": Part("try-exchange", (), ("try-exchange",), NGINX, ("sip",)),
     "files": Part("try-files", (), ("try-files",)),
     "flood": Part("try-flood", ("--seconds", "8", "--floods", "4"), ("flood/doors.py",), (*NGINX, "apache2-utils", "python3-h2"), ("root",)),

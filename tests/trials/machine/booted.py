@@ -14,13 +14,16 @@ from trial import TOP, Trial, command, missing
 # of each such trial; debootstrap follows no virtual packages: python3-cffi-backend is what python3-bcrypt means by one
 INCLUDED = ("adduser", "curl", "dbus", "iproute2", "nftables", "procps", "python3", "python3-aiohttp", "python3-bcrypt", "python3-cffi-backend", "python3-icalendar", "python3-passlib", "systemd", "systemd-sysv")
 NEEDED = ("debootstrap", "nsenter", "systemd-nspawn", "tar")
-DESK = "http://127.0.0.1:8080"
+# where desk and gate are: at their sockets, as they are installed, or at the ports of before, which an upgrade keeps; each as curl is told it
+AT_SOCKETS = {"desk": ("--unix-socket", "/run/acd/desk.sock", "http://desk"), "gate": ("--unix-socket", "/run/acd-gate/gate.sock", "http://gate")}
+AT_PORTS = {"desk": ("http://127.0.0.1:8080",), "gate": ("http://127.0.0.1:8081",)}
+PORTS = "ACD_PORT=8080\nACD_GATE_PORT=8081\nACD_LOCAL_PORTS=2379,2380\n"
 
 
 class Booted(Trial):
     """Each class has a container of its own, in which `packages` are installed. `included` are packages of Debian that it has for these cases alone; `said` is what dpkg said."""
 
-    included, packages, container, said = (), (), None, ""
+    included, packages, container, said, places = (), (), None, "", AT_SOCKETS
 
     @classmethod
     def setUpClass(cls):
@@ -34,6 +37,20 @@ class Booted(Trial):
     @classmethod
     def prepare(cls):
         """Makes the container ready for the cases."""
+
+    @classmethod
+    def keep_ports(cls):
+        """As an upgrade of a package of before leaves it."""
+        settings = cls.container.inside("/etc/acd/acd.env")
+        settings.write_text(settings.read_text() + PORTS)
+        cls.container.run("systemctl", "restart", "acd-local", "acd", "acd-gate")
+        cls.places = AT_PORTS
+
+    @classmethod
+    def at(cls, path, of="desk"):
+        """A path of the desk or of the gate, as curl is told it."""
+        *words, address = cls.places[of]
+        return [*words, f"{address}{path}"]
 
     def expect_in(self, what, found, wanted):
         self.see(what, re.search(wanted, found), f"no '{wanted}' in {found!r}")
@@ -58,21 +75,22 @@ class Booted(Trial):
         return end
 
     def curl(self, address, *more, user=None, group=None):
-        """The status of HTTP; 0 where there was no connection, none that was answered, or no such user. A group is the first one, as by `sg`."""
-        words = ["curl", "-s", "-o", "/dev/null", "-w", "%{http_code}", "--max-time", "3", "--noproxy", "*", *more, address]
+        """The status of HTTP; 0 where there was no connection, none that was answered, or no such user. An address is a text, or curl's words. A group is the first one, as by `sg`."""
+        address = [address] if isinstance(address, str) else address
+        words = ["curl", "-s", "-o", "/dev/null", "-w", "%{http_code}", "--max-time", "3", "--noproxy", "*", *more, *address]
         if group:
             words, user = ["setpriv", "--reuid", user, "--regid", group, "--clear-groups", *words], None
         said = self.ran(*words, user=user)[1]
         return int(said) if said.isdigit() else 0
 
-    def service(self, requester, invoke, service, to=f"{DESK}/csta", fields=(), **members):
-        """The desk's reply, asked by root."""
+    def service(self, requester, invoke, service, of="desk", fields=(), **members):
+        """The reply of the desk or of the gate, asked by root."""
         body = json.dumps({"requester": requester, "invoke": invoke, "service": service, **members})
-        said = self.ran("curl", "-s", "--max-time", "5", *fields, "-d", body, to)[1]
+        said = self.ran("curl", "-s", "--max-time", "5", *fields, "-d", body, *self.at("/csta", of))[1]
         return json.loads(said) if said else {}
 
     def read(self, path):
-        return self.ran("curl", "-s", "--max-time", "5", f"{DESK}{path}")[1]
+        return self.ran("curl", "-s", "--max-time", "5", *self.at(path))[1]
 
     def journal(self, unit):
         return self.ran("journalctl", "--no-pager", "-o", "cat", "-u", unit)[1]

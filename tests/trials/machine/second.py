@@ -2,6 +2,7 @@
 import re
 import subprocess
 
+from booted import AT_SOCKETS
 from edges import Edges
 
 PAGE = "/usr/share/doc/acd/OPERATING.md"
@@ -10,6 +11,8 @@ HASH = "import passlib.hash; print(passlib.hash.bcrypt.using(rounds=5).hash('ses
 
 
 class Second(Edges):
+    places = {**AT_SOCKETS, "north": ("--unix-socket", "/run/acd/north.sock", "http://desk")}
+
     def lines(self, heading):
         """The lines that are to be typed under a heading."""
         part = self.container.inside(PAGE).read_text().partition(f"\n## {heading}\n")[2].partition("\n## ")[0]
@@ -40,15 +43,15 @@ class Second(Edges):
         """Both lines serve, each with its own desk, logins and copies."""
         status, said = self.container.shell(f"set -e\n{self.lines('A second help line')}")
         self.expect(f"its lines ({said[-400:]})", status, 0)
-        self.expect("its desk answers", self.eventually(lambda: self.curl("http://127.0.0.1:8090/"), 404), 404)
-        self.service("plan", 1, "addGroup", to="http://127.0.0.1:8090/csta", device="500", name="North", ring=20, wrap=0)
+        self.expect("its desk answers", self.eventually(lambda: self.curl(self.at("/", "north")), 404), 404)
+        self.service("plan", 1, "addGroup", of="north", device="500", name="North", ring=20, wrap=0)
         self.may_read("north-", "nora")
         for status, port, login in ((200, 8453, "nora"), (404, 8443, "sup"), (401, 8453, "sup"), (401, 8443, "nora")):
             self.expect(f"{login} at {port}", self.eventually(lambda: self.asked(port, login, "/queues/500"), status), status)
         self.done("systemctl", "start", "acd-copy-north")
         self.expect_in("its own copy", self.journal("acd-copy-north"), "sound: /var/lib/acd/north/copies/")
         self.expect("nothing has failed", self.ran("systemctl", "--failed", "--quiet"), (0, ""))
-        self.expect("other users are kept from it", self.curl("http://127.0.0.1:8090/", user="ben"), 0)
+        self.expect("other users are kept from it", self.curl(self.at("/", "north"), user="ben"), 0)
 
     def try_session(self):
         """A session of one line is none of the other's."""

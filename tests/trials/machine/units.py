@@ -106,7 +106,7 @@ class Units(Edges):
     def try_gate(self):
         """The gate judges, by the roles that it alone reads."""
         for login, service, wanted in (("pbx", "tick", "result"), ("nobody", "tick", "error")):
-            reply = self.service(login, 60, service, "http://127.0.0.1:8081/csta", ("-H", f"X-Login: {login}"))
+            reply = self.service(login, 60, service, "gate", ("-H", f"X-Login: {login}"))
             self.expect(f"{service} by {login}", wanted in reply)
 
     def try_copy(self):

@@ -1,4 +1,4 @@
-"""Cases of a machine's users: who reaches the ports of the desk, by curl and by a browser."""
+"""Cases of a machine's users, where desk and gate have the ports of before: who reaches these, by curl and by a browser."""
 import contextlib
 import os
 import re
@@ -36,6 +36,11 @@ with socket.create_connection(("127.0.0.1", 8080)) as desk:
 
 
 class Users(Edges):
+    @classmethod
+    def prepare(cls):
+        super().prepare()
+        cls.keep_ports()
+
     def try_group(self):
         self.done("useradd", "--create-home", "ana")
         self.done("adduser", "--quiet", "ana", "acd-local")

@@ -111,7 +111,7 @@ class Plans(Office):
             self.expect(f"{service} is taken", "result" in self.service("day", invoke, service, **members))
         number = json.loads(self.read("/snapshot"))["calls"][0]["call"]
         self.inside("/etc/acd/roles").write_text("sup supervisor\n")
-        refused = self.service("sup", 1, "setAgentState", "http://127.0.0.1:8081/csta", ("-H", "X-Login: sup"), agent="7", requested="loggedOff")
+        refused = self.service("sup", 1, "setAgentState", "gate", ("-H", "X-Login: sup"), agent="7", requested="loggedOff")
         self.expect("by a supervisor", refused["error"]["name"], "forbidden")
         status, said = self.typed(self.recipe("An agent forgot to log off, a call hangs", "now=$(date +%s)", {'"call":12': f'"call":{number}', "calls/12": f"calls/{number}"}))
         self.expect(f"by the page's lines ({said})", (status, said.count('"result"'), "error" in said), (0, 2, False))
@@ -133,7 +133,7 @@ class Plans(Office):
 
     def as_login(self, login, invoke):
         """What a tick of a login is answered, behind the proxy's check of a password."""
-        return self.service(login, invoke, "tick", "http://127.0.0.1:8081/csta", ("-H", f"X-Login: {login}"))
+        return self.service(login, invoke, "tick", "gate", ("-H", f"X-Login: {login}"))
 
     def try_twice_and_too_many(self):
         """One number twice, and more groups than a desk takes: by an import rows are lost, with status 0; by the page's line the one is refused whole, the other one is told."""
