@@ -11,8 +11,8 @@ from second import HASH
 from trial import TOP
 
 OLDER = "release/ of 1.14"
-CONF, OWN_SITE = "/etc/nginx/conf.d/desk.conf", "http://127.0.0.1:8088"
-# what an office added to its file of nginx: a page of figures for its own network
+CONF, OWN_CONF, OWN_SITE = "/etc/nginx/conf.d/desk.conf", "/etc/nginx/conf.d/own.conf", "http://127.0.0.1:8088"
+# what an office has of its own beside it: a page of figures for its own network
 OWN = """
 server {
     listen 127.0.0.1:8088;
@@ -58,8 +58,9 @@ class Upgraded(Edges):
         hashed = cls.container.run("python3", "-c", HASH)[1].strip()
         (folder / "users").write_text(f"sup:{hashed}\nmax:{hashed}\n")
         (folder / "roles").write_text((folder / "roles").read_text() + "sup supervisor\nmax exchange\n")
-        own = cls.container.inside("/usr/share/doc/acd/examples/nginx.conf").read_text() + OWN
-        cls.container.inside(CONF).write_text(own)
+        own = cls.container.inside("/usr/share/doc/acd/examples/nginx.conf").read_text()
+        cls.container.inside(CONF).write_text(own.replace("gzip_proxied any;", "gzip_proxied any;\n    gzip_vary on;") + "# ours\n")
+        cls.container.inside(OWN_CONF).write_text(OWN)
         cls.container.run("systemctl", "restart", "nginx")
         exchange = cls.container.inside("/etc/acd/exchange.env")
         exchange.write_text(re.sub("(?m)^EXCHANGE_DESK=.*\n", "", exchange.read_text()))
@@ -94,21 +95,21 @@ class Upgraded(Edges):
             self.expect(f"{service} is taken", "result" in self.service("plan", invoke, service, **members))
         self.serves("before", 1)
         page = self.container.inside("/usr/share/doc/acd/OPERATING.md").read_text().partition("\n## A second help line\n")[2]
-        # the office's own server is the first line's alone
-        lines = re.sub("^    ", "", re.search(r"^    .*\n(?:    .*\n)*", page, re.MULTILINE)[0], flags=re.MULTILINE).replace("> /etc/nginx/conf.d/north.conf", "| sed '/^server {$/{N;/8088/,$d}' > /etc/nginx/conf.d/north.conf")
+        lines = re.sub("^    ", "", re.search(r"^    .*\n(?:    .*\n)*", page, re.MULTILINE)[0], flags=re.MULTILINE)
         status, said = self.container.shell(f"set -e\n{lines}")
         self.expect(f"a second line by its page ({said[-400:]})", status, 0)
         self.expect("its desk answers", self.eventually(lambda: self.curl("http://127.0.0.1:8090/"), 404), 404)
 
     def try_upgrade(self):
-        """Nothing is asked, nothing that the office wrote is changed but for the ports that it didn't name, and all goes on."""
-        conf, north = self.container.inside(CONF).read_bytes(), self.container.inside("/etc/acd/north.env").read_bytes()
+        """Nothing is asked, nothing that the office wrote is changed, and all goes on."""
+        files = (CONF, OWN_CONF, "/etc/nginx/conf.d/north.conf", "/etc/acd/north.env", "/etc/acd/acd.env", "/etc/systemd/system/acd-north.service")
+        before = [self.container.inside(file).read_bytes() for file in files]
         for package in self.newer:
             self.container.inside(f"/root/{package.name}").write_bytes(Path(package).read_bytes())
             status, said = self.ran("dpkg", "--install", f"/root/{package.name}")
             self.expect(f"dpkg --install ({said[-400:]})", status, 0)
             type(self).told = self.told + said if package != self.newer[0] else said
-        self.expect("its files of nginx and of the second line", (self.container.inside(CONF).read_bytes(), self.container.inside("/etc/acd/north.env").read_bytes()), (conf, north))
+        self.expect("its files", [file for file, text in zip(files, before) if self.container.inside(file).read_bytes() != text], [])
         self.expect_in("the exchange keeps the desk's address", self.done("cat", "/etc/acd/exchange.env"), r"\nEXCHANGE_DESK=http://127\.0\.0\.1:8080\n\Z")
         self.serves("behind the upgrade", 2)
         for port in (8080, 8081, 8090, 8091):
@@ -128,7 +129,7 @@ class Upgraded(Edges):
         self.expect(f"they run ({said[-400:]})", status, 0)
         type(self).places = AT_SOCKETS
         self.serves("at the sockets", 3, (200, 200, 200, 401, 502, 502))
-        conf = self.container.inside(CONF)
+        conf = self.container.inside(OWN_CONF)
         conf.write_text(conf.read_text().replace("http://127.0.0.1:8080;", "http://unix:/run/acd/desk.sock;").replace("http://127.0.0.1:8080/", "http://unix:/run/acd/desk.sock:/"))
         self.done("nginx", "-s", "reload")
         self.serves("with its own server", 4)
@@ -146,7 +147,6 @@ class Upgraded(Edges):
         page = self.container.inside("/usr/share/doc/acd/OPERATING.md").read_text().partition("\n## A second help line\n")[2]
         lines = re.sub("^    ", "", re.search(r"^    .*\n(?:    .*\n)*", page, re.MULTILINE)[0], flags=re.MULTILINE)
         lines = "".join(line for line in lines.splitlines(True) if "/dev/null /etc/acd/north-roles" not in line)
-        lines = lines.replace("> /etc/nginx/conf.d/north.conf", "| sed '/^server {$/{N;/8088/,$d}' > /etc/nginx/conf.d/north.conf")
         status, said = self.container.shell(f"set -e\n{lines}")
         self.expect(f"its lines ({said[-400:]})", status, 0)
         there = ["--unix-socket", "/run/acd/north.sock", "http://desk/"]

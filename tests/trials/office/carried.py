@@ -33,13 +33,12 @@ def history():
 class Carried(Office):
     def try_days(self):
         """Days that are over, as the desk's user feeds them."""
-        self.done("systemctl", "stop", "acd-tick", "acd")
+        self.done("systemctl", "stop", "acd")
         self.container.put("/history", history())
         said = self.typed(f"runuser -u acd -- acd lines --file {FILE} </history >/dev/null")
         self.expect("the days are fed", said, (0, ""))
         self.done("cp", "-a", STATE, BEFORE)
         self.restarts("with days that are over")
-        self.done("systemctl", "start", "acd-tick")
 
     def laid(self):
         """All as it was before the first time, with a desk that serves."""

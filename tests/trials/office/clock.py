@@ -24,7 +24,7 @@ class Clock(Planned):
     def try_plan(self):
         super().try_plan()
         self.set("ACD_STEP", "2")
-        self.done("systemctl", "restart", "acd-tick")
+        self.done("systemctl", "restart", "acd")
 
     def offers(self, requester):
         """An agent who is ready, and a call that is offered for three seconds; whether a tick takes it back."""
@@ -49,8 +49,8 @@ class Clock(Planned):
         self.expect("a request of a clock that is ahead", self.container.shell(f"echo '{moment} {request}' | acd lines --file {FILE}", user="acd")[1].startswith("200 "))
         self.restarts("with a moment ahead")
         self.expect("an offer isn't taken back", self.offers("ahead"), False)
-        lines = self.said_since(mark, "tick")
-        wanted = f"acdctl tick: the desk's time is over a minute ahead of this machine's clock: until {time.strftime('%Y-%m-%d %H:%M:%S', time.gmtime(moment))} UTC no ring and no after-call work ends by a tick"
+        wanted = f"acdctl ready: the desk's time is over a minute ahead of this machine's clock: until {time.strftime('%Y-%m-%d %H:%M:%S', time.gmtime(moment))} UTC no ring and no after-call work ends by a tick"
+        lines = self.eventually(lambda: self.said_since(mark), [wanted], 75)
         self.expect("and that is told, once", lines, [wanted])
         said = self.container.shell(f"export TZ=UTC; {self.recipe('A clock that was ahead', 'date -d @')}")[1]
         self.expect("by hand, as the page says", said, time.strftime("%a %b %e %H:%M:%S UTC %Y\n", time.gmtime(moment)))
@@ -58,7 +58,7 @@ class Clock(Planned):
     def try_new_file(self):
         """One of the ways out: the same plan in a new file, by the page's recipe, as root, while no call is live."""
         self.clear("out")
-        self.expect("the recipe", self.typed(self.recipe("A new year in a new file", "curl -s http"))[0], 0)
+        self.expect("the recipe", self.typed(self.recipe("A new year in a new file", "curl -s --unix-socket"))[0], 0)
         self.serves("in a new file")
         self.expect("the note of the old pair went with it", [name for name in self.names() if name.startswith("desk.db")], ["desk.db", "desk.db-pair", "desk.db-wal"])
         self.expect("an offer is taken back", self.offers("new"), True)

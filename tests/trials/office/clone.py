@@ -16,7 +16,7 @@ class Clone(Office):
 
     def try_taken(self):
         """What git has here is taken there, where no toolchain is."""
-        self.done("systemctl", "stop", "acd-tick", "acd-gate", "acd")
+        self.done("systemctl", "stop", "acd-gate", "acd")
         self.done("install", "-d", CLONE)
         files = subprocess.run(["git", "-C", TOP, "ls-files", "-z"], stdout=subprocess.PIPE, check=True).stdout.decode().split("\0")[:-1]
         subprocess.run(["tar", "-C", TOP, "-cf", self.inside(f"{HOME}/acd.tar"), *files], check=True)

@@ -153,7 +153,7 @@ class Copies(Planned):
         self.expect(f"{what}: a whole one or none", said in ((0, "sound\n"), (1, f"acd: cannot open {FILE}\n")), True)
         mark = self.mark()
         self.ran("systemctl", "start", "acd")
-        self.eventually(lambda: self.show("ActiveState")[0] == "failed" or self.curl("http://127.0.0.1:8080/snapshot") == 200, True)
+        self.eventually(lambda: self.show("ActiveState")[0] == "failed" or self.curl(self.at("/snapshot")) == 200, True)
         state, status = self.show("ActiveState", "ExecMainStatus")
         kept, lines = (str(self.kept("killed")) if state == "active" else "none"), self.said_since(mark)
         self.ran("systemctl", "stop", "acd")
@@ -180,8 +180,8 @@ class Copies(Planned):
             with self.loaded(what):
                 mark = self.mark()
                 self.done(*wrong)
-                lines = self.eventually(lambda: self.said_since(mark, "tick"), [f"acdctl tick: {line % process}"], 75)
-                self.expect(f"{what}: acd-tick tells it within a minute or so", lines, [f"acdctl tick: {line % process}"])
+                lines = self.eventually(lambda: self.said_since(mark), [f"acdctl ready: {line % process}"], 75)
+                self.expect(f"{what}: the journal tells it within a minute or so", lines, [f"acdctl ready: {line % process}"])
             self.expect(f"{what}: the copy fails", self.ran("systemctl", "start", "acd-copy")[0] != 0)
             self.expect_in(f"{what}: and is named", self.ran("systemctl", "--failed", "--no-legend", "--plain")[1], "acd-copy.service")
             lines = self.said_since(mark, "copy")
@@ -223,7 +223,7 @@ class Copies(Planned):
 
     def try_new_year(self):
         """A new year by the page's recipe, typed in root's home: nobody else reads any of its files."""
-        status, said = self.typed(self.recipe("A new year in a new file", "curl -s http"))
+        status, said = self.typed(self.recipe("A new year in a new file", "curl -s --unix-socket"))
         self.expect(f"the recipe ({said[-200:]})", status, 0)
         self.serves("in the new year")
         self.expect("the plan is there", [one["name"] for one in json.loads(self.read("/snapshot"))["agents"]], ["Ana"])

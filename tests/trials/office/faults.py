@@ -6,7 +6,7 @@ from trial import planted
 
 UNITS, PAGE, POSTINST = "usr/lib/systemd/system", "usr/share/doc/acd/OPERATING.md", "DEBIAN/postinst"
 MODULES = "usr/share/acd/acd_service"
-DESK, TICKS, COPY = f"{UNITS}/acd.service", f"{UNITS}/acd-tick.service", f"{UNITS}/acd-copy.service"
+DESK, COPY = f"{UNITS}/acd.service", f"{UNITS}/acd-copy.service"
 CARRY = f"{UNITS}/acd-carry.service"
 AGAIN = "StartLimitIntervalSec=0\n"
 
@@ -36,9 +36,8 @@ FAULTS = [
     Fault("a refused command line too", (DESK, "RestartPreventExitStatus=2 64", "RestartPreventExitStatus=64"), "starting", ("try_wrong_port",)),
     Fault("a full disk leaves the desk down", (DESK, "Restart=always", "Restart=no"), "starting", ("plan", "try_full_disk")),
     Fault("systemd gives up", (DESK, AGAIN, ""), "starting", ("try_installed",)),
-    Fault("ticks with a step that is refused are started again and again", (TICKS, "RestartPreventExitStatus=2\n", ""), "starting", ("try_settings",)),
     Fault("quotes are taken for a part of a file's name", (f"{MODULES}/settings.py", r"""^(["'])(.*)\1$""", r"""^(["'])(.*)\1\1$"""), "starting", ("try_settings",)),
-    Fault("a log isn't looked at", (f"{MODULES}/ready.py", "    look_at_port(options.port)\n    look_at_log(file)\n", "    look_at_port(options.port)\n"), "damage", ("plan", "try_middle")),
+    Fault("a log isn't looked at", (f"{MODULES}/ready.py", "        look_at_socket(options.socket)\n    look_at_log(file)\n", "        look_at_socket(options.socket)\n"), "damage", ("plan", "try_middle")),
     Fault("nor whether one was removed", (DESK, "ExecStopPost=-/usr/bin/acdctl ready --stopped --file ${ACD_FILE}\n", ""), "damage", ("plan", "try_removed_log")),
     Fault("a start returns before the desk answers", (DESK, "Type=notify\n", "Type=exec\n"), "starting", ("try_slow_opening",)),
     Fault("a start ends behind 90 seconds", (DESK, "TimeoutStartSec=infinity\n", "TimeoutStartSec=2\n"), "starting", ("try_slow_opening",)),
@@ -46,7 +45,8 @@ FAULTS = [
     Fault("a time that is ahead isn't told", (f"{MODULES}/watch.py", "if moment > int(time.time()) + MINUTE:", "if False:"), "clock", ("plan", "try_ahead")),
     Fault("the desk doesn't wait for the clock", (DESK, "After=local-fs.target time-sync.target", "After=local-fs.target"), "clock", ("plan", "try_late_clock")),
     Fault("copies by hand are too many", (COPY, AGAIN, ""), "copies", ("plan", "try_one_behind_the_other")),
-    Fault("the ticks' user doesn't see what the desk has open", (TICKS, "User=acd\n", "User=acd-gate\n"), "copies", ("plan", "try_moved_file")),
+    Fault("nobody looks at the desk's files", (f"{MODULES}/watch.py", "            look_at_files([self.desk], self.file)\n", "            pass\n"), "copies", ("plan", "try_moved_file")),
+    Fault("the desk doesn't tick", (DESK, " --tick ${ACD_STEP}", ""), "clock", ("plan", "try_new_file")),
     Fault("a restore that is killed leaves no link", (f"{MODULES}/restoring.py", "    if is_hidden(file):\n        return\n    if leaving", "    return\n    if leaving"), "copies", ("plan", "try_killed")),
     Fault("a recipe's files are for all to read", (PAGE, "        umask 077\n", ""), "copies", ("plan", "try_new_year")),
     Fault("nothing keeps the desk down", (DESK, "ConditionPathExists=!/run/acd-carry/down\n", ""), "carried", ("try_days", "try_meanwhile")),

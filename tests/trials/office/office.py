@@ -19,7 +19,12 @@ LOAD = "/usr/local/bin/load"
 
 # asks for ticks, one after the other, each until it is answered, and writes down those that were
 LOADING = """#!/usr/bin/python3
-import http.client, json, sys, time
+import http.client, json, socket, sys, time
+class Desk(http.client.HTTPConnection):
+    def connect(self):
+        self.sock = socket.socket(socket.AF_UNIX)
+        self.sock.settimeout(5)
+        self.sock.connect("/run/acd/desk.sock")
 requester, path, number = sys.argv[1], sys.argv[2], 0
 with open(path, "a", buffering=1) as answered:
     while True:
@@ -27,7 +32,7 @@ with open(path, "a", buffering=1) as answered:
         body, status = json.dumps({"requester": requester, "invoke": number, "service": "tick"}), 0
         while status != 200:
             try:
-                desk = http.client.HTTPConnection("127.0.0.1", 8080, timeout=5)
+                desk = Desk("desk")
                 desk.request("POST", "/csta", body)
                 status = desk.getresponse().status
                 desk.close()
@@ -81,9 +86,10 @@ class Office(Booted):
         return self.container.shell(f"set -e; cd {at}\n{lines}", user=user)
 
     def set(self, name, value):
-        """A line of acd.env."""
+        """A line of acd.env; without a value there is none."""
         settings = self.inside(SETTINGS)
-        settings.write_text(re.sub(f"^{name}=.*", f"{name}={value}", settings.read_text(), flags=re.MULTILINE))
+        text = re.sub(f"^{name}=.*\n", "", settings.read_text(), flags=re.MULTILINE)
+        settings.write_text(text if value is None else f"{text}{name}={value}\n")
 
     def plan(self):
         self.done("systemctl", "stop", "acd")
@@ -91,8 +97,9 @@ class Office(Booted):
         self.done("systemctl", "start", "acd")
         self.serves("with a plan")
 
-    def serves(self, when, port=8080):
-        self.expect(f"{when} the desk serves", self.eventually(lambda: self.curl(f"http://127.0.0.1:{port}/snapshot"), 200, 20), 200)
+    def serves(self, when, port=None):
+        place = f"http://127.0.0.1:{port}/snapshot" if port else self.at("/snapshot")
+        self.expect(f"{when} the desk serves", self.eventually(lambda: self.curl(place), 200, 20), 200)
 
     def kill(self):
         """The desk is ended by SIGKILL, and stays down."""
@@ -163,7 +170,7 @@ class Office(Booted):
         """It is started again, answers as soon as the command returns, and says nothing of faults."""
         mark = self.mark()
         self.done("systemctl", "restart", "acd")
-        self.expect(f"{what}: it answers", self.curl("http://127.0.0.1:8080/snapshot"), 200)
+        self.expect(f"{what}: it answers", self.curl(self.at("/snapshot")), 200)
         self.expect(f"{what}: what it says", self.said_since(mark), [])
 
 

@@ -5,10 +5,10 @@ import re
 from office import FILE, HOME, PLAN, STATE, Office
 
 HEADER = PLAN.partition("\n")[0] + "\n"
-DESK = "http://127.0.0.1:8080"
+DESK = "unix:/run/acd/desk.sock"
 SECOND = HEADER + "group,100,Bills,3,2\nstation,201,,,\nstation,202,,,\nagent,7,Ana,,\nagent,8,Ben,,\n"
 NOON = "The next agent, at noon"
-LINE = "acdctl plan --changes plan.csv --from http://127.0.0.1:8080 --send"
+LINE = "acdctl plan --changes plan.csv --from unix:/run/acd/desk.sock --send"
 
 
 class Plans(Office):

@@ -16,7 +16,6 @@ COMMANDS = (("lines",), ("import", "--plan", f"{STATE}/plan.csv"), ("serve", "--
 class Program(Planned):
     def try_plan(self):
         super().try_plan()
-        self.done("systemctl", "disable", "--now", "acd-tick")
         self.container.put(f"{STATE}/plan.csv", PLAN)
 
     def acd(self, *words, wait=20):

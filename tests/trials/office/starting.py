@@ -7,17 +7,24 @@ from office import FILE, HOME, SETTINGS, STATE, Office
 LOG, NOTE, ROUNDS, KILLS, OPENING = f"{FILE}-wal", f"{FILE}-pair", 50, 20, 5
 # a desk that is played, in the place of the program: it listens behind so many seconds
 PLAYED = """#!/usr/bin/python3
-import socket, sys, time
+import os, socket, sys, time
 time.sleep({seconds})
 if not {listens}:
     sys.exit(1)
-listener = socket.create_server(("127.0.0.1", 8080))
+path, listener = sys.argv[sys.argv.index("--socket") + 1], socket.socket(socket.AF_UNIX)
+if os.path.exists(path):
+    os.unlink(path)
+listener.bind(path)
+listener.listen()
 while True:
     asks = listener.accept()[0]
     asks.recv(4096)
     asks.sendall(b"HTTP/1.1 200 OK\\r\\nContent-Length: 0\\r\\n\\r\\n")
     asks.close()
 """
+SOCKET = "/run/acd/desk.sock"
+# listens there for as long as nobody ends it
+LISTENS = f"import os, socket, time; os.path.exists({SOCKET!r}) and os.unlink({SOCKET!r}); s = socket.socket(socket.AF_UNIX); s.bind({SOCKET!r}); s.listen(); time.sleep(9999)"
 
 
 class Starting(Office):
@@ -118,13 +125,13 @@ class Starting(Office):
         self.restarts("with its own file")
 
     def try_slow_opening(self):
-        """The start returns when the port answers, however long that takes, and fails where the desk ends before."""
+        """The start returns when the desk answers, however long that takes, and fails where the desk ends before."""
         self.done("systemctl", "stop", "acd")
         for listens in (True, False):
             self.container.put("/usr/local/bin/acd", PLAYED.format(seconds=OPENING, listens=listens), 0o755)
             began = time.monotonic()
             status = self.ran("systemctl", "start", "acd", wait=OPENING + 120)[0]
-            found = status, self.curl("http://127.0.0.1:8080/"), time.monotonic() - began > OPENING, self.show("ActiveState") == ["active"]
+            found = status, self.curl(self.at("/")), time.monotonic() - began > OPENING, self.show("ActiveState") == ["active"]
             self.expect(f"a desk that {'listens' if listens else 'ends'} behind {OPENING} s", found, (0, 200, True, True) if listens else (1, 0, True, False))
             self.done("systemctl", "stop", "acd")
             self.expect("nobody goes on asking", "acdctl ready --serve" in self.done("ps", "-eo", "args"), False)
@@ -195,24 +202,41 @@ class Starting(Office):
         self.done("systemd-run", "--quiet", "--collect", "--unit=stranger", "--uid=www-data", "python3", "-m", "http.server", str(port), "--bind", "127.0.0.1", "--directory", "/srv")
         self.expect("a stranger listens", self.eventually(lambda: f":{port} " in self.ran("ss", "-Hltn")[1], True), True)
 
-    def try_taken_port(self):
-        """Another program has the port: told at once, and it is sent no tick."""
-        self.set("ACD_STEP", "2")
-        self.done("systemctl", "restart", "acd-tick")
+    def try_taken_socket(self):
+        """Another program of the same user listens at the socket, or something else is there: told at once, and left."""
         self.done("systemctl", "stop", "acd")
-        ticks = self.mark()
+        self.done("systemd-run", "--quiet", "--collect", "--unit=stranger", "--uid=acd", "python3", "-c", LISTENS)
+        self.expect("a stranger listens", self.eventually(lambda: SOCKET in self.ran("ss", "-Hlx")[1], True), True)
+        self.fails("a taken socket", f"{SOCKET} is taken", f"ss -lxp src unix:{SOCKET}", "ACD_SOCKET in /etc/acd/acd.env")
+        self.expect_in("the line's own advice names who has it", self.done("ss", "-lxp", "src", f"unix:{SOCKET}"), "python3")
+        status, said = self.ran("dpkg", "--install", *[f"{HOME}/{path.name}" for path in self.inside(HOME).glob("acd_*.deb")])
+        self.expect("an installation goes on", status, 0)
+        self.expect_in("and says it", said, f"(?m)^acd: the desk isn't served: {SOCKET} is taken: end who listens there")
+        self.done("systemctl", "stop", "stranger")
+        self.restarts("without the stranger, whose socket is left over")
+        self.done("systemctl", "stop", "acd")
+        self.done("rm", SOCKET)
+        self.done("touch", SOCKET)
+        self.fails("a file in its place", f"{SOCKET} is there, and is no socket of the user acd: move it away")
+        self.done("rm", SOCKET)
+        self.done("mv", "/run/acd", "/run/away")
+        self.fails("a folder that isn't there", "the folder /run/acd isn't there: make it (systemd-tmpfiles --create acd.conf)")
+        self.done("systemd-tmpfiles", "--create", "acd.conf")
+        self.restarts("with its folder, as the line says")
+        self.done("rm", "-r", "/run/away")
+
+    def try_taken_port(self):
+        """The same of a desk that has a port."""
+        self.done("systemctl", "stop", "acd")
+        self.set("ACD_PORT", "8080")
         self.stranger()
         self.fails("a taken port", "port 8080 is taken", "ss -ltnp sport = :8080", "ACD_PORT in /etc/acd/acd.env")
         self.expect_in("the line's own advice names who has it", self.done("ss", "-ltnp", "sport = :8080"), "python3")
-        lines = self.eventually(lambda: self.said_since(ticks, "tick"), ["acdctl tick: who listens at port 8080 is no desk, and is sent nothing"])
-        self.expect("the ticks tell it too", lines, ["acdctl tick: who listens at port 8080 is no desk, and is sent nothing"])
-        asked = self.journal("stranger")
-        self.expect("the stranger is asked, and sent nothing", ("GET /snapshot" in asked, "POST" in asked), (True, False))
-        status, said = self.ran("dpkg", "--install", *[f"{HOME}/{path.name}" for path in self.inside(HOME).glob("acd_*.deb")])
-        self.expect("an installation goes on", status, 0)
-        self.expect_in("and says it", said, r"(?m)^acd: the desk isn't served: port 8080 is taken: end who listens there")
         self.done("systemctl", "stop", "stranger")
-        self.restarts("without the stranger")
+        self.done("systemctl", "restart", "acd")
+        self.serves("without the stranger", 8080)
+        self.set("ACD_PORT", None)
+        self.restarts("at its socket again")
 
     def try_long_start(self):
         """A desk whose start takes minutes, as an opening of a large file does: an installation goes on within half a minute, and says how to look. The start goes on too."""
@@ -227,26 +251,25 @@ class Starting(Office):
         self.restarts("with its own start")
 
     def try_wrong_port(self):
-        for value, status, word in (("80", "64", "the user acd may not use port 80"), ("abc", "2", "the port 'abc' isn't a whole number from 1 to 65535"), ("", "2", "the port '' isn't"), ("99999", "2", "the port '99999' isn't")):
+        for value, status, word in (("80", "64", "the user acd may not use port 80"), ("abc", "2", "the port 'abc' isn't a whole number from 1 to 65535"), ("99999", "2", "the port '99999' isn't")):
             self.set("ACD_PORT", value)
             self.fails(f"port '{value}'", word, status=status)
-        self.set("ACD_PORT", "8080")
+        self.set("ACD_PORT", "")
+        self.restarts("without a value, at its socket")
+        self.set("ACD_PORT", None)
         self.done("systemctl", "restart", "acd-local")
-        self.restarts("with its own port")
+        self.restarts("without the setting")
 
     def try_settings(self):
-        """A step that is too short: the ticks have failed, for good, and are named. What another system's editor or somebody's quotes make of the file is taken."""
+        """A step or a patience that is none: the desk has failed, for good, and is named. What another system's editor or somebody's quotes make of the file is taken."""
         settings = self.inside(SETTINGS)
         before = settings.read_text()
-        self.set("ACD_STEP", "1")
-        self.ran("systemctl", "restart", "acd-tick")
-        self.expect("a step of one second", self.eventually(lambda: self.show("ActiveState", "ExecMainStatus", "NRestarts", unit="acd-tick"), ["failed", "2", "0"], 5), ["failed", "2", "0"])
-        self.expect_in("it is named", self.ran("systemctl", "--failed", "--no-legend", "--plain")[1], "acd-tick.service")
-        self.expect("and says why", "'1' isn't a whole number from 2 to 3600" in self.journal("acd-tick"))
+        for name in ("ACD_STEP", "ACD_PATIENCE"):
+            self.set(name, "0")
+            self.fails(f"{name} of no second", "'0' isn't a whole number from 1 to 3600", status="2")
+            settings.write_text(before)
         settings.write_bytes(before.replace(f"ACD_FILE={FILE}", f'ACD_FILE="{FILE}"').replace("\n", "\r\n").encode())
         self.restarts("with quotes, and lines of another system")
-        self.done("systemctl", "restart", "acd-tick")
-        self.expect("the ticks too", self.show("ActiveState", unit="acd-tick"), ["active"])
         self.expect("a copy by the unit", self.ran("systemctl", "start", "acd-copy"), (0, ""))
         self.expect("and by hand", self.ran("acd-copy", user="acd")[0], 0)
         settings.write_text(before)
@@ -258,7 +281,7 @@ class Starting(Office):
         with self.loaded("rounds"):
             for number in range(ROUNDS):
                 status, said = self.ran("systemctl", "restart", "acd")
-                if status or self.eventually(lambda: self.curl("http://127.0.0.1:8080/snapshot"), 200) != 200:
+                if status or self.eventually(lambda: self.curl(self.at("/snapshot")), 200) != 200:
                     failed.append((number, said))
         self.expect(f"of {ROUNDS} restarts under load failed", failed, [])
         self.expect("none was started again by itself, none told anything", (self.show("NRestarts", "ActiveState"), self.said_since(mark)), (["0", "active"], []))
