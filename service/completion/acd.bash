@@ -4,7 +4,7 @@ _acd() {
     COMPREPLY=()
     if [[ $COMP_CWORD -eq 1 ]]; then
         offered='lines serve import report export audit help --help --version'
-    elif [[ $before == --file || $before == --plan || $before == --archive ]]; then
+    elif [[ $before == --file || $before == --plan || $before == --archive || $before == --socket ]]; then
         mapfile -t COMPREPLY < <(compgen -f -- "$word")
         compopt -o filenames 2>/dev/null
         return
@@ -13,7 +13,7 @@ _acd() {
     else
         case $command in
             lines) offered='--file --reads --end-on-store-fault --help' ;;
-            serve) offered='--file --port --connections --endless --tick --patience --help' ;;
+            serve) offered='--file --port --socket --connections --endless --tick --patience --help' ;;
             import) offered='--file --plan --help' ;;
             report | export) offered='--file --help' ;;
             audit) offered='--file --archive --count --whole --help' ;;
