@@ -15,7 +15,9 @@ from acd_service import VERSION
 # priorities of a line in the journal, as syslog(3) numbers them
 ERROR, WARNING, NOTICE, INFO = 3, 4, 5, 6
 ENDING = (signal.SIGHUP, signal.SIGINT, signal.SIGTERM)
-FAILED, REFUSED = 1, 2
+# statuses: it may be otherwise the next time; the words are refused; somebody has to mend something first, so that
+# systemd starts nothing again
+FAILED, REFUSED, MEND = 1, 2, 64
 # what the new names say, and what the old ones say in its place: the words of a command, and sentences
 OLD_WORDS = ((r"\bacdctl restore --undo", "acd-copy --undo"), (r"\bacdctl restore\b", "acd-copy --restore"),
              (r"\bacdctl (calls|carry|certificate|copy|export|follow|forget|gate|local|node|plan|ready|tick|trail)\b",
@@ -51,6 +53,11 @@ class Fault(Exception):
     def __init__(self, *lines: object, status: int = FAILED):
         super().__init__(*lines)
         self.status = status
+
+
+def to_mend(text: str) -> Fault:
+    """What keeps somebody from starting something, and what to do before."""
+    return Fault(text, status=MEND)
 
 
 def call_it(called: str, by_old_name: bool = False) -> None:

@@ -4,14 +4,12 @@ makes the file of a new desk. Tested, not proved.
 If a start would fail, or would lose something, it says so in a line before anything opens the desk's file."""
 import argparse
 import contextlib
-import errno
 import filecmp
 import os
 import pwd
 import re
 import shlex
 import shutil
-import socket
 import stat
 import subprocess
 import tempfile
@@ -20,8 +18,8 @@ from collections.abc import Iterable
 from pathlib import Path
 from typing import NoReturn
 
-from acd_service import command, held, pair, put, restoring, settings, sockets, watch
-from acd_service.command import Fault, report
+from acd_service import command, held, listening, pair, put, restoring, settings, watch
+from acd_service.command import Fault, report, to_mend
 from acd_service.log import Damaged, Sound, State, Unreadable, look
 from acd_service.restoring import name_of
 
@@ -30,9 +28,6 @@ OURS = Path("/var/lib/acd")
 # what no unit sees, ProtectHome=yes
 HOMES = [Path(one) for one in ("/home", "/root", "/run/user")]
 PAGE = "'What a start looks at' in OPERATING.md"
-# the status of what has to be mended first, so that systemd starts nothing again, and that of what may be otherwise the
-# next time
-MEND, AGAIN = 64, 1
 # seconds between two looks at a log that seems damaged
 PAUSE = 0.1
 # as many seconds has the program to write the log into the file behind a stop: systemd gives it 90
@@ -40,11 +35,6 @@ WRITING = 60
 # the name of a copy that is good
 GOOD = r"\d{4}-\d\d-\d\dT\d{6}Z"
 WEEK = 7 * 86400
-
-
-def to_mend(text: str) -> Fault:
-    """Why the desk doesn't start, and what to do before it can."""
-    return Fault(text, status=MEND)
 
 
 def is_there(path: Path) -> bool:
@@ -190,44 +180,6 @@ def look_for_log(file: Path) -> None:
                f"unless sqlite3 or acd wrote it into {file}, answered requests are lost ({PAGE})")
 
 
-# Where it listens
-
-def look_at_port(port: int) -> None:
-    with socket.socket() as tried:
-        tried.setsockopt(socket.SOL_SOCKET, socket.SO_REUSEADDR, 1)
-        try:
-            tried.bind(("127.0.0.1", port))
-        except OSError as fault:
-            if fault.errno == errno.EADDRINUSE:
-                raise to_mend(f"port {port} is taken: end who listens there (ss -ltnp sport = :{port}), "
-                              f"or name another port, ACD_PORT in {SETTINGS}") from None
-            if fault.errno == errno.EACCES:
-                raise to_mend(f"the user {name_of(os.geteuid())} may not use port {port}: choose 1024 or higher, "
-                              f"ACD_PORT in {SETTINGS}") from None
-            raise Fault(f"port {port}: {fault.strerror}", status=AGAIN) from None
-
-
-def look_at_socket(path: str) -> None:
-    """The desk makes its own one anew where nobody listens; anything else is in its way."""
-    folder, otherwise = os.path.dirname(path), f"or name another socket, ACD_SOCKET in {SETTINGS}"
-    if not path.startswith("/") or len(os.fsencode(path)) > sockets.LONGEST:
-        raise to_mend(f"'{path}' is no path of a socket, which begins with / and has {sockets.LONGEST} bytes at most: "
-                      f"mend ACD_SOCKET in {SETTINGS}")
-    if not os.path.isdir(folder):
-        raise to_mend(f"the folder {folder} isn't there: make it (systemd-tmpfiles --create acd.conf), {otherwise}")
-    if not os.access(folder, os.W_OK | os.X_OK, effective_ids=True):
-        raise to_mend(f"the user {name_of(os.geteuid())} may not write in {folder}: give it to this user "
-                      f"(chown {name_of(os.geteuid())} {shlex.quote(folder)}), {otherwise}")
-    if not os.path.lexists(path):
-        return
-    found = os.lstat(path)
-    if not stat.S_ISSOCK(found.st_mode) or found.st_uid != os.geteuid():
-        raise to_mend(f"{path} is there, and is no socket of the user {name_of(os.geteuid())}: move it away, "
-                      f"{otherwise}")
-    if sockets.is_listened_at(path):
-        raise to_mend(f"{path} is taken: end who listens there (ss -lxp src unix:{shlex.quote(path)}), {otherwise}")
-
-
 # A log that is damaged
 
 def written(path: Path) -> tuple[int, int]:
@@ -267,7 +219,7 @@ def keep(file: Path, log: Path) -> Path:
                                   text=True)
             if done.returncode:
                 raise Fault(f"the log {log} is damaged, and can't be kept as it is before the desk opens it: "
-                            f"{' '.join(done.stdout.split())}", status=AGAIN)
+                            f"{' '.join(done.stdout.split())}", status=command.FAILED)
         made = file.parent / Path(scratch).name.lstrip(".")
         os.rename(new, made)
     put.sync_folder(file.parent)
@@ -348,10 +300,7 @@ def serve(options: argparse.Namespace) -> NoReturn:
     look_at_names(os.environ)
     file = place(options.file)
     look_at_files(file)
-    if options.port:
-        look_at_port(options.port)
-    else:
-        look_at_socket(options.socket)
+    listening.look_at(options.port, options.socket)
     look_at_log(file)
     look_for_log(file)
     look_at_copies(file)
@@ -415,7 +364,7 @@ def make(options: argparse.Namespace) -> None:
         done = subprocess.run(["acd", "lines", "--file", new], stdin=subprocess.DEVNULL, stdout=subprocess.DEVNULL,
                               stderr=subprocess.PIPE, text=True)
         if done.returncode:
-            raise Fault(f"{file} isn't made: {' '.join(done.stderr.split())}", status=AGAIN)
+            raise Fault(f"{file} isn't made: {' '.join(done.stderr.split())}", status=command.FAILED)
         os.rename(new, file)
     put.sync_folder(file.parent)
     return print(f"made {file}")

@@ -13,7 +13,7 @@ from typing import Any
 from aiohttp import web
 from aiohttp.http_exceptions import LineTooLong
 
-from acd_service import sockets
+from acd_service import listening
 from acd_service.command import report
 from acd_service.gate.desk import Place
 from acd_service.gate.exchanges import Answer, Left, Question, Refused, error
@@ -157,7 +157,7 @@ def asked(request: web.BaseRequest) -> Question:
 def listening_at(where: Place) -> socket.socket:
     """A socket at a port of the loopback address, or at a path; OSError or OverflowError where that isn't free, or is
     none."""
-    found = (sockets.listening_at(where.path) if where.path else
-             socket.create_server(("127.0.0.1", where.port), backlog=sockets.BACKLOG))
+    found = (listening.listening_at(where.path) if where.path else
+             socket.create_server(("127.0.0.1", where.port), backlog=listening.BACKLOG))
     found.setblocking(False)
     return found

@@ -37,7 +37,7 @@ FAULTS = [
     Fault("a full disk leaves the desk down", (DESK, "Restart=always", "Restart=no"), "starting", ("plan", "try_full_disk")),
     Fault("systemd gives up", (DESK, AGAIN, ""), "starting", ("try_installed",)),
     Fault("quotes are taken for a part of a file's name", (f"{MODULES}/settings.py", r"""^(["'])(.*)\1$""", r"""^(["'])(.*)\1\1$"""), "starting", ("try_settings",)),
-    Fault("a log isn't looked at", (f"{MODULES}/ready.py", "        look_at_socket(options.socket)\n    look_at_log(file)\n", "        look_at_socket(options.socket)\n"), "damage", ("plan", "try_middle")),
+    Fault("a log isn't looked at", (f"{MODULES}/ready.py", "    listening.look_at(options.port, options.socket)\n    look_at_log(file)\n", "    listening.look_at(options.port, options.socket)\n"), "damage", ("plan", "try_middle")),
     Fault("nor whether one was removed", (DESK, "ExecStopPost=-/usr/bin/acdctl ready --stopped --file ${ACD_FILE}\n", ""), "damage", ("plan", "try_removed_log")),
     Fault("a start returns before the desk answers", (DESK, "Type=notify\n", "Type=exec\n"), "starting", ("try_slow_opening",)),
     Fault("a start ends behind 90 seconds", (DESK, "TimeoutStartSec=infinity\n", "TimeoutStartSec=2\n"), "starting", ("try_slow_opening",)),

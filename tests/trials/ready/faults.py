@@ -1,6 +1,6 @@
 """Faults that are planted in acd-ready and its modules, by the part whose cases find them: where, what each is, the text that it changes, and what it changes it to."""
 
-READY, LOG, PAIR, PUT, SETTINGS, NOTIFY, WATCH = "ready.py", "log.py", "pair.py", "put.py", "settings.py", "acd_notify.py", "watch.py"
+READY, LOG, PAIR, PUT, SETTINGS, NOTIFY, WATCH, LISTENING = "ready.py", "log.py", "pair.py", "put.py", "settings.py", "acd_notify.py", "watch.py", "listening.py"
 STARTS = [
     (READY, "a lone log isn't seen", "if not is_there(file) and is_there(log):", "if False:"),
     (READY, "a log beside no bytes isn't seen", "if is_there(file) and not os.path.getsize(file) and pair", "if False and pair"),
@@ -13,10 +13,10 @@ STARTS = [
     (READY, "nor where another link leads there", "named = held.place(path)", "named = Path(path)"),
     (READY, "a new desk is made in a restore", 'its name."""\n    file = place(options.file)', 'its name."""\n    file = Path(os.path.realpath(options.file))'),
     (READY, "file and log of two times will do", "if pair.is_split(file):", "if False:"),
-    (READY, "each port will do", "            if fault.errno == errno.EADDRINUSE:", "            if fault.errno == errno.EADDRINUSE:\n                return\n            if False:"),
-    (READY, "a port that was in use lately is taken", "tried.setsockopt(socket.SOL_SOCKET, socket.SO_REUSEADDR, 1)", "pass"),
-    (READY, "the port stays bound", "with socket.socket() as tried:", "globals()['held'] = tried = socket.socket()\n    tried.set_inheritable(True)\n    if True:"),
-    (READY, "it is started again and again", "MEND, AGAIN = 64, 1", "MEND, AGAIN = 1, 1"),
+    (LISTENING, "each port will do", "            if fault.errno == errno.EADDRINUSE:", "            if fault.errno == errno.EADDRINUSE:\n                return\n            if False:"),
+    (LISTENING, "a port that was in use lately is taken", "tried.setsockopt(socket.SOL_SOCKET, socket.SO_REUSEADDR, 1)", "pass"),
+    (LISTENING, "the port stays bound", "with socket.socket() as tried:", "globals()['held'] = tried = socket.socket()\n    tried.set_inheritable(True)\n    if True:"),
+    ("command.py", "it is started again and again", "FAILED, REFUSED, MEND = 1, 2, 64", "FAILED, REFUSED, MEND = 1, 2, 1"),
     ("command.py", "two lines", '{name}: {spoken(text)}"', '{name}: {spoken(text)}\\n"'),
     (READY, "it stays itself", 'words = ["acd", "serve",', 'words = ["acd-ready", "serve",'),
     (READY, "it ends by itself", '"--endless"', '"--connections", "9"'),
@@ -36,7 +36,7 @@ STARTS = [
     (READY, "a desk is made beside a log", "    if is_there(pair.log_of(file)):\n", "    if False:\n"),
     (READY, "anybody reads a new desk", "os.umask(0o077)", "os.umask(0o022)"),
     (READY, "a desk that isn't made is", "if done.returncode:\n            raise Fault(f\"{file} isn't made", "if False:\n            raise Fault(f\"{file} isn't made"),
-    ("command.py", "a bad word has another status", "FAILED, REFUSED = 1, 2", "FAILED, REFUSED = 1, 64"),
+    ("command.py", "a bad word has another status", "FAILED, REFUSED, MEND = 1, 2, 64", "FAILED, REFUSED, MEND = 1, 64, 64"),
     (READY, "port 0", "1 <= int(text) <= 65535", "int(text) <= 65535"),
     (READY, "port 65536", "1 <= int(text) <= 65535", "1 <= int(text)"),
     (PAIR, "both have to be the same", '(now["file"] == then["file"]) != (now["log"] == then["log"])', "now != then"),
@@ -85,7 +85,7 @@ NAMES = [
     (READY, "a second help line has the first one's timer", ".replace('acd', 'acd-copy', 1)", ".replace(str(held.unit(0)), 'acd-copy')"),
 ]
 NOTICES = [
-    (READY, "nobody is told", '    watch.beside(f"http://127.0.0.1:{options.port}", file, options.tick)\n', ""),
+    (READY, "nobody is told", '    watch.beside(settings.address(options.port, options.socket), file, options.tick)\n', ""),
     (WATCH, "it is told at once", '                self.answer("/", SOON)\n', ""),
     (WATCH, "it is asked for ever", "        while not self.ends_within(PAUSE):", "        while not self.ends_within(PAUSE) or True:"),
     (WATCH, "the desk has a child", "        if os.fork():\n            return\n", ""),

@@ -10,7 +10,7 @@ from unittest import mock
 from shipped import shipped, text_of
 from trial import Desk, Plan, Requests, Trial, free_port, line, ran
 
-MODULES = ("ready.py", "audit.py", "chain.py", "command.py", "held.py", "log.py", "acd_notify.py", "pair.py", "put.py", "restoring.py", "settings.py", "watch.py")
+MODULES = ("ready.py", "audit.py", "chain.py", "command.py", "held.py", "listening.py", "log.py", "acd_notify.py", "pair.py", "put.py", "restoring.py", "settings.py", "watch.py")
 MOMENT = 1800000000
 MEND, WORDS, ELSEWHERE, AGAIN = 64, 2, 4, 1
 
