@@ -59,7 +59,7 @@ OF_THE_PROGRAM = {
 # of what stands around it: the parts that are done in seconds
 OF_THE_SERVICE = {
     **{f"gate {part}": Part("try-gate", ("--only", part), (f"gate/{file}",), NGINX)
-       for part, file in (("answers", "answers.py"), ("days", "days.py"), ("sessions", "sessions.py"), ("leads", "leads.py"), ("reads", "mine.py:Reads"), ("executed", "executed.py"), ("mine", "mine.py:Mine"))},
+       for part, file in (("answers", "answers.py"), ("days", "days.py"), ("sessions", "sessions.py"), ("leads", "leads.py"), ("reads", "mine.py:Reads"), ("executed", "executed.py"), ("mine", "mine.py:Mine"), ("older", "older.py"))},
     **{f"trail {part}": Part("try-trail", ("--only", part), (f"try-trail:{case}",), packages)
        for part, case, packages in (("story", "Story", ()), ("archives", "Archives", ()), ("faults", "Bad", ()), ("pages", "OfPages", ()), ("served", "Served", NGINX))},
     "rules": Part("try-rules", ("--only", "days"), ("rules/drawn_days.py",)),

@@ -1,4 +1,5 @@
 """A desk, a gate and nginx before it, by the configuration of service/nginx, on ports and in a folder of their own."""
+import contextlib
 import hashlib
 import json
 import os
@@ -29,8 +30,8 @@ class Place(Trial):
     """A class says of which plan it is, and the role of each login; all have the same password."""
 
     PLAN, ROLES, missed, secret = plan_of(), {}, 0, secrets.token_hex(32)
-    # of nginx: its workers, and the kind of its key
-    WORKERS, KEY = 1, ("rsa:2048",)
+    # of nginx: its configuration, its workers, and the kind of its key
+    NGINX, WORKERS, KEY = TOP / "service/nginx/nginx.conf", 1, ("rsa:2048",)
 
     @classmethod
     def setUpClass(cls):
@@ -76,14 +77,25 @@ class Place(Trial):
         cls.gate.wait(PATIENCE)
 
     @classmethod
+    @contextlib.contextmanager
+    def without_gate(cls):
+        """However the case goes on, the next one has a gate."""
+        cls.stop_gate()
+        try:
+            yield
+        finally:
+            cls.start_gate()
+
+    @classmethod
     def start_nginx(cls):
         here = cls.folder
         subprocess.run(["openssl", "req", "-x509", "-newkey", *cls.KEY, "-nodes", "-subj", "/CN=desk", "-addext", "subjectAltName=IP:127.0.0.1", "-days", "2",
                         "-keyout", here / "desk.key", "-out", here / "desk.crt"], stderr=subprocess.DEVNULL, check=True)
         (here / "share").mkdir()
         (here / "share/board").symlink_to(TOP / "board")
-        places = {"unix:/run/acd/desk.sock": f"127.0.0.1:{cls.desk_port}", "unix:/run/acd-gate/gate.sock": f"127.0.0.1:{cls.gate_port}", "8443": f"127.0.0.1:{cls.port}", "/etc/acd": here, "/usr/share/acd": here / "share"}
-        text = re.sub("|".join(places), lambda named: str(places[named[0]]), (TOP / "service/nginx/nginx.conf").read_text())
+        places = {"unix:/run/acd/desk.sock": f"127.0.0.1:{cls.desk_port}", "unix:/run/acd-gate/gate.sock": f"127.0.0.1:{cls.gate_port}", "8080": cls.desk_port, "8081": cls.gate_port,
+                  "8443": f"127.0.0.1:{cls.port}", "/etc/acd": here, "/usr/share/acd": here / "share"}
+        text = re.sub("|".join(places), lambda named: str(places[named[0]]), cls.NGINX.read_text())
         temporary = " ".join(f"{kind}_temp_path {here};" for kind in ("client_body", "proxy", "fastcgi", "uwsgi", "scgi"))
         (here / "nginx.conf").write_text(f"daemon off; user root; pid {here}/pid; error_log {here}/errors; worker_processes {cls.WORKERS}; worker_rlimit_nofile 32768;\n"
                                          f"events {{ worker_connections 16384; }}\nhttp {{ include /etc/nginx/mime.types; access_log off; {temporary} {text} }}\n")

@@ -55,23 +55,19 @@ class Sessions(Place):
     def try_strangers(self):
         """nginx itself refuses who can't be anybody, as the gate does: also while there is none, which all others notice."""
         token = token_of(self.log_in("sup")[1])
-        wrong = f"{token[:-1]}{'A' if token[-1] != 'A' else 'Q'}"
-        strangers = [{}, *({"cookie": odd} for odd in ("A" * 43, wrong, token.partition(".")[0], signed("A" * 43).swapcase(), f"{token}x", "__Host-acd=", "__Host-acd", "a=b", f"b=c; __Host-acd={wrong}; d=e")),
-                     *({"Authorization": odd} for odd in ("Basic", "Bearer c3VwOnNlY3JldA==", "x")), {"cookie": wrong, "login": "sup"}]
-        self.stop_gate()
-        for stranger in strangers:
-            told = [self.ask("GET", "/snapshot", **stranger, **how) for how in ({}, PAGE)]
-            self.expect(f"a stranger: {stranger}", [(reply.status, reply.body, reply.fields.get("www-authenticate")) for reply in told],
-                        [(401, UNAUTHORIZED, 'Basic realm="desk", charset="UTF-8"'), (401, UNAUTHORIZED, None)])
-            to_page = self.ask("GET", "/board/?since=0", **stranger, **CLICK)
-            self.expect("a browser's page of one", (to_page.status, to_page.fields["location"].partition("/board/")[2], to_page.fields.get("www-authenticate")), (302, "login/?next=/board/?since=0", None))
-            self.expect("a click elsewhere", self.ask("GET", "/snapshot", **stranger, **CLICK).status, 401)
-            self.see("a screen", self.ask("GET", "/basic?/board/", **stranger, **CLICK).fields.get("www-authenticate", "").startswith("Basic "))
-            gone = self.ask("POST", "/logout", **stranger)
-            self.expect("log-off", (gone.status, gone.fields.get("set-cookie")), (204, "__Host-acd=; Path=/; Max-Age=0; HttpOnly; Secure; SameSite=Strict"))
-        for other in ({"cookie": token}, {"cookie": f"a=b; __Host-acd={token}; c=d"}, {"cookie": signed("A" * 43)}, {"login": "sup"}, {"login": "nobody"}):
-            self.expect(f"the gate judges {other}", self.ask("GET", "/snapshot", **other).status, 502)
-        self.start_gate()
+        with self.without_gate():
+            for stranger in strangers(token):
+                told = [self.ask("GET", "/snapshot", **stranger, **how) for how in ({}, PAGE)]
+                self.expect(f"a stranger: {stranger}", [(reply.status, reply.body, reply.fields.get("www-authenticate")) for reply in told],
+                            [(401, UNAUTHORIZED, 'Basic realm="desk", charset="UTF-8"'), (401, UNAUTHORIZED, None)])
+                to_page = self.ask("GET", "/board/?since=0", **stranger, **CLICK)
+                self.expect("a browser's page of one", (to_page.status, to_page.fields["location"].partition("/board/")[2], to_page.fields.get("www-authenticate")), (302, "login/?next=/board/?since=0", None))
+                self.expect("a click elsewhere", self.ask("GET", "/snapshot", **stranger, **CLICK).status, 401)
+                self.see("a screen", self.ask("GET", "/basic?/board/", **stranger, **CLICK).fields.get("www-authenticate", "").startswith("Basic "))
+                gone = self.ask("POST", "/logout", **stranger)
+                self.expect("log-off", (gone.status, gone.fields.get("set-cookie")), (204, "__Host-acd=; Path=/; Max-Age=0; HttpOnly; Secure; SameSite=Strict"))
+            for other in ({"cookie": token}, {"cookie": f"a=b; __Host-acd={token}; c=d"}, {"cookie": signed("A" * 43)}, {"login": "sup"}, {"login": "nobody"}):
+                self.expect(f"the gate judges {other}", self.ask("GET", "/snapshot", **other).status, 502)
         self.expect("the gate's own", [self.ask("GET", "/snapshot", **other).status for other in ({"cookie": token}, {"login": "sup"}, {"cookie": signed("A" * 43)}, {"login": "nobody"})], [200, 200, 401, 401])
         self.expect("a file that everybody may load has no question", self.ask("GET", "/board/login/").fields.get("www-authenticate"), None)
 
@@ -157,9 +153,8 @@ class Sessions(Place):
     def try_restarted(self):
         token, ended = (token_of(self.log_in("sup")[1]) for _ in range(2))
         self.ask("POST", "/logout", cookie=ended)
-        self.stop_gate()
-        self.expect("without a gate", self.ask("GET", "/who", cookie=token).status, 502)
-        self.start_gate()
+        with self.without_gate():
+            self.expect("without a gate", self.ask("GET", "/who", cookie=token).status, 502)
         self.expect("a session outlives the gate", self.ask("GET", "/who", cookie=token).status, 200)
         self.expect("one that was ended doesn't come back", self.ask("GET", "/who", cookie=ended).status, 401)
 
@@ -172,3 +167,10 @@ class Sessions(Place):
         self.expect("others go on", self.log_in("sup").status, 200)
         token = token_of(self.log_in("pbx")[1])
         self.expect("a session has no password to be wrong", self.ask("GET", "/who", cookie=token).status, 200)
+
+
+def strangers(token):
+    """What is sent by those who can't be anybody; the token is that of a session."""
+    wrong = f"{token[:-1]}{'A' if token[-1] != 'A' else 'Q'}"
+    return [{}, *({"cookie": odd} for odd in ("A" * 43, wrong, token.partition(".")[0], signed("A" * 43).swapcase(), f"{token}x", "__Host-acd=", "__Host-acd", "a=b", f"b=c; __Host-acd={wrong}; d=e")),
+            *({"Authorization": odd} for odd in ("Basic", "Bearer c3VwOnNlY3JldA==", "x")), {"cookie": wrong, "login": "sup"}]

@@ -1,0 +1,53 @@
+"""An office that keeps its nginx.conf of 1.14: nginx asks the gate for everybody, strangers too, and names the login to it. What clients are told is the same."""
+from pathlib import Path
+
+from answers import ASKS, Answers, refusal
+from executed import Executed
+from leads import Leads
+from place import CLICK, PAGE, Place, token_of
+from sessions import UNAUTHORIZED, Sessions, strangers
+
+
+class Older(Place):
+    NGINX = Path(__file__).with_name("nginx-1.14.conf")
+
+
+class OlderSessions(Older, Sessions):
+    def try_strangers(self):
+        """The gate refuses all of them, and is needed for it."""
+        everybody = strangers(token_of(self.log_in("sup")[1]))
+        for stranger in everybody:
+            self.expect(f"a stranger: {stranger}", self.told(stranger), [(401, UNAUTHORIZED, 'Basic realm="desk", charset="UTF-8"'), (401, UNAUTHORIZED, None)])
+            self.expect("a browser's page of one", self.ask("GET", "/board/?since=0", **stranger, **CLICK).fields["location"].partition("/board/")[2], "login/?next=/board/?since=0")
+        with self.without_gate():
+            self.expect("without a gate", [[status for status, _, _ in self.told(stranger)] for stranger in everybody], [[502, 502]] * len(everybody))
+
+    def told(self, stranger):
+        replies = [self.ask("GET", "/snapshot", **stranger, **how) for how in ({}, PAGE)]
+        return [(reply.status, reply.body, reply.fields.get("www-authenticate")) for reply in replies]
+
+    def try_an_older_nginx(self):
+        """The gate's journal has a line of each start."""
+        for _ in range(3):
+            self.ask("GET", "/who", login="sup")
+        starts = (self.folder / "gate-errors").read_text().count("X-Signed")
+        with self.without_gate():
+            pass
+        self.expect("nobody has asked the new gate", (self.folder / "gate-errors").read_text().count("X-Signed"), starts)
+        for _ in range(3):
+            self.expect("it goes on", self.ask("GET", "/who", login="sup").status, 200)
+        self.expect("it is told once", (self.folder / "gate-errors").read_text().count("X-Signed"), starts + 1)
+
+
+class OlderAnswers(Older, Answers):
+    def stranger(self, path, how):
+        """The gate's verdict too."""
+        return self.nobody(path, how, refusal(401, before=ASKS))
+
+
+class OlderExecuted(Older, Executed):
+    pass
+
+
+class OlderLeads(Older, Leads):
+    pass
