@@ -40,13 +40,15 @@ class Left(ConnectionError):
 class Question(NamedTuple):
     """A request: `path` and `query` as they were sent, fields by their names in small letters, all of it as Latin-1.
     `read` reads the body, `has_left` says whether the other end has closed the connection: a handler goes on all the
-    same."""
+    same. `login` is who asks, once the door has found that, and `address` where from, if the proxy says so."""
     method: str
     path: str
     query: str
     fields: Mapping[str, str]
     read: Callable[[], Awaitable[bytes]]
     has_left: Callable[[], bool]
+    login: str = ""
+    address: str = ""
 
     def field(self, name: str) -> str:
         return self.fields.get(name, "")

@@ -1,57 +1,37 @@
-"""The routes of the gate: who asks, what this login may, and what it gets. Unproved.
+"""The routes of the gate: what a login may, and what it gets. Unproved.
 
-GET /auth judges the session's cookie, or where there is none the password in the field Authorization for the address
-in X-Address: 204 with X-Login, the login, 401 for nobody and 403 for a login that gets nothing; GET /auth/reads besides
-403 for a login that doesn't read all of the desk. After ten wrong passwords in a minute of one address and login it is
-401 with `X-Why: 429`, whatever the password unless it was right within the last minute, and so it is for a login that
-asks too often, and where too many passwords wait to be checked; `X-Why: login` is for a browser that must go to the
-page of log-in. All other routes have the login in X-Login and the proxy's own address in X-Site: POST /csta, which goes
-to the desk byte for byte, as its reply does to the client, where it is let through, and is 403 else; GET /who and
-/session; POST /login, /logout and /session, which begin, end and use a session; GET /mine, an agent's own state, calls
-and queues; GET /records/, files of records for office and lead; GET /requests, the desk's own page for office and
-follow. docs/USING.md says what they answer. A page of another site may ask for nothing (Origin, Sec-Fetch-Site)."""
+The door finds out who asks. POST /csta goes to the desk byte for byte, as its reply does to the client, where it is let
+through, and is 403 else; GET /who and /session say who it is; POST /login, /logout and /session begin, end and use a
+session; GET /mine is an agent's own state, calls and queues; GET /records/ files of records for office and lead;
+GET /requests the desk's own page for office and follow. GET /auth/any and /auth/reads are the proxy's own questions.
+docs/USING.md says what they answer. The proxy's own address is in X-Site: a page of another site may ask for nothing
+(Origin, Sec-Fetch-Site)."""
 import asyncio
-import base64
 import re
 import string
 import urllib.parse
 from collections.abc import Awaitable, Callable, Mapping
 from pathlib import Path
 
-from acd_service.command import report
 from acd_service.gate import files
 from acd_service.gate.desk import Desk
+from acd_service.gate.door import Door, is_page, token_of
 from acd_service.gate.exchanges import Answer, Question, Refused, error
 from acd_service.gate.following import Away, Following, as_json
 from acd_service.gate.judging import Logins, Look, Seen, Twice, looks_at, may, once
 from acd_service.gate.limits import Held, Rates, Replies
-from acd_service.gate.passwords import RIGHT, TOO_MANY, WRONG, Passwords, network, text
+from acd_service.gate.passwords import RIGHT, TOO_MANY, Passwords, network
 from acd_service.gate.roles import MEMBERS, NO_KEYS, NOTHING, Role, Watched, has_keys, hashes_of, roles_of
-from acd_service.gate.sessions import Session, Sessions, cookie_field, cookie_of
+from acd_service.gate.sessions import Session, Sessions, cookie_field
 
-# the field by which nginx says that it has looked at the signature of a session's cookie, and what the journal is told
-# where it doesn't
-SIGNED = "x-signed"
-OLD_PROXY = ("nginx asks for everybody, strangers too: its configuration is of before 1.15. Take "
-             "/usr/share/doc/acd/examples/nginx.conf, or add its lines to yours: the include of nginx-secret.conf and "
-             "its maps, secure_link, if ($stranger), X-Signed and @heavy")
+# who asks for these needs no login, or is judged by what they ask
+OPEN = {"/auth", "/auth/any", "/auth/reads", "/login", "/logout"}
 # bytes of a body
 LONGEST = 4096
 # files of records that are read at a time
 READ_AT_ONCE = 2
-BY_PASSWORD = (("WWW-Authenticate", 'Basic realm="desk", charset="UTF-8"'),)
 Place = Callable[[Question], Awaitable[Answer]]
 Body = Callable[[Question, bytes], Awaitable[Answer]]
-
-
-def credentials(field: str) -> tuple[bytes, bytes] | None:
-    """Login and password of a field Authorization, as bytes; None where it has none."""
-    scheme, _, given = field.partition(" ")
-    try:
-        login, colon, password = base64.b64decode(given.strip(" "), validate=True).partition(b":")
-    except ValueError:
-        return None
-    return (login, password) if scheme.lower() == "basic" and colon else None
 
 
 def is_foreign(fields: Mapping[str, str]) -> bool:
@@ -59,31 +39,6 @@ def is_foreign(fields: Mapping[str, str]) -> bool:
     origin, site = fields.get("origin"), fields.get("sec-fetch-site")
     is_elsewhere = site is not None and site not in ("same-origin", "none")
     return is_elsewhere or (origin is not None and origin != fields.get("x-site"))
-
-
-def is_page(address: str) -> bool:
-    """Whether it is the address of a page here, and of no other site."""
-    return re.fullmatch(r"/board/[!-\[\]-~]*", address) is not None
-
-
-def login_of(question: Question) -> str:
-    """The login that nginx names."""
-    return text(question.raw("x-login"))
-
-
-def token_of(question: Question) -> str | None:
-    return cookie_of(question.field("cookie"))
-
-
-def why(question: Question, verdict: str) -> tuple[tuple[str, str], ...]:
-    """The fields of a 401: it asks a program for a password, and sends a browser's page to the page of log-in, except
-    at /basic."""
-    path = question.field("x-path")
-    if verdict == TOO_MANY:
-        return (("X-Why", "429"),)
-    if "sec-fetch-site" not in question.fields or path.startswith("/basic?"):
-        return BY_PASSWORD
-    return (("X-Why", "login"),) if question.field("sec-fetch-mode") == "navigate" and is_page(path) else ()
 
 
 def form_of(body: bytes) -> tuple[str, str, str]:
@@ -97,8 +52,8 @@ def form_of(body: bytes) -> tuple[str, str, str]:
 
 
 class Gate:
-    """The roles and users are files, and so are the sessions, if their file is named; `secret` is what the gate signs
-    sessions with."""
+    """The roles and users are files, and so are the sessions, if their file is named; `secret` is what the gate and the
+    proxy know: it signs sessions, and says that a request is the proxy's."""
 
     def __init__(self, desk: Desk, roles: Path | str, users: Path | str, sessions: Path | str | None = None,
                  records: Path | str = "/var/lib/acd-records", secret: str = "") -> None:
@@ -107,16 +62,19 @@ class Gate:
         self.passwords, self.sessions = Passwords(self.users), Sessions(sessions, self.users, secret=secret)
         self.rates, self.replies, self.held = Rates(), Replies(), Held()
         self.following, self.reading = Following(desk.ask_soon), asyncio.Semaphore(READ_AT_ONCE)
-        self.told: set[str] = set()
+        self.door = Door(self.roles, self.passwords, self.sessions, self.rates, secret)
         self.gets: dict[str, Place] = {
-            "/auth": self.judge, "/auth/any": self.judge, "/auth/reads": self.judge_reads, "/who": self.who,
-            "/session": self.session, "/mine": self.mine, "/requests": self.requests, "/basic": self.basic}
+            "/auth": self.door.judge, "/auth/any": self.door.judge, "/auth/reads": self.door.judge_reads,
+            "/who": self.who, "/session": self.session, "/mine": self.mine, "/requests": self.requests,
+            "/basic": self.basic}
         self.posts: dict[str, Body] = {"/csta": self.ask_desk, "/login": self.log_in, "/logout": self.log_out,
                                        "/session": self.use_session}
         self.roles.now()
 
     async def answer(self, question: Question) -> Answer:
         """The answer of a route; Refused or Left where there is nothing more to do."""
+        if question.path not in OPEN:
+            question = await self.door.admitted(question)
         if question.method == "POST":
             return await self.post(question)
         if question.method not in ("GET", "HEAD"):
@@ -141,65 +99,16 @@ class Gate:
             raise Refused(error(403))
         return await place(question, body)
 
-    # who asks
-
-    async def judge(self, question: Question) -> Answer:
-        login, _ = await self.judged(question)
-        return Answer(204, fields=(("X-Login", login),))
-
-    async def judge_reads(self, question: Question) -> Answer:
-        login, role = await self.judged(question)
-        if role.reading != "all":
-            raise Refused(Answer(403))
-        return Answer(204, fields=(("X-Login", login),))
-
-    async def judged(self, question: Question) -> tuple[str, Role]:
-        """The login and its role. A refusal has no body: nginx would leave it unread, and so close the connection."""
-        if SIGNED not in question.fields:
-            self.tell_once(OLD_PROXY)
-        verdict, login = await self.who_asks(question)
-        role = self.role_at_the_door(login) if verdict == RIGHT else NOTHING
-        if role != NOTHING and not self.rates.takes_request(login, role, question.field("x-path")):
-            verdict = TOO_MANY
-        if verdict != RIGHT:
-            raise Refused(Answer(401, fields=why(question, verdict)))
-        if role == NOTHING:
-            raise Refused(Answer(403))
-        return login, role
-
-    async def who_asks(self, question: Question) -> tuple[str, str]:
-        """The verdict, and the login. If there is a session's cookie, it alone counts."""
-        token = token_of(question)
-        if token is not None:
-            session = self.sessions.of(token)
-            return (RIGHT, session.login) if session else (WRONG, "")
-        given = credentials(question.field("authorization"))
-        if given is None:
-            return WRONG, ""
-        verdict = await self.passwords.judge(question.raw("x-address"), *given, question.has_left)
-        return verdict, text(given[0])
-
-    def tell_once(self, line: str) -> None:
-        if line not in self.told:
-            self.told.add(line)
-            report(line)
-
     def role_of(self, login: str) -> Role:
         return self.roles.now().get(login, NOTHING)
-
-    def role_at_the_door(self, login: str) -> Role:
-        """The role of one whose password or session is right; the journal is told once of each who has no line."""
-        if login not in self.roles.now():
-            self.tell_once(f"{login} gets nothing: it has no line in {self.roles.file}")
-        return self.role_of(login)
 
     # sessions
 
     async def who(self, question: Question) -> Answer:
-        return self.said(login_of(question), None)
+        return self.said(question.login, None)
 
     async def session(self, question: Question) -> Answer:
-        return self.said(login_of(question), self.sessions.of(token_of(question)))
+        return self.said(question.login, self.sessions.of(token_of(question)))
 
     async def basic(self, question: Question) -> Answer:
         """Sends a screen, which has sent name and password, on to its page."""
@@ -239,7 +148,7 @@ class Gate:
             raise Refused(Answer(303, fields=(("Location", place),)))
         if verdict != RIGHT:
             raise Refused(error(429 if verdict == TOO_MANY else 401))
-        if self.role_at_the_door(login) == NOTHING:
+        if self.door.role_of(login) == NOTHING:
             raise Refused(error(403))
         await self.sessions.end(token_of(question))
         token = await self.sessions.begin(login)
@@ -253,13 +162,13 @@ class Gate:
         return Answer(204, fields=(cookie_field(None),))
 
     async def use_session(self, question: Question, _: bytes) -> Answer:
-        return self.said(login_of(question), await self.sessions.use(token_of(question)))
+        return self.said(question.login, await self.sessions.use(token_of(question)))
 
     # what is read
 
     async def mine(self, question: Question) -> Answer:
         """What an agent's page shows, held until there is news."""
-        login = login_of(question)
+        login = question.login
         role, asked = self.role_of(login), dict(urllib.parse.parse_qsl(question.query))
         numbers = [asked.get("after", "0"), asked.get("names", "0"), asked.get("hold", "20")]
         agent = asked.get("agent", role.agent)
@@ -281,7 +190,7 @@ class Gate:
 
     async def requests(self, question: Question) -> Answer:
         """The page of the desk itself; the quoted query means the same to the desk."""
-        if not self.role_of(login_of(question)).reads_requests:
+        if not self.role_of(question.login).reads_requests:
             raise Refused(error(403))
         question.stay()
         quoted = urllib.parse.quote(question.query, safe=string.punctuation, encoding="latin-1")
@@ -289,7 +198,7 @@ class Gate:
 
     async def records_of(self, question: Question, name: str) -> Answer:
         """A file of records, or the days of which there are files."""
-        role = self.role_of(login_of(question))
+        role = self.role_of(question.login)
         if role.name not in ("office", "lead") or role.reading == "none":
             raise Refused(error(403))
         async with self.reading:
@@ -308,7 +217,7 @@ class Gate:
     async def ask_desk(self, question: Question, body: bytes) -> Answer:
         """The reply to a body of this login. It is sent to the desk even if its client has left: who sent it may count
         on that, as a page does that is closed."""
-        login = login_of(question)
+        login = question.login
         leads = self.role_of(login).name == "lead"
         reply = self.replies.of(login, body) if leads else None
         if reply is not None:

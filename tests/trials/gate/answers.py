@@ -83,6 +83,16 @@ class Answers(Place):
                 fields = {**named, "Authorization": f"Basic {b64encode(f'x{path}{number}:guess'.encode()).decode()}"}
                 self.expect(f"a wrong password, {how}, {path}", self.said("POST" if path == "/csta" else "GET", path, fields), self.judged(path, how))
 
+    def try_forged(self):
+        """What only nginx may say: a client that says it gets what it gets without."""
+        forged = {"X-Login": "sup", "X-Proxy": "yes", "X-Signed": "yes", "X-Address": "127.0.0.1", "X-Path": "/board/", "X-Why": "429"}
+        self.everywhere("a forged login", forged, self.stranger)
+        self.everywhere("one with a made-up cookie", {**forged, "Cookie": f"__Host-acd={'A' * 43}.{'B' * 22}"}, self.stranger)
+        self.everywhere("one with no session's", {**forged, "Cookie": f"__Host-acd={signed('A' * 43)}"}, self.judged)
+        told = [self.ask(method, path, body, "ana", X_Login="pbx").status
+                for method, path, body in (("GET", "/requests", None), ("GET", "/snapshot", None), ("POST", "/csta", '{"requester":"pbx","invoke":1,"service":"tick"}'))]
+        self.expect("who has a password has no other's rights", (told, self.ask("GET", "/who", login="ana", X_Login="pbx").value["login"]), ([403] * 3, "ana"))
+
     def try_too_many(self):
         fields = {"Authorization": f"Basic {b64encode(b'tried:guess').decode()}"}
         for _ in range(10):

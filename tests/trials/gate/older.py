@@ -7,9 +7,11 @@ from leads import Leads
 from place import CLICK, PAGE, Place, token_of
 from sessions import UNAUTHORIZED, Sessions, strangers
 
+OF_1_14 = Path(__file__).with_name("nginx-1.14.conf")
+
 
 class Older(Place):
-    NGINX = Path(__file__).with_name("nginx-1.14.conf")
+    NGINX = OF_1_14
 
 
 class OlderSessions(Older, Sessions):
@@ -30,13 +32,13 @@ class OlderSessions(Older, Sessions):
         """The gate's journal has a line of each start."""
         for _ in range(3):
             self.ask("GET", "/who", login="sup")
-        starts = (self.folder / "gate-errors").read_text().count("X-Signed")
+        starts = (self.folder / "gate-errors").read_text().count("X-Proxy")
         with self.without_gate():
             pass
-        self.expect("nobody has asked the new gate", (self.folder / "gate-errors").read_text().count("X-Signed"), starts)
+        self.expect("nobody has asked the new gate", (self.folder / "gate-errors").read_text().count("X-Proxy"), starts)
         for _ in range(3):
             self.expect("it goes on", self.ask("GET", "/who", login="sup").status, 200)
-        self.expect("it is told once", (self.folder / "gate-errors").read_text().count("X-Signed"), starts + 1)
+        self.expect("it is told once", (self.folder / "gate-errors").read_text().count("X-Proxy"), starts + 1)
 
 
 class OlderAnswers(Older, Answers):

@@ -93,14 +93,26 @@ class Place(Trial):
                         "-keyout", here / "desk.key", "-out", here / "desk.crt"], stderr=subprocess.DEVNULL, check=True)
         (here / "share").mkdir()
         (here / "share/board").symlink_to(TOP / "board")
+        cls.run_nginx(cls.NGINX, cls.port)
+
+    @classmethod
+    def run_nginx(cls, configuration, port):
+        """One more by a configuration, at a port, before the same gate."""
+        here = cls.folder
         places = {"unix:/run/acd/desk.sock": f"127.0.0.1:{cls.desk_port}", "unix:/run/acd-gate/gate.sock": f"127.0.0.1:{cls.gate_port}", "8080": cls.desk_port, "8081": cls.gate_port,
-                  "8443": f"127.0.0.1:{cls.port}", "/etc/acd": here, "/usr/share/acd": here / "share"}
-        text = re.sub("|".join(places), lambda named: str(places[named[0]]), cls.NGINX.read_text())
+                  "8443": f"127.0.0.1:{port}", "/etc/acd": here, "/usr/share/acd": here / "share"}
+        text = re.sub("|".join(places), lambda named: str(places[named[0]]), configuration.read_text())
         temporary = " ".join(f"{kind}_temp_path {here};" for kind in ("client_body", "proxy", "fastcgi", "uwsgi", "scgi"))
-        (here / "nginx.conf").write_text(f"daemon off; user root; pid {here}/pid; error_log {here}/errors; worker_processes {cls.WORKERS}; worker_rlimit_nofile 32768;\n"
-                                         f"events {{ worker_connections 16384; }}\nhttp {{ include /etc/nginx/mime.types; access_log off; {temporary} {text} }}\n")
-        cls.enterClassContext(running("nginx", "-c", here / "nginx.conf", stderr=subprocess.DEVNULL))
-        if not until(lambda: cls.ask("GET", "/who").status == 401, PATIENCE):
+        file = here / f"nginx-{port}.conf"
+        file.write_text(f"daemon off; user root; pid {here}/pid-{port}; error_log {here}/errors; worker_processes {cls.WORKERS}; worker_rlimit_nofile 32768;\n"
+                        f"events {{ worker_connections 16384; }}\nhttp {{ include /etc/nginx/mime.types; access_log off; {temporary} {text} }}\n")
+        cls.enterClassContext(running("nginx", "-c", file, stderr=subprocess.DEVNULL))
+
+        def answers():
+            with Connection(port, ANY, PATIENCE) as connection:
+                return connection.ask("GET", "/who").status == 401
+
+        if not until(answers, PATIENCE):
             raise RuntimeError(f"nginx doesn't answer within {PATIENCE} s")
 
     @classmethod

@@ -73,10 +73,10 @@ class Sessions(Place):
 
     def try_an_older_nginx(self):
         """One that checks no signature goes on, and is told in the gate's journal, once."""
-        self.expect("this one isn't told", "X-Signed" in (self.folder / "gate-errors").read_text(), False)
+        self.expect("this one isn't told", "X-Proxy" in (self.folder / "gate-errors").read_text(), False)
         with Connection(self.gate_port) as connection:
             told = [connection.ask("GET", "/auth/any", fields=[("X-Address", "192.0.2.1"), ("Authorization", f"Basic {b64encode(b'sup:secret').decode()}")]).status for _ in range(3)]
-        self.expect("another's question", (told, (self.folder / "gate-errors").read_text().count("X-Signed")), ([204] * 3, 1))
+        self.expect("another's question", (told, (self.folder / "gate-errors").read_text().count("X-Proxy")), ([204] * 3, 1))
 
     def try_other_sites(self):
         token = token_of(self.log_in("pbx")[1])

@@ -42,6 +42,8 @@ Jürgen supervisor
 PATIENCE = 120
 # of "secret" by SHA-1, as `htpasswd -s` makes it
 SECRET = "{SHA}5en6G6MezRroT3XKqkdPOmY/BfQ="
+# what the gate and nginx know
+PROXYS = "0f" * 32
 USERS = "".join(f"{login}:{SECRET}\n" for login in ("pbx", "planner", "sup", "ana", "ana-b", "nobody", "Jürgen", "Copy.2"))
 FORBIDDEN = (403, b'{"error":{"code":41,"name":"forbidden"}}')
 BAD_GATEWAY = (502, b'{"error":{"code":44,"name":"badGateway"}}')
@@ -152,7 +154,7 @@ class GateTest(Named):
         self.desk = self.enterContext(StandInDesk())
         threading.Thread(target=self.desk.serve_forever, args=(0.02,), daemon=True).start()
         self.addCleanup(self.desk.shutdown)
-        self.gate = Gate(Desk(Place(self.desk.server_port)), self.roles, self.users, records=self.records)
+        self.gate = Gate(Desk(Place(self.desk.server_port)), self.roles, self.users, records=self.records, secret=PROXYS)
         self.standing = self.enterContext(Standing(self.gate))
         self.port = self.standing.port
 

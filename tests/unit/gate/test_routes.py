@@ -195,7 +195,7 @@ class RouteTest(DoorTest):
         with contextlib.redirect_stderr(io.StringIO()) as printed:
             for _ in range(3):
                 self.assertEqual(self.exchange("GET", "/auth", None, {"Authorization": basic("ana")})[0], 204)
-        self.assertRegex(printed.getvalue(), r"\Aacd-gate: nginx asks for everybody, .*X-Signed.*\n\Z")
+        self.assertRegex(printed.getvalue(), r"\Aacd-gate: nginx asks for everybody, .*X-Proxy.*\n\Z")
 
     def test_held_questions_are_bounded(self):
         with mock.patch.object(limits, "MOST_HELD", 2), contextlib.ExitStack() as held:
