@@ -31,7 +31,7 @@ MOST = {"limit": DAY, "goal": 100, "lost": 100, "long": DAY, "bad": DAY, "ringin
         "own": DAY, "workingAfterCall": DAY, "notReady": DAY}
 OF_GROUP = r"(limit|goal|lost|long|bad)\.[0-9]{1,15}"
 TEXTS = ("title", "lang", "since", "theme", "groups", "level", "tone", "notify")
-SECRET = "nginx-secret.conf"
+SECRET, PROXY = "nginx-secret.conf", "X-Proxy"
 # what a line begins with that is no fault
 WARNING = "warning: "
 
@@ -195,6 +195,8 @@ def of_nginx(folder: Path, env: Path) -> Iterator[str]:
     for file, text in ours.items():
         if SECRET not in text:
             yield f"{file} is of before 1.15: nginx asks the gate for every stranger"
+        elif PROXY not in text:
+            yield f"{WARNING}{file} is of before 1.16: nginx asks the gate twice for each request"
         yield from of_certificates(file, text)
 
 

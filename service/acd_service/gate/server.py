@@ -18,8 +18,8 @@ from acd_service.command import report
 from acd_service.gate.desk import Place
 from acd_service.gate.exchanges import Answer, Left, Question, Refused, error
 
-# connections, beyond which others wait; behind half of these none stays open
-MOST_OPEN = 3000
+# connections, beyond which others wait; behind half of these none stays open. 4,000 questions may be held in all
+MOST_OPEN = 6000
 # seconds: for a request to come whole, and between two on a connection
 PATIENCE = 60
 # bytes of a line of a head, and how many fields a request may have

@@ -51,7 +51,8 @@ class Requests:
         if self.way == "nothing":
             return "GET", "/who", {}, b""
         if self.way == "cookie":
-            return "GET", "/snapshot", {"cookie": f"__Host-acd={secrets.token_urlsafe(32)}.{secrets.token_urlsafe(16)}"}, b""
+            # nginx sends the one on to the gate, and asks first for the other
+            return "GET", ("/who", "/snapshot")[number % 2], {"cookie": f"__Host-acd={secrets.token_urlsafe(32)}.{secrets.token_urlsafe(16)}"}, b""
         if self.way == "form":
             return "POST", "/login", {"content-type": "application/x-www-form-urlencoded"}, b"login=u%d&password=w" % number
         name = "sup" if self.way == "name" else f"u{number}"

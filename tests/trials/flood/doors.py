@@ -17,6 +17,8 @@ from trial import ANY, TOP, Connection, ran
 # requests or connections a second, of all attackers; passwords, each of which costs the gate a check, are fewer
 RATES = {"nothing": 2000, "cookie": 2000, "names": 300, "name": 300, "form": 300, "idle": 1500, "heads": 1500}
 PROCESSES = {"idle": 3, "heads": 3}
+# of how many addresses: four send 500 made-up cookies a second each
+ADDRESSES = {"cookie": (1, 4, 40)}
 # seconds more of 95 % than without the flood, threads and descriptors, megabytes: of these also after all floods
 LATER, MORE, MEGABYTES, SETTLES = 0.1, 2, 20, 10
 # until the attackers have begun
@@ -38,12 +40,12 @@ class Ground(Place):
 
 
 class Flood(Ground):
-    """`floods` of a way: of one address and of forty, without and with resets, over HTTP/1.1 and, requests, HTTP/2; and the first ones again."""
+    """`floods` of a way: of one address and of many, without and with resets, over HTTP/1.1 and, requests, HTTP/2; and the first ones again."""
     way, first = None, None
 
     def floods(self):
         protocols = (1,) if self.way in PROCESSES else (1, 2)
-        return itertools.islice(itertools.cycle(itertools.product(protocols, (1, 40), (False, True))), self.options.floods)
+        return itertools.islice(itertools.cycle(itertools.product(protocols, ADDRESSES.get(self.way, (1, 40)), (False, True))), self.options.floods)
 
     def try_floods(self):
         seconds = self.options.seconds
