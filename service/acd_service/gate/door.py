@@ -14,6 +14,7 @@ from acd_service.gate.limits import Rates
 from acd_service.gate.passwords import RIGHT, TOO_MANY, WRONG, Passwords, text
 from acd_service.gate.roles import NOTHING, Role, Watched
 from acd_service.gate.sessions import Sessions, cookie_of
+from acd_service.gate.traces import Traces
 
 # the field of the proxy's secret; that by which one of 1.15 says that it has looked at the signature of a session's
 # cookie; and what the journal is told where there is neither
@@ -22,6 +23,7 @@ OLD_PROXY = ("nginx asks for everybody, strangers too: its configuration is of b
              "/usr/share/doc/acd/examples/nginx.conf, or add its lines to yours: the include of nginx-secret.conf and "
              "its maps, secure_link, if ($stranger), X-Proxy and @heavy")
 OTHER_SECRET = "nginx has another secret than this gate: restart the gate, and reload nginx"
+REFUSALS = {WRONG: "wrong password", TOO_MANY: "too many passwords"}
 BY_PASSWORD = (("WWW-Authenticate", 'Basic realm="desk", charset="UTF-8"'),)
 
 
@@ -77,10 +79,10 @@ def verdict(question: Question, shut: Shut) -> Answer:
 class Door:
     """`secret` is what the gate and the proxy know."""
 
-    def __init__(self, roles: Watched[Role], passwords: Passwords, sessions: Sessions, rates: Rates,
+    def __init__(self, roles: Watched[Role], passwords: Passwords, sessions: Sessions, rates: Rates, traces: Traces,
                  secret: str) -> None:
         self.roles, self.passwords, self.sessions, self.rates = roles, passwords, sessions, rates
-        self.secret, self.told = secret.encode(), set[str]()
+        self.traces, self.secret, self.told = traces, secret.encode(), set[str]()
 
     async def admitted(self, question: Question) -> Question:
         """The question with its login; Refused where nobody asks who may."""
@@ -139,8 +141,14 @@ class Door:
         given = credentials(question.field("authorization"))
         if given is None:
             return WRONG, ""
-        judged = await self.passwords.judge(question.raw("x-address"), *given, question.has_left)
-        return judged, text(given[0])
+        return await self.judged(*given, question), text(given[0])
+
+    async def judged(self, login: bytes, password: bytes, question: Question) -> str:
+        """The verdict on a password; a refusal is told in the journal."""
+        found = await self.passwords.judge(question.raw("x-address"), login, password, question.has_left)
+        if found != RIGHT:
+            self.traces.refusal(text(login), question.field("x-address"), REFUSALS[found])
+        return found
 
     def role_of(self, login: str) -> Role:
         """The role of one whose password or session is right; the journal is told once of each who has no line."""

@@ -23,6 +23,7 @@ from acd_service.gate.limits import Held, Rates, Replies
 from acd_service.gate.passwords import RIGHT, TOO_MANY, Passwords, network
 from acd_service.gate.roles import MEMBERS, NO_KEYS, NOTHING, Role, Watched, has_keys, hashes_of, roles_of
 from acd_service.gate.sessions import Session, Sessions, cookie_field
+from acd_service.gate.traces import Traces
 
 # who asks for these needs no login, or is judged by what they ask
 OPEN = {"/auth", "/auth/any", "/auth/reads", "/login", "/logout"}
@@ -62,7 +63,8 @@ class Gate:
         self.passwords, self.sessions = Passwords(self.users), Sessions(sessions, self.users, secret=secret)
         self.rates, self.replies, self.held = Rates(), Replies(), Held()
         self.following, self.reading = Following(desk.ask_soon), asyncio.Semaphore(READ_AT_ONCE)
-        self.door = Door(self.roles, self.passwords, self.sessions, self.rates, secret)
+        self.traces = Traces()
+        self.door = Door(self.roles, self.passwords, self.sessions, self.rates, self.traces, secret)
         self.gets: dict[str, Place] = {
             "/auth": self.door.judge, "/auth/any": self.door.judge, "/auth/reads": self.door.judge_reads,
             "/who": self.who, "/session": self.session, "/mine": self.mine, "/requests": self.requests,
@@ -73,7 +75,9 @@ class Gate:
 
     async def answer(self, question: Question) -> Answer:
         """The answer of a route; Refused or Left where there is nothing more to do."""
-        if question.path not in OPEN:
+        if question.path in OPEN:
+            question = question._replace(address=question.field("x-address"))
+        else:
             question = await self.door.admitted(question)
         if question.method == "POST":
             return await self.post(question)
@@ -138,9 +142,9 @@ class Gate:
         """A form's login and password. If the browser sends the form itself, the answer sends it on to a page; a script
         gets a status."""
         login, password, goes_to = form_of(body)
-        verdict = await self.passwords.judge(question.raw("x-address"), login.encode(), password.encode(),
-                                             question.has_left)
-        if verdict == RIGHT and not self.rates.takes_log_in(login, network(question.raw("x-address"))):
+        verdict = await self.door.judged(login.encode(), password.encode(), question)
+        if verdict == RIGHT and not self.rates.takes_log_in(login, network(question.address.encode())):
+            self.traces.refusal(login, question.address, "too many log-ins")
             verdict = TOO_MANY
         by_form = "text/html" in question.field("accept")
         if verdict != RIGHT and by_form:
@@ -149,15 +153,20 @@ class Gate:
         if verdict != RIGHT:
             raise Refused(error(429 if verdict == TOO_MANY else 401))
         if self.door.role_of(login) == NOTHING:
+            self.traces.refusal(login, question.address, "no line in the roles")
             raise Refused(error(403))
         await self.sessions.end(token_of(question))
         token = await self.sessions.begin(login)
+        self.traces.log_in(login, question.address)
         if by_form:
             page = goes_to if is_page(goes_to) else "/board/"
             return Answer(303, fields=(("Location", page), cookie_field(token)))
         return self.said(login, self.sessions.of(token), cookie_field(token))
 
     async def log_out(self, question: Question, _: bytes) -> Answer:
+        session = self.sessions.of(token_of(question))
+        if session is not None:
+            self.traces.log_off(session.login, question.address)
         await self.sessions.end(token_of(question))
         return Answer(204, fields=(cookie_field(None),))
 
@@ -193,6 +202,7 @@ class Gate:
         if not self.role_of(question.login).reads_requests:
             raise Refused(error(403))
         question.stay()
+        self.traces.requests(question.login, question.address)
         quoted = urllib.parse.quote(question.query, safe=string.punctuation, encoding="latin-1")
         return await self.desk.ask("GET", f"/requests?{quoted}")
 
@@ -209,6 +219,8 @@ class Gate:
             content = await asyncio.to_thread(files.content, self.records, name, role.groups)
         if content is None or content is False:
             raise Refused(error(404 if content is None else 403))
+        if question.method == "GET":
+            self.traces.download(question.login, question.address, name)
         given = f'attachment; filename="{name.replace("/", "-")}"'
         return Answer(200, "text/csv; charset=utf-8", content, (("Content-Disposition", given),))
 

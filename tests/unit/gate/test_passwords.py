@@ -136,7 +136,7 @@ class PasswordTest(DoorTest):
             self.assertEqual([self.auth(basic("ana")) for _ in range(3)], [self.WRONG] * 3)
             self.users.write_text(USERS)
             self.assertEqual(self.auth(basic("ana")), self.RIGHT)
-        self.assertEqual(printed.getvalue(), f"acd-gate: {self.users} can't be read: No such file or directory\n")
+        self.assertEqual(printed.getvalue(), f"acd-gate: {self.users} can't be read: No such file or directory\n" + "acd-gate: refused, wrong password: ana at 192.0.2.1\n" * 3)
 
     def test_forms(self):
         for option, hashed in BY_HTPASSWD.items():
@@ -240,7 +240,8 @@ class PasswordTest(DoorTest):
                     for number in range(110):
                         self.auth(basic(login, "guess"), address=f"192.0.2.{number}")
                 self.now += 3600
-        self.assertEqual(printed.getvalue(), "acd-gate: ana: over 100 wrong passwords within an hour\n" * 2)
+        told = [line for line in printed.getvalue().splitlines() if "refus" not in line]
+        self.assertEqual(told, ["acd-gate: ana: over 100 wrong passwords within an hour"] * 2)
 
     def test_an_unknown_name_takes_as_long(self):
         self.users.write_text(f"ana:{bcrypt.hashpw(b'secret', bcrypt.gensalt(8)).decode()}\n")

@@ -94,7 +94,8 @@ class RoleTest(DoorTest):
             self.assertEqual([self.ask("nobody", None, "GET", path)[0] for path in ("/mine?agent=7", "/requests", "/records/")], [403] * 3)
             self.roles.write_text(ROLES + "nobody supervisor\n")
             self.assertEqual(self.auth(basic("nobody")), (204, "nobody", None))
-        self.assertEqual(printed.getvalue(), f"acd-gate: nobody gets nothing: it has no line in {self.roles}\n")
+        self.assertEqual(printed.getvalue(), f"acd-gate: nobody gets nothing: it has no line in {self.roles}\nacd-gate: refused, wrong password: nobody at 192.0.2.1\n"
+                                             "acd-gate: refused, no line in the roles: nobody at 192.0.2.1\n")
 
     def test_roles_that_cannot_be_read(self):
         """Those of before stay in force; at a start without any nobody gets in."""
