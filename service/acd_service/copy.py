@@ -7,6 +7,7 @@ good, and has no fewer requests than the copy before. It keeps all other copies 
 status 1, and clears no old copy away. It audits a file that was carried over together with its archive, and copies each
 archive once. It is tested, not proved."""
 import argparse
+import calendar
 import contextlib
 import os
 import re
@@ -18,7 +19,7 @@ from collections.abc import Iterator
 from pathlib import Path
 from typing import NoReturn
 
-from acd_service import audit, chain, command, held, put, restoring, settings
+from acd_service import audit, chain, command, held, last_copy, put, restoring, settings
 from acd_service.command import Fault, report, say
 from acd_service.halt import Desk, Missed, desks_over, halted
 from acd_service.pair import identity, log_of
@@ -213,11 +214,20 @@ def kept(new: Path, folder: Path, name: str) -> Path:
     return made
 
 
+class Aside(Fault):
+    """A copy was made, and isn't a good one; the verdict is of those that a line about the last copy has."""
+
+    def __init__(self, line: str, verdict: str) -> None:
+        super().__init__(line)
+        self.verdict = verdict
+
+
 def kept_aside(new: Path, folder: Path, name: str, why: str) -> NoReturn:
     """Keeps what isn't a good copy, and ends. Of those whose name has no moment the last is kept."""
     if (folder / name).exists():
         shutil.rmtree(folder / name)
-    raise Fault(f"{why}; it is in {kept(new, folder, name)}, and all older copies are kept")
+    raise Aside(f"{why}; it is in {kept(new, folder, name)}, and all older copies are kept",
+                name.replace("{}", "").strip("-."))
 
 
 def archived(new: Path, folder: Path, file: Path) -> Path | None:
@@ -264,6 +274,12 @@ def is_sound(copy: Path) -> bool:
     return not any(copy.glob(f"*{chain.AGAIN}"))
 
 
+def good_copies(folder: Path) -> list[Path]:
+    """From the oldest on: their names sort by their moments."""
+    found = folder.iterdir() if folder.is_dir() else ()
+    return sorted(path for path in found if re.fullmatch(NAMED, path.name) and path.is_dir())
+
+
 def superfluous(copies: list[Path], days: int) -> list[Path]:
     """Those of good copies that nobody needs: all but the last copy of each of the last days that have one, and but the
     last twenty of today."""
@@ -282,8 +298,7 @@ def has_room(made: Path) -> bool:
 def clear_away(folder: Path, days: int, made: Path) -> None:
     """Clears away good copies that nobody needs, and then the older ones of today, until the disk has room for two
     more. Beside one that isn't wholly sound, all that are stay."""
-    # the names sort by their moments
-    copies = sorted(path for path in folder.iterdir() if path.is_dir() and re.fullmatch(NAMED, path.name))
+    copies = good_copies(folder)
     may_go = [copy for copy in copies if copy != made and (is_sound(made) or not is_sound(copy))]
     needless = superfluous(copies, days)
     for copy in may_go:
@@ -367,6 +382,22 @@ def copy(file: Path, folder: Path, keep: int, halt: int) -> bool:
 
 # The command
 
+def copied_and_told(options: argparse.Namespace) -> bool:
+    """A copy, about which a line is left where one is wanted."""
+    verdict = "failed"
+    try:
+        is_well = copy(options.file, options.folder, options.keep, options.halt)
+        verdict = "sound" if is_sound(good_copies(options.folder)[-1]) else "again"
+        return is_well
+    except Aside as fault:
+        verdict = fault.verdict
+        raise
+    finally:
+        if options.tell:
+            good = [calendar.timegm(time.strptime(one.name, MOMENT)) for one in good_copies(options.folder)]
+            last_copy.leave(options.tell, last_copy.LastCopy(int(time.time()), verdict, max(good, default=None)))
+
+
 def number(text: str) -> int:
     if not re.fullmatch("[1-9][0-9]{0,2}", text):
         raise argparse.ArgumentTypeError(f"to keep copies of '{text}' days: that isn't a whole number from 1 to 999")
@@ -387,6 +418,8 @@ def parser() -> command.Parser:
                        help="of how many days to keep the last good copy; ACD_COPIES, else 7")
     found.add_argument("--halt", type=halt_seconds, metavar="SECONDS",
                        help="for how many seconds at most the desk may be halted; ACD_HALT, else 20")
+    found.add_argument("--tell", type=Path, metavar="FILE",
+                       help="leave a line about the copy in this file, for the gate's metrics")
     does = found.add_mutually_exclusive_group()
     if command.is_old:
         does.add_argument("--restore", metavar="MOMENT", help="put the copy of this moment back")
@@ -435,7 +468,7 @@ def do(options: argparse.Namespace) -> int:
         restoring.restore(options.file, options.folder, options.restore, say)
     elif options.undo:
         restoring.undo(options.file, say)
-    elif not copy(options.file, options.folder, options.keep, options.halt):
+    elif not copied_and_told(options):
         return command.FAILED
     return 0
 

@@ -40,6 +40,7 @@ KNOWN_BY = {
     "python3-h2": "h2",
     "python3-jsonschema": "jsonschema",
     "python3-passlib": "passlib",
+    "python3-prometheus-client": "prometheus_client",
     "python3-pytest": "pytest",
     "python3-pytest-timeout": "pytest_timeout",
     "python3-yaml": "yaml",

@@ -65,8 +65,10 @@ class Following:
 
     def __init__(self, ask: Callable[[str, str], Awaitable[Answer]], clock: Callable[[], float] = time.time) -> None:
         self.ask, self.clock, self.asking = ask, clock, asyncio.Lock()
-        # `answered` is by the clock, `renewed` and `heard` are by one that is never set back
+        # `answered` is by the clock; `renewed`, `heard`, when all was caught up, and `spoke`, when the desk last
+        # answered a question, are by one that is never set back
         self.answered, self.renewed, self.heard, self.live = 0.0, 0.0, 0.0, False
+        self.spoke = 0.0
         self.state: State | None = None
         self.seen: Text | None = None
         self.days = Days(clock())
@@ -85,6 +87,8 @@ class Following:
 
     async def read(self, path: str) -> Text | None:
         answer = await self.ask("GET", path)
+        if answer.status != 502:
+            self.spoke = time.monotonic()
         if answer.status != 200:
             if answer.status == 404:
                 return None
@@ -308,6 +312,13 @@ class Following:
         if not (self.names_changed > names or names > self.number):
             return body
         return body[:-1] + b',"names":' + self.names_now(self.state) + b"}"
+
+    async def known(self) -> State | None:
+        """The state, as soon as there is one; None if the gate never reached the desk."""
+        self.want()
+        if self.state is None:
+            await self.wait(Waiter("", frozenset(), 0, 0), AWAY)
+        return self.state
 
     async def wait(self, waiter: Waiter, patience: float) -> None:
         self.waiters.add(waiter)

@@ -7,7 +7,7 @@ from typing import NoReturn
 
 import acd_notify
 
-from acd_service import command, settings
+from acd_service import command, last_copy, settings
 from acd_service.command import Fault
 from acd_service.gate.desk import Desk, Place, place
 
@@ -38,6 +38,8 @@ def parser() -> command.Parser:
                        help="the files of records; /var/lib/acd-records unless given")
     found.add_argument("--secret", default="/etc/acd/nginx-secret.conf", metavar="FILE",
                        help="nginx's file of the secret; /etc/acd/nginx-secret.conf unless given")
+    found.add_argument("--copy", default=last_copy.FILE, metavar="FILE",
+                       help=f"the line that the last copy left; {last_copy.FILE} unless given")
     return found
 
 
@@ -51,7 +53,8 @@ async def serve(options: argparse.Namespace) -> None:
     except (OSError, OverflowError):
         raise Fault(f"cannot listen on {settings.place(options.port, options.socket)}") from None
     desk = Desk(options.desk or Place(path=options.desk_socket))
-    gate = Gate(desk, options.roles, options.users, options.sessions, options.records, secret_of(options.secret))
+    gate = Gate(desk, options.roles, options.users, options.sessions, options.records, secret_of(options.secret),
+                options.copy)
     acd_notify.ready()
     await Server(gate.answer).listen(listening)
 

@@ -13,20 +13,23 @@ import urllib.parse
 from collections.abc import Awaitable, Callable, Mapping
 from pathlib import Path
 
+from acd_service import last_copy
 from acd_service.gate import files
 from acd_service.gate.desk import Desk
 from acd_service.gate.door import Door, is_page, token_of
 from acd_service.gate.exchanges import Answer, Question, Refused, error
 from acd_service.gate.following import Away, Following, as_json
+from acd_service.gate.health import WELL
 from acd_service.gate.judging import Logins, Look, Seen, Twice, looks_at, may, once
 from acd_service.gate.limits import Held, Rates, Replies
+from acd_service.gate.metrics import KIND, Metrics
 from acd_service.gate.passwords import RIGHT, TOO_MANY, Passwords, network
 from acd_service.gate.roles import MEMBERS, NO_KEYS, NOTHING, Role, Watched, has_keys, hashes_of, roles_of
 from acd_service.gate.sessions import Session, Sessions, cookie_field
 from acd_service.gate.traces import Traces
 
 # who asks for these needs no login, or is judged by what they ask
-OPEN = {"/auth", "/auth/any", "/auth/reads", "/login", "/logout"}
+OPEN = {"/auth", "/auth/any", "/auth/reads", "/login", "/logout", "/health", "/metrics"}
 # bytes of a body
 LONGEST = 4096
 # files of records that are read at a time
@@ -57,7 +60,8 @@ class Gate:
     proxy know: it signs sessions, and says that a request is the proxy's."""
 
     def __init__(self, desk: Desk, roles: Path | str, users: Path | str, sessions: Path | str | None = None,
-                 records: Path | str = "/var/lib/acd-records", secret: str = "") -> None:
+                 records: Path | str = "/var/lib/acd-records", secret: str = "",
+                 copy: Path | str = last_copy.FILE) -> None:
         self.desk, self.records = desk, records
         self.roles, self.users = Watched(Path(roles), roles_of, keeps=True), Watched(Path(users), hashes_of)
         self.passwords, self.sessions = Passwords(self.users), Sessions(sessions, self.users, secret=secret)
@@ -65,10 +69,11 @@ class Gate:
         self.following, self.reading = Following(desk.ask_soon), asyncio.Semaphore(READ_AT_ONCE)
         self.traces = Traces()
         self.door = Door(self.roles, self.passwords, self.sessions, self.rates, self.traces, secret)
+        self.metrics = Metrics(self, self.following, desk, copy)
         self.gets: dict[str, Place] = {
             "/auth": self.door.judge, "/auth/any": self.door.judge, "/auth/reads": self.door.judge_reads,
             "/who": self.who, "/session": self.session, "/mine": self.mine, "/requests": self.requests,
-            "/basic": self.basic}
+            "/basic": self.basic, "/health": self.health, "/metrics": self.measured}
         self.posts: dict[str, Body] = {"/csta": self.ask_desk, "/login": self.log_in, "/logout": self.log_out,
                                        "/session": self.use_session}
         self.roles.now()
@@ -203,8 +208,19 @@ class Gate:
             raise Refused(error(403))
         question.stay()
         self.traces.requests(question.login, question.address)
+        if self.role_of(question.login).name == "follow":
+            self.metrics.ask(question.login, question.query)
         quoted = urllib.parse.quote(question.query, safe=string.punctuation, encoding="latin-1")
         return await self.desk.ask("GET", f"/requests?{quoted}")
+
+    # for who looks after the machine: nginx says who may ask
+
+    async def health(self, _: Question) -> Answer:
+        word = await self.metrics.health.word()
+        return Answer(200 if word == WELL else 503, body=f"{word}\n".encode())
+
+    async def measured(self, _: Question) -> Answer:
+        return Answer(200, KIND, await self.metrics.now())
 
     async def records_of(self, question: Question, name: str) -> Answer:
         """A file of records, or the days of which there are files."""

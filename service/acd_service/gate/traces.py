@@ -28,6 +28,7 @@ def shown(login: str) -> str:
 class Traces:
     def __init__(self, clock: Callable[[], float] = time.monotonic) -> None:
         self.clock, self.since = clock, clock()
+        self.log_ins = self.refusals = 0
         # of this minute: the refusals of each address, and the lines of all
         self.refused: dict[bytes, int] = {}
         self.lines = 0
@@ -38,6 +39,7 @@ class Traces:
         command.report(f"{did}: {shown(login)} at {shown(address) if address else UNTOLD}", priority)
 
     def log_in(self, login: str, address: str) -> None:
+        self.log_ins += 1
         self.tell("log-in", login, address)
 
     def log_off(self, login: str, address: str) -> None:
@@ -59,6 +61,7 @@ class Traces:
 
     def refusal(self, login: str, address: str, why: str) -> None:
         now = self.clock()
+        self.refusals += 1
         if now - self.since >= MINUTE:
             self.since, self.lines, self.refused = now, 0, {}
         if self.lines > MOST:

@@ -67,7 +67,7 @@ class Place(Trial):
     @classmethod
     def start_gate(cls):
         words = ["/usr/bin/python3", "-B", TOP / "service/bin/acd-gate", "--port", cls.gate_port, "--desk", cls.desk_port, "--roles", cls.folder / "roles",
-                 "--users", cls.folder / "users", "--sessions", cls.folder / "sessions", "--records", cls.folder / "records", "--secret", cls.folder / "nginx-secret.conf"]
+                 "--users", cls.folder / "users", "--sessions", cls.folder / "sessions", "--records", cls.folder / "records", "--secret", cls.folder / "nginx-secret.conf", "--copy", cls.folder / "copy"]
         with (cls.folder / "gate-errors").open("a") as errors:
             cls.gate = cls.enterClassContext(running(*words, port=cls.gate_port, stderr=errors))
 

@@ -56,6 +56,11 @@ class SecondLine(unittest.TestCase):
             with self.subTest(name):
                 self.assertIn("EnvironmentFile=/etc/acd/north.env", text.replace("EnvironmentFile=-", "EnvironmentFile="))
 
+    def test_the_gate_reads_the_line_of_its_own_copies(self):
+        units = self.units()
+        self.assertRegex(units["acd-copy-north"], r"(?m)^ExecStart=.* --tell /run/acd/north-copy$")
+        self.assertRegex(units["acd-gate-north"], r"(?m)^ExecStart=.* --copy /run/acd/north-copy( |$)")
+
     def test_records_come_into_a_folder_of_their_own(self):
         self.assertRegex(self.units()["acd-records-north"], r"(?m)^ExecStart=/usr/bin/acdctl records --copies \$\{ACD_COPY_FOLDER\} /var/lib/acd-records-north$")
 
