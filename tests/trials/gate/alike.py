@@ -30,6 +30,7 @@ class Alike(Place):
         cls.run_nginx(OF_1_14, cls.older_port)
         cls.persons = {"nobody": {}, "another way": {"Authorization": "Bearer x"}, "a made-up cookie": {"Cookie": f"__Host-acd={'A' * 43}.{'B' * 22}"},
                        "no session's cookie": {"Cookie": f"a=b; __Host-acd={signed('A' * 43)}"}, "two cookies": {"Cookie": f"__Host-acd={signed('A' * 43)}; __Host-acd={signed('B' * 43)}"},
+                       "two fields of cookies": {"Cookie": f"a=b\r\nCookie: __Host-acd={signed('A' * 43)}"}, "two passwords": {"Authorization": "{Authorization}\r\nAuthorization: {Authorization}".format(**basic("ana"))},
                        "a forged login": {"X-Login": "sup", "X-Proxy": cls.secret[:-1]}, **{login: basic(login) for login in cls.ROLES if login != "tried"}}
 
     def got(self, port, method, path, fields, body):
@@ -73,6 +74,9 @@ class Alike(Place):
             for path in PATHS:
                 for how in HOWS.values():
                     self.alike(f"a session of {login}", "GET", path, {**how, **cookie})
+            in_two = {"Cookie": "a=b\r\nCookie: {Cookie}".format(**cookie)}
+            self.alike(f"a session of {login}", "GET", "/session", in_two)
+            self.see("in two fields too", b" 200 " in self.got(self.port, "GET", "/session", in_two, None)[0][-1] or self.got(self.port, "GET", "/session", in_two, None), login)
             for path in ("/csta", "/session"):
                 for body in BODIES:
                     self.alike(f"a session of {login}", "POST", path, cookie, body)

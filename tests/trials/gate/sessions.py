@@ -7,6 +7,7 @@ from base64 import b64encode
 from place import CLICK, ELSEWHERE, PAGE, Place, signed, token_of
 from trial import Connection
 
+BAD_GATEWAY = b'{"error":{"code":44,"name":"badGateway"}}'
 UNAUTHORIZED = b'{"error":{"code":42,"name":"unauthorized"}}'
 
 
@@ -57,9 +58,9 @@ class Sessions(Place):
         token = token_of(self.log_in("sup")[1])
         with self.without_gate():
             for stranger in strangers(token):
-                told = [self.ask("GET", "/snapshot", **stranger, **how) for how in ({}, PAGE)]
+                told = [self.ask("GET", path, **stranger, **how) for path in ("/snapshot", "/who") for how in ({}, PAGE)]
                 self.expect(f"a stranger: {stranger}", [(reply.status, reply.body, reply.fields.get("www-authenticate")) for reply in told],
-                            [(401, UNAUTHORIZED, 'Basic realm="desk", charset="UTF-8"'), (401, UNAUTHORIZED, None)])
+                            [(401, UNAUTHORIZED, 'Basic realm="desk", charset="UTF-8"'), (401, UNAUTHORIZED, None)] * 2)
                 to_page = self.ask("GET", "/board/?since=0", **stranger, **CLICK)
                 self.expect("a browser's page of one", (to_page.status, to_page.fields["location"].partition("/board/")[2], to_page.fields.get("www-authenticate")), (302, "login/?next=/board/?since=0", None))
                 self.expect("a click elsewhere", self.ask("GET", "/snapshot", **stranger, **CLICK).status, 401)
@@ -67,7 +68,7 @@ class Sessions(Place):
                 gone = self.ask("POST", "/logout", **stranger)
                 self.expect("log-off", (gone.status, gone.fields.get("set-cookie")), (204, "__Host-acd=; Path=/; Max-Age=0; HttpOnly; Secure; SameSite=Strict"))
             for other in ({"cookie": token}, {"cookie": f"a=b; __Host-acd={token}; c=d"}, {"cookie": signed("A" * 43)}, {"login": "sup"}, {"login": "nobody"}):
-                self.expect(f"the gate judges {other}", self.ask("GET", "/snapshot", **other).status, 502)
+                self.expect(f"the gate judges {other}", [self.ask("GET", path, **other)[::2] for path in ("/snapshot", "/who", "/mine", "/requests")], [(502, BAD_GATEWAY)] * 4)
         self.expect("the gate's own", [self.ask("GET", "/snapshot", **other).status for other in ({"cookie": token}, {"login": "sup"}, {"cookie": signed("A" * 43)}, {"login": "nobody"})], [200, 200, 401, 401])
         self.expect("a file that everybody may load has no question", self.ask("GET", "/board/login/").fields.get("www-authenticate"), None)
 
