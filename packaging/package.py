@@ -334,7 +334,7 @@ def lay_out(root, options, moment):
                  *sorted((TOP / "docs").glob("*.png"))]:
         put(doc + page.name, page.read_bytes())
     for example in ("nginx/nginx.conf", "settings/node.env", "settings/follow.env", "settings/rules.env",
-                    "settings/rules.toml"):
+                    "settings/rules.toml", "monitoring/alerts.yaml"):
         put(f"{doc}examples/{Path(example).name}", (SERVICE / example).read_bytes())
     # no conffiles, about which an upgrade would ask: postinst makes both in /etc/acd, once. It reads nothing of the
     # documents, which a machine may leave out

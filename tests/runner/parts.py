@@ -59,7 +59,7 @@ OF_THE_PROGRAM = {
 # of what stands around it: the parts that are done in seconds
 OF_THE_SERVICE = {
     **{f"gate {part}": Part("try-gate", ("--only", part), (f"gate/{file}",), NGINX)
-       for part, file in (("answers", "answers.py"), ("days", "days.py"), ("sessions", "sessions.py"), ("leads", "leads.py"), ("reads", "mine.py:Reads"), ("executed", "executed.py"), ("mine", "mine.py:Mine"), ("older", "older.py"))},
+       for part, file in (("answers", "answers.py"), ("days", "days.py"), ("sessions", "sessions.py"), ("leads", "leads.py"), ("reads", "mine.py:Reads"), ("executed", "executed.py"), ("mine", "mine.py:Mine"))},
     **{f"trail {part}": Part("try-trail", ("--only", part), (f"try-trail:{case}",), packages)
        for part, case, packages in (("story", "Story", ()), ("archives", "Archives", ()), ("faults", "Bad", ()), ("pages", "OfPages", ()), ("served", "Served", NGINX))},
     "rules": Part("try-rules", ("--only", "days"), ("rules/drawn_days.py",)),
@@ -78,7 +78,7 @@ BY_HAND = {
     "files": Part("try-files", (), ("try-files",)),
     "flood": Part("try-flood", ("--seconds", "8", "--floods", "4"), ("flood/doors.py",), (*NGINX, "apache2-utils", "python3-h2"), ("root",)),
     "follow whole": Part("try-follow", (), ("follow/cases.py", "follow/kills.py", "follow/runs.py"), SPACES, ("root",)),
-    "gate whole": Part("try-gate", (), ("try-gate", "gate/followed.py", "gate/alike.py", "gate/waits.py", "gate/monitor.py", "gate/many.py"), (*NGINX, "python3-h2", "python3-prometheus-client")),
+    "gate whole": Part("try-gate", (), ("try-gate", "gate/followed.py", "gate/older.py", "gate/alike.py", "gate/waits.py", "gate/monitor.py", "gate/many.py"), (*NGINX, "python3-h2", "python3-prometheus-client")),
     "http": Part("try-http", (), ("try-http",), (*NGINX, "apache2-utils", "curl", "sqlite3")),
     "node": Part("try-node", (), ("node/carried.py", "node/day.py", "node/hostile.py"), (), ("etcd",)),
     "office": Part("try-office", (), tuple(f"office/{name}.py" for name in ("starting", "damage", "clock", "copies", "carried", "plans", "program", "byhand", "clone")), (), ("booted",), False),
