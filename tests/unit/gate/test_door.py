@@ -7,9 +7,10 @@ import io
 import json
 import unittest
 
-from standing import FORBIDDEN, PAGE, PROXYS, REPLY, DoorTest, basic
+from standing import FORBIDDEN, PAGE, PATIENCE, PROXYS, REPLY, DoorTest, basic
 
 from acd_service.gate.exchanges import Left, Question
+from trial import Connection
 
 UNAUTHORIZED = (401, b'{"error":{"code":42,"name":"unauthorized"}}')
 TOO_MANY = (429, b'{"error":{"code":43,"name":"tooManyRequests"}}')
@@ -85,6 +86,17 @@ class OneQuestionTest(DoorTest):
     def test_nobodys_body_is_looked_at(self):
         self.assertEqual(self.once("POST", "/csta", None, b" " * 5000)[0], UNAUTHORIZED)
         self.assertEqual(self.once("POST", "/csta", basic("pbx"), b" " * 5000)[0][0], 413)
+
+    def test_a_connection_stays_behind_a_refusal(self):
+        """Also where a body came with it, which nobody has read."""
+        ports = set()
+        with Connection(self.port, seconds=PATIENCE) as one:
+            for authorization, status in ((b"", 401), (basic("pbx"), 409), (b"", 401), (basic("nobody"), 403), (basic("pbx"), 409)):
+                with contextlib.redirect_stderr(io.StringIO()):
+                    reply = one.ask("POST", "/csta", b'{"requester":"pbx"}' + b" " * 4000, [("X-Proxy", PROXYS), ("X-Address", "192.0.2.1"), ("Authorization", authorization)])
+                self.assertEqual((reply.status, reply.fields["connection"]), (status, "keep-alive"))
+                ports.add(one.connection.sock.getsockname())
+        self.assertEqual((len(ports), len(self.desk.got)), (1, 2))
 
     def test_who_has_left_is_dropped(self):
         """Its password isn't looked at."""
