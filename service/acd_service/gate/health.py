@@ -6,8 +6,8 @@ from acd_service.gate.following import Following
 from acd_service.gate.state import State
 
 # seconds: since the desk's last answer, where it answers within one and is asked five times in one; since the picture
-# had all that the desk had; and since when a tick has been due
-DESK, BEHIND, TICKS = 1.5, 3, 60
+# had all that the desk had; since when a tick has been due; and for which a word counts
+DESK, BEHIND, TICKS, KEPT = 1.5, 3, 60, 0.2
 WELL = "ok"
 
 
@@ -34,10 +34,16 @@ class Health:
 
     def __init__(self, following: Following, clock: Callable[[], float] = time.time) -> None:
         self.following, self.clock = following, clock
+        self.judged, self.said = 0.0, WELL
 
     async def word(self) -> str:
         """What is wrong: the desk doesn't answer, the picture is behind it, or nobody sends ticks; else WELL."""
         state, now = await self.following.known(), time.monotonic()
+        if now - self.judged >= KEPT:
+            self.judged, self.said = now, self.judge(state, now)
+        return self.said
+
+    def judge(self, state: State | None, now: float) -> str:
         if now - self.following.spoke > DESK:
             return "desk"
         if state is None or now - self.following.heard > BEHIND:

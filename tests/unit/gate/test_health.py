@@ -68,14 +68,18 @@ class HealthTest(DoorTest):
         self.assertEqual(self.asked(), (200, "text/plain", b"ok\n"))
 
     def test_who_asks_often_asks_the_gate_alone(self):
-        self.desk.known, asked = SNAPSHOT, []
+        """And that looks through its picture five times a second."""
+        self.desk.known, asked, reckoned = SNAPSHOT, [], []
+        self.enterContext(mock.patch.object(health, "overdue", lambda *_: reckoned.append(1) or 0))
         ask = self.gate.following.ask
         self.gate.following.ask = lambda *words: asked.append(words) or ask(*words)
         self.asked()
         begun, before = time.monotonic(), len(asked)
         for _ in range(200):
             self.assertEqual(self.asked()[0], 200)
-        self.assertLessEqual(len(asked) - before, 2 + 2 * (time.monotonic() - begun) / following.EVERY)
+        passed = time.monotonic() - begun
+        self.assertLessEqual(len(asked) - before, 2 + 2 * passed / following.EVERY)
+        self.assertLessEqual(len(reckoned), 2 + passed / health.KEPT)
 
     def test_a_desk_that_does_not_answer(self):
         self.gate.desk.where = Place(1)
@@ -103,7 +107,7 @@ class HealthTest(DoorTest):
             self.desk.known = {**SNAPSHOT, "/snapshot": {**SNAPSHOT["/snapshot"], "groups": [{"device": "100", "name": "G", "ring": 1, "wrap": wrap}],
                                                          "stations": [{"device": "201", "agent": "7"}], "agents": [agent]}}
             self.standing.loop.call_soon_threadsafe(self.gate.following.forget)
-            time.sleep(0.1)
+            time.sleep(health.KEPT + 0.1)
             self.assertEqual(self.asked()[::2], (wanted, b"ticks\n" if wanted == 503 else b"ok\n"))
 
 

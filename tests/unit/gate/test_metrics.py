@@ -137,7 +137,7 @@ class MetricsTest(DoorTest):
         self.assertEqual((found["acd_healthy"], found['acd_agents{state="loggedOff"}'], found["acd_requests_total"]), (1, 1, 0))
         self.assertNotIn("acd_last_tick_timestamp_seconds", found)
         self.gate.desk.where = Place(1)
-        self.gate.following.spoke = 0
+        self.gate.following.spoke = self.gate.metrics.health.judged = 0
         with mock.patch.object(following, "AWAY", 0.1):
             found = self.told()
         self.assertEqual((found["acd_healthy"], "acd_requests_total" in found, found["acd_gate_log_ins_total"]), (0, False, 0))
