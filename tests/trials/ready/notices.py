@@ -112,7 +112,7 @@ class Notices(Ready):
                 file = self.new()
                 with self.served(file) as desk:
                     self.expect("it is told", (self.heard(hears, 60), self.ask(desk, 1)), (b"READY=1", 200))
-                    wanted = sorted([str(file), f"{file}-wal", "socket"])
+                    wanted = sorted([str(file), f"{file}-wal", "anon_inode", "socket"])     # the third one is that by which it waits
                     self.expect("nothing is left open", until(lambda: self.held(desk.process.pid) == wanted, 20))
             finally:
                 self.variables = whole
