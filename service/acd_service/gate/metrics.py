@@ -23,7 +23,7 @@ if TYPE_CHECKING:
 
 KIND = "application/openmetrics-text; version=1.0.0; charset=utf-8"
 # seconds for which a text counts; requests that are looked through for the last tick at first; pages of requests that
-# are read for one text; and a stamp behind all others
+# are read for one text; and a stamp after all others
 KEPT, FIRST, PAGES, BEYOND = 1, 1000, 20, 999_999_999_999_999
 # columns of the desk's report of queues
 COLUMNS = ("waiting", "ringing", "entered", "answered", "abandoned", "moved")
