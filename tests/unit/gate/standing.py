@@ -16,7 +16,7 @@ from socketserver import TCPServer
 from unittest import mock
 
 TOP = Path(__file__).resolve().parents[3]
-sys.path += [str(TOP / "service"), str(TOP / "tests/trials")]
+sys.path += [str(TOP / "service"), str(TOP / "client"), str(TOP / "tests/trials")]
 from acd_service import command  # noqa: E402
 from acd_service.gate.desk import Desk, Place  # noqa: E402
 from acd_service.gate.roles import Watched, hashes_of, roles_of  # noqa: E402

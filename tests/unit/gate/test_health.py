@@ -9,10 +9,10 @@ import time
 import unittest
 from unittest import mock
 
-import acd_due
 from standing import DoorTest
 from test_routes import SNAPSHOT
 
+import acd_due
 from acd_service.gate import following, health
 from acd_service.gate.desk import Place
 from acd_service.gate.state import State

@@ -5,6 +5,8 @@ Needs python3-aiohttp, python3-passlib and python3-bcrypt (Debian packages)."""
 import unittest
 from unittest import mock
 
+import standing  # noqa: F401  where it isn't pytest that runs this, it finds the service
+
 from acd_service.gate import limits
 from acd_service.gate.exchanges import Answer
 from acd_service.gate.roles import Role
