@@ -9,7 +9,7 @@ import sqlite3
 import time
 from pathlib import Path
 
-from ground import AGAIN, ELSEWHERE, MEND, WORDS, Ready
+from ground import AGAIN, ELSEWHERE, MEND, WORDS, Ready, Served
 from logs import Log
 from trial import free_port
 
@@ -25,7 +25,7 @@ class Starts(Ready):
 
     def try_words(self):
         file = self.new()
-        for words in (["--port", "0"], ["--port", "65536"], ["--port", "80x"], ["--port", ""], ["--port", "-1"], ["--port"], ["--file"], ["--file", ""], ["--other"], ["more"], ["--make"]):
+        for words in (["--port", "0"], ["--port", "65536"], ["--port", "80x"], ["--port", "-1"], ["--port"], ["--file"], ["--file", ""], ["--other"], ["more"], ["--make"]):
             self.fails(f"the words {words}", [], *(["--file", file] if "--file" not in words else []), *words, status=WORDS)
         self.expect("neither of both", self.ready("--file", file)[0], WORDS)
         status, out, _ = self.ready("--help")
@@ -87,6 +87,22 @@ class Starts(Ready):
         away.replace(file)
         self.starts("with the file back", link, [1])
 
+    def try_socket(self):
+        """It is served at a socket, where there is no port or an empty one; what an ended desk left there is made anew, and what else is there stays."""
+        file, path = self.new(), self.folder / "desk.sock"
+        for number, words in enumerate(([], ["--port", ""]), 1):
+            with Served(self.words("--serve", "--file", file, *words, "--socket", path), path, self.variables) as desk:
+                self.expect("it listens", desk.listens, f"listening on {path}\n")
+                self.expect("it answers", self.ask(desk, number), 200)
+                self.fails("one that is taken", [f"{path} is taken: end who listens there (ss -lxp src unix:{path}), or name another socket, ACD_SOCKET in /etc/acd/acd.env"],
+                           "--file", self.new(), "--socket", path)
+            self.expect("it is left", path.is_socket(), True)
+        path.unlink()
+        path.touch()
+        self.fails("a file", [f"{path} is there, and is no socket of the user"], "--file", file, "--socket", path)
+        self.expect("it is left", path.is_file(), True)
+        self.fails("a folder that isn't there", [f"the folder {self.folder}/none isn't there: make it (systemd-tmpfiles --create acd.conf)"], "--file", file, "--socket", self.folder / "none/desk.sock")
+
     def try_port(self):
         file = self.new()
         for address in ("127.0.0.1", "0.0.0.0"):
@@ -113,7 +129,7 @@ class Starts(Ready):
             self.expect("its name and its words", (process.joinpath("comm").read_text(), process.joinpath("cmdline").read_text().split("\0")),
                         ("acd\n", ["acd", "serve", "--file", str(file), "--port", str(desk.port), "--endless", ""]))
             held = sorted(os.readlink(one).partition(":")[0] for one in process.joinpath("fd").iterdir() if one.name not in ("1", "2"))
-            self.expect("nothing is left open", held, sorted([os.readlink("/proc/self/fd/0").partition(":")[0], str(file), f"{file}-wal", "socket"]))
+            self.expect("nothing is left open", held, sorted([os.readlink("/proc/self/fd/0").partition(":")[0], str(file), f"{file}-wal", "anon_inode", "socket"]))
             status, _, line = self.ready("--serve", "--file", file, "--port", free_port())
             self.expect("a second one over the same file", (status, line), (ELSEWHERE, f"acd: {file} is open elsewhere\n"))
         self.expect("it says nothing", desk.said(), "")
