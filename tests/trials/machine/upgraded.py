@@ -111,6 +111,8 @@ class Upgraded(Edges):
             type(self).told = self.told + said if package != self.newer[0] else said
         self.expect("its files", [file for file, text in zip(files, before) if self.container.inside(file).read_bytes() != text], [])
         self.expect_in("the exchange keeps the desk's address", self.done("cat", "/etc/acd/exchange.env"), r"\nEXCHANGE_DESK=http://127\.0\.0\.1:8080\n\Z")
+        self.done("systemctl", "restart", "acd-north", "acd-tick-north", "acd-gate-north")
+        self.expect("the second line by its own units", self.eventually(lambda: (self.curl("http://127.0.0.1:8090/"), self.curl("http://127.0.0.1:8091/") != 0), (404, True)), (404, True))
         self.serves("behind the upgrade", 2)
         for port in (8080, 8081, 8090, 8091):
             self.expect(f"port {port} is there, for root alone", (self.curl(f"http://127.0.0.1:{port}/") != 0, self.curl(f"http://127.0.0.1:{port}/", user="ben")), (True, 0))
