@@ -129,7 +129,7 @@ class Stops(Ready):
         held, ready, told = log.read_bytes(), self.module(), []
 
         def keep(*_):
-            raise ready.Fault("no room", status=ready.AGAIN)
+            raise ready.Fault("no room", status=ready.command.FAILED)
 
         ready.keep, ready.report = keep, lambda fault: told.append(str(fault))
         note.unlink()
