@@ -32,7 +32,7 @@ CLIENT = TOP / "client"
 MAINTAINER = "The maintainers of acd <maintainers@users.noreply.hullapricot.example>"
 UNITS = ("acd.service", "acd-tick.service", "acd-gate.service", "acd-copy.service", "acd-copy.timer",
          "acd-local.service", "acd-node.service", "acd-node-upkeep.service", "acd-node-upkeep.timer",
-         "acd-records.service", "acd-follow.service", "acd-carry.service", "acd-carry.timer", "acd-certificate.service",
+         "acd-records.service", "acd-follow.service", "acd-prune.service", "acd-prune.timer", "acd-certificate.service",
          "acd-certificate.timer", "acd-rules.service")
 # until the next minor version
 OLD_NAMES_OF_USERS = ("acd-calls", "acd-export", "acd-plan", "acd-trail")
