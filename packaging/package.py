@@ -355,7 +355,7 @@ def lay_out(root, options, moment):
                           "Suggests: nginx, etcd-server, etcd-client\nSection: net\nPriority: optional\n"
                           f"Description: {DESCRIPTION} Built by {toolchain} from the sources of checksum\n {source}.\n")
     put("DEBIAN/md5sums", sums)
-    for script in ("postinst", "prerm", "postrm"):
+    for script in ("preinst", "postinst", "prerm", "postrm"):
         put(f"DEBIAN/{script}", (PACKAGING / "acd" / script).read_bytes(), 0o755)
     return version
 

@@ -277,16 +277,17 @@ def do(options: argparse.Namespace) -> int:
 
 
 def main(words: list[str]) -> NoReturn:
-    status: object = 0
+    was_carry, status = command.name.endswith("carry"), command.FAILED
+    if was_carry:
+        words = ["--prepare" if word == "--look" else word for word in words]
     try:
         command.run(read, do, words)
     except SystemExit as end:
-        status = end.code
+        status = int(end.code or 0)
     except Exception as fault:
         if "--prepare" not in words:
             raise
         command.report(f"{type(fault).__name__}: {fault}; nothing was changed", command.ERROR)
-        status = command.FAILED
     if "--prepare" in words:
-        sys.exit({0: 0, DID_NOTHING: PASS_OVER}.get(status, MEND) if isinstance(status, int) else MEND)
-    sys.exit(0 if status == DID_NOTHING and not command.name.endswith("carry") else status)
+        sys.exit({0: 0, DID_NOTHING: PASS_OVER}.get(status, MEND))
+    sys.exit(0 if status == DID_NOTHING and not was_carry else status)

@@ -108,6 +108,8 @@ class ByHand(Pruning):
         self.assertEqual(said(*self.words), (0, "nothing to prune\n", ""))
         self.assertEqual(said("carry", "--file", self.file, "--days", "3"), (3, "nothing to prune\n", ""))
         self.assertEqual(said("--file", self.file, "--keep", "1000", by="acd-carry"), (3, "nothing to prune\n", ""))
+        # a unit of an office's own
+        self.assertEqual(said("carry", "--look", "--file", self.file), (1, "nothing to prune\n", ""))
         self.assertEqual((self.names(), self.prunes()), ({"desk.db"}, []))
 
     def test_by_the_old_name(self):
