@@ -106,7 +106,7 @@ class Following:
                 self.send(move, self.now(picture))
         except AnotherHistory as fault:
             self.picture = None
-            # what was carried over has the same keys; an older copy hasn't
+            # what was pruned has the same keys; an older copy hasn't
             if not isinstance(fault, Missed):
                 self.tried.clear()
             report(f"the desk is read anew: {fault}", NOTICE)
