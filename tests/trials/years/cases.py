@@ -194,7 +194,8 @@ class Cases:
                     continue
                 status, printed, faults = self.ground.prune(file)
                 states.add(status)
-                self.ground.expect(f"a disk of {size} kB: {faults}", (firsts(file)[0] > 1, faults.count("\n")), (status == 0, 1 if status else 0))
+                # where it is cp that has no room, it says so too
+                self.ground.expect(f"a disk of {size} kB: {faults}", (firsts(file)[0] > 1, faults.count("acdctl prune: "), faults.count("\n") <= 2), (status == 0, int(status > 0), True))
                 self.ground.expect("what lies there", [path.name for path in folder.glob(".prune*")], [])
         self.ground.expect("some go through, and some don't", states, {0, 1})
 

@@ -9,7 +9,7 @@ import time
 from pathlib import Path
 
 from cases import changed, disk, listing
-from ground import DAY, HOUR, PYTHON, Ground, goes_of, without
+from ground import DAY, HOUR, PYTHON, TOP, Ground, goes_of, without
 from trial.files import copied, held, log_of
 from kills import PLAN
 
@@ -166,10 +166,30 @@ class Chains:
                 lies = {path.name for path in folder.iterdir()} - {"desk.db-wal"}
                 archive = {"desk.db.archive", *(path.name for path in office.archives())}
                 # the program may have had no room where the archive has its place already
-                ground.expect(f"a disk of {size} kB: {printed}{faults}", (lies in ({"desk.db"}, {"desk.db", *archive}), faults.count("\n"), found in (rows, without(rows, goes)), found == rows),
+                ground.expect(f"a disk of {size} kB: {printed}{faults}", (lies in ({"desk.db"}, {"desk.db", *archive}), faults.count("acdctl prune: "), found in (rows, without(rows, goes)), found == rows),
                               (True, 1 if status else 0, True, status != 0))
                 ground.expect("pruned with its archive alone", found == rows or len(archive) == 2)
         ground.expect("some go through, and some don't", states, {(0, False), (1, True)})
+
+    def compacted(self):
+        """The lines of OPERATING that compact a file: the same rows with the same archive, nothing of who was pruned in its bytes, and a copy of it is good."""
+        ground, office = self.ground, self.office("compacted")
+        lines = re.search(r"runuser -u acd -- sh -euc '\n(.*?)'; systemctl start acd\n", (TOP / "docs/OPERATING.md").read_text(), re.DOTALL)[1]
+        ground.expect("pruned", office.prune()[0], 0)
+        rows, size = held(office.file), office.file.stat().st_size
+        folder = self.folder / "programs"
+        folder.mkdir()
+        # as the program of this name does, which isn't everywhere
+        (folder / "sqlite3").write_text(f"#!{PYTHON}\nimport sqlite3, sys\nsqlite3.connect(sys.argv[1], isolation_level=None).execute(sys.argv[2])\n")
+        (folder / "sqlite3").chmod(0o755)
+        status, printed, faults = ground.ran("env", f"PATH={folder}:{ground.program.parent}:/usr/bin:/bin", "sh", "-euc", lines.replace("cd /var/lib/acd", f"cd {office.folder}"))
+        ground.expect(f"compacted: {faults}", (status, printed, held(office.file) == rows), (0, "sound\n", True))
+        ground.expect("it is smaller", office.file.stat().st_size < size * 0.8)
+        ground.expect("nothing is left of a caller of before", (b"03000000001" in office.file.read_bytes(), b"03000000001" in office.archives()[0].read_bytes()), (False, True))
+        lies = {path.name for path in office.folder.iterdir()} - {"desk.db-wal", f"{office.archives()[0].name}-wal"}
+        ground.expect("nothing else lies there", lies, {"desk.db", "desk.db.archive", office.archives()[0].name})
+        office.good("a copy of it")
+        office.serve(81, 91)
 
     # copies
 
@@ -325,7 +345,7 @@ class Chains:
         office.good("and goes on")
 
     def all(self, case=None):
-        for each in [case] if case else ("by_hand", "beside", "full", "copied", "restored"):
+        for each in [case] if case else ("by_hand", "beside", "full", "compacted", "copied", "restored"):
             getattr(self, each)()
 
 
