@@ -29,8 +29,8 @@ from acd_service.pair import log_of
 from acd_service.restoring import name_of, sync
 
 ABOUT = "Takes the desk's old requests out of its file, once an archive has them."
-# the fewest requests that stay, as the program has it
-LEAST = 1000
+# the fewest requests that stay, as the program has it, and what days are
+LEAST, DAYS = 1000, command.whole_number(1, 999999999)
 NOTHING = "nothing to prune"
 PRUNED = re.compile(r"pruned up to request (\d+)(, more to go)?")
 # by these systemd tells, of --prepare, a night on which nothing is to be pruned from one on which something has to be
@@ -228,7 +228,7 @@ def parser() -> command.Parser:
     does.add_argument("--start", action="store_true",
                       help="let acd.service start, and start it if --stop stopped it; by root, for acd-prune.service")
     much = found.add_mutually_exclusive_group()
-    much.add_argument("--days", type=command.whole_number(1, 999999999), metavar="N",
+    much.add_argument("--days", type=DAYS, metavar="N",
                       help="the requests of the last N days stay; that of ACD_CARRY_DAYS, else 2")
     much.add_argument("--keep", dest="requests", type=command.whole_number(LEAST, 999999999), metavar="N",
                       help=f"the last N requests stay, {LEAST} or more, and those of the last hour")
@@ -241,9 +241,18 @@ def read(words: list[str]) -> argparse.Namespace:
     options = parser().parse_args(words)
     if (options.stop or options.start) and (options.file or options.folder):
         raise Fault("--stop and --start are of the unit acd.service, and take no file", status=command.REFUSED)
-    days = options.days or settings.current()["ACD_CARRY_DAYS"]
-    options.much = ("--keep", str(options.requests)) if options.requests else ("--days", str(days))
+    options.much = ("--keep", str(options.requests)) if options.requests else ("--days", str(days_of(options)))
     return copy.with_settings(options)
+
+
+def days_of(options: argparse.Namespace) -> int:
+    """How many days stay; the setting is that of the desk's own file."""
+    has = settings.DEFAULTS if options.file else settings.current()
+    try:
+        days: int = options.days or DAYS(has["ACD_CARRY_DAYS"])
+    except argparse.ArgumentTypeError as fault:
+        raise Fault(f"ACD_CARRY_DAYS: {fault}", status=command.REFUSED) from None
+    return days
 
 
 def do_unit(is_stop: bool) -> None:

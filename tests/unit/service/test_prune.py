@@ -122,6 +122,10 @@ class ByHand(Pruning):
         (self.folder / "acd.env").write_text(f"ACD_FILE={self.file}\nACD_CARRY_DAYS=5\n")
         self.assertEqual(said("prune"), (0, "pruned up to request 5\n", ""))
         self.assertTrue(self.prunes()[0].endswith("--days 5"))
+        self.assertEqual(said("prune", "--file", self.file).status, 0)
+        self.assertTrue(self.noted.read_text().endswith(" --days 2\n"))
+        (self.folder / "acd.env").write_text(f"ACD_FILE={self.file}\nACD_CARRY_DAYS=many\n")
+        self.assertEqual(said("prune")[::2], (2, "acdctl prune: ACD_CARRY_DAYS: 'many' isn't a whole number from 1 to 999999999\n"))
 
     def test_more_to_go(self):
         self.desk(DAYS)
