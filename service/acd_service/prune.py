@@ -30,7 +30,7 @@ from acd_service.restoring import name_of, sync
 
 ABOUT = "Takes the desk's old requests out of its file, once an archive has them."
 # the fewest requests that stay, as the program has it, and what days are
-LEAST, DAYS = 1000, command.whole_number(1, 999999999)
+LEAST, DAYS = 1000, command.whole_number(1, 36500)
 NOTHING = "nothing to prune"
 PRUNED = re.compile(r"pruned up to request (\d+)(, more to go)?")
 # by these systemd tells, of --prepare, a night on which nothing is to be pruned from one on which something has to be

@@ -125,7 +125,7 @@ class ByHand(Pruning):
         self.assertEqual(said("prune", "--file", self.file).status, 0)
         self.assertTrue(self.noted.read_text().endswith(" --days 2\n"))
         (self.folder / "acd.env").write_text(f"ACD_FILE={self.file}\nACD_CARRY_DAYS=many\n")
-        self.assertEqual(said("prune")[::2], (2, "acdctl prune: ACD_CARRY_DAYS: 'many' isn't a whole number from 1 to 999999999\n"))
+        self.assertEqual(said("prune")[::2], (2, "acdctl prune: ACD_CARRY_DAYS: 'many' isn't a whole number from 1 to 36500\n"))
 
     def test_more_to_go(self):
         self.desk(DAYS)
