@@ -36,7 +36,7 @@ PRUNED = re.compile(r"pruned up to request (\d+)(, more to go)?")
 # by these systemd tells, of --prepare, a night on which nothing is to be pruned from one on which something has to be
 # mended; and what the command ended with where it had nothing to do, while it was called carry
 PASS_OVER, MEND, DID_NOTHING = 1, 255, 3
-# folders that nobody needs after a start, and that the next start clears away
+# folders that nobody needs after a start, and that the next start over the same file clears away
 SCRATCH = ".prune."
 AT_ONCE = "is pruned or put back, or a caller is forgotten in its archives,"
 
@@ -74,10 +74,12 @@ def prune(file: Path, archive: Path, much: Sequence[str], program: str) -> str:
 # The archive
 
 def newest_copy(file: Path, copies: Path) -> Path:
-    """The folder of the newest good copy of a file."""
+    """The folder of the newest good copy, which is to be of this file: one of before a restore has another history."""
     good = [path for path in copies.glob("*Z") if re.fullmatch(copy.NAMED, path.name) and (path / file.name).is_file()]
-    if not good:
-        raise Fault(f"there is no good copy of {file} in {copies}: systemctl start acd-copy; nothing was changed")
+    if not good or copy.noted(copies)[1] != copy.which(file):
+        what = f"the newest good copy in {copies} is of another file than {file} is now" if good else (
+            f"there is no good copy of {file} in {copies}")
+        raise Fault(f"{what}: systemctl start acd-copy; nothing was changed")
     return max(good)
 
 
@@ -146,13 +148,16 @@ def prepare(file: Path, copies: Path, much: Sequence[str], program: str) -> Path
     with scratch_of(file) as scratch:
         made, note = copied(file, copies, scratch, program), chain.read_note(file)
         last, moment = end_of(made)
+        if note and note.last > last:
+            raise Fault(f"the newest good copy is older than {note.name}: systemctl start acd-copy; "
+                        "nothing was changed")
         # what the file's own archive has isn't copied again
-        noted = chain.place(note, file.parent) if note and note.last >= last else None
+        own = chain.place(note, file.parent) if note and note.last == last else None
         tried = Path(tempfile.mkdtemp(dir=scratch)) / file.name
         shutil.copyfile(made, tried)
-        if is_pruned(file, run(audit.quietly(program), tried, noted or made, much)):
+        if is_pruned(file, run(audit.quietly(program), tried, own or made, much)):
             return None
-        return noted or archived(file, made, last, moment)
+        return own or archived(file, made, last, moment)
 
 
 def noted(file: Path) -> Path:
@@ -169,7 +174,7 @@ def clear(file: Path) -> None:
     """Removes the folders that a start left, and an archive of it that got its place and that the file's note doesn't
     name."""
     note = chain.read_note(file)
-    for left in file.parent.glob(f"{SCRATCH}*"):
+    for left in file.parent.glob(f"{SCRATCH}{file.name}.*"):
         for made in left.glob(f"{file.name}-*"):
             archive = file.parent / made.name
             if restoring.inode(archive) in (None, restoring.inode(made)) and (not note or note.name != made.name):
@@ -183,7 +188,7 @@ def scratch_of(file: Path) -> Iterator[Path]:
     """A folder beside a file, for as long as this lasts."""
     clear(file)
     try:
-        yield Path(tempfile.mkdtemp(prefix=SCRATCH, dir=file.parent))
+        yield Path(tempfile.mkdtemp(prefix=f"{SCRATCH}{file.name}.", dir=file.parent))
     finally:
         clear(file)
 

@@ -50,6 +50,8 @@ class Pruned(Office):
         self.done("systemctl", "stop", "acd")
         self.done("sh", "-c", f"find {STATE} -mindepth 1 -delete && cp -a {BEFORE}/. {STATE}")
         self.restarts("anew")
+        # of the file that is there now
+        self.done("systemctl", "start", "acd-copy")
 
     def process(self):
         return self.show("MainPID")[0]

@@ -90,6 +90,9 @@ class Service:
         self.desk.end(signal.SIGKILL)
         self.clear()
         copied(self.first, self.place)
+        # the copy of the night is of this file
+        note = self.copies / "executed"
+        note.write_text(re.sub("device .*\ninode .*\n", f"device {os.stat(self.file).st_dev}\ninode {identity(self.file)}\n", note.read_text()))
         if is_up:
             self.desk.start()
             self.ground.expect("the desk is there", self.is_there(seconds))

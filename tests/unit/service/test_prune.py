@@ -156,7 +156,7 @@ class ByHand(Pruning):
         """Its folder goes; and so does its archive, unless the file's note names it or it is another file."""
         self.desk(DAYS)
         for number, is_ours in enumerate((True, True, False)):
-            left = self.home / f".prune.{number}"
+            left = self.home / f".prune.desk.db.{number}"
             left.mkdir()
             name = f"desk.db-1970-01-01-{number}"
             (left / name).write_text("made")
@@ -167,7 +167,9 @@ class ByHand(Pruning):
             (self.home / f"{name}.archive").write_text("note")
         chain.put_note(self.file, chain.Note("desk.db-1970-01-01-1", 1, ""))
         prune.clear(self.file)
-        self.assertEqual(self.names(), {"desk.db", "desk.db.archive", *(f"desk.db-1970-01-01-{number}{end}" for number in (1, 2) for end in ("", ".archive"))})
+        (self.home / ".prune.other.db.1").mkdir()
+        prune.clear(self.file)
+        self.assertEqual(self.names(), {"desk.db", "desk.db.archive", ".prune.other.db.1", *(f"desk.db-1970-01-01-{number}{end}" for number in (1, 2) for end in ("", ".archive"))})
 
 
 class Faults(Pruning):
@@ -296,6 +298,23 @@ class OverTheService(Pruning):
         said(*self.words, "--prepared")
         self.serves()
         self.assertEqual(said(*self.prepare), (1, "nothing to prune\n", ""))
+
+    def test_a_copy_of_another_history(self):
+        """Of before a restore, which gave the file another inode; and one that is older than the file's archive."""
+        self.desk(DAYS)
+        self.copied()
+        self.file.rename(self.home / "aside")
+        shutil.copyfile(self.home / "aside", self.file)
+        self.serves()
+        self.unchanged(self.prepare, 255, f"the newest good copy in {self.copies} is of another file than {self.file} is now: systemctl start acd-copy; nothing was changed")
+
+    def test_a_copy_that_is_older_than_the_archive(self):
+        self.desk(DAYS)
+        self.copied()
+        lines(self.file, ground.arrives(8, "030128", 8 * DAY))
+        self.assertEqual(said(*self.words).status, 0)
+        self.serves()
+        self.unchanged(self.prepare, 255, "the newest good copy is older than desk.db-1970-01-09-11: systemctl start acd-copy; nothing was changed")
 
     def test_what_has_to_be_mended(self):
         """By another status than that of a night with nothing to do."""
