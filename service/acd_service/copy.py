@@ -4,7 +4,8 @@ back.
 It copies the file while the desk runs, and then halts the desk for its log: if nothing wrote to the file meanwhile,
 both are what a power cut would leave, and every answered request is in them. A copy whose name is its moment alone is
 good, and has no fewer requests than the copy before. It keeps all other copies beside these for a look, ends with
-status 1, and clears no old copy away. It audits a file that was pruned with its archive, and copies each archive once. It is tested, not proved."""
+status 1, and clears no old copy away. It audits a file that was pruned with its archive, and copies each archive once.
+It is tested, not proved."""
 import argparse
 import calendar
 import contextlib

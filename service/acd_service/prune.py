@@ -244,8 +244,11 @@ def parser() -> command.Parser:
 
 def read(words: list[str]) -> argparse.Namespace:
     options = parser().parse_args(words)
-    if (options.stop or options.start) and (options.file or options.folder):
-        raise Fault("--stop and --start are of the unit acd.service, and take no file", status=command.REFUSED)
+    if options.stop or options.start:
+        if options.file or options.folder:
+            raise Fault("--stop and --start are of the unit acd.service, and take no file", status=command.REFUSED)
+        # whatever the settings say, the desk is to be started again
+        return options
     options.much = ("--keep", str(options.requests)) if options.requests else ("--days", str(days_of(options)))
     return copy.with_settings(options)
 

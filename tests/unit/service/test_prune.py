@@ -335,6 +335,7 @@ class OverTheService(Pruning):
         with mock.patch.object(unit, "stop") as stop, mock.patch.object(unit, "start") as start:
             if os.geteuid() == 0:
                 self.assertEqual((said("prune", "--stop").status, stop.call_count, start.call_count), (0, 1, 0))
+                (self.folder / "acd.env").write_text("ACD_CARRY_DAYS=x\nACD_COPIES=x\n")
                 self.assertEqual((said("prune", "--start").status, stop.call_count, start.call_count), (0, 1, 1))
             with mock.patch.object(os, "geteuid", lambda: 1):
                 self.refused(("prune", "--stop"), 1, "only root stops and starts the desk's unit: systemctl start acd-prune")
