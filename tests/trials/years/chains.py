@@ -292,7 +292,7 @@ class Chains:
                                        ("no memory", "echo 'acd: no memory' >&2; exit 1", r"\S+\.unaudited", "the copy's audit wasn't ended"),
                                        ("differs", "echo 'differs at request 7'; exit 3", "unsound", "the audit says 'differs at request 7'"),
                                        ("early", "echo 'sound, but its log ends early'; exit 5", r"\S+\.early", "log ends early"),
-                                       ("sound", f'case "$*" in *--archive\\ {last}*) echo sound; echo executed 9;; esac', None, "")):
+                                       ("sound", f'case "$*" in *--archive\\ {last}*) echo sound; echo executed {office.last()[0]};; esac', None, "")):
             program = self.stand_in(f"{does}; exit")
             if name:
                 self.bad(what, office, name, said, program=program)
