@@ -48,7 +48,7 @@ FAULTS = [
     Fault("nobody looks at the desk's files", (f"{MODULES}/watch.py", "            look_at_files([self.desk], self.file)\n", "            pass\n"), "copies", ("plan", "try_moved_file")),
     Fault("the desk doesn't tick", (DESK, " --tick ${ACD_STEP}", ""), "clock", ("plan", "try_new_file")),
     Fault("a restore that is killed leaves no link", (f"{MODULES}/restoring.py", "    if is_hidden(file):\n        return\n    if leaving", "    return\n    if leaving"), "copies", ("plan", "try_killed")),
-    Fault("a recipe's files are for all to read", (PAGE, "        umask 077\n", ""), "copies", ("plan", "try_new_year")),
+    Fault("a recipe's files are for all to read", (PAGE, "        umask 077\n        cd /var/lib/acd\n        mkdir year", "        cd /var/lib/acd\n        mkdir year"), "copies", ("plan", "try_new_year")),
     Fault("nothing keeps the desk down", (DESK, "ConditionPathExists=!/run/acd-prune/down\n", ""), "pruned", ("try_days", "try_meanwhile")),
     Fault("a killed prune leaves it down", (PRUNE, "ExecStopPost=-+/usr/bin/acdctl prune --start\nExecStopPost=+/usr/bin/acdctl prune --start\n", ""), "pruned", ("try_days", "try_killed")),
     Fault("what starts it again isn't repeated", (PRUNE, "ExecStopPost=-+", "ExecStopPost=+"), "pruned", ("try_days", "try_killed")),
