@@ -31,8 +31,15 @@ def module(ground):
     return found
 
 
-# calls before each prune
-MANY = 1100
+# requests before each prune, and one of how many is a call
+MANY, CALL = 1100, 25
+
+
+def requests(first, last):
+    """A request each minute: calls, and ticks between them."""
+    for number in range(first, last):
+        call, = calls(number, number + 1)
+        yield call if number % CALL == 0 else f'{1000 + 60 * number} {{"requester":"clock","invoke":{number},"service":"tick"}}'
 
 
 class Exports:
@@ -41,14 +48,14 @@ class Exports:
         file = folder / "desk.db"
         ground.feed(file, PLAN)
         for number in range(3):
-            ground.feed(file, calls(1 + MANY * number, 1 + MANY * (number + 1)))
+            ground.feed(file, list(requests(1 + MANY * number, 1 + MANY * (number + 1))))
             archive = folder / f"archive-{number}.db"
             status, _, faults = ground.prune_by(archive, file, "--keep", 1000)
             ground.expect(f"pruned: {faults}", status, 0)
             self.archives.append(archive)
-        ground.feed(file, calls(1 + 3 * MANY, 20 + 3 * MANY))
+        ground.feed(file, list(requests(1 + 3 * MANY, 20 + 3 * MANY)))
         # the last ones are in its log alone
-        ground.kill_behind(file, calls(20 + 3 * MANY, 30 + 3 * MANY))
+        ground.kill_behind(file, list(requests(20 + 3 * MANY, 30 + 3 * MANY)))
         self.file = file
         with ground.scratch() as scratch:
             closed = copied(file, scratch)
@@ -115,7 +122,7 @@ class Exports:
                 ("an event is another one", f"UPDATE events SET call = 9 WHERE number = {number}", 1, f"{first} and {{}} differ at event {number}"),
                 ("a reply is another one", f"UPDATE kept SET body = '{{}}' WHERE stamp = {stamp}", 2, f"{second} and {{}} differ at request {stamp}"),
                 ("a request is missing", "DELETE FROM kept WHERE stamp = 1500", 1, f"{{}} hasn't all of its requests from {firsts(second)[0]} to {2 + 2 * MANY}"),
-                ("an event is missing", "DELETE FROM events WHERE number = (SELECT max(number) FROM events)", 0, f"{{}} hasn't all of its events from 1 to {MANY}"),
+                ("an event is missing", "DELETE FROM events WHERE number = (SELECT max(number) FROM events)", 0, f"{{}} hasn't all of its events from 1 to {MANY // CALL}"),
                 ("of another version", "UPDATE meta SET version = 3", 0, "{}: wrong version 3")):
             folder = scratch / what.replace(" ", "-")
             folder.mkdir()

@@ -32,7 +32,7 @@ FAULTS = [
     (PRUNE, "a night with nothing to do fails", "{0: 0, DID_NOTHING: PASS_OVER}", "{0: 0}", "service.refusals"),
     (PRUNE, "what has to be mended passes over the night", "PASS_OVER}.get(status, MEND))", "PASS_OVER}.get(status, PASS_OVER))", "service.refusals"),
     (PRUNE, "one of several machines is pruned alone", "    if at.exists():", "    if False:", "service.refusals"),
-    (PRUNE, "the newest copy is of before", "found or first is not None and int(found[1]) < first", "found", "service.kills"),
+    (PRUNE, "the newest copy is of before", "found or first is not None and int(found[1]) < first", "found", "service.refusals"),
     (PRUNE, "beside who puts a copy back", "    with restoring.alone_in(file.parent, f\"{file} {AT_ONCE} just now; nothing was changed\"):", "    with contextlib.nullcontext():", "service.twice"),
     ("export.py", "archives are left out", '"export", "--file", options.file, *archives]', '"export", "--file", options.file]', "exports"),
     ("archives.py", "what both have comes twice", "        after = link.last\n", "", "exports"),

@@ -299,6 +299,11 @@ class Service:
 
     def refusals(self):
         self.laid()
+        self.pruned("pruned")
+        process = self.desk.process()
+        self.pruned("a second time, beside a copy of before", "passed over")
+        self.ground.expect("the desk wasn't stopped", self.desk.process(), process)
+        self.laid()
         for part in ("", ".archive"):
             taken = Path(f"{self.archive()}{part}")
             taken.write_text("mine")

@@ -83,7 +83,7 @@ class Office:
 
 def archives_of(file):
     """In their order."""
-    return sorted((path for path in file.parent.glob("desk.db-????-??-??-*") if not path.name.endswith(".archive")), key=lambda path: int(path.name.rpartition("-")[2]))
+    return sorted((path for path in file.parent.glob("desk.db-????-??-??-*") if not path.name.endswith((".archive", "-wal"))), key=lambda path: int(path.name.rpartition("-")[2]))
 
 
 def prune(ground, program, file, count, chance):
