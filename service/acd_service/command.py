@@ -21,7 +21,8 @@ FAILED, REFUSED, MEND = 1, 2, 64
 # what the new names say, and what the old ones say in its place: the words of a command, and sentences
 OLD_WORDS = ((r"\bacdctl restore --undo", "acd-copy --undo"), (r"\bacdctl restore\b", "acd-copy --restore"),
              (r"\bacdctl prune\b", "acd-carry"),
-             (r"\bacdctl (calls|certificate|copy|follow|forget|gate|local|node|plan|ready|tick|trail)\b", r"acd-\1"),
+             (r"\bacdctl (calls|certificate|copy|export|follow|forget|gate|local|node|plan|ready|tick|trail)\b",
+              r"acd-\1"),
              (r"; it is in (.*), and all older copies are kept$",
               r"; it lies in \1, and the older copies are all kept"),
              ("be audited with its archive: ", "be looked at behind its archive: "),

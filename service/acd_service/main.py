@@ -31,6 +31,7 @@ COMMANDS = {
     "certificate": Command("certificate", "tell when the certificate ends that a port shows"),
     "check": Command("check", "judge settings, roles, logins, names, and nginx's ports and certificate"),
     "copy": Command("copy", "copy the desk's file, audit the copy, and clear old copies away"),
+    "export": Command("export", "print all events of a file and its archives as CSV"),
     "follow": Command("follow", "keep a copy of a desk that runs elsewhere"),
     "forget": Command("forget", "make a caller's number unknown in the archives"),
     "gate": Command("gate.main", "judge logins for the proxy, and let each ask for no more than its role may"),
@@ -47,7 +48,7 @@ COMMANDS = {
     "trail": Command("trail", "print who asked the desk for what, when, and with which result"),
 }
 # commands of before 1.16, which go with the old names: no page has them, nor --help
-FORMER = {"carry": Former("prune", "acdctl prune"), "export": Former("export", "acd export")}
+FORMER = {"carry": Former("prune", "acdctl prune")}
 # commands of before 1.15
 OLD = {f"acd-{name}": name for name in ("calls", "carry", "certificate", "copy", "export", "follow", "forget", "gate",
                                         "local", "node", "plan", "ready", "tick", "trail")}

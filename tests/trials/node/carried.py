@@ -90,7 +90,7 @@ def look(machines, program, answered, log):
     for folder in [machines.folder / f"m{n}" for n in (1, 2, 3)]:
         file = folder / "desk.db"
         archive, = (path for path in folder.glob("desk.db-2*-*") if path.suffix != ".archive" and not path.name.endswith("-wal"))
-        joined = run([program, "export", "--file", file, "--archive", archive], stderr=subprocess.STDOUT)
+        joined = run([COMMANDS / "acd-export", "--file", file, "--archive", archive, "--desk", program], stderr=subprocess.STDOUT)
         machines.see(f"archive and file of {folder.name} have all events", (joined.returncode, joined.stdout) == (0, events), joined.stdout[-200:])
         machines.see(f"the file of {folder.name} alone has fewer", printed_by(program, "export", file).count(b"\n") < events.count(b"\n"))
         machines.see(f"the report of {folder.name}", printed_by(program, "report", file) == report)

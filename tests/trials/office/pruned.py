@@ -226,7 +226,7 @@ class Pruned(Office):
             self.expect(f"{name} ends", (said[0], self.is_whole(name), len(self.archives())), (0, True, 1))
             self.expect(f"{name} again", self.by_cron(line), (3, "nothing to prune\n"))
             archive = f"{STATE}/{self.archives()[0]}"
-            for export in ("acd-export", "acdctl export", "acd export"):
+            for export in ("acd-export", "acdctl export"):
                 said = self.by_cron(f"runuser -u acd -- /usr/bin/{export} --file {FILE} --archive {archive}")
                 self.expect(f"{export}: {said[1][-200:]}", (said[0], said[1] == whole), (0, True))
             self.restarts(name)

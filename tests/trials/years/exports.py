@@ -1,8 +1,9 @@
-"""acd export over a file and its archives, and archives.py: what they read is what one file of all has; holes, altered rows and a wrong order are told. And who follows events over a
+"""acd-export over a file and its archives, and archives.py: what they read is what one file of all has; holes, altered rows and a wrong order are told. And who follows events over a
 file that was pruned."""
 import asyncio
 import importlib.util
 import json
+import re
 import subprocess
 import sys
 import urllib.request
@@ -12,7 +13,7 @@ from trial import Desk
 from trial.files import copied, held
 
 from cases import changed
-from ground import PYTHON, TOP, Ground, firsts, joined
+from ground import TOP, Ground, firsts, joined
 from kills import PLAN, calls
 
 sys.path += [str(TOP / "service"), str(TOP / "client")]
@@ -67,20 +68,31 @@ class Exports:
     def words(self, archives, file):
         return ["--file", file, *(word for archive in archives for word in ("--archive", archive))]
 
-    # acd export
+    # acd-export
 
     def exports(self):
         ground = self.ground
-        lines = self.text.splitlines(keepends=True)
-        for first in range(4):
-            archives = self.archives[first:]
-            begin = firsts((*archives, self.file)[0])[1]
-            ground.expect("each event once", ground.export(*self.words(archives, self.file)), (0, "".join(lines[:1] + lines[begin:]), ""))
+        for archives in (self.archives, self.archives[::-1], self.archives + self.archives[:1]):
+            ground.expect("each event once, in whichever order archives are named", ground.export(*self.words(archives, self.file)), (0, self.text, ""))
         ground.expect("a file that wasn't pruned", ground.export("--file", self.whole), (0, self.text, ""))
-        for old in (("acd-export",), ("acdctl", "export")):
-            said = ground.ran(PYTHON, ground.scripts / old[0], *old[1:], *self.words(self.archives, self.file), "--desk", ground.program)
-            ground.expect("by an older name", said, (0, self.text, ""))
-        ground.expect("a file that isn't there", ground.export("--file", self.folder / "none.db")[::2], (1, f"acd: cannot open {self.folder / 'none.db'}\n"))
+        lines = self.text.splitlines(keepends=True)
+        for archives in (self.archives[1:], self.archives[:1] + self.archives[2:], self.archives[:2], []):
+            has = {1 + number for each in (*archives, self.file) for number in range(firsts(each)[1] - 1, held(each)["meta"][0][12])}
+            missing = [number for number in range(1, max(has)) if number not in has]
+            status, out, faults = ground.export(*self.words(archives, self.file))
+            spans = [(int(first), int(last or first)) for first, last in re.findall(r"^acd-export: events? (\d+)(?: to (\d+))? (?:is|are) missing$", faults, re.MULTILINE)]
+            ground.expect("what is missing is told", [number for first, last in spans for number in range(first, last + 1)], missing)
+            ground.expect("and all else is there", (status, out), (3 if missing else 0, "".join(lines[:1] + [line for line in lines[1:] if int(line.split(",")[0]) in has])))
+        self.differing()
+        ground.expect("a file that isn't there", ground.export("--file", self.folder / "none.db")[::2], (1, f"acd-export: acd: cannot open {self.folder / 'none.db'}\n"))
+
+    def differing(self):
+        """An event of which two files have different ones."""
+        with self.ground.scratch() as scratch:
+            altered, number = copied(self.archives[1], scratch), firsts(self.archives[1])[1] + 3
+            changed(altered, f"UPDATE events SET call = call + 1 WHERE number = {number}")
+            status, out, faults = self.ground.export(*self.words([self.archives[0], altered, self.archives[2]], self.file))
+            self.ground.expect("two of one number", (status, out, faults), (3, self.text, f"acd-export: event {number} is another one in {altered} than in {self.archives[0]}\n"))
 
     # archives.py
 

@@ -70,7 +70,7 @@ class Ground(Trial):
         return said
 
     def export(self, *words):
-        return self.ran("acd", "export", *words)
+        return self.ran(PYTHON, self.scripts / "acd-export", *words)
 
     def feed(self, file, lines):
         """The answers to these lines."""

@@ -50,9 +50,9 @@ class Made(unittest.TestCase):
         found = {page.name for page in self.folder.glob("man*/*")}
         self.assertEqual(found, {"acdctl.8", *(f"acdctl-{name}.8" for name in self.names), *OLD_PAGES})
         for name in OLD_PAGES:
-            link = re.fullmatch(r"\.so (man8/acdctl-[a-z]+\.8|man1/acd\.1)\n", (self.folder / f"man{name[-1]}" / name).read_text())
-            self.assertTrue((self.folder / link[1]).is_file() or link[1] == "man1/acd.1")
-        self.assertEqual([(self.folder / page).read_text() for page in ("man8/acd-carry.8", "man1/acd-export.1")], [".so man8/acdctl-prune.8\n", ".so man1/acd.1\n"])
+            link = re.fullmatch(r"\.so (man8/acdctl-[a-z]+\.8)\n", (self.folder / f"man{name[-1]}" / name).read_text())
+            self.assertTrue((self.folder / link[1]).is_file())
+        self.assertEqual((self.folder / "man8/acd-carry.8").read_text(), ".so man8/acdctl-prune.8\n")
 
     def test_the_page_of_all_names_each(self):
         text = (self.folder / "man8/acdctl.8").read_text().replace("\\-", "-")

@@ -1,5 +1,4 @@
 """Of prune: which archive is made, where it gets its place, what the file's note says, and what is left where something fails. A stand-in prunes."""
-import contextlib
 import fcntl
 import os
 import shutil
@@ -344,36 +343,6 @@ class OverTheService(Pruning):
         """Nobody knows whether it is pruned already, so it isn't passed over."""
         self.file.write_bytes(b"")
         self.assertEqual([prune.is_pruned(self.file, line) for line in ("nothing to prune", "pruned up to request 5")], [True, False])
-
-
-class OldExport(ground.Case):
-    """acd-export has `acd export` do it: a stand-in for that."""
-
-    def test_its_words_and_its_status(self):
-        self.program("acd", 'echo "$@" >&2\n[ "$1" = export ] || exit 9\necho n,moment\nexit 3')
-        for words, by in (((), "acd-export"), (("export",), "acdctl")):
-            with tempfile.TemporaryFile("w+") as faults, tempfile.TemporaryFile("w+") as out, self.redirected(1, out), self.redirected(2, faults):
-                done = said(*words, "--file", "F", "--archive", "A", "--archive", "B", by=by)
-                out.seek(0)
-                faults.seek(0)
-                self.assertEqual((done.status, out.read(), faults.read()), (3, "n,moment\n", "export --file F --archive A --archive B\n"))
-        self.program("acd", "kill -9 $$")
-        self.assertEqual(said("--file", "F", by="acd-export").status, 255)
-
-    @contextlib.contextmanager
-    def redirected(self, number, stream):
-        """A descriptor that processes inherit."""
-        kept = os.dup(number)
-        os.dup2(stream.fileno(), number)
-        try:
-            yield
-        finally:
-            os.dup2(kept, number)
-            os.close(kept)
-
-    def test_words(self):
-        self.assertEqual(said("export").status, 2)
-        self.assertRegex(said(by="acd-export").faults, r"\Ausage: acd-export .*")
 
 
 if __name__ == "__main__":
