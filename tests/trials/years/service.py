@@ -28,6 +28,8 @@ DAYS = 6
 TRACED = (*(name for name in CALLS if name not in ("fcntl", "flock")), "utimensat", "exit_group")
 # of the calls of the lines that prepare and prune those at which the power is cut, one of so many
 ONE_OF = 4
+# of the states of a disk after a write those that are tried, one of so many
+ONE_OF_WRITES = 60
 LIES = {"desk.db", "desk.db-wal", "desk.db-pair"}
 
 
@@ -90,12 +92,15 @@ class Service:
         self.desk.end(signal.SIGKILL)
         self.clear()
         copied(self.first, self.place)
-        # the copy of the night is of this file
-        note = self.copies / "executed"
-        note.write_text(re.sub("device .*\ninode .*\n", f"device {os.stat(self.file).st_dev}\ninode {identity(self.file)}\n", note.read_text()))
+        self.note()
         if is_up:
             self.desk.start()
             self.ground.expect("the desk is there", self.is_there(seconds))
+
+    def note(self):
+        """The copy of the night is of this file."""
+        note = self.copies / "executed"
+        note.write_text(re.sub("device .*\ninode .*\n", f"device {os.stat(self.file).st_dev}\ninode {identity(self.file)}\n", note.read_text()))
 
     def clear(self):
         shutil.rmtree(RUN, ignore_errors=True)
@@ -219,12 +224,13 @@ class Service:
         disk = Disk(self.place)
         inodes = {identity(path): disk.now[str(path)] for path in (self.file, Path(f"{self.file}-wal"))}
         ground.expect(f"it goes through: {self.unit.said}", self.unit.run_line(prunes, strace_of_disks(self.trace)), 0)
-        found, seen = list(states(disk, self.trace)), set()
+        found, seen = [each for number, each in enumerate(states(disk, self.trace)) if "pwrite64" not in each[0] or number % ONE_OF_WRITES == 0], set()
         ground.expect("what was reckoned lies there", disk.is_as_it_is())
         inodes[identity(self.file)] = disk.now[str(self.file)]
         for what, state in found:
             self.clear()
             lay(state, inodes)
+            self.note()
             seen.add(self.is_new(what))
             self.desk.start()
             self.answers(what, 1)
@@ -399,7 +405,7 @@ class Service:
         self.set({})
         self.desk.stop()
         self.ground.expect(f"at the end it was pruned: {ended}", "done" in ended)
-        archives = sorted((path for path in self.place.glob("desk.db-????-??-??-*") if not path.name.endswith(".archive")), key=lambda path: int(path.name.rpartition("-")[2]))
+        archives = sorted((path for path in self.place.glob("desk.db-????-??-??-*") if not path.name.endswith((".archive", "-wal"))), key=lambda path: int(path.name.rpartition("-")[2]))
         # which lays the log in
         self.ground.ran("acd", "report", "--file", self.file)
         whole = joined(archives, self.file, self.folder / "whole.db")
