@@ -114,7 +114,7 @@ class Kills:
     def power(self):
         """What a power cut leaves: the archive is on the disk before it gets its name, the name before the note, and that before the program prunes the file."""
         file = self.made()
-        archive, note, unsynced, order = str(file.with_name(self.archive)), f"{file}.archive", set(), []
+        note, unsynced, order = f"{file}.archive", set(), []
         self.prune(file, wrapped=["strace", "-f", "-qq", "-y", "-s", "999", "-o", self.trace, "-e", "trace=?write,?pwrite64,?copy_file_range,?sendfile,?ftruncate,?fsync,?fdatasync,"
                                   "?rename,?link,?execve"])
         for name, path, line in re.findall(r"^\d+ +(\w+)\((?:\d+<([^>]*)>|)(.*)", self.trace.read_text(), re.MULTILINE):
@@ -126,7 +126,7 @@ class Kills:
                 unsynced.discard(path)
                 order += ["synced"] if path == str(file.parent) else []
             elif name == "rename":
-                old, new = re.findall(r'"([^"]*)"', f'"{path}{line}')[-2:]
+                old, new = re.findall(r'"([^"]*)"', line)
                 unsynced |= {new} if old in unsynced else set()
                 order += ["note"] if new == note else []
                 self.ground.expect("the note is on the disk before it gets its name", new == note and new in unsynced, False)
@@ -135,8 +135,7 @@ class Kills:
                 order.append("archive")
             elif name == "execve" and '"prune"' in line and f'"{file}"' in line:
                 order.append("prunes")
-        self.ground.expect("and so on", "archive synced note synced prunes" in " ".join(order), True)
-        self.ground.expect("the archive", file.with_name(archive).exists())
+        self.ground.expect(f"and so on: {order}", "archive synced note synced prunes" in " ".join(order), True)
 
 
 class OfKills(Ground):
@@ -144,4 +143,5 @@ class OfKills(Ground):
         with self.scratch() as folder:
             kills = Kills(self, folder)
             kills.power()
-            print(f"{kills.all()} kills, {kills.within()} within acd prune", flush=True)
+            print(f"{kills.within()} kills within acd prune", flush=True)
+            print(f"{kills.all()} kills", flush=True)
