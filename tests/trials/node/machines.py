@@ -63,8 +63,8 @@ class Machines:
     """With names each machine puts its place into etcd, and the log is shortened; a quota is etcd's. With users each machine and the upkeep has one at etcd, which asks for
     them from `ask_for_users` on."""
 
-    def __init__(self, program, folder, encrypted, see, names=False, quota=0, gone=72.0, users=False):
-        self.program, self.folder, self.see, self.etcd, self.nodes = program, Path(folder), see, {}, {}
+    def __init__(self, program, folder, encrypted, see, names=False, quota=0, gone=72.0, users=False, commands=COMMANDS):
+        self.program, self.folder, self.see, self.etcd, self.nodes, self.commands = program, Path(folder), see, {}, {}, commands
         self.names, self.quota, self.gone = names, quota, gone
         self.passwords = {user: os.urandom(8).hex() for user in USERS} if users else {}
         self.user, self.tokens = None, {}                  # as whom this trial asks etcd
@@ -142,7 +142,7 @@ class Machines:
         self.user = "root"
 
     def start_node(self, n):
-        words = [COMMANDS / "acd-node", "--name", f"m{n}", "--folder", self.folder / f"m{n}", "--port", self.ports[n], "--desk", self.program, *self.etcd_options(f"m{n}")]
+        words = [self.commands / "acd-node", "--name", f"m{n}", "--folder", self.folder / f"m{n}", "--port", self.ports[n], "--desk", self.program, *self.etcd_options(f"m{n}")]
         words += ["--machines", NAMES, "--gone", self.gone] if self.names else []
         if self.context:
             words += ["--cert", self.folder / "m.crt", "--key", self.folder / "m.key", "--client-ca", self.folder / "ca.crt"]
@@ -313,9 +313,9 @@ class OfMachines(Trial):
 
     chance = None
 
-    def begin(self, program=None, encrypted=None, **how):
+    def begin(self, program=None, encrypted=None, folder=None, **how):
         """Three machines, which are stopped with the method."""
-        machines = Machines(program or self.program, self.folder, encrypted or self.options.tls, self.see, **how)
+        machines = Machines(program or self.program, folder or self.folder, encrypted or self.options.tls, self.see, **how)
         self.addCleanup(machines.stop)
         machines.start()
         return machines
