@@ -147,10 +147,10 @@ class Calls(Records):
             file = self.written(json.dumps({"limits": {"limit": limit}}))
             lines = self.script("--file", self.story, "--office", file, "--groups")[1].splitlines()[1:]
             self.expect(f"the limit {limit}", [list(map(int, line.split(",")[7:10])) for line in lines], [first, second])
-        quarter = self.module(self.scripts["acd-calls"].parents[1] / "acd_service/leaving/quarters.py").Quarter
+        level_of = self.module(self.scripts["acd-calls"].parents[1] / "acd_service/figures.py").level
         # the fourth as the page's Math.round has it, of the same number
         for in_time, answered, late, level in ((2, 3, 0, 67), (1, 8, 0, 13), (1, 3, 0, 33), (57, 150, 50, 28), (0, 0, 4, 0), (0, 0, 0, None)):
-            self.expect(f"{in_time} of {answered} and {late}", quarter(answered=answered, in_time=in_time, late=late).level, level)
+            self.expect(f"{in_time} of {answered} and {late}", level_of(in_time, answered, late), level)
 
     @staticmethod
     def module(file):
