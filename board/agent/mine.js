@@ -1,12 +1,18 @@
 // An agent's services, and the places for calls. No document.
-import {doingAt, GRACE} from '../state.js';
+import {GRACE} from '../desk.js';
 
 const MOST = 8;
 export const STATES = ['ready', 'notReady', 'workingAfterCall', 'loggedOff'];
 
 const plain = (name = '') => name.normalize('NFKC').toLocaleLowerCase().trim();
 
-export const {sideOf, sides, isFree, states, services, doing, ringLeft, wrapLeft, isOverdue, placesOf, meant} = /** @type {Rules} */ ({
+export const {taken, sideOf, sides, isFree, states, services, ringLeft, wrapLeft, isOverdue, placesOf, meant} = /** @type {Rules} */ ({
+  // What the gate tells, with what it told before. Names come again only where they changed, and of a group that is left nothing is told.
+  taken(before, {groups, ...told}, isWhole) {
+    const lines = {...!isWhole && before?.lines, ...groups}, mine = {doing: {doing: 'null', since: 0}, ...isWhole ? {names: before?.names} : before, ...told};
+    return {...mine, lines, groups: mine.queues.flatMap((/** @type {string} */ queue) => lines[queue] ?? [])};
+  },
+
   sideOf: ({agent}, call) => call.connections.find(({device}) => device === agent.device),
 
   sides: mine => mine.calls.flatMap(call => sideOf(mine, call) ?? []),
@@ -29,8 +35,6 @@ export const {sideOf, sides, isFree, states, services, doing, ringLeft, wrapLeft
     const given = {alerting: ['answerCall', 'deflectCall'], initiated: ['phoneOffHook'], connected: ['holdCall', ...moves], hold: back, fail: [], queued: []}[here.state];
     return new Set([...given, here.state === 'alerting' && here.group ? 'rejectCall' : 'clearConnection']);
   },
-
-  doing: mine => doingAt({state: 'null', since: 0, ...mine.agent}, sides(mine)),
 
   // For how long a call rings yet; null where no tick ends it.
   ringLeft({groups}, {state, group, since}, now) {

@@ -1,6 +1,6 @@
 // The day by quarters of an hour, as tables and charts; yesterday and the same weekday beside it.
 import {byId, make, put, table} from '../draw.js';
-import {abandonment, averageHandling, averageWait, level, STEP, sumOf} from '../day.js';
+import {abandonment, averageHandling, averageWait, level, STEP, sumOf} from '../figures.js';
 import {shown} from '../settings.js';
 import {dayOf, number, timeOfDay, word} from '../words.js';
 import {levelOf} from './groups.js';

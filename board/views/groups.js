@@ -1,8 +1,8 @@
 // The chosen groups: together as a few large numbers, all of each, and the wall.
+import {order} from '../desk.js';
 import {byId, make, put, set, table, withNumber} from '../draw.js';
+import {averageHandling, averageWait} from '../figures.js';
 import {clock, named, percent, SIGN, waits, word} from '../words.js';
-import {averageHandling, averageWait} from '../day.js';
-import {order} from '../state.js';
 
 // rows of the wall grow to so many times the least
 const SORTED_EVERY = 5000, GROWS = 1.9;

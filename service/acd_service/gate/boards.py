@@ -168,17 +168,13 @@ class View:
         groups: set[str] = set()
         for group, each in quarters:
             groups.add(group)
-            sums = lines.sums_of([self.day.groups[group][each]], self.limit_of(group))
-            self.known.setdefault(group, {})[each] = sums
+            quarter = self.day.groups[group][each]
+            known = self.known.setdefault(group, {})[each] = lines.figures_of(quarter, self.limit_of(group))
             if "quarters" in self.own:
-                quarter = self.day.groups[group][each]
-                line = ",".join(map(str, [*sums, quarter.top, quarter.end]))
-                self.own["quarters"].put(f"{group} {each}", f"[{line}]", number)
+                self.own["quarters"].put(f"{group} {each}", lines.as_text([*known, quarter.top, quarter.end]), number)
         for group in groups:
-            columns = list(zip(*self.known[group].values()))
-            sums = [max(column) if place == lines.LONGEST else sum(column) for place, column in enumerate(columns)]
-            line = ",".join(map(str, [*sums, self.day.balance[group]]))
-            self.own["sums"].put(group, f"[{line}]", number)
+            line = [*lines.sum_of(self.known[group].values()), self.day.balance[group]]
+            self.own["sums"].put(group, lines.as_text(line), number)
         for agent in agents:
             self.own["spent"].put(agent, lines.agent_figures_line(self.day.agents[agent]), number)
         for each in self.peaks.catch_up() if self.peaks is not None else ():
@@ -192,7 +188,7 @@ class View:
                 self.own["past"].put(str(begin), self.past_line(day), number)
 
     def past_line(self, day: Day) -> str:
-        return lines.as_text({group: {str(each): lines.sums_of([quarter], self.limit_of(group))
+        return lines.as_text({group: {str(each): lines.figures_of(quarter, self.limit_of(group))
                                       for each, quarter in quarters.items()}
                               for group, quarters in day.groups.items()})
 

@@ -8,7 +8,7 @@ from acd_service.figures import AgentFigures, Quarter
 from acd_service.gate.state import Agent, Call, Connection, Group, State
 from acd_service.gate.texts import without_nothing
 
-# of the sums the place of the longest wait, the one that is no sum
+# of the figures the place of the longest wait, the one that isn't summed up
 LONGEST = 7
 # of the connections of a call the one of the least is the one that it is shown by
 RANK = {"queued": 0, "alerting": 1, "hold": 2, "fail": 3, "connected": 4, "initiated": 5}
@@ -83,16 +83,17 @@ def all_of(state: State) -> dict[str, dict[str, str]]:
 
 # figures of a day
 
-def sums_of(quarters: Iterable[Quarter], limit: float) -> list[int]:
+def figures_of(quarter: Quarter, limit: float) -> list[int]:
     """Entered, answered, abandoned, moved, waited, answered within the limit, abandoned later, the longest wait of an
     answered call, calls that agents are done with, and seconds for them."""
-    found = [0] * 10
-    for one in quarters:
-        for place, value in enumerate((one.entered, len(one.answers), len(one.losses), one.moved, sum(one.answers),
-                                       one.in_time(limit), one.late(limit), 0, one.handled, one.handling)):
-            found[place] += value
-        found[LONGEST] = max(found[LONGEST], max(one.answers, default=0))
-    return found
+    return [quarter.entered, len(quarter.answers), len(quarter.losses), quarter.moved, sum(quarter.answers),
+            quarter.in_time(limit), quarter.late(limit), max(quarter.answers, default=0), quarter.handled,
+            quarter.handling]
+
+
+def sum_of(quarters: Iterable[list[int]]) -> list[int]:
+    """The figures of several quarters together."""
+    return [max(column) if place == LONGEST else sum(column) for place, column in enumerate(zip(*quarters))]
 
 
 def agent_figures_line(agent: AgentFigures) -> str:

@@ -1,16 +1,20 @@
-"""What boards and agents' pages are pushed, over an office's day at its own moments: the lines of a board beside what the pages reckoned themselves, and whoever loses the stream and goes on beside a new picture."""
+"""What boards and agents' pages are pushed, over an office's day at its own moments: the lines of a board beside the desk's reads and beside figures that another program reckons from its
+events, and whoever loses the stream and goes on beside a new picture."""
 import asyncio
 import json
 import random
-import subprocess
+from collections import Counter
 
+from board import figures
 from followed import Asked, following, office
-from trial import TOP, Trial
+from trial import Trial
 
 from acd_service.gate.boards import RECENT, Sight
 from acd_service.gate.streams import Stream
 
-LIMIT, EACH, LOSSES, PAGES = 7, 20, 1000, 12
+LIMIT, EACH, LOSSES, PAGES = 7, 50, 1000, 12
+FIGURES = ("entered", "answered", "abandoned", "moved", "waited", "within", "late", "longest", "handled", "handling")
+ALONE = ("ready", "workingAfterCall", "notReady", "busy")
 MEMBERS = ("answered", "clock", "live")
 
 
@@ -64,36 +68,80 @@ class Page:
 class Streamed(Trial):
     def try_streamed(self):
         lines = office()
-        for begun, groups in ((0, ""), (1200, "100,0100,9")):
-            asyncio.run(self.beside_the_pages(lines, begun, groups))
+        for begun, groups in ((0, frozenset()), (220, frozenset({"110"})), (1200, frozenset({"100", "0100", "9"}))):
+            asyncio.run(self.beside_the_desk(lines, begun, groups))
 
-    async def beside_the_pages(self, lines, begun, groups):
-        """The same by state.js, day.js and reckon.js, begun at some request; the day counts from an hour after the first."""
+    async def beside_the_desk(self, lines, begun, groups):
+        """Begun at some request, and carried on to the end of the day without a new snapshot; its day counts from a quarter of an hour after the first, and another one from the first."""
         desk = self.enterContext(Asked(self.program))
-        follower, told, events, has_begun = following.Following(desk.ask), [], [], False
-        begin = int(lines[0].split()[0]) + 3600
-        sight = Sight(begin, (("", float(LIMIT)),), frozenset(filter(None, groups.split(","))), frozenset({"day"}))
+        follower, events, compared, begin = following.Following(desk.ask), [], 0, int(lines[0].split()[0]) + 900
+        sights = [Sight(begin, (("", float(LIMIT)),), groups, frozenset({"day"})), Sight(0)]
         for number, line in enumerate(lines, 1):
             desk.say(line)
             if number < begun or (number % EACH and number != len(lines)):
                 continue
-            snapshot = json.loads(desk.told("/snapshot")[1])
-            follower.renewed = float("inf") if has_begun else 0
+            follower.renewed = float("inf") if events else 0
             state = await follower.catch_up()
-            page = self.new_events(desk, events[-1]["number"] if events else 0)
-            if not has_begun:
-                follower.streams.see(sight, state)
+            events += self.new_events(desk, events[-1]["number"] if events else 0)
+            views = [follower.streams.see(sight, state) for sight in sights]
+            while follower.streams.boards.tasks:
                 await asyncio.gather(*follower.streams.boards.tasks)
-            events += page
             follower.number += 1
             follower.streams.boards.turn(follower.number)
-            tables = {name: json.loads(table.whole()) for name, table in follower.streams.see(sight, state).tables.items()}
-            told.append({"snapshot": None if has_begun else snapshot, "events": page, "begin": begin, "now": int(desk.moment) + 3, "tables": tables, "compares": True,
-                         "now_known": {"agents": snapshot["agents"], "calls": snapshot["calls"]}})
-            has_begun = True
-        judged = subprocess.run(["node", TOP / "tests/trials/gate/old_folds.mjs", str(LIMIT), groups], input="".join(json.dumps(part) + "\n" for part in told), capture_output=True, text=True, check=False)
-        self.expect(f"the lines begun at request {begun} are those of the pages", (judged.returncode, judged.stderr), (0, ""))
-        print(f"    {judged.stdout.strip()}")
+            day, whole = ({name: json.loads(table.whole()) for name, table in view.tables.items()} for view in views)
+            compared += self.compare_state(f"behind request {number}", desk, day, named=len(events) == len(self.new_events(desk, 0)) and number == max(begun, EACH))
+            compared += self.compare_report(f"behind request {number}", desk, whole["sums"])
+        compared += self.compare_figures(events, day, begin)
+        self.expect(f"who waited at once, of {sorted(groups) or 'all'}", peaks_of(day["peaks"], day["sums"], day["groups"], groups, begin, events), walked(events, groups, begin))
+        self.see("much was compared", compared > 4000, compared)
+        print(f"    {compared} lines compared with the desk's reads and other figures, begun at request {begun}")
+
+    def compare_state(self, when, desk, tables, named):
+        """Groups, agents and calls as the desk's reads have them; names where they can't have changed since."""
+        snapshot = json.loads(desk.told("/snapshot")[1])
+        sides = [(call["call"], side) for call in snapshot["calls"] for side in call["connections"]]
+        doings = {agent["agent"]: doing_of(agent, [side for _, side in sides if side["device"] == agent.get("device")]) for agent in snapshot["agents"]}
+        for group in snapshot["groups"]:
+            number, line = group["device"], tables["groups"][group["device"]]
+            queue = json.loads(desk.told(f"/queues/{number}")[1])
+            counts = Counter(doings[agent["agent"]][0] for agent in snapshot["agents"] if number in groups_of(agent))
+            ringing = {call for call, side in sides if side["state"] == "alerting" and side.get("group") == number}
+            self.expect(f"{when}, group {number}", (line.get("waiting", 0), line.get("queued"), line.get("next"), line.get("ringing", 0), line.get("counts", {})),
+                        (len(queue["calls"]), min((call["since"] for call in queue["calls"]), default=None), next(iter(queue["ready"]), None), len(ringing), counts))
+        for agent in snapshot["agents"]:
+            line, calls = tables["agents"][agent["agent"]], sorted(call for call, side in sides if side["device"] == agent.get("device"))
+            self.expect(f"{when}, agent {agent['agent']}", (line["doing"], line.get("group"), line.get("station"), line.get("groups", []), line.get("calls", [])),
+                        (*doings[agent["agent"]], agent.get("device"), groups_of(agent), calls))
+        planned = {one["device"] for one in (*snapshot["groups"], *snapshot["stations"])}
+        wanted = {str(call["call"]): (call["since"], call["caller"], {(side["device"], side["state"]) for side in call["connections"] if side["device"] in planned}) for call in snapshot["calls"]}
+        self.expect(f"{when}, the calls", {number: (line["begun"], line["caller"], wanted.get(number, ((), (), ()))[2] and (line["at"], line["state"]) in wanted[number][2]) for number, line in tables["calls"].items()},
+                    {number: (begun, caller, bool(there)) for number, (begun, caller, there) in wanted.items()})
+        if named:
+            self.expect(f"{when}, names and priorities", {number: (line.get("name"), line.get("ring", 0), line.get("wrap", 0), line.get("priority", 0)) for number, line in tables["groups"].items()},
+                        {group["device"]: (group["name"], group["ring"], group["wrap"], group.get("priority", 0)) for group in snapshot["groups"]})
+        return len(snapshot["groups"]) + len(snapshot["agents"]) + len(snapshot["calls"])
+
+    def compare_report(self, when, desk, sums):
+        """The desk's own report, which counts from the beginning of the file."""
+        rows = [line.split() for line in desk.told("/reports/queues")[1].decode().splitlines()[1:]]
+        for group, _, _, entered, answered, abandoned, moved, average, *_ in rows:
+            has = dict(zip(FIGURES, sums.get(group, [0] * 10)))
+            self.expect(f"{when}, the report of {group}", [str(has[name]) for name in FIGURES[:4]] + [str(has["waited"] // has["answered"]) if has["answered"] else "-"], [entered, answered, abandoned, moved, average])
+        return len(rows)
+
+    def compare_figures(self, events, tables, begin):
+        """Sums, quarters of an hour and agents' figures, call by call and agent by agent."""
+        end = events[-1]["moment"] + 1
+        wanted = figures.reckoned(events, begin, end, {}, LIMIT, set())
+        for name, found, others in (("sums", tables["sums"], wanted["groups"]), ("quarters", {f"{key.split()[0]} {int(key.split()[1]) * 900}": line for key, line in tables["quarters"].items()}, wanted["quarters"])):
+            self.expect(name, {key: dict(zip(FIGURES, line)) for key, line in found.items() if any(line[:10])},
+                        {key: {figure: line.get(figure, 0) for figure in FIGURES} for key, line in others.items() if key.partition(" ")[0] != "all" and any(line.values())})
+        agents = {}
+        for number, line in tables["spent"].items():
+            spent = {name: line.get(name, 0) + (end - line["since"] if line.get("does") == name else 0) for name in ("talk", "afterCall", "ready", "notReady")}
+            agents[number] = [line.get("calls", 0), line.get("missed", 0), *spent.values()]
+        self.expect("agents", agents, {number: [line[name] for name in ("calls", "missed", "talk", "work", "ready", "notReady")] for number, line in wanted["agents"].items()})
+        return len(tables["sums"]) + len(tables["quarters"]) + len(agents)
 
     @staticmethod
     def new_events(desk, after):
@@ -114,7 +162,7 @@ class Streamed(Trial):
         follower = following.Following(desk.ask)
         streams = follower.streams
         agents = sorted({json.loads(line.partition(" ")[2])["agent"] for line in lines if '"addAgent"' in line})[:PAGES]
-        sights = [Sight(0, (("", 20.0),)), Sight(int(lines[0].split()[0]) + 3600, (("", 5.0), ("100", 60.0)), frozenset({"100", "9"}), frozenset({"day", "events"}))]
+        sights = [Sight(0, (("", 20.0),)), Sight(int(lines[0].split()[0]) + 900, (("", 5.0), ("100", 60.0)), frozenset({"100", "9"}), frozenset({"day", "events"}))]
         begun = [Page(streams, f"{sight}{number}", sight=sight) for sight in sights for number in range(PAGES)] + [Page(streams, agent, agent=agent, groups=frozenset({"100", "9"})) for agent in agents]
         streams.run = lambda: asyncio.sleep(0)      # turns are taken here, at the day's own moments
         clock, compared, went_on = 0.0, 0, 0
@@ -170,4 +218,44 @@ def differences(has, wanted):
             found += [(name, key, one.get(key), other.get(key)) for key in one.keys() | other.keys() if one.get(key) != other.get(key)][:3]
         elif one != other:
             found.append((name, one, other))
+    return found
+
+
+def groups_of(agent):
+    return agent.get("groups") or ([agent["group"]] if "group" in agent else [])
+
+
+def doing_of(agent, here):
+    """What an agent does, and for which group, by the agent's state and the connections at the station."""
+    given = next((side for side in here if side.get("group")), None)
+    if given:
+        return {"alerting": "ringing", "hold": "hold"}.get(given["state"], "busy"), given["group"]
+    return "own" if agent["state"] == "ready" and any(side["state"] != "fail" for side in here) else agent["state"], None
+
+
+def walked(events, groups, begin):
+    """How many waited at most in each quarter of an hour, by the calls that are in a queue behind each event."""
+    queues, waiting, most = {event["device"] for event in events if event["event"] == "queued"}, {}, {}
+    for event in events:
+        if event["moment"] >= begin:
+            quarter = event["moment"] // 900
+            most[quarter] = max(most.get(quarter, 0), sum(not groups or group in groups for group in waiting.values()))
+        if event["event"] == "queued":
+            waiting[event["call"]] = event["device"]
+        elif event.get("device") in queues and waiting.get(event.get("call")) == event["device"]:
+            del waiting[event["call"]]
+        if event["moment"] >= begin:
+            most[quarter] = max(most[quarter], sum(not groups or group in groups for group in waiting.values()))
+    return most
+
+
+def peaks_of(peaks, sums, lines, groups, begin, events):
+    """The same by what a board was told."""
+    chosen = [group for group in sums if not groups or group in groups]
+    before = sum(lines[group].get("waiting", 0) - sums[group][10] for group in chosen) + sum(line.get("waiting", 0) for group, line in lines.items() if group not in sums and (not groups or group in groups))
+    found, waiting = {}, before
+    for quarter in range(begin // 900, events[-1]["moment"] // 900 + 1):
+        top, end = peaks.get(str(quarter), (None, None))
+        found[quarter] = waiting if top is None else max(waiting, before + top)
+        waiting = waiting if end is None else before + end
     return found
