@@ -12,6 +12,7 @@ export const order = (one = '', other = '') => one.length - other.length || (one
 const LINES = {
   groups: (line, id) => ({id, name: '', ring: 0, wrap: 0, priority: 0, waiting: 0, ringing: 0, queued: 0, counts: {}, next: '', ...line}),
   agents: (line, id) => ({id, name: '', since: 0, group: null, station: null, groups: [], pending: null, calls: [], ...line}),
+  rules: line => line,
   calls: (line, id) => ({number: Number(id), state: 'none', since: 0, begun: 0, group: null, at: '', caller: '', ...line}),
 };
 
@@ -21,6 +22,8 @@ export class State {
   /** @type {Map<string, Group>} */ groups = new Map();
   /** @type {Map<string, Agent>} */ agents = new Map();
   /** @type {Map<string, Call>} */ calls = new Map();
+  // what an office's rules do with a group's callers
+  /** @type {Map<string, Rule>} */ rules = new Map();
   // the agent at a station
   /** @type {Map<string, string>} */ at = new Map();
   /** @type {Report[]} */ events = [];
@@ -39,7 +42,7 @@ export class State {
 
   /** @param {Told} told @param {boolean} isWhole whether all else is gone */
   take(told, isWhole) {
-    for (const name of /** @type {const} */ (['groups', 'agents', 'calls'])) {
+    for (const name of /** @type {const} */ (['groups', 'agents', 'calls', 'rules'])) {
       const lines = /** @type {Map<string, any>} */ (this[name]);
       if (isWhole) lines.clear();
       for (const [id, line] of Object.entries(told[name] ?? {})) {

@@ -2,7 +2,7 @@
 
 export const STEP = 900;
 
-const FIGURES = /** @type {const} */ (['entered', 'answered', 'abandoned', 'moved', 'waited', 'within', 'late', 'longest', 'handled', 'handling']);
+const FIGURES = /** @type {const} */ (['entered', 'answered', 'abandoned', 'moved', 'waited', 'within', 'late', 'longest', 'handled', 'handling', 'closed']);
 
 const noSums = () => /** @type {Sums} */ (Object.fromEntries(FIGURES.map(name => [name, 0])));
 

@@ -50,6 +50,7 @@ declare global {
   type Quarter = types.Quarter;
   type Line = types.Line;
   type Report = types.Report;
+  type Rule = types.Rule;
   type Settings = typeof import('./settings.js').USUAL & {[ofGroup: `${string}.${string}`]: number};
   type Shown = Pick<Agent, 'id' | 'name' | 'doing' | 'since' | 'group'>;
   type Sentence = types.Sentence;

@@ -25,7 +25,7 @@ export function groupLines({state, day, now}) {
   return groups.map(({id, name, priority, waiting, ringing, queued, counts: has, next}) => {
     const wait = waiting ? Math.max(0, now - queued) : null, limits = limitsOf(id), {sum} = day.line(id), counts = {...noCounts(), ...has};
     return {
-      id, name: name || id, priority, waiting, ringing, queued, wait, severity: severity(wait, limits), limits,
+      rule: state.rules.get(id), id, name: name || id, priority, waiting, ringing, queued, wait, severity: severity(wait, limits), limits,
       counts, loggedOn: Object.values(counts).reduce((all, one) => all + one), next: next ? state.agent(next) : null, ...sum, ...shares(sum, limits),
     };
   });

@@ -26,14 +26,16 @@ export type Report = CallReport | AgentReport;
 
 /** queued: since when the first of those waits that wait longest; next: the agent who gets the next call */
 export type Group = {id: string, name: string, ring: number, wrap: number, priority: number, waiting: number, ringing: number, queued: number, counts: Partial<Record<Doing, number>>, next: string};
+/** whether a group is closed by its hours, and where rules moved its callers lately */
+export type Rule = {closed?: boolean, to?: string};
 /** what an agent does, since when, and for which group; calls: those at the agent's station */
 export type Agent = {id: string, name: string, doing: Doing, since: number, group: string | null, station: string | null, groups: string[], pending: string | null, calls: number[]};
 /** a call, by the connection that says most of it, which is `at` a device */
 export type Call = {number: number, caller: string, begun: number, state: ConnectionState | 'none', since: number, group: string | null, at: string};
 
 // the day
-/** within: answered in time; late: abandoned later than that; longest: wait of an answered call; handled, handling: calls that agents are done with, and seconds for them */
-export type Sums = Figures & {within: number, late: number, longest: number, handled: number, handling: number};
+/** within: answered in time; late: abandoned later than that; longest: wait of an answered call; handled, handling: calls that agents are done with, and seconds for them; closed: calls that a rule ended */
+export type Sums = Figures & {within: number, late: number, longest: number, handled: number, handling: number, closed: number};
 /** top and end: how many more wait than at the day's begin, at most and in the end */
 export type Step = Sums & {top: number, end: number};
 /** a step where it is shown; beside: the same one of another day */
@@ -47,7 +49,7 @@ export type Severity = 'none' | 'calm' | 'long' | 'bad';
 export type Limits = {limit: number, goal: number, lost: number, long: number, bad: number};
 export type Share = {level: number | null, levelSeverity: Severity, lost: number | null, lostSeverity: Severity};
 /** wait: of the call that waits longest, since `queued`; next: the agent who gets the next call; level: the share answered in time; lost: the share that gave up */
-export type GroupLine = Sums & Share & {id: string, name: string, priority: number, waiting: number, ringing: number, queued: number, wait: number | null, severity: Severity,
+export type GroupLine = Sums & Share & {rule: Rule | undefined, id: string, name: string, priority: number, waiting: number, ringing: number, queued: number, wait: number | null, severity: Severity,
   counts: Record<Doing, number>, loggedOn: number, next: Agent | null, limits: Limits};
 /** since: if the figures show it, else 0 */
 export type Alarm = {key: string, kind: string, since: number, values: () => Values};

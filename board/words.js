@@ -159,6 +159,7 @@ moved: Moved
 average: Speed of answer
 handling: Handling time
 priority: Priority
+closed: Closed
 act: Act
 onCalls: On calls
 call: Call
@@ -185,7 +186,11 @@ of: of {what}
 limit: within {n} s
 limits: within the group's limit
 goal: goal {goal}
+closed: {n} closed
 occupancy: Occupancy
+[rule]
+closed: closed
+to: overflow to {to}
 [wall]
 rest.one: and {n} more group with {waiting} waiting
 rest.other: and {n} more groups with {waiting} waiting

@@ -26,10 +26,12 @@ def no_waits() -> array[int]:
 
 @dataclass(eq=False)
 class Quarter:
-    """`answers` are the waits of those that were answered, `losses` of those who gave up; `top` and `end` how many more
-    wait than before the first event, at most and in the end."""
+    """`answers` are the waits of those that were answered, `losses` of those who gave up, without those of whom
+    somebody says that they were `closed`; `top` and `end` how many more wait than before the first event, at most and
+    in the end."""
     entered: int = 0
     moved: int = 0
+    closed: int = 0
     handled: int = 0
     handling: int = 0
     top: int = 0
@@ -86,8 +88,8 @@ class Figures:
         # stations whose agent's next event follows an answered call of a group, or an offer without an answer
         self.answered: dict[str, str] = {}
         self.missed: set[str] = set()
-        # where the call that is being cleared had connections
-        self.cleared: set[str] = set()
+        # where the call that is being cleared had connections: the first is where somebody began to
+        self.cleared: list[str] = []
 
     def take(self, event: Event) -> None:
         """The next event."""
@@ -131,7 +133,7 @@ class Figures:
             self.answered[device or ""] = group
             self.quarter(group, moment).answers.append(waited or 0)
         elif kind == "connectionCleared":
-            self.cleared.add(device or "")
+            self.cleared.append(device or "")
         elif kind == "callCleared":
             self.take_clearing(event)
 
@@ -147,10 +149,14 @@ class Figures:
         moment, group = event.moment, event.group
         if group is not None:
             since = self.queued.get(event.call or 0)
-            self.quarter(group, moment).losses.append(EVER if since is None else moment - since)
+            self.lose(event.call or 0, group, moment, EVER if since is None else moment - since)
             if group in self.cleared:
                 self.change(moment, group, -1)
         self.cleared.clear()
+
+    def lose(self, call: int, group: str, moment: int, wait: int) -> None:
+        """A call ends that waited."""
+        self.quarter(group, moment).losses.append(wait)
 
     def take_agent(self, event: Event, number: str) -> None:
         moment, kind, device = event.moment, event.kind, event.device or ""

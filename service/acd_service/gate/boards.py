@@ -6,7 +6,7 @@ import asyncio
 import math
 import re
 from array import array
-from collections.abc import Awaitable, Callable, Coroutine, Iterable, Mapping
+from collections.abc import Awaitable, Callable, Coroutine, Iterable, Mapping, Set
 from itertools import count
 from typing import NamedTuple
 
@@ -15,6 +15,7 @@ from acd_service.figures import STEP, Figures
 from acd_service.gate import lines
 from acd_service.gate.days import beginning
 from acd_service.gate.desk import Away
+from acd_service.gate.ruled import OVERFLOWS, Ruled, is_of_group
 from acd_service.gate.state import State, Text
 from acd_service.gate.tables import Recent, Table, Tables
 
@@ -78,6 +79,10 @@ class Day(Figures):
         self.last: int | None = None
         self.first = 0
         self.whole, self.is_known = False, True
+        # calls that ended at their group, where callers who give up do not end it: group, quarter, and wait
+        self.suspects: dict[int, tuple[str, int, int]] = {}
+        # when a call was moved at its group last
+        self.moved = 0
         self.numbers: dict[str, int] = {}
         # of each change the quarter of an hour, and the number of the group, less than nothing where one waits less
         self.quarters_of_course, self.course = array("I"), array("i")
@@ -87,10 +92,26 @@ class Day(Figures):
         self.quarters_of_course.append(moment // STEP)
         self.course.append(by * self.numbers.setdefault(group, len(self.numbers) + 1))
 
+    def lose(self, call: int, group: str, moment: int, wait: int) -> None:
+        super().lose(call, group, moment, wait)
+        if self.cleared and self.cleared[0] == group:
+            self.suspects[call] = group, moment // STEP, wait
+
+    def judge(self, suspects: Iterable[int], ended: Set[int]) -> None:
+        """Of these calls rules ended some: nobody gave up."""
+        for call in suspects:
+            group, number, wait = self.suspects.pop(call, ("", 0, 0))
+            if group and call in ended:
+                quarter = self.quarter(group, number * STEP)
+                quarter.losses.remove(wait)
+                quarter.closed += 1
+
     def take_report(self, report: Text) -> None:
         self.last = report["number"]
         if report["moment"] < self.end:
             self.take(event_of(report))
+        if is_of_group(report):
+            self.moved = report["moment"]
 
     async def read(self, events: Read, last: Callable[[], int]) -> None:
         """Reads what the desk had before, up to the present; reports that come later are given to it. It goes on where
@@ -196,14 +217,15 @@ class View:
 class Boards:
     """All of it, as long as boards are looked at. `events` asks the desk for a page of events."""
 
-    def __init__(self, events: Read, state: State, number: int) -> None:
-        self.events, self.state = events, state
+    def __init__(self, events: Read, state: State, number: int, ruled: Ruled) -> None:
+        self.events, self.state, self.ruled = events, state, ruled
         self.common: dict[str, Table] = {name: Table(number, found) for name, found in lines.all_of(state).items()}
-        self.common["desk"] = Table(number)
+        self.common["desk"], self.common["rules"] = Table(number), Table(number, ruled.lines())
         self.common["events"] = Recent(number, RECENT)
         self.days: dict[tuple[int, float, float], Day] = {}
         self.views: dict[Sight, View] = {}
         self.tasks: set[asyncio.Task[None]] = set()
+        self.judging: asyncio.Task[None] | None = None
         self.touched: set[str] = set()
         self.dirty: set[str] = set()
         self.moved: set[int] = set()
@@ -260,7 +282,7 @@ class Boards:
             self.start(lambda: self.days[key].read(self.events, lambda: self.state.last))
         return self.days[key]
 
-    def start(self, work: Callable[[], Coroutine[None, None, None]]) -> None:
+    def start(self, work: Callable[[], Coroutine[None, None, None]]) -> asyncio.Task[None]:
         """Does this beside all else, again and again until the desk has answered."""
         async def until_it_is_done() -> None:
             while True:
@@ -273,6 +295,23 @@ class Boards:
         task = asyncio.get_running_loop().create_task(until_it_is_done())
         self.tasks.add(task)
         task.add_done_callback(self.tasks.discard)
+        return task
+
+    def judge(self) -> None:
+        """Asks who moved or ended calls at their groups, where some were."""
+        days, now = [day for day in self.days.values() if day.whole], int(self.ruled.clock())
+        is_new = any(day.moved > max(self.ruled.until, now - OVERFLOWS) or day.suspects for day in days)
+        if is_new and (self.judging is None or self.judging.done()):
+            self.judging = self.start(lambda: self.judged(days, now))
+
+    async def judged(self, days: list[Day], now: int) -> None:
+        suspects = [(day, list(day.suspects)) for day in days]
+        until = max((day.moved for day in days), default=0)
+        begins = [number * STEP for day in days for _, number, _ in day.suspects.values()]
+        await self.ruled.read(min([now - OVERFLOWS, *begins]))
+        self.ruled.until = until
+        for day, calls in suspects:
+            day.judge(calls, self.ruled.ended)
 
     async def read_events(self) -> None:
         """The last events before those that come."""
@@ -308,6 +347,8 @@ class Boards:
                 common[name].drop(key, number)
         self.touched, self.dirty, self.moved = set(), set(), set()
         self.put_desk(number)
+        self.judge()
+        common["rules"].renew(self.ruled.lines(), number)
         if self.fresh and self.has_events:
             for report in self.fresh:
                 common["events"].put(str(report["number"]), lines.as_text(report), number)

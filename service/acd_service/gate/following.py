@@ -8,12 +8,14 @@ import time
 import zlib
 from collections.abc import Awaitable, Callable
 from dataclasses import dataclass, field
+from pathlib import Path
 
 from acd_service import command
 from acd_service.gate import lines
 from acd_service.gate.days import EARLIER, Days, beginning
 from acd_service.gate.desk import Away
 from acd_service.gate.exchanges import Answer, Left
+from acd_service.gate.ruled import FILE as RULES, Ruled
 from acd_service.gate.state import State, Text
 from acd_service.gate.streams import Streams
 from acd_service.gate.texts import agent_text, groups_of, names_text, without_nothing
@@ -66,10 +68,13 @@ def begun(snapshot: Text, before: State | None, has_boards: bool) -> tuple[State
 
 
 class Following:
-    """Follows the desk while somebody wants to know. `ask` is the desk's: a method and a path."""
+    """Follows the desk while somebody wants to know. `ask` is the desk's: a method and a path; `is_rules` says whether
+    a requester is that of an office's rules, and `rules` is their file."""
 
-    def __init__(self, ask: Callable[[str, str], Awaitable[Answer]], clock: Callable[[], float] = time.time) -> None:
+    def __init__(self, ask: Callable[[str, str], Awaitable[Answer]], clock: Callable[[], float] = time.time,
+                 is_rules: Callable[[str], bool] = lambda requester: False, rules: Path | str = RULES) -> None:
         self.ask, self.clock, self.asking = ask, clock, asyncio.Lock()
+        self.is_rules, self.rules = is_rules, rules
         # `answered` is by the clock; `renewed`, `heard`, when all was caught up, and `spoke`, when the desk last
         # answered a question, are by one that is never set back
         self.answered, self.renewed, self.heard, self.live = 0.0, 0.0, 0.0, False
@@ -114,6 +119,10 @@ class Following:
     async def events(self, path: str) -> list[Text]:
         found: list[Text] = (await self.page(path))["events"]
         return found
+
+    def ruled(self) -> Ruled:
+        """What the office's rules do, by the requests that the desk executes from now on, or has executed."""
+        return Ruled(lambda after: self.page(f"/requests?after={after}"), self.is_rules, self.rules, self.clock)
 
     async def catch_up(self) -> State:
         """The desk with all that it has executed by now; Away where it doesn't answer."""

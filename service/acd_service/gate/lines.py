@@ -85,10 +85,10 @@ def all_of(state: State) -> dict[str, dict[str, str]]:
 
 def figures_of(quarter: Quarter, limit: float) -> list[int]:
     """Entered, answered, abandoned, moved, waited, answered within the limit, abandoned later, the longest wait of an
-    answered call, calls that agents are done with, and seconds for them."""
+    answered call, calls that agents are done with, seconds for them, and calls that a rule ended."""
     return [quarter.entered, len(quarter.answers), len(quarter.losses), quarter.moved, sum(quarter.answers),
             quarter.in_time(limit), quarter.late(limit), max(quarter.answers, default=0), quarter.handled,
-            quarter.handling]
+            quarter.handling, quarter.closed]
 
 
 def sum_of(quarters: Iterable[list[int]]) -> list[int]:

@@ -21,11 +21,12 @@ from acd_service.gate.door import Door, is_page, token_of
 from acd_service.gate.exchanges import Answer, Question, Refused, error
 from acd_service.gate.following import Following, as_json
 from acd_service.gate.health import WELL
-from acd_service.gate.judging import Logins, Look, Seen, Twice, looks_at, may, once
+from acd_service.gate.judging import Logins, Look, Seen, Twice, looks_at, may, once, owner
 from acd_service.gate.limits import Held, Rates, Replies
 from acd_service.gate.metrics import KIND, Metrics
 from acd_service.gate.passwords import RIGHT, TOO_MANY, Passwords, network
 from acd_service.gate.roles import MEMBERS, NO_KEYS, NOTHING, Role, Watched, has_keys, hashes_of, roles_of
+from acd_service.gate.ruled import DIRECT, FILE as RULES
 from acd_service.gate.sessions import Session, Sessions, cookie_field
 from acd_service.gate.streams import Stream
 from acd_service.gate.traces import Traces
@@ -72,12 +73,13 @@ class Gate:
 
     def __init__(self, desk: Desk, roles: Path | str, users: Path | str, sessions: Path | str | None = None,
                  records: Path | str = "/var/lib/acd-records", secret: str = "",
-                 copy: Path | str = last_copy.FILE) -> None:
+                 copy: Path | str = last_copy.FILE, rules: Path | str = RULES) -> None:
         self.desk, self.records = desk, records
         self.roles, self.users = Watched(Path(roles), roles_of, keeps=True), Watched(Path(users), hashes_of)
         self.passwords, self.sessions = Passwords(self.users), Sessions(sessions, self.users, secret=secret)
         self.rates, self.replies, self.held = Rates(), Replies(), Held()
-        self.following, self.reading = Following(desk.ask_soon), asyncio.Semaphore(READ_AT_ONCE)
+        self.following = Following(desk.ask_soon, is_rules=self.is_rules, rules=rules)
+        self.reading = asyncio.Semaphore(READ_AT_ONCE)
         self.traces = Traces()
         self.door = Door(self.roles, self.passwords, self.sessions, self.rates, self.traces, secret)
         self.metrics = Metrics(self, self.following, desk, copy)
@@ -121,6 +123,11 @@ class Gate:
 
     def role_of(self, login: str) -> Role:
         return self.roles.now().get(login, NOTHING)
+
+    def is_rules(self, requester: str) -> bool:
+        """Whether it is a requester of the office's rules, through the gate or at the desk itself."""
+        login = owner(requester, self.logins())
+        return requester.startswith(f"{DIRECT}-") if login is None else self.role_of(login).name == "rules"
 
     # sessions
 

@@ -92,7 +92,7 @@ class Streams:
     def see(self, sight: Sight, state: State) -> View:
         """What a board sees."""
         if self.boards is None:
-            self.boards = Boards(self.following.events, state, self.following.number)
+            self.boards = Boards(self.following.events, state, self.following.number, self.following.ruled())
         found = self.boards.view(sight, self.following.number)
         found.seen = self.clock()
         return found

@@ -13,7 +13,7 @@ from acd_service.gate.boards import RECENT, Sight
 from acd_service.gate.streams import Stream
 
 LIMIT, EACH, LOSSES, PAGES = 7, 50, 1000, 12
-FIGURES = ("entered", "answered", "abandoned", "moved", "waited", "within", "late", "longest", "handled", "handling")
+FIGURES = ("entered", "answered", "abandoned", "moved", "waited", "within", "late", "longest", "handled", "handling", "closed")
 ALONE = ("ready", "workingAfterCall", "notReady", "busy")
 MEMBERS = ("answered", "clock", "live")
 
@@ -125,7 +125,7 @@ class Streamed(Trial):
         """The desk's own report, which counts from the beginning of the file."""
         rows = [line.split() for line in desk.told("/reports/queues")[1].decode().splitlines()[1:]]
         for group, _, _, entered, answered, abandoned, moved, average, *_ in rows:
-            has = dict(zip(FIGURES, sums.get(group, [0] * 10)))
+            has = dict(zip(FIGURES, sums.get(group, [0] * 11)))
             self.expect(f"{when}, the report of {group}", [str(has[name]) for name in FIGURES[:4]] + [str(has["waited"] // has["answered"]) if has["answered"] else "-"], [entered, answered, abandoned, moved, average])
         return len(rows)
 
@@ -134,7 +134,7 @@ class Streamed(Trial):
         end = events[-1]["moment"] + 1
         wanted = figures.reckoned(events, begin, end, {}, LIMIT, set())
         for name, found, others in (("sums", tables["sums"], wanted["groups"]), ("quarters", {f"{key.split()[0]} {int(key.split()[1]) * 900}": line for key, line in tables["quarters"].items()}, wanted["quarters"])):
-            self.expect(name, {key: dict(zip(FIGURES, line)) for key, line in found.items() if any(line[:10])},
+            self.expect(name, {key: dict(zip(FIGURES, line)) for key, line in found.items() if any(line[:11])},
                         {key: {figure: line.get(figure, 0) for figure in FIGURES} for key, line in others.items() if key.partition(" ")[0] != "all" and any(line.values())})
         agents = {}
         for number, line in tables["spent"].items():
@@ -252,7 +252,7 @@ def walked(events, groups, begin):
 def peaks_of(peaks, sums, lines, groups, begin, events):
     """The same by what a board was told."""
     chosen = [group for group in sums if not groups or group in groups]
-    before = sum(lines[group].get("waiting", 0) - sums[group][10] for group in chosen) + sum(line.get("waiting", 0) for group, line in lines.items() if group not in sums and (not groups or group in groups))
+    before = sum(lines[group].get("waiting", 0) - sums[group][11] for group in chosen) + sum(line.get("waiting", 0) for group, line in lines.items() if group not in sums and (not groups or group in groups))
     found, waiting = {}, before
     for quarter in range(begin // 900, events[-1]["moment"] // 900 + 1):
         top, end = peaks.get(str(quarter), (None, None))

@@ -2,7 +2,9 @@
 """Tests of what boards are told: lines of the desk, days that are read and go on, views.   usage: tests/unit/gate/test_boards.py"""
 import asyncio
 import json
+import tempfile
 import unittest
+from pathlib import Path
 from unittest import mock
 
 import standing  # noqa: F401: where the modules are
@@ -10,6 +12,7 @@ from acd_service.figures import STEP
 from acd_service.gate import boards, lines
 from acd_service.gate.boards import Boards, Sight, TooMany, sight_of
 from acd_service.gate.desk import Away
+from acd_service.gate.ruled import Ruled
 from acd_service.gate.state import State
 from in_memory import event
 
@@ -112,11 +115,21 @@ def a_day():
 
 class BoardsTest(unittest.IsolatedAsyncioTestCase):
     def setUp(self):
-        self.state = desk_state()
+        self.state, self.requests = desk_state(), []
+        folder = Path(self.enterContext(tempfile.TemporaryDirectory()))
+        self.rules, self.now = folder / "rules.toml", 1010
+        self.ruled = Ruled(self.page, lambda requester: requester.startswith("rules-"), self.rules, lambda: self.now)
+
+    async def page(self, after):
+        """A page of two executed requests."""
+        return {"last": len(self.requests), "requests": [one for one in self.requests if one["stamp"] > after][:2]}
+
+    def asked(self, moment, requester, service, status=200, **members):
+        self.requests.append({"stamp": len(self.requests) + 1, "moment": moment, "status": status, "request": {"requester": requester, "service": service, **members}})
 
     async def begun(self, asked, *sights, last=7):
         self.state.last = last
-        found = Boards(asked, self.state, 100)
+        found = Boards(asked, self.state, 100, self.ruled)
         views = [found.view(sight, 100) for sight in sights]
         while found.tasks:
             await asyncio.gather(*found.tasks)
@@ -130,9 +143,9 @@ class BoardsTest(unittest.IsolatedAsyncioTestCase):
     async def test_a_day_is_read_and_goes_on(self):
         asked = Asked(a_day())
         found, (view, other, chosen) = await self.begun(asked, Sight(0), Sight(0, (("", 2.0),)), Sight(0, (), frozenset({"110"}), frozenset({"day"})))
-        self.assertEqual(self.table(view, "sums"), {"100": [2, 1, 1, 0, 3, 1, 0, 3, 0, 0, 0]})
-        self.assertEqual(self.table(other, "sums"), {"100": [2, 1, 1, 0, 3, 0, 1, 3, 0, 0, 0]})
-        self.assertEqual((self.table(chosen, "quarters"), self.table(chosen, "peaks")), ({f"100 {1001 // STEP}": [2, 1, 1, 0, 3, 1, 0, 3, 0, 0, 2, 0]}, {}))
+        self.assertEqual(self.table(view, "sums"), {"100": [2, 1, 1, 0, 3, 1, 0, 3, 0, 0, 0, 0]})
+        self.assertEqual(self.table(other, "sums"), {"100": [2, 1, 1, 0, 3, 0, 1, 3, 0, 0, 0, 0]})
+        self.assertEqual((self.table(chosen, "quarters"), self.table(chosen, "peaks")), ({f"100 {1001 // STEP}": [2, 1, 1, 0, 3, 1, 0, 3, 0, 0, 0, 2, 0]}, {}))
         self.assertEqual((self.table(view, "day"), self.table(view, "spent")), ({"share": 1, "moment": 1007}, {"7": {"calls": 1, "does": "talk", "groups": ["100"], "since": 1005}}))
         # days of the same begin and reach are read once
         self.assertEqual(len(found.days), 2)
@@ -140,7 +153,7 @@ class BoardsTest(unittest.IsolatedAsyncioTestCase):
             found.take(report)
         found.turn(102)
         self.assertEqual((self.table(view, "spent"), self.table(chosen, "peaks")), ({"7": {"calls": 1, "talk": 4, "does": "ready", "groups": ["100"], "since": 1009}}, {"1": [1, 1]}))
-        self.assertEqual(self.table(view, "sums")["100"], [2, 1, 1, 0, 3, 1, 0, 3, 1, 4, 0])
+        self.assertEqual(self.table(view, "sums")["100"], [2, 1, 1, 0, 3, 1, 0, 3, 1, 4, 0, 0])
 
     async def test_who_waited_at_once(self):
         """In the chosen groups together, which isn't the sum of what waited at most in each."""
@@ -165,7 +178,7 @@ class BoardsTest(unittest.IsolatedAsyncioTestCase):
 
         asked = Asked(a_day())
         self.state.last = 7
-        found = Boards(slow, self.state, 100)
+        found = Boards(slow, self.state, 100, self.ruled)
         view = found.view(Sight(0), 100)
         for number in range(101, 121):
             await asyncio.sleep(0)
@@ -181,7 +194,7 @@ class BoardsTest(unittest.IsolatedAsyncioTestCase):
         """It ends, and isn't there where its beginning is in an archive."""
         sight = Sight(2000, parts=frozenset({"day"}), past=((1001, 1004), (900, 1002)))
         _, (view,) = await self.begun(Asked(a_day()), sight)
-        self.assertEqual(self.table(view, "past"), {"1001": {"100": {"1": [2, 0, 0, 0, 0, 0, 0, 0, 0, 0]}}, "900": {"100": {"1": [1, 0, 0, 0, 0, 0, 0, 0, 0, 0]}}})
+        self.assertEqual(self.table(view, "past"), {"1001": {"100": {"1": [2, 0, 0, 0, 0, 0, 0, 0, 0, 0, 0]}}, "900": {"100": {"1": [1, 0, 0, 0, 0, 0, 0, 0, 0, 0, 0]}}})
         _, (view,) = await self.begun(Asked(a_day(), first=2), Sight(2000, parts=frozenset({"day"}), past=((900, 1004),)))
         self.assertEqual(self.table(view, "past"), {})
 
@@ -205,6 +218,58 @@ class BoardsTest(unittest.IsolatedAsyncioTestCase):
         self.assertEqual({name: sorted(lines_of) for name, lines_of in changed.items()}, {"agents": ["8", "9"], "groups": ["100"], "calls": ["2"], "desk": ["last", "moment"]})
         self.assertEqual((changed["calls"], changed["agents"]["8"]["doing"], changed["agents"]["9"]), ({"2": None}, "ready", {"doing": "null", "name": "A9", "since": 60}))
 
+    async def test_who_ended_a_call(self):
+        """A call that ended at its group was ended by a rule, or by somebody else: then its caller counts as one who gave up."""
+        for number in range(4):
+            self.asked(900 + number, "pbx", "tick")
+        self.asked(1006, "rules-100-closed-1", "clearConnection", status=409, call=2, device="100")
+        self.asked(1006, "rules-100-closed-2", "clearConnection", call=2, device="100")
+        found, (view,) = await self.begun(Asked(a_day()), Sight(0))
+        await asyncio.gather(*found.tasks)
+        found.turn(102)
+        self.assertEqual(self.table(view, "sums"), {"100": [2, 1, 0, 0, 3, 1, 0, 3, 0, 0, 1, 0]})
+        for report in (event(8, event="queued", call=3, device="100", cause="newCall"), event(9, event="connectionCleared", call=3, device="100"), event(10, event="callCleared", call=3, group="100"),
+                       event(11, event="queued", call=4, device="100", cause="newCall"), event(12, event="connectionCleared", call=4, device="0304"), event(13, event="connectionCleared", call=4, device="100"),
+                       event(14, event="callCleared", call=4, group="100")):
+            found.take(report)
+        self.asked(1009, "pbx-1", "clearConnection", call=3, device="100")
+        found.turn(103)
+        await asyncio.gather(*found.tasks)
+        found.turn(104)
+        self.assertEqual((self.table(view, "sums")["100"][:4], self.table(view, "sums")["100"][10], view.day.suspects), ([4, 1, 2, 0], 1, {}))
+
+    async def test_where_callers_go(self):
+        """For five minutes after a rule moved one; nobody else's moves count."""
+        moves = [event(1, event="queued", call=1, device="100", cause="newCall"), event(2, event="diverted", call=1, device="100", to="110", group="100", cause="deflected")]
+        self.asked(1001, "pbx", "arriveCall")
+        self.asked(1002, "rules-100-long-1", "deflectCall", call=1, device="100", to="110")
+        self.asked(1002, "lea-1", "deflectCall", call=1, device="110", to="120")
+        found, (view,) = await self.begun(Asked(moves), Sight(0), last=2)
+        await asyncio.gather(*found.tasks)
+        found.turn(102)
+        self.assertEqual(self.table(view, "rules"), {"100": {"to": "110"}})
+        found.turn(103)
+        self.assertEqual((found.tasks, view.tables["rules"].since(102)), (set(), ""))
+        self.now += 300
+        found.turn(104)
+        self.assertEqual(told(view.tables["rules"].since(102)), {"100": None})
+
+    async def test_groups_that_are_closed(self):
+        """By the hours of the rules' file, as it is; a file with a fault closes none, and one that is gone."""
+        _, (view,) = await self.begun(Asked([]), Sight(0), last=0)
+        found = [self.table(view, "rules")]
+        for text in ('zone = "UTC"\n[hours]\nmon-fri = ["08:00-18:00"]\n[groups.100]\n', "zone = 5\n", None):
+            if text is None:
+                self.rules.unlink()
+            else:
+                self.rules.write_text(text + ('rules = [{ when = "closed", end = true }]\n' if "groups" in text else ""))
+            found += [self.lines_at(day * 86400 + hour * 3600) for day, hour in ((4, 9), (4, 19))]
+        self.assertEqual(found, [{}, {}, {"100": '{"closed":true}'}, {}, {}, {}, {}])
+
+    def lines_at(self, moment):
+        self.now = moment
+        return self.ruled.lines()
+
     async def test_a_new_snapshot(self):
         found, (view,) = await self.begun(Asked([]), Sight(0), last=0)
         self.state.agents["9"].name = "Cleo"
@@ -225,7 +290,7 @@ class BoardsTest(unittest.IsolatedAsyncioTestCase):
 
     async def test_a_file_that_is_gone(self):
         """Whoever reads a day then stops."""
-        found = Boards(Asked(a_day(), away=1000), self.state, 100)
+        found = Boards(Asked(a_day(), away=1000), self.state, 100, self.ruled)
         found.view(Sight(0), 100)
         tasks = set(found.tasks)
         found.close()
