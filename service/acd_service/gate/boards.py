@@ -10,6 +10,7 @@ from collections.abc import Awaitable, Callable, Coroutine, Iterable, Mapping, S
 from itertools import count
 from typing import NamedTuple
 
+from acd_service.command import report
 from acd_service.events import event_of
 from acd_service.figures import STEP, Figures
 from acd_service.gate import lines
@@ -78,6 +79,7 @@ class Day(Figures):
         self.end, self.reach = end, reach
         self.last: int | None = None
         self.first = 0
+        self.reading: asyncio.Task[None] | None = None
         self.whole, self.is_known = False, True
         # calls that ended at their group, where callers who give up do not end it: group, quarter, and wait
         self.suspects: dict[int, tuple[str, int, int]] = {}
@@ -106,12 +108,12 @@ class Day(Figures):
                 quarter.losses.remove(wait)
                 quarter.closed += 1
 
-    def take_report(self, report: Text) -> None:
-        self.last = report["number"]
-        if report["moment"] < self.end:
-            self.take(event_of(report))
-        if is_of_group(report):
-            self.moved = report["moment"]
+    def take_report(self, told: Text) -> None:
+        self.last = told["number"]
+        if told["moment"] < self.end:
+            self.take(event_of(told))
+        if is_of_group(told):
+            self.moved = told["moment"]
 
     async def read(self, events: Read, last: Callable[[], int]) -> None:
         """Reads what the desk had before, up to the present; reports that come later are given to it. It goes on where
@@ -122,19 +124,20 @@ class Day(Figures):
             self.last = self.first
         while self.last < last():
             page = await events(f"/history?after={self.last}")
-            for report in page:
-                if report["number"] <= last():
-                    self.take_report(report)
+            for told in page:
+                if told["number"] <= last():
+                    self.take_report(told)
             if not page or page[-1]["moment"] >= self.end:
                 break
             await asyncio.sleep(0)
         self.whole = True
 
     def share(self, last: int) -> float:
-        """How much of it has been read."""
+        """How much of it has been read; 1 once it is whole."""
         if self.whole:
             return 1
-        return 0 if self.last is None else math.floor(100 * (self.last - self.first) / max(1, last - self.first)) / 100
+        read = 0 if self.last is None else 100 * (self.last - self.first) // max(1, last - self.first)
+        return min(99, read) / 100
 
 
 class Peaks:
@@ -236,13 +239,13 @@ class Boards:
 
     # what happens
 
-    def take(self, report: Text) -> None:
+    def take(self, told: Text) -> None:
         """The next report."""
         for day in self.days.values():
-            if day.whole and day.last == report["number"] - 1:
-                day.take_report(report)
+            if day.whole and day.last == told["number"] - 1:
+                day.take_report(told)
         if self.fresh is not None:
-            self.fresh.append(report)
+            self.fresh.append(told)
 
     def mark(self, state: State) -> None:
         """Takes over what changed of the desk."""
@@ -278,8 +281,8 @@ class Boards:
         if key not in self.days:
             if len(self.days) >= MOST_DAYS:
                 raise TooMany
-            self.days[key] = Day(*key)
-            self.start(lambda: self.days[key].read(self.events, lambda: self.state.last))
+            day = self.days[key] = Day(*key)
+            day.reading = self.start(lambda: day.read(self.events, lambda: self.state.last))
         return self.days[key]
 
     def start(self, work: Callable[[], Coroutine[None, None, None]]) -> asyncio.Task[None]:
@@ -290,8 +293,8 @@ class Boards:
                     return await work()
                 except Away:
                     await asyncio.sleep(AGAIN)
-                except KeyError:
-                    return  # nobody wants it any more
+                except Exception as fault:  # what nobody foresaw
+                    return report(f"what boards are told isn't read: {fault!r}")
         task = asyncio.get_running_loop().create_task(until_it_is_done())
         self.tasks.add(task)
         task.add_done_callback(self.tasks.discard)
@@ -318,16 +321,20 @@ class Boards:
         last, found = self.state.last, list[Text]()
         after = max(0, last - RECENT)
         while after < last and (page := await self.events(f"/history?after={after}")):
-            found += [report for report in page if report["number"] <= last]
+            found += [told for told in page if told["number"] <= last]
             after = page[-1]["number"]
-        self.fresh = found + [report for report in self.fresh or [] if report["number"] > last]
+        self.fresh = found + [told for told in self.fresh or [] if told["number"] > last]
         self.has_events = True
 
     def forget(self, is_seen: Callable[[View], bool]) -> None:
         """Drops views that nobody looks at any more, and days that no view has."""
         self.views = {sight: view for sight, view in self.views.items() if is_seen(view)}
         wanted = {id(day) for view in self.views.values() for day in [view.day, *view.past.values()]}
-        self.days = {key: day for key, day in self.days.items() if id(day) in wanted}
+        for key, day in list(self.days.items()):
+            if id(day) not in wanted:
+                if day.reading is not None:
+                    day.reading.cancel()
+                del self.days[key]
 
     def close(self) -> None:
         for task in self.tasks:
@@ -350,8 +357,8 @@ class Boards:
         self.judge()
         common["rules"].renew(self.ruled.lines(), number)
         if self.fresh and self.has_events:
-            for report in self.fresh:
-                common["events"].put(str(report["number"]), lines.as_text(report), number)
+            for told in self.fresh:
+                common["events"].put(str(told["number"]), lines.as_text(told), number)
             self.fresh = []
         for view in self.views.values():
             if view.day.whole:

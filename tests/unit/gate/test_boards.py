@@ -1,6 +1,8 @@
 #!/usr/bin/python3
 """Tests of what boards are told: lines of the desk, days that are read and go on, views.   usage: tests/unit/gate/test_boards.py"""
 import asyncio
+import contextlib
+import io
 import json
 import tempfile
 import unittest
@@ -287,6 +289,22 @@ class BoardsTest(unittest.IsolatedAsyncioTestCase):
         found.forget(lambda view: view is views[1])
         self.assertEqual((list(found.views), len(found.days)), ([Sight(1)], 1))
         found.close()
+
+    async def test_a_day_that_nobody_wants_any_more(self):
+        """It is read no further."""
+        found = Boards(Asked(a_day(), away=1000), self.state, 100, self.ruled)
+        found.view(Sight(0), 100)
+        task, = found.tasks
+        found.forget(lambda view: False)
+        await asyncio.gather(task, return_exceptions=True)
+        self.assertEqual((task.cancelled(), found.days), (True, {}))
+
+    async def test_what_nobody_foresaw(self):
+        """The journal is told, and boards go on."""
+        with contextlib.redirect_stderr(io.StringIO()) as printed:
+            found, (view,) = await self.begun(Asked([{"number": 1, "moment": 1001}]), Sight(0), last=1)
+        self.assertRegex(printed.getvalue(), r"what boards are told isn't read: KeyError\('event'\)\n\Z")
+        self.assertEqual(self.table(view, "day")["share"], 0.99)
 
     async def test_a_file_that_is_gone(self):
         """Whoever reads a day then stops."""
