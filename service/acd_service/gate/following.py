@@ -80,7 +80,9 @@ class Following:
         self.answered, self.renewed, self.heard, self.live = 0.0, 0.0, 0.0, False
         self.spoke = 0.0
         self.state: State | None = None
+        # the last report; and whether the desk that answered last is another one, which is there and is read at once
         self.seen: Text | None = None
+        self.is_other = False
         self.days = Days(clock())
         # numbers that no earlier gate gave, unless the clock was set back; the epoch is another one for another desk
         self.number = self.epoch = int(clock() * 1000)
@@ -134,6 +136,7 @@ class Following:
                 await self.ask_for_more(state)
             except Another:
                 self.forget()
+                self.is_other = True
                 raise Away from None
             self.answered, self.heard = self.clock(), time.monotonic()
             self.settle(True)
@@ -319,6 +322,9 @@ class Following:
             await self.read_day()
             return EVERY
         except Away:
+            if self.is_other:
+                self.is_other = False
+                return EVERY
             if time.monotonic() - self.heard >= AWAY:
                 self.settle(False)
         except Exception as fault:  # what nobody foresaw: begin anew

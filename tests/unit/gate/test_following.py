@@ -183,6 +183,15 @@ class FollowingTest(Named, unittest.IsolatedAsyncioTestCase):
                     await self.following.catch_up()
             self.assertIsNone(self.following.state)
 
+    async def test_another_desk_is_read_at_once(self):
+        self.desk.events = [logged_on(1)]
+        await self.following.look()
+        self.desk.events = []
+        self.assertEqual((await self.following.look(), self.following.state), (following.EVERY, None))
+        self.assertEqual((await self.following.look(), self.following.state.last), (following.EVERY, 0))
+        self.desk.answers = False
+        self.assertEqual(await self.following.look(), following.AGAIN)
+
     async def test_a_desk_that_is_away(self):
         for broken in (Answer(200, "", b"no json"), error(502), error(404)):
             with mock.patch.object(self.following, "ask", mock.AsyncMock(return_value=broken)), self.assertRaises(following.Away):
