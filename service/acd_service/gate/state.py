@@ -31,6 +31,10 @@ class Agent:
     pending: str | None = None
     log_on: int | None = None
 
+    def told(self) -> tuple[object, ...]:
+        """What is told of it."""
+        return self.name, self.state, self.since, self.station, self.groups, self.pending, self.log_on
+
 
 @dataclass
 class Group:
@@ -81,6 +85,10 @@ class Call:
     queued: int | None = None
     ended: int = 0
     connections: dict[str, Connection] = field(default_factory=dict)
+
+    def told(self) -> tuple[object, ...]:
+        """What is told of it."""
+        return self.since, self.caller, self.called, self.queued, self.connections
 
 
 def in_order(numbers: Iterable[str]) -> list[str]:
@@ -334,12 +342,17 @@ class State:
         return device == call.caller and device not in self.stations
 
     def differs(self, other: State) -> None:
-        """Marks differences from an earlier state of the same moment in members that no report names."""
+        """Marks differences from an earlier state of the same moment: in members that no report names, as the side of
+        a caller from outside."""
         for number, agent in self.agents.items():
             was = other.agents.get(number)
-            if was is None or (was.name, was.pending, was.groups) != (agent.name, agent.pending, agent.groups):
+            if was is None or was.told() != agent.told():
                 self.touched.add(number)
-                self.renamed |= was is None or was.name != agent.name
+                self.renamed |= was is None or (was.name, was.station) != (agent.name, agent.station)
+        for call in self.calls.values():
+            before = other.calls.get(call.number)
+            if before is None or before.told() != call.told():
+                self.mark(call)
         for number, group in self.groups.items():
             old = other.groups.get(number)
             if old is None or old.told() != group.told():

@@ -93,6 +93,13 @@ class FollowTest(unittest.TestCase):
         state.differs(before)
         self.assertEqual((state.touched, state.dirty, state.renamed), ({"7", "8"}, {"110"}, True))
 
+    def test_a_side_that_no_report_names(self):
+        """That of a caller from outside comes with a new snapshot, and the agent's page is told."""
+        before, state = desk_state(), desk_state()
+        del before.calls[1].connections["0301111"]
+        state.differs(before)
+        self.assertEqual((state.touched, state.dirty, state.moved), ({"7"}, {"100"}, {1}))
+
     def test_which_log_on_it_is(self):
         state = desk_state()
         self.changes(state, event="agentLoggedOn", agent="9", device="203", group="120")
