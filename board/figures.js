@@ -2,6 +2,8 @@
 
 export const STEP = 900;
 
+// of an agent's figures the place of the groups
+const GROUPS = 8;
 const FIGURES = /** @type {const} */ (['entered', 'answered', 'abandoned', 'moved', 'waited', 'within', 'late', 'longest', 'handled', 'handling', 'closed']);
 
 const noSums = () => /** @type {Sums} */ (Object.fromEntries(FIGURES.map(name => [name, 0])));
@@ -68,13 +70,13 @@ export class Day {
 
   // In seconds, from the agent's first event of the day on.
   agent(id = '', now = 0) {
-    const {calls = 0, missed = 0, does = '', since = now, ...spent} = this.agents.get(id) ?? {}, of = (name = '') => (spent[name] ?? 0) + (does === name ? Math.max(0, now - since) : 0);
-    return {calls, missed, talk: of('talk'), afterCall: of('afterCall'), ready: of('ready'), notReady: of('notReady')};
+    const [calls = 0, missed = 0, talk = 0, afterCall = 0, ready = 0, notReady = 0, since = now, does = ''] = this.agents.get(id) ?? [], of = (name = '', spent = 0) => spent + (does === name ? Math.max(0, now - since) : 0);
+    return {calls, missed, talk: of('talk', talk), afterCall: of('afterCall', afterCall), ready: of('ready', ready), notReady: of('notReady', notReady)};
   }
 
   // Now, or else today.
   /** @param {Agent} agent @returns {string[]} */
-  groupsOf({id, groups}) { return groups.length ? groups : this.agents.get(id)?.groups ?? []; }
+  groupsOf({id, groups}) { return groups.length ? groups : this.agents.get(id)?.[GROUPS] ?? []; }
 
   // All steps up to now, where so many wait, with the most that waited at once in each.
   /** @param {Line} line */

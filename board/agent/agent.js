@@ -120,7 +120,7 @@ function take({told, kind, ahead: clock, received}) {
   if (!mine && kind === 'change') return;
   mine = taken(mine, told, kind === 'picture');
   if (mine.live) known = received;
-  if (told.names) takeNames(told.names);
+  if (told.names && mine.names) takeNames(mine.names);
   if (mine.live && acts && !begun) requests.takeUp();
   begun ||= mine.live;
 }

@@ -6,10 +6,13 @@ export const STATES = ['ready', 'notReady', 'workingAfterCall', 'loggedOff'];
 
 const plain = (name = '') => name.normalize('NFKC').toLocaleLowerCase().trim();
 
+/** @param {{agents: string[][], groups: string[][], stations: string[]}} told @returns {Names} */
+const namesOf = ({agents, groups, stations}) => ({agents: agents.map(([agent, name, device]) => ({agent, name, device})), groups: groups.map(([device, name]) => ({device, name})), stations});
+
 export const {taken, sideOf, sides, isFree, states, services, ringLeft, wrapLeft, isOverdue, placesOf, meant} = /** @type {Rules} */ ({
   // What the gate tells, with what it told before. Names come again only where they changed, and of a group that is left nothing is told.
-  taken(before, {groups, ...told}, isWhole) {
-    const lines = {...!isWhole && before?.lines, ...groups}, mine = {doing: {doing: 'null', since: 0}, ...isWhole ? {names: before?.names} : before, ...told};
+  taken(before, {groups, names: given, ...told}, isWhole) {
+    const lines = {...!isWhole && before?.lines, ...groups}, names = given ? namesOf(given) : before?.names, mine = {doing: {doing: 'null', since: 0}, ...!isWhole && before, ...told, names};
     return {...mine, lines, groups: mine.queues.flatMap((/** @type {string} */ queue) => lines[queue] ?? [])};
   },
 

@@ -13,7 +13,7 @@ declare global {
   type Missed = {call: number, caller?: string, group?: string, moment: number, since: number};
   type DayCall = {call: number, caller?: string, group?: string, moment: number, talked: number};
   type MyDay = {answered: number, begins: number, calls: DayCall[], missed: number, talking: number};
-  type Names = {agents: {agent: string, device?: string, name: string}[], groups: {device: string, name: string}[], number: number, stations: string[]};
+  type Names = {agents: {agent: string, device?: string, name: string}[], groups: {device: string, name: string}[], stations: string[]};
   /** lines: those of groups that were told, by their numbers; queues: which of them are the agent's */
   type Mine = {agent: MyState, calls: MyCall[], day?: MyDay | null, doing: {doing: Doing, since: number, group?: string | null}, groups: MyQueue[], lines: Record<string, MyQueue>, live: boolean, missed?: Missed | null, names?: Names, queues: string[]};
   /** what GET /session answers */

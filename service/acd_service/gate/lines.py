@@ -5,7 +5,7 @@ from collections.abc import Iterable
 from typing import Any
 
 from acd_service.figures import AgentFigures, Quarter
-from acd_service.gate.state import Agent, Call, Connection, Group, State
+from acd_service.gate.state import Agent, Call, Connection, Group, State, in_order
 from acd_service.gate.texts import without_nothing
 
 # of the figures the place of the longest wait, the one that isn't summed up
@@ -55,11 +55,13 @@ def side_of(state: State, call: Call) -> Connection | None:
 
 
 def call_line(state: State, call: Call) -> str:
+    """`begun` is there where it isn't `since`."""
     side = side_of(state, call)
     if side is None:
         return as_text(without_zeros(begun=call.since, caller=call.caller))
     since = waits_since(call) if side.state == "queued" else side.since
-    return as_text(without_zeros(at=side.device, begun=call.since, caller=call.caller, group=side.group, since=since,
+    begun = call.since if call.since != since else None
+    return as_text(without_zeros(at=side.device, begun=begun, caller=call.caller, group=side.group, since=since,
                                  state=side.state))
 
 
@@ -81,6 +83,15 @@ def all_of(state: State) -> dict[str, dict[str, str]]:
             "calls": calls_of(state, state.calls)}
 
 
+def names_text(state: State) -> str:
+    """Number, name and station of all agents, groups with their names, and stations, as a page of an agent needs them
+    for transfers: in few bytes, since it gets all of them."""
+    agents = [[agent.id, agent.name, *([agent.station] if agent.station else [])]
+              for agent in (state.agents[number] for number in in_order(state.agents))]
+    groups = [[number, state.groups[number].name] for number in in_order(state.groups)]
+    return as_text({"agents": agents, "groups": groups, "stations": in_order(state.stations)})
+
+
 # figures of a day
 
 def figures_of(quarter: Quarter, limit: float) -> list[int]:
@@ -97,8 +108,7 @@ def sum_of(quarters: Iterable[list[int]]) -> list[int]:
 
 
 def agent_figures_line(agent: AgentFigures) -> str:
-    """Seconds up to `since`; from then on the agent `does` what is counted next."""
-    spent = without_zeros(talk=agent.spent.get("talk"), afterCall=agent.spent.get("afterCall"),
-                          ready=agent.spent.get("ready"), notReady=agent.spent.get("notReady"))
-    return as_text(without_zeros(calls=agent.calls, missed=agent.missed, does=agent.does, groups=sorted(agent.groups),
-                                 since=agent.since) | spent)
+    """Calls, missed offers, seconds of talk, after-call work, ready and not ready up to a moment, that moment, what the
+    agent does since then, and groups."""
+    seconds = [agent.spent.get(name, 0) for name in ("talk", "afterCall", "ready", "notReady")]
+    return as_text([agent.calls, agent.missed, *seconds, agent.since, agent.does, sorted(agent.groups)])

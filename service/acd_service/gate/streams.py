@@ -14,7 +14,7 @@ from typing import TYPE_CHECKING
 from acd_service import command
 from acd_service.gate.boards import Boards, Sight, TooMany, View
 from acd_service.gate.exchanges import Pipe
-from acd_service.gate.lines import as_text
+from acd_service.gate.lines import as_text, names_text
 from acd_service.gate.state import State
 from acd_service.gate.tables import changes, goes_on, picture
 from acd_service.gate.texts import groups_of, own_text, queue_text
@@ -78,6 +78,7 @@ class Streams:
         # the pictures of views by their serial numbers, as they are at a number
         self.pictures: tuple[int, dict[int, str]] = 0, {}
         self.queue_texts: dict[str, tuple[int, str]] = {}
+        self.names = 0, ""
         self.task: asyncio.Task[None] | None = None
 
     # who looks
@@ -207,9 +208,15 @@ class Streams:
         if told or is_whole:
             parts.append(f'"groups":{{{told}}}')
         if self.following.names_changed > stream.names:
-            parts.append(f'"names":{self.following.names_now(state).decode()}')
+            parts.append(f'"names":{self.names_now(state)}')
             stream.names = self.following.names_changed
         stream.write("picture" if is_whole else "change", ",".join([self.head(stream), *parts]), self.name(stream))
+
+    def names_now(self, state: State) -> str:
+        """The names, made once for all pages."""
+        if self.names[0] != self.following.names_changed:
+            self.names = self.following.names_changed, names_text(state)
+        return self.names[1]
 
     def queue_of(self, state: State, queue: str) -> str:
         """A group's line, made once for all of its agents."""

@@ -78,7 +78,7 @@ export async function owners({see, browser, desk, front, text: shown, ...hands})
   }
 }
 
-const NOW = () => Math.floor(Date.now() / 1000), NAMES = {agents: [{agent: AGENT, device: STATION, name: 'Ana'}, {agent: '8', device: '208', name: 'Ben'}, {agent: '9', name: 'Cem'}], groups: [{device: '100', name: 'Billing'}, {device: '130', name: 'Quick'}], number: 1, stations: [STATION, '208', '209']};
+const NOW = () => Math.floor(Date.now() / 1000), NAMES = {agents: [[AGENT, 'Ana', STATION], ['8', 'Ben', '208'], ['9', 'Cem']], groups: [['100', 'Billing'], ['130', 'Quick']], stations: [STATION, '208', '209']};
 const GROUP = {calls: [{call: 9, caller: '...678', queued: 0}], device: '100', loggedOn: 2, name: 'Billing', ready: 1, ring: 20, wrap: 30};
 const DAY = {answered: 2, begins: 0, calls: [{call: 3, caller: '0301', group: '100', moment: 1e9, talked: 61}, {call: 4, moment: 1e9, talked: 5}], missed: 1, talking: 100};
 

@@ -114,7 +114,7 @@ class Streamed(Trial):
                         (*doings[agent["agent"]], agent.get("device"), groups_of(agent), calls))
         planned = {one["device"] for one in (*snapshot["groups"], *snapshot["stations"])}
         wanted = {str(call["call"]): (call["since"], call["caller"], {(side["device"], side["state"]) for side in call["connections"] if side["device"] in planned}) for call in snapshot["calls"]}
-        self.expect(f"{when}, the calls", {number: (line["begun"], line["caller"], wanted.get(number, ((), (), ()))[2] and (line["at"], line["state"]) in wanted[number][2]) for number, line in tables["calls"].items()},
+        self.expect(f"{when}, the calls", {number: (line.get("begun", line.get("since")), line["caller"], wanted.get(number, ((), (), ()))[2] and (line["at"], line["state"]) in wanted[number][2]) for number, line in tables["calls"].items()},
                     {number: (begun, caller, bool(there)) for number, (begun, caller, there) in wanted.items()})
         if named:
             self.expect(f"{when}, names and priorities", {number: (line.get("name"), line.get("ring", 0), line.get("wrap", 0), line.get("priority", 0)) for number, line in tables["groups"].items()},
@@ -137,9 +137,8 @@ class Streamed(Trial):
             self.expect(name, {key: dict(zip(FIGURES, line)) for key, line in found.items() if any(line[:11])},
                         {key: {figure: line.get(figure, 0) for figure in FIGURES} for key, line in others.items() if key.partition(" ")[0] != "all" and any(line.values())})
         agents = {}
-        for number, line in tables["spent"].items():
-            spent = {name: line.get(name, 0) + (end - line["since"] if line.get("does") == name else 0) for name in ("talk", "afterCall", "ready", "notReady")}
-            agents[number] = [line.get("calls", 0), line.get("missed", 0), *spent.values()]
+        for number, (calls, missed, *spent, since, does, _) in tables["spent"].items():
+            agents[number] = [calls, missed, *(seconds + (end - since if does == name else 0) for name, seconds in zip(("talk", "afterCall", "ready", "notReady"), spent))]
         self.expect("agents", agents, {number: [line[name] for name in ("calls", "missed", "talk", "work", "ready", "notReady")] for number, line in wanted["agents"].items()})
         return len(tables["sums"]) + len(tables["quarters"]) + len(agents)
 
@@ -170,6 +169,8 @@ class Streamed(Trial):
         for number, line in enumerate(lines, 1):
             desk.say(line)
             if number % 10 == 0:
+                # now and then by a new snapshot, which has what no event tells
+                follower.renewed = 0 if number % 250 == 0 else float("inf")
                 state = await follower.catch_up()
                 clock += 1.1
                 streams.take_turn(clock)

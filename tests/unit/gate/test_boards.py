@@ -67,7 +67,7 @@ class LinesTest(unittest.TestCase):
         """By the connection that says most; a caller from outside has none."""
         state = desk_state()
         self.assertEqual([told(lines.call_line(state, state.calls[call])) for call in (1, 2, 3)],
-                         [{"at": "200", "begun": 20, "caller": "0301", "group": "100", "since": 25, "state": "alerting"}, {"at": "210", "begun": 40, "caller": "201", "since": 40, "state": "alerting"},
+                         [{"at": "200", "begun": 20, "caller": "0301", "group": "100", "since": 25, "state": "alerting"}, {"at": "210", "caller": "201", "since": 40, "state": "alerting"},
                           {"at": "100", "begun": 22, "caller": "0303", "group": "100", "since": 23, "state": "queued"}])
         state.apply({"number": 11, "moment": 60, "event": "diverted", "call": 3, "device": "100", "to": "200", "group": "100", "cause": "distributed"})
         self.assertEqual(told(lines.call_line(state, state.calls[3])), {"begun": 22, "caller": "0303"})
@@ -148,13 +148,13 @@ class BoardsTest(unittest.IsolatedAsyncioTestCase):
         self.assertEqual(self.table(view, "sums"), {"100": [2, 1, 1, 0, 3, 1, 0, 3, 0, 0, 0, 0]})
         self.assertEqual(self.table(other, "sums"), {"100": [2, 1, 1, 0, 3, 0, 1, 3, 0, 0, 0, 0]})
         self.assertEqual((self.table(chosen, "quarters"), self.table(chosen, "peaks")), ({f"100 {1001 // STEP}": [2, 1, 1, 0, 3, 1, 0, 3, 0, 0, 0, 2, 0]}, {}))
-        self.assertEqual((self.table(view, "day"), self.table(view, "spent")), ({"share": 1, "moment": 1007}, {"7": {"calls": 1, "does": "talk", "groups": ["100"], "since": 1005}}))
+        self.assertEqual((self.table(view, "day"), self.table(view, "spent")), ({"share": 1, "moment": 1007}, {"7": [1, 0, 0, 0, 0, 0, 1005, "talk", ["100"]]}))
         # days of the same begin and reach are read once
         self.assertEqual(len(found.days), 2)
         for report in (event(8, event="queued", call=3, device="110", cause="newCall"), event(9, event="agentReady", agent="7", device="200")):
             found.take(report)
         found.turn(102)
-        self.assertEqual((self.table(view, "spent"), self.table(chosen, "peaks")), ({"7": {"calls": 1, "talk": 4, "does": "ready", "groups": ["100"], "since": 1009}}, {"1": [1, 1]}))
+        self.assertEqual((self.table(view, "spent"), self.table(chosen, "peaks")), ({"7": [1, 0, 4, 0, 0, 0, 1009, "ready", ["100"]]}, {"1": [1, 1]}))
         self.assertEqual(self.table(view, "sums")["100"], [2, 1, 1, 0, 3, 1, 0, 3, 1, 4, 0, 0])
 
     async def test_who_waited_at_once(self):

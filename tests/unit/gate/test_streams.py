@@ -137,7 +137,7 @@ class StreamsTest(Named, unittest.IsolatedAsyncioTestCase):
         self.desk.plan["agents"][0]["name"] = "Anna"
         await self.turn()
         changes = page.of("change", "picture")
-        self.assertEqual(([each["names"]["agents"][0]["name"] for each in changes if "names" in each], names["agents"][0]["name"]), (["Anna"], "Ana"))
+        self.assertEqual(([each["names"]["agents"][0] for each in changes if "names" in each], names), ([["7", "Anna"]], {"agents": [["7", "Ana"], ["8", "Ben"]], "groups": [["100", "Billing"]], "stations": ["201", "202"]}))
 
     async def test_a_board_goes_on(self):
         """From its number; and begins anew from another epoch, another sight, a number that isn't kept or was never given."""
