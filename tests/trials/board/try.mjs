@@ -13,6 +13,7 @@ import {full} from './full.mjs';
 import {alarms, nothing, troubles} from './alarms.mjs';
 import {days, overMidnight, zones} from './days.mjs';
 import {lead, office, session} from './lead.mjs';
+import {lines} from './lines.mjs';
 import {alarm, clockAhead, looks, losses, numbers, ownEvents, people, settings, still, ways} from './page.mjs';
 import {shape} from './shape.mjs';
 import {callers, sheets} from './sheets.mjs';
@@ -21,7 +22,7 @@ import {agentsPage} from './agent.mjs';
 import {PLAN} from './shift.mjs';
 
 const NEEDED = {chromedriver: 'chromium-driver', chromium: 'chromium', nginx: 'nginx-light', tsc: 'node-typescript', openssl: 'openssl', curl: 'curl', python3: 'python3'};
-const PARTS = ['files', 'gate', 'show', 'buttons', 'board', 'alarms', 'words', 'shape', 'days', 'lead', 'agent', 'full'], MOST_BYTES = 150000, MOST_CALLS = 2000, ROUNDS = 50;
+const PARTS = ['files', 'gate', 'show', 'lines', 'buttons', 'board', 'alarms', 'words', 'shape', 'days', 'lead', 'agent', 'full'], MOST_BYTES = 150000, MOST_CALLS = 2000, ROUNDS = 50;
 const ROLES = [['pbx', 'exchange'], ['planner', 'office'], ['sup', 'supervisor'], ['ana', 'agent', '7'], ['lea', 'lead', 'groups=101,102']];
 
 class Trial {
@@ -88,14 +89,19 @@ class Trial {
     this.see("nginx's own line", said.startsWith("the gate or nginx doesn't start: nginx: [emerg] bind() to ") && said.includes(`:${port} failed`) && Date.now() - begin < 20000, said);
   }
 
-  /** mine.js run by node, from a copy whose folder says that it has modules. */
-  async mine() {
+  /** The pages' modules that need no document, run by node, from a copy whose folder says that they are modules. */
+  async modules() {
     const copy = join(this.folder, 'modules');
     if (!existsSync(copy)) {
       await cp(join(TOP, 'board'), copy, {recursive: true});
       await writeFile(join(copy, 'package.json'), '{"type":"module"}');
     }
-    return import(pathToFileURL(join(copy, 'agent/mine.js')));
+    return Object.assign({}, ...await Promise.all(['desk.js', 'figures.js', 'agent/mine.js'].map(name => import(pathToFileURL(join(copy, name))))));
+  }
+
+  async lines() {
+    const desk = await this.desk('lines.db', await aDay(1, '--groups', 10, '--agents', 60));
+    await lines(this.see, await this.modules(), desk, await this.front(desk));
   }
 
   async buttons() {
@@ -103,7 +109,7 @@ class Trial {
     await desk.feed(lines.slice(0, 1500));
     await desk.serve();
     this.keep(desk, () => desk.stop());
-    const {refused, granted, wrong} = await buttons(await this.mine(), desk, ROUNDS);
+    const {refused, granted, wrong} = await buttons(await this.modules(), desk, ROUNDS);
     this.see('each button is enabled where the desk grants it', wrong.length === 0 && refused > 0 && granted > 0, wrong.slice(0, 5).join('\n'));
     console.log(`    ${refused} requests of disabled buttons were refused, ${granted} of enabled ones granted, ${wrong.length} otherwise`);
   }
