@@ -71,7 +71,7 @@ class Trial {
 
   async gate() {
     const unit = readdirSync(join(TOP, 'tests/unit/gate')).filter(name => /^test_.*\.py$/.test(name)).map(name => `tests/unit/gate/${name}`);
-    for (const test of [...unit, 'tests/trials/board/login_again.mjs']) {
+    for (const test of [...unit, 'tests/trials/board/login_again.mjs', 'tests/trials/board/stream_again.mjs']) {
       const program = test.endsWith('.mjs') ? process.execPath : '/usr/bin/python3';
       try { execFileSync(program, [join(TOP, test)], {stdio: 'pipe'}); } catch (error) { this.see(test, false, String(error.stderr).slice(-600)); }
     }
