@@ -30,7 +30,7 @@ def side(device, state, **more):
 def desk_state():
     """Agents 7 and 8 in 100, 7 with an offer and 8 on a call of its own; 9 is ready and was so before 10; call 3 waits."""
     def agent(number, station, state="ready", **more):
-        return {"agent": number, "name": f"A{number}", "state": state, "since": 30, "stamp": int(number), "device": station, "group": "100", **more}
+        return {"agent": number, "name": f"A{number}", "state": state, "since": 30, "stamp": 1000 + int(number), "device": station, "group": "100", **more}
     return State({
         "last": 10, "moment": 50, "groups": [{"device": "100", "name": "Billing", "ring": 20, "wrap": 30, "priority": 5}, {"device": "110", "name": "Orders", "ring": 0, "wrap": 0}],
         "stations": [{"device": f"20{number}", "agent": agent} for number, agent in enumerate(("7", "8", "9", "10"))] + [{"device": "210"}],
