@@ -3,12 +3,12 @@ _acd() {
     local word=${COMP_WORDS[COMP_CWORD]} before=${COMP_WORDS[COMP_CWORD - 1]} command=${COMP_WORDS[1]} offered
     COMPREPLY=()
     if [[ $COMP_CWORD -eq 1 ]]; then
-        offered='lines serve import report export audit help --help --version'
+        offered='lines serve import report export audit prune help --help --version'
     elif [[ $before == --file || $before == --plan || $before == --archive || $before == --socket ]]; then
         mapfile -t COMPREPLY < <(compgen -f -- "$word")
         compopt -o filenames 2>/dev/null
         return
-    elif [[ $before == --port || $before == --connections || $before == --tick || $before == --patience ]]; then
+    elif [[ $before == --port || $before == --connections || $before == --tick || $before == --patience || $before == --days || $before == --keep ]]; then
         return
     else
         case $command in
@@ -17,7 +17,8 @@ _acd() {
             import) offered='--file --plan --help' ;;
             report | export) offered='--file --help' ;;
             audit) offered='--file --archive --count --whole --help' ;;
-            help) offered='lines serve import report export audit' ;;
+            prune) offered='--file --archive --days --keep --quiet --help' ;;
+            help) offered='lines serve import report export audit prune' ;;
             *) return ;;
         esac
     fi

@@ -83,6 +83,7 @@ BY_HAND = {
     "node": Part("try-node", (), ("node/carried.py", "node/day.py", "node/hostile.py"), (), ("etcd",)),
     "office": Part("try-office", (), tuple(f"office/{name}.py" for name in ("starting", "damage", "clock", "copies", "carried", "plans", "program", "byhand", "clone")), (), ("booted",), False),
     "package": Part("try-package", (), ("try-package",), ("debootstrap", "iproute2", "lintian", "util-linux"), ("root",), False),
+    "prune": Part("try-prune", (), ("try-prune",)),
     "ready": Part("try-ready", (), tuple(f"ready/{name}.py" for name in ("cuts", "logs", "notices", "settings", "starts", "stops")), (), ("root",)),
     "records": Part("try-records", (), ("try-records", "records/calls.py", "records/changes.py"), ("curl", "nodejs", "openssl")),
     "release": Part("try-release", (), ("try-release",), ("binutils",), (), False),

@@ -58,7 +58,7 @@ use Rattle.acd_terms.proofs.Results.{ok_err}
 -- ---- the archive ----
 
 -- it was read, and nothing of it has changed
-archive_read : (old mid new : BookState) (found : Finding) → IsOf old mid → ReadsIfOpen mid new (Ok found) Anything → WasRead old new
+pub archive_read : {A : Type 0} (old mid new : BookState) (found : A) → IsOf old mid → ReadsIfOpen mid new (Ok found) Anything → WasRead old new
 archive_read old mid new found of read =
     let sound : new.is_clean → old.is_sound → mid.is_sound = λ clean is. of.step.sound (read.step.clean clean) is in
     let up : new.is_clean → old.is_sound → new.is_open = λ clean is. read.stays clean (sound clean is) (of.live (read.step.clean clean) is) in
@@ -157,18 +157,19 @@ asked_in {F = F} {G = G} found r closed d e conn last asked kept laid both =
       archive = record { last = last; done = over.archive; closed = subst (λ (y : Result (Unit {0}) G). OnOk y (IsLaidIn last)) both.1 laid; kept = kept };
     }
 
+-- of a desk that is in step with what an audit finds led on
+pub plainly : (a : Content) (s : Standing) (x : Finding) → (IsLedFrom a s.book.content → InStep s) → IsDeskFindingWith a s x → IsFindingWith a s.book.content x
+plainly a s Sound steps h = h
+plainly a s (Counted count) steps h = (h.0, h.1 (steps (sound_is_led a s.book.content h.0)))
+plainly a s (SentAgain stamp) steps h = h
+plainly a s (SentAgainCounted stamp count) steps h = (h.0, h.1 (steps h.0.led))
+plainly a s (Differs place) steps h = h
+
 module _ {D : Type 0} (disk : Ghosts D) (IsFresh : Bool → D → Type 0) where
-  in_archive_so : (P Q : BookState → BookState → Type 0) → ((old new : BookState) → P old new → Q old new) → InArchive disk IsFresh P → InArchive disk IsFresh Q
+  pub in_archive_so : (P Q : BookState → BookState → Type 0) → ((old new : BookState) → P old new → Q old new) → InArchive disk IsFresh P → InArchive disk IsFresh Q
   in_archive_so P Q follows h = (h.0, h.1, record { last = h.2.last; done = over_so P Q false (file_state h.0) (file_state h.2.last) follows h.2.done; closed = h.2.closed; kept = h.2.kept })
 
   -- ---- a desk over a book ----
-
-  plainly : (a : Content) (s : Standing) (x : Finding) → (IsLedFrom a s.book.content → InStep s) → IsDeskFindingWith a s x → IsFindingWith a s.book.content x
-  plainly a s Sound steps h = h
-  plainly a s (Counted count) steps h = (h.0, h.1 (steps (sound_is_led a s.book.content h.0)))
-  plainly a s (SentAgain stamp) steps h = h
-  plainly a s (SentAgainCounted stamp count) steps h = (h.0, h.1 (steps h.0.led))
-  plainly a s (Differs place) steps h = h
 
   asked_both : (old_archive new_archive old : BookState) (d e : Standing) (found : Finding) → Opened old d → ReadDone d e (Ok found) Anything → WasRead old_archive new_archive × FindsWithArchive old_archive new_archive d e found
       → WereAsked IsFindingInOrder old_archive new_archive old e.book found
@@ -217,18 +218,19 @@ module _ {D : Type 0} (disk : Ghosts D) (IsFresh : Bool → D → Type 0) where
       (λ a b were. record { archive = were.archive; current = asked_called Canonical new so old found Anything were.current; answer = were.answer }) h
 
   -- a disk that is clean then was so before
-  asked_clean : (old new : BookState) (found : Finding) → BookAskedWithArchive disk IsFresh IsFindingInOrder old new found → new.is_clean → old.is_clean
-  asked_clean old new found h = over_fact (λ (a b : BookState). WereAsked IsFindingInOrder a b old new found) (new.is_clean → old.is_clean) false (file_state h.0) (file_state h.2.last) (λ a b were. were.current.step.clean) h.2.done
+  pub asked_clean : {A : Type 0} (IsAnswer : Content → Content → A → Type 0) (old new : BookState) (found : A) → BookAskedWithArchive disk IsFresh IsAnswer old new found → new.is_clean → old.is_clean
+  asked_clean IsAnswer old new found h = over_fact (λ (a b : BookState). WereAsked IsAnswer a b old new found) (new.is_clean → old.is_clean) false (file_state h.0) (file_state h.2.last) (λ a b were. were.current.step.clean) h.2.done
 
   audited_over : (counts : Bool) (ending : Ending) (s t : State) (mid : BookState) (cache : Cache) (failures : ℕ) (done : Done) → IsTaken false s mid
       → AuditsWithArchive disk IsFresh counts ending mid (followed cache (book_state t failures)) done → AuditedWithArchive disk IsFresh counts ending s t done
   audited_over counts ending s t mid cache failures left.Nothing taken h = h
   audited_over counts ending s t mid cache failures (left.Text text) taken h = h
+  audited_over counts ending s t mid cache failures (left.Pruned pruning quiet) taken h = h
   audited_over counts ending s t mid cache failures (left.Audited found end) taken h = (
     h.0,
     over_connection (λ (old new : BookState). BookAskedWithArchive disk IsFresh IsFindingInOrder old new found) (λ (old new : BookState). BookAskedWithArchive disk IsFresh IsFindingIn old new found) false
         s t mid cache failures (λ old of asked. book_asked_since old mid (followed cache (book_state t failures)) found of asked)
-        (λ old asked. book_asked_left (LeavesBooks t) (followed cache (book_state t failures)) (leaves_books t cache failures) old found asked) (asked_clean mid (followed cache (book_state t failures)) found) taken h.1,
+        (λ old asked. book_asked_left (LeavesBooks t) (followed cache (book_state t failures)) (leaves_books t cache failures) old found asked) (asked_clean IsFindingInOrder mid (followed cache (book_state t failures)) found) taken h.1,
     h.2,
   )
 
@@ -244,6 +246,7 @@ module _ {D : Type 0} (disk : Ghosts D) (IsFresh : Bool → D → Type 0) where
       → IsPrinted left closed old_output new_output status → AuditedWith disk IsFresh counts whole old_output new_output status
   audit_printed status counts whole ending conn last left.Nothing closed old_output new_output opened is h laid p = absurd h
   audit_printed status counts whole ending conn last (left.Text text) closed old_output new_output opened is h laid p = absurd h
+  audit_printed status counts whole ending conn last (left.Pruned pruning quiet) closed old_output new_output opened is h laid p = absurd h
   audit_printed {F = F} status counts whole ending conn last (left.Audited found end) closed old_output new_output opened is h laid p = record {
     found = found;
     ending = ending;
@@ -260,6 +263,7 @@ module _ {D : Type 0} (disk : Ghosts D) (IsFresh : Bool → D → Type 0) where
       → IsReadEnding whole ending → AuditedWithArchive disk IsFresh counts ending (file_state conn) (file_state last) left → Begins old_output new_output (text_left left) → AuditCut disk IsFresh counts whole old_output new_output conn last
   audit_cut counts whole ending conn last old_output new_output left.Nothing is h text = absurd h
   audit_cut counts whole ending conn last old_output new_output (left.Text read) is h text = absurd h
+  audit_cut counts whole ending conn last old_output new_output (left.Pruned pruning quiet) is h text = absurd h
   audit_cut counts whole ending conn last old_output new_output (left.Audited found end) is h text = record {
     found = found;
     ending = ending;

@@ -23,12 +23,14 @@ use Rattle.clap.specs.declared.parser.matches.Found.{Found}
 use Rattle.clap.proofs.WalkLemmas.{first_value-rows, one_text-rows, find_row}
 use Rattle.acd_http.specs.declared.serving.Span.{Span}
 use Rattle.acd_log.specs.declared.ending.Ending.TheVariants.{Plain}
-use Rattle.acd_program.specs.CommandLine.{HasApp, HasNone, HasRule, IsAddress, IsConnections, IsNumber, IsRefusedBy, IsSeconds, IsSpan, IsTaskIn, IsTaskWith, IsText, NamesNoTask, acd, command_of, has_option, is_given, required}
+use Rattle.acd_program.specs.CommandLine.{HasApp, HasNone, HasRule, IsAddress, IsConnections, IsNumber, IsRefusedBy, IsRetention, IsSeconds, IsSpan, IsTaskIn, IsTaskWith, IsText, NamesNoTask, acd, command_of, has_option, is_given, required}
 use Rattle.acd_program.specs.Statuses.{IsHelp}
 use Rattle.acd_program.specs.declared.asked.Address.{Address}
 use Rattle.acd_program.specs.declared.asked.Address.TheVariants.{Port, Socket}
+use Rattle.acd_program.specs.declared.asked.Retention.{Retention}
+use Rattle.acd_program.specs.declared.asked.Retention.TheVariants.{Days, Records}
 use Rattle.acd_program.specs.declared.asked.Task.{Task}
-use Rattle.acd_program.specs.declared.asked.Task.TheVariants.{Lines, Serve, Import, AuditWhole, AuditWithArchive, Read}
+use Rattle.acd_program.specs.declared.asked.Task.TheVariants.{Lines, Serve, Import, AuditWhole, AuditWithArchive, Prune, Read}
 use Rattle.acd_program.specs.declared.desk.Printout.{Printout}
 use Rattle.acd_program.specs.declared.desk.Printout.TheVariants.{Report, Export}
 use Rattle.acd_program.specs.declared.desk.Work.TheVariants as kind
@@ -153,6 +155,7 @@ module _ (options : List Row) where
   no_service none (Import file plan) h = apart (codes "serve") (codes "import") refl h.0
   no_service none (AuditWhole file counts) h = apart (codes "serve") (codes "audit") refl h.0.0
   no_service none (AuditWithArchive file archive counts whole) h = apart (codes "serve") (codes "audit") refl h.0.0
+  no_service none (Prune file archive retention quiet) h = apart (codes "serve") (codes "prune") refl h.0
   no_service none (Read file (kind.Print Report)) h = apart (codes "serve") (codes "report") refl h.1
   no_service none (Read file (kind.Print Export)) h = apart (codes "serve") (codes "export") refl h.1
   no_service none (Read file (kind.Audit counts ending)) h = apart (codes "serve") (codes "audit") refl h.1.0
@@ -164,10 +167,24 @@ module _ (options : List Row) where
   no_import none (Serve file address span) h = apart (codes "import") (codes "serve") refl h.0
   no_import none (AuditWhole file counts) h = apart (codes "import") (codes "audit") refl h.0.0
   no_import none (AuditWithArchive file archive counts whole) h = apart (codes "import") (codes "audit") refl h.0.0
+  no_import none (Prune file archive retention quiet) h = apart (codes "import") (codes "prune") refl h.0
   no_import none (Read file (kind.Print Report)) h = apart (codes "import") (codes "report") refl h.1
   no_import none (Read file (kind.Print Export)) h = apart (codes "import") (codes "export") refl h.1
   no_import none (Read file (kind.Audit counts ending)) h = apart (codes "import") (codes "audit") refl h.1.0
   no_import none (Read file (kind.Import requests)) h = h.1
+
+  pub no_prune : ((file archive : Bor Text) (retention : Retention) → IsText (codes "file") options file → IsText (codes "archive") options archive → IsRetention options retention → ⊥)
+      → (task : Task) → ¬ IsTaskWith (codes "prune") options task
+  no_prune none (Prune file archive retention quiet) h = none file archive retention h.1 h.2 h.3
+  no_prune none (Lines file reads ends) h = apart (codes "prune") (codes "lines") refl h.0
+  no_prune none (Serve file address span) h = apart (codes "prune") (codes "serve") refl h.0
+  no_prune none (Import file plan) h = apart (codes "prune") (codes "import") refl h.0
+  no_prune none (AuditWhole file counts) h = apart (codes "prune") (codes "audit") refl h.0.0
+  no_prune none (AuditWithArchive file archive counts whole) h = apart (codes "prune") (codes "audit") refl h.0.0
+  no_prune none (Read file (kind.Print Report)) h = apart (codes "prune") (codes "report") refl h.1
+  no_prune none (Read file (kind.Print Export)) h = apart (codes "prune") (codes "export") refl h.1
+  no_prune none (Read file (kind.Audit counts ending)) h = apart (codes "prune") (codes "audit") refl h.1.0
+  no_prune none (Read file (kind.Import requests)) h = h.1
 
   -- a printout, or an audit, of no file
   pub no_file : ((file : Bor Text) → ¬ IsText (codes "file") options file) → (command : Text) → bytes_eq command (codes "lines") ≡ false → (task : Task) → ¬ IsTaskWith command options task
@@ -176,6 +193,7 @@ module _ (options : List Row) where
   no_file none command other (Import file plan) h = none file h.1
   no_file none command other (AuditWhole file counts) h = none file h.0.1
   no_file none command other (AuditWithArchive file archive counts whole) h = none file h.0.1
+  no_file none command other (Prune file archive retention quiet) h = none file h.1
   no_file none command other (Read file work) h = none file h.0
 
 -- a number is that of an option which was given
@@ -202,6 +220,11 @@ pub no_address : (options : List Row) → ((n : ℕ) → IsNumber 16 (codes "por
 no_address options port socket (Port n) h = port n h.0 h.1
 no_address options port socket (Socket path) h = socket path h.0 h.1
 
+pub no_retention : (options : List Row) → ((n : ℕ) → IsNumber 32 (codes "days") options n → has_option (codes "keep") options ≡ false → ⊥)
+    → ((n : ℕ) → IsNumber 32 (codes "keep") options n → has_option (codes "days") options ≡ false → ⊥) → (retention : Retention) → ¬ IsRetention options retention
+no_retention options days keep (Days n) h = days n h.0 h.1
+no_retention options days keep (Records n) h = keep n h.0 h.1
+
 -- neither of both is asked for, or both are
 pub no_connections : (options : List Row) → ((n : ℕ) → IsNumber 32 (codes "connections") options n → is_given (codes "endless") options ≡ false → ⊥)
     → (has_option (codes "connections") options ≡ false → is_given (codes "endless") options ≡ true → ⊥) → (many : Option ℕ) → ¬ IsConnections options many
@@ -220,18 +243,19 @@ pub printout_apart : (printout : Printout) → bytes_eq (command_of printout) (c
 printout_apart Report = refl
 printout_apart Export = refl
 
--- a command that is none of the six
+-- a command that is none of the seven
 pub no_other : (command : Text) (options : List Row) → command ≢ codes "lines" → command ≢ codes "serve" → command ≢ codes "import" → command ≢ codes "report" → command ≢ codes "export" → command ≢ codes "audit"
-    → (task : Task) → ¬ IsTaskWith command options task
-no_other command options a b c d e f (Lines file reads ends) h = a h.0
-no_other command options a b c d e f (Serve file address span) h = b h.0
-no_other command options a b c d e f (Import file plan) h = c h.0
-no_other command options a b c d e f (AuditWhole file counts) h = f h.0.0
-no_other command options a b c d e f (AuditWithArchive file archive counts whole) h = f h.0.0
-no_other command options a b c d e f (Read file (kind.Print Report)) h = d h.1
-no_other command options a b c d e f (Read file (kind.Print Export)) h = e h.1
-no_other command options a b c d e f (Read file (kind.Audit counts ending)) h = f h.1.0
-no_other command options a b c d e f (Read file (kind.Import requests)) h = h.1
+    → command ≢ codes "prune" → (task : Task) → ¬ IsTaskWith command options task
+no_other command options a b c d e f p (Lines file reads ends) h = a h.0
+no_other command options a b c d e f p (Serve file address span) h = b h.0
+no_other command options a b c d e f p (Import file plan) h = c h.0
+no_other command options a b c d e f p (AuditWhole file counts) h = f h.0.0
+no_other command options a b c d e f p (AuditWithArchive file archive counts whole) h = f h.0.0
+no_other command options a b c d e f p (Prune file archive retention quiet) h = p h.0
+no_other command options a b c d e f p (Read file (kind.Print Report)) h = d h.1
+no_other command options a b c d e f p (Read file (kind.Print Export)) h = e h.1
+no_other command options a b c d e f p (Read file (kind.Audit counts ending)) h = f h.1.0
+no_other command options a b c d e f p (Read file (kind.Import requests)) h = h.1
 
 -- a rule between options that is broken is no call for help
 pub conflict_is_no_help : (kind : ErrorKind) → kind ≡ ArgumentConflict → ¬ IsHelp kind

@@ -20,6 +20,8 @@ pub mod Exits
 pub mod TasksEnded
 pub mod Archives
 pub mod AuditsWithArchive
+pub mod ReadsOn
+pub mod Prunes
 mod Reopening
 pub mod LineOf
 pub mod Occurs

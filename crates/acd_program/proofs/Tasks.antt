@@ -14,7 +14,7 @@ use Rattle.acd_program.specs.declared.desk.Printout.{Printout}
 use Rattle.acd_program.specs.declared.desk.Work.{Work}
 use Rattle.acd_program.specs.declared.desk.Work.TheVariants as book
 use Rattle.acd_program.specs.declared.desk.Done.{Done}
-use Rattle.acd_program.specs.declared.desk.Done.TheVariants.{Nothing, Text, Audited}
+use Rattle.acd_program.specs.declared.desk.Done.TheVariants.{Nothing, Text, Audited, Pruned}
 use Rattle.acd_program.specs.declared.status.Status.{Status}
 use Rattle.acd_program.specs.declared.status.Status.TheVariants.{Success}
 use Rattle.acd_program.specs.Found.{IsFindingOf, HasCount, finding_line}
@@ -43,6 +43,8 @@ found_left counts ending old_output between makes s t Nothing h =
     absurd (over_fact (λ (old new : BookState). AuditsOver IsFindingOf counts ending old Nothing new × (between ≡ old_output)) ⊥ makes s t (λ old new p. p.0) h)
 found_left counts ending old_output between makes s t (Text text) h =
     absurd (over_fact (λ (old new : BookState). AuditsOver IsFindingOf counts ending old (Text text) new × (between ≡ old_output)) ⊥ makes s t (λ old new p. p.0) h)
+found_left counts ending old_output between makes s t (Pruned pruning quiet) h =
+    absurd (over_fact (λ (old new : BookState). AuditsOver IsFindingOf counts ending old (Pruned pruning quiet) new × (between ≡ old_output)) ⊥ makes s t (λ old new p. p.0) h)
 found_left counts ending old_output between makes s t (Audited found end) h =
     let P : BookState → BookState → Type 0 = λ old new. AuditsOver IsFindingOf counts ending old (Audited found end) new × (between ≡ old_output) in (
       found,

@@ -10,7 +10,7 @@ use Rattle.acd_program.specs.Ended.{IsOfClosing}
 use Rattle.acd_program.specs.Faults.{book_fault}
 use Rattle.acd_program.specs.Statuses.{fault_exit}
 use Rattle.acd_program.specs.Tasks.{TaskDone}
-use Rattle.acd_program.specs.TasksEnded.{EndedIn, InputEnded, AuditWithArchiveEnded, TaskEnded}
+use Rattle.acd_program.specs.TasksEnded.{EndedIn, InputEnded, AuditWithArchiveEnded, PruneEnded, TaskEnded}
 use Rattle.acd_program.specs.declared.fault.Fault.{Fault}
 use Rattle.acd_program.specs.declared.fault.Fault.TheVariants as ended_by
 use Rattle.acd_program.specs.declared.fault.WorkFault.{WorkFault}
@@ -59,6 +59,12 @@ module _ {D : Type 0} (disk : Ghosts D) (IsFresh : Bool → D → Type 0) where
   audited_elsewhere counts whole old_output new_output Unwritten (ended_by.Work why) is h = absurd (other_exit is)
   audited_elsewhere counts whole old_output new_output Unwritten (ended_by.Archive why) is h = h.3
 
+  pruned_elsewhere : (quiet : Bool) (old_output new_output : Option (List ℕ)) (Unwritten : Type 0) (fault : Fault) → fault_exit fault ≡ exit.OpenElsewhere → PruneEnded disk IsFresh quiet old_output new_output Unwritten fault
+      → Unwritten
+  pruned_elsewhere quiet old_output new_output Unwritten (ended_by.Opening why) is h = h.0
+  pruned_elsewhere quiet old_output new_output Unwritten (ended_by.Work why) is h = absurd (other_exit is)
+  pruned_elsewhere quiet old_output new_output Unwritten (ended_by.Archive why) is h = h.3
+
   input_elsewhere : {Name : Type 0} (named : Option Name) (reads ends : Bool) (io : Streams) (fault : Fault) → InputEnded disk IsFresh named reads ends io fault → fault_exit fault ≡ exit.OpenElsewhere → io.unread × io.unwritten
   input_elsewhere None reads ends io fault h is = absurd (other_exit (subst (λ (x : Fault). fault_exit x ≡ exit.OpenElsewhere) h.1 is))
   input_elsewhere (Some file) reads ends io fault h is = opened_elsewhere fault (io.unread × io.unwritten) _ is h
@@ -69,6 +75,7 @@ module _ {D : Type 0} (disk : Ghosts D) (IsFresh : Bool → D → Type 0) where
   elsewhere (task.Import file plan) io old_errors new_errors fault h is = (h.0, opened_elsewhere fault io.unwritten _ is h.2)
   elsewhere (task.Read file work) io old_errors new_errors fault h is = (h.0, opened_elsewhere fault io.unwritten _ is h.2)
   elsewhere (task.AuditWithArchive file archive counts whole) io old_errors new_errors fault h is = (h.0, audited_elsewhere counts whole io.old_output io.new_output io.unwritten fault is h.2)
+  elsewhere (task.Prune file archive retention quiet) io old_errors new_errors fault h is = (h.0, pruned_elsewhere quiet io.old_output io.new_output io.unwritten fault is h.2)
   elsewhere (task.AuditWhole file counts) io old_errors new_errors fault h is = (h.0, opened_elsewhere fault io.unwritten _ is h.2)
 
   pub err_elsewhere : (r : Result Status Fault) (asked : Task) (io : Streams) (old_errors new_errors : Option (List ℕ))

@@ -48,6 +48,7 @@ audits_of : (counts : Bool) (ending : Ending) (old mid new : BookState) (done : 
     → AuditsOver IsFindingOf counts ending old done new
 audits_of counts ending old mid new left.Nothing of h = h
 audits_of counts ending old mid new (left.Text text) of h = h
+audits_of counts ending old mid new (left.Pruned pruning quiet) of h = h
 audits_of counts ending old mid new (left.Audited found end) of h = (h.0, asked_in_order old mid new found of h.1, h.2)
 
 -- the work over a book that came of another
@@ -64,6 +65,7 @@ work_left Sound new so (Import requests) old old_output new_output done h =
 work_left Sound new so (Print printout) old old_output new_output done h = (record { asked = asked_called Sound new so old _ (IsTextOf printout) h.0.asked; status = h.0.status }, h.1)
 work_left Sound new so (Audit counts ending) old old_output new_output left.Nothing h = h
 work_left Sound new so (Audit counts ending) old old_output new_output (left.Text text) h = h
+work_left Sound new so (Audit counts ending) old old_output new_output (left.Pruned pruning quiet) h = h
 work_left Sound new so (Audit counts ending) old old_output new_output (left.Audited found end) h = ((h.0.0, asked_called Sound new so old found IsFindingOf h.0.1, h.0.2), h.1)
 
 -- a disk that is clean then was so before
@@ -72,6 +74,7 @@ done_clean (Import requests) old new old_output new_output done h = h.0.answered
 done_clean (Print printout) old new old_output new_output done h = h.0.asked.step.clean
 done_clean (Audit counts ending) old new old_output new_output left.Nothing h = absurd h.0
 done_clean (Audit counts ending) old new old_output new_output (left.Text text) h = absurd h.0
+done_clean (Audit counts ending) old new old_output new_output (left.Pruned pruning quiet) h = absurd h.0
 done_clean (Audit counts ending) old new old_output new_output (left.Audited found end) h = h.0.1.step.clean
 
 -- ---- over a book

@@ -24,8 +24,10 @@ use Rattle.acd_program.specs.declared.desk.Printout.{Printout}
 use Rattle.acd_program.specs.declared.desk.Printout.TheVariants.{Report, Export}
 use Rattle.acd_program.specs.declared.asked.Address.{Address}
 use Rattle.acd_program.specs.declared.asked.Address.TheVariants.{Port, Socket}
+use Rattle.acd_program.specs.declared.asked.Retention.{Retention}
+use Rattle.acd_program.specs.declared.asked.Retention.TheVariants.{Days, Records}
 use Rattle.acd_program.specs.declared.asked.Task.{Task}
-use Rattle.acd_program.specs.declared.asked.Task.TheVariants.{Lines, Serve, Import, AuditWhole, AuditWithArchive, Read}
+use Rattle.acd_program.specs.declared.asked.Task.TheVariants.{Lines, Serve, Import, AuditWhole, AuditWithArchive, Prune, Read}
 
 -- ---- the commands
 
@@ -70,11 +72,16 @@ abbrev pub audit_shape : Shape
 audit_shape = with_rules (codes "audit")
     (required file_rule ∷ option_rule (codes "archive") ∷ flag_rule (codes "count") ∷ flag_rule (codes "whole") ∷ [])
 
+abbrev pub prune_shape : Shape
+prune_shape = with_rules (codes "prune")
+    (required file_rule ∷ required (option_rule (codes "archive")) ∷ number_rule (codes "days") 36500 ∷ number_rule (codes "keep") 1000000000
+    ∷ flag_rule (codes "quiet") ∷ [])
+
 -- the program with its commands
 abbrev pub acd : App
 acd = record {
   top = record (new_shape (codes "acd")) { has_version = true; subcommand_required = true; is_leaf = false };
-  subs = lines_shape ∷ serve_shape ∷ import_shape ∷ report_shape ∷ export_shape ∷ audit_shape ∷ [];
+  subs = lines_shape ∷ serve_shape ∷ import_shape ∷ report_shape ∷ export_shape ∷ audit_shape ∷ prune_shape ∷ [];
 }
 
 -- a parse reads just this of the command, and of the option
@@ -136,6 +143,11 @@ IsSeconds name options None = has_option name options ≡ false
 abbrev pub IsSpan : List Row → Span → Type 0
 IsSpan options span = IsConnections options span.connections × IsSeconds (codes "tick") options span.step × IsSeconds (codes "patience") options span.patience
 
+-- what a prune leaves, of so many days or so many records: one of both was asked for
+abbrev pub IsRetention : List Row → Retention → Type 0
+IsRetention options (Days n) = IsNumber 32 (codes "days") options n × (has_option (codes "keep") options ≡ false)
+IsRetention options (Records n) = IsNumber 32 (codes "keep") options n × (has_option (codes "days") options ≡ false)
+
 -- the command that prints it
 abbrev pub command_of : Printout → Text
 command_of Report = codes "report"
@@ -161,6 +173,8 @@ IsTaskWith command options (Serve file address span) =
 IsTaskWith command options (Import file plan) = (command ≡ codes "import") × IsText (codes "file") options file × IsText (codes "plan") options plan
 IsTaskWith command options (AuditWhole file counts) = IsAuditOf command options file counts true × HasNone (codes "archive") options
 IsTaskWith command options (AuditWithArchive file archive counts whole) = IsAuditOf command options file counts whole × IsText (codes "archive") options archive
+IsTaskWith command options (Prune file archive retention quiet) =
+    (command ≡ codes "prune") × IsText (codes "file") options file × IsText (codes "archive") options archive × IsRetention options retention × IsFlag (codes "quiet") options quiet
 IsTaskWith command options (Read file work) = IsText (codes "file") options file × IsWork command options work
 
 abbrev pub IsTaskIn : Option (Text × List Row) → Task → Type 0
@@ -196,6 +210,10 @@ FindsTask command options found = MatchOption found ((task : Task) → ¬ IsTask
 -- the same of what the words name
 abbrev pub FindsTaskIn : Option (Text × List Row) → Option Task → Type 0
 FindsTaskIn matches found = MatchOption found ((task : Task) → ¬ IsTaskIn matches task) (IsTaskIn matches)
+
+-- and of what a prune leaves
+abbrev pub FindsRetention : List Row → Option Retention → Type 0
+FindsRetention options found = MatchOption found ((retention : Retention) → ¬ IsRetention options retention) (IsRetention options)
 
 -- and of an address, of how many connections are asked for, of a time, and of all that says how long a service lasts and waits
 abbrev pub FindsAddress : List Row → Option Address → Type 0

@@ -1,5 +1,5 @@
 -- What is promised of a call over files that were just opened, by their disk: what it did where no fault came of it, and what it left where one did.
-use Rattle.std.specs.Prelude.{◌≡◌, ◌⊎◌, ℕ, Bool, List, Option, Result, IfOk, MatchResult}
+use Rattle.std.specs.Prelude.{◌≡◌, ◌⊎◌, ℕ, Bool, false, List, Option, Result, IfOk, MatchResult}
 use Rattle.sqlite_disk.specs.declared.Disk.{Ghosts}
 use Rattle.sqlite_disk.specs.declared.calls.Calls as calls
 use Rattle.sqlite_disk.specs.declared.start.Start as start
@@ -7,25 +7,30 @@ use Rattle.sqlite_disk.specs.declared.modelled.Modelled.{Modelled}
 use Rattle.sqlite_std_file.specs.declared.host.Host.{Host}
 use Rattle.sqlite_std_file.specs.File.{IsFresh}
 use Rattle.sqlite.specs.Held.{Held, state}
+use Rattle.sqlite.specs.State.{State}
 use Rattle.sqlite_trees.specs.declared.store.Store.{Ghosts as Stores}
 use Rattle.clap.specs.Words.{Text}
 use Rattle.acd_book.specs.declared.book.Book as book
+use Rattle.acd_desk.specs.Pairs.{BookCall}
 use Rattle.acd_desk.specs.declared.desk.Desk.{Desk}
 use Rattle.acd_desk.specs.Standing.{standing}
 use Rattle.acd_lines.specs.Lines.{Streams, Untouched}
 use Rattle.acd_log.specs.declared.ending.Ending.{Ending}
 use Rattle.acd_program.specs.CommandLine.{IsTaskOf, IsUntaken}
 use Rattle.acd_program.specs.Output.{Output}
+use Rattle.acd_program.specs.Over.{OverConnection}
+use Rattle.acd_program.specs.Pruning.{IsPruningInOrder, BookPruned, LeavesPruned}
 use Rattle.acd_program.specs.Serving.{Service}
 use Rattle.acd_program.specs.Statuses.{IsDone, status_number, exit_number, fault_exit}
-use Rattle.acd_program.specs.Tasks.{WorkedIn, ImportedIn, ServeDoneIn, FileAnswered, InputAnswered, WholeAudit, AuditedWith, TaskDone}
-use Rattle.acd_program.specs.TasksEnded.{EndedIn, LinesLeft, WorkEndedIn, PlanEnded, AuditEnded, AuditWithArchiveEnded, ServiceEnded, InputEnded, TaskEnded}
-use Rattle.acd_program.specs.WithArchive.{AskedWithArchive, AuditsWithArchive, AuditedWithArchive}
+use Rattle.acd_program.specs.Tasks.{WorkedIn, ImportedIn, ServeDoneIn, FileAnswered, InputAnswered, WholeAudit, AuditedWith, PrunedWith, TaskDone}
+use Rattle.acd_program.specs.TasksEnded.{EndedIn, LinesLeft, WorkEndedIn, PlanEnded, AuditEnded, AuditWithArchiveEnded, PruneEnded, ServiceEnded, InputEnded, TaskEnded}
+use Rattle.acd_program.specs.WithArchive.{AskedWithArchive, AuditsWithArchive, AuditedWithArchive, BookAskedWithArchive}
 use Rattle.acd_program.specs.declared.asked.Task.{Task}
 use Rattle.acd_program.specs.declared.auditing.Finding.{Finding}
 use Rattle.acd_program.specs.declared.desk.Done.{Done}
 use Rattle.acd_program.specs.declared.desk.Work.{Work}
 use Rattle.acd_program.specs.declared.fault.Fault.{Fault}
+use Rattle.acd_program.specs.declared.pruning.Pruning.{Pruning}
 use Rattle.acd_program.specs.declared.status.Exit.{Exit}
 use Rattle.acd_program.specs.declared.status.Exit.TheVariants.{Done as ExitDone}
 use Rattle.acd_program.specs.declared.status.Status.{Status}
@@ -71,6 +76,21 @@ module _ {S : Type 0} {host : calls.Ghosts Host} {known : start.Ghosts S} (disk 
   -- so was the book that a database held
   abbrev pub AuditsDatabase : {C F : Type 0} → Bool × Ending → Stores C → Held C → Result Done F × Held C → Type 0
   AuditsDatabase asked store conn result = IfOk result.0 (AuditedWithArchive disk IsFresh asked.0 asked.1 (state store conn) (state store result.1))
+
+  -- ---- prunes
+
+  -- a book was asked what may go of it while the archive was open
+  abbrev pub AsksToPrune : {F : Type 0} → Ending → BookCall → Result Pruning F → Type 0
+  AsksToPrune ending current result = IfOk result (BookAskedWithArchive disk IsFresh (IsPruningInOrder ending) current.old current.new)
+
+  -- so the book that a database held was pruned; or, where a fault ended it, so
+  abbrev pub EndsPruneOver : Ending → State → State → Result Pruning Fault → Type 0
+  EndsPruneOver ending s t result =
+      MatchResult result (λ (pruning : Pruning). OverConnection (λ old new. BookPruned disk IsFresh ending old new pruning) false s t) (LeavesPruned disk IsFresh s t)
+
+  -- and that of a file
+  abbrev pub EndsPrune : Bool → Output → Result Status Fault → Type 0
+  EndsPrune quiet out result = MatchResult result (PrunedWith disk IsFresh quiet out.before out.after) (PruneEnded disk IsFresh quiet out.before out.after out.unwritten)
 
   -- ---- lines
 

@@ -1,5 +1,5 @@
 -- The finding of an audit of a desk.
-use Rattle.std.specs.Prelude.{◌≡◌, ℕ, Bool, true, false, ⊤, List, ◌∷◌, [], ◌++◌, length, codes, decimal, Result, IfOk}
+use Rattle.std.specs.Prelude.{◌≡◌, ℕ, Bool, true, false, ⊤, List, ◌∷◌, [], ◌++◌, length, codes, decimal, if◌then◌else◌, Result, IfOk}
 use Rattle.acd_book.specs.Content.{Content}
 use Rattle.acd_book.specs.Order.{IsOrdered}
 use Rattle.acd_book.specs.State.{IfHonest}
@@ -14,6 +14,9 @@ use Rattle.acd_log.specs.declared.ending.Ending.{Ending}
 use Rattle.acd_log.specs.declared.ending.Ending.TheVariants.{Plain, Early, Headless}
 use Rattle.acd_program.specs.declared.auditing.Finding.{Finding}
 use Rattle.acd_program.specs.declared.auditing.Finding.TheVariants.{Sound, Counted, SentAgain, SentAgainCounted, Differs}
+use Rattle.acd_program.specs.declared.cut.Cut.{Cut}
+use Rattle.acd_program.specs.declared.pruning.Pruning.{Pruning}
+use Rattle.acd_program.specs.declared.pruning.Pruning.TheVariants as prune
 
 -- an audit, without a count
 abbrev pub uncounted : Audit → Finding
@@ -86,3 +89,20 @@ counted_line ending count = finding_line ending (Counted count)
 -- and of one that is sound but for a request that was sent again
 abbrev pub again_counted_line : Ending → ℕ → ℕ → List ℕ
 again_counted_line ending stamp count = finding_line ending (SentAgainCounted stamp count)
+
+-- ---- of a prune
+
+-- the line of one that went so far
+abbrev pub cut_line : Cut → List ℕ
+cut_line cut = if cut.is_part then number_between (codes "pruned up to request ") cut.stamp (codes ", more to go\n") else number_line (codes "pruned up to request ") cut.stamp
+
+-- of one that found nothing to prune; a quiet one says nothing
+abbrev pub nothing_line : Bool → List ℕ
+nothing_line true = []
+nothing_line false = codes "nothing to prune\n"
+
+-- and of any: where an audit refused it, that is the line of the audit
+abbrev pub pruning_line : Bool → Pruning → List ℕ
+pruning_line quiet (prune.Refused found ending) = finding_line ending found
+pruning_line quiet prune.Nothing = nothing_line quiet
+pruning_line quiet (prune.UpTo cut) = cut_line cut

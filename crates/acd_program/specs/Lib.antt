@@ -8,6 +8,7 @@ pub mod Found
 pub mod Work
 pub mod InFiles
 pub mod WithArchive
+pub mod Pruning
 pub mod Files
 pub mod Plans
 pub mod Logs

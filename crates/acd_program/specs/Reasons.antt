@@ -6,7 +6,7 @@ use Rattle.std.specs.declared.io.ErrorKind.{ErrorKind}
 use Rattle.std.specs.declared.io.ErrorKind.TheVariants as kind
 use Rattle.acd_program.specs.Files.{new_page}
 use Rattle.acd_program.specs.declared.asked.Task.{Task}
-use Rattle.acd_program.specs.declared.asked.Task.TheVariants.{Lines, Serve, Import, AuditWhole, AuditWithArchive, Read}
+use Rattle.acd_program.specs.declared.asked.Task.TheVariants.{Lines, Serve, Import, AuditWhole, AuditWithArchive, Prune, Read}
 use Rattle.acd_program.specs.declared.reason.Reason.{Reason}
 use Rattle.acd_program.specs.declared.reason.Reason.TheVariants.{Absent, BelowNoFolder, NoPermission, AnotherProgram, NoDatabase, NoDesk, NoVersion}
 use Rattle.acd_program.specs.declared.reasons.Owner.{Owner}
@@ -39,6 +39,7 @@ plan_of _ = None
 -- the archive
 abbrev pub archive_of : Task → Option (Bor (List ℕ))
 archive_of (AuditWithArchive file archive counts whole) = Some archive
+archive_of (Prune file archive retention quiet) = Some archive
 archive_of _ = None
 
 -- the file of a desk, where a fault can be of no other
@@ -48,6 +49,7 @@ file_of (Serve file address span) = Some file
 file_of (Import file plan) = Some file
 file_of (AuditWhole file counts) = Some file
 file_of (AuditWithArchive file archive counts whole) = None
+file_of (Prune file archive retention quiet) = None
 file_of (Read file work) = Some file
 
 -- a file that begins otherwise than each database does is none

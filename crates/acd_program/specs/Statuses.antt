@@ -8,6 +8,8 @@ use Rattle.acd_log.specs.declared.ending.Ending.TheVariants as log
 use Rattle.acd_program.specs.declared.auditing.Finding.{Finding}
 use Rattle.acd_program.specs.declared.auditing.Finding.TheVariants.{Sound, Counted, SentAgainCounted}
 use Rattle.acd_program.specs.declared.auditing.Finding.TheVariants as finding
+use Rattle.acd_program.specs.declared.pruning.Pruning.{Pruning}
+use Rattle.acd_program.specs.declared.pruning.Pruning.TheVariants as prune
 use Rattle.acd_program.specs.declared.fault.LookFault.{LookFault}
 use Rattle.acd_program.specs.declared.fault.LookFault.TheVariants as look
 use Rattle.acd_program.specs.declared.fault.OpeningFault.{OpeningFault}
@@ -64,6 +66,12 @@ finding_status ending (Counted count) = sound_status ending
 finding_status ending (finding.SentAgain stamp) = again_status ending
 finding_status ending (SentAgainCounted stamp count) = again_status ending
 finding_status ending (finding.Differs place) = Differs
+
+-- the status of a prune: where an audit refused it, that of the audit
+abbrev pub pruning_status : Pruning → Status
+pruning_status (prune.Refused found ending) = finding_status ending found
+pruning_status prune.Nothing = Success
+pruning_status (prune.UpTo cut) = Success
 
 -- how a command ends by a fault: another program has the file, or not
 abbrev pub look_exit : LookFault → Exit

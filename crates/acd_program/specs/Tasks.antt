@@ -15,8 +15,8 @@ use Rattle.acd_program.specs.Answered.{AnswersAll}
 use Rattle.acd_desk.specs.Standing.{Standing}
 use Rattle.acd_program.specs.LinesOver.{in_turn, DatabaseAnswered, Whole}
 use Rattle.acd_program.specs.Seen.{Seen, SeenNew, InDatabase, SeenIn}
-use Rattle.acd_program.specs.Found.{IsFindingOf, HasCount, finding_line}
-use Rattle.acd_program.specs.Statuses.{finding_status}
+use Rattle.acd_program.specs.Found.{IsFindingOf, HasCount, finding_line, pruning_line}
+use Rattle.acd_program.specs.Statuses.{finding_status, pruning_status}
 use Rattle.acd_program.specs.Work.{WasAsked, IsTextOf, ImportsOver}
 use Rattle.acd_program.specs.InFiles.{OfFiles, IsLaidIn, WorkedOver, IsOpenedFrom, InFile}
 use Rattle.acd_http.specs.declared.serving.Span.{Span}
@@ -24,10 +24,12 @@ use Rattle.acd_program.specs.Serving.{ServeDone}
 use Rattle.acd_program.specs.declared.auditing.Finding.{Finding}
 use Rattle.acd_program.specs.declared.desk.Work.{Work}
 use Rattle.acd_program.specs.declared.desk.Work.TheVariants as kind
+use Rattle.acd_program.specs.Pruning.{BookPruned}
+use Rattle.acd_program.specs.declared.pruning.Pruning.{Pruning}
 use Rattle.acd_program.specs.declared.status.Status.{Status}
 use Rattle.acd_program.specs.declared.status.Status.TheVariants.{Success}
 use Rattle.acd_program.specs.declared.asked.Task.{Task}
-use Rattle.acd_program.specs.declared.asked.Task.TheVariants.{Lines, Serve, Import, AuditWhole, AuditWithArchive, Read}
+use Rattle.acd_program.specs.declared.asked.Task.TheVariants.{Lines, Serve, Import, AuditWhole, AuditWithArchive, Prune, Read}
 
 -- Each line of the input was answered, over a desk in memory: the answers to the requests among them are the abstract desk's or, where lines may be reads too, each line was answered by the desk that
 -- the lines before it left
@@ -98,6 +100,15 @@ module _ {D : Type 0} (disk : Ghosts D) (IsFresh : Bool → D → Type 0) where
     pub printed : Appends old_output new_output (finding_line ending found)
     pub outcome : status ≡ finding_status ending found
 
+  -- a prune by an archive, which was opened beside the file and closed, was printed
+  pub record PrunedWith (quiet : Bool) (old_output new_output : Option (List ℕ)) (status : Status) : Type 0 where
+    pub pruning : Pruning
+    pub ending : Ending
+    pub read : IsSomeEnding ending
+    pub done : InFile disk IsFresh (λ old new. BookPruned disk IsFresh ending old new pruning) false
+    pub printed : Appends old_output new_output (pruning_line quiet pruning)
+    pub outcome : status ≡ pruning_status pruning
+
   -- the task was done, from what was read to what was written, to what was printed on the stream of errors, and to the exit
   -- status
   abbrev pub TaskDone : Task → Streams → Option (List ℕ) → Option (List ℕ) → Status → Type 0
@@ -109,4 +120,5 @@ module _ {D : Type 0} (disk : Ghosts D) (IsFresh : Bool → D → Type 0) where
       (text : List ℕ) × InFile disk IsFresh (λ old new. WasAsked old (IsTextOf printout) text new) false × Appends io.old_output io.new_output text × (status ≡ Success)
   TaskDone (Read file (kind.Audit counts ending)) io old_errors new_errors status = AuditedIn counts ending io.old_output io.new_output status
   TaskDone (AuditWithArchive file archive counts whole) io old_errors new_errors status = AuditedWith counts whole io.old_output io.new_output status
+  TaskDone (Prune file archive retention quiet) io old_errors new_errors status = PrunedWith quiet io.old_output io.new_output status
   TaskDone (AuditWhole file counts) io old_errors new_errors status = (ending : Ending) × IsSomeEnding ending × AuditedIn counts ending io.old_output io.new_output status

@@ -9,13 +9,14 @@ use Rattle.acd_io.specs.Sent.{Begins}
 use Rattle.acd_program.specs.WithArchive.{IsFindingIn, BookAskedWithArchive, LeavesArchive}
 use Rattle.acd_program.specs.Ended.{EndsBy, TakesPlan, IsShut, WorkEnded}
 use Rattle.acd_program.specs.Faults.{lines_fault}
-use Rattle.acd_program.specs.Found.{HasCount, finding_line}
+use Rattle.acd_program.specs.Found.{HasCount, finding_line, pruning_line}
 use Rattle.acd_program.specs.InFiles.{OfFiles, IsOpenedFrom, LeavesUnopened}
 use Rattle.acd_program.specs.Over.{OverConnection, Unserved}
 use Rattle.acd_http.specs.declared.serving.Span.{Span}
 use Rattle.acd_program.specs.Serving.{ServeIn}
 use Rattle.acd_program.specs.Sessions.{DatabaseEnded, MemoryEnded}
 use Rattle.acd_program.specs.Tasks.{IsSomeEnding, IsReadEnding}
+use Rattle.acd_program.specs.Pruning.{BookPruned, LeftOver}
 use Rattle.acd_program.specs.declared.auditing.Finding.{Finding}
 use Rattle.acd_program.specs.declared.fault.Fault.{Fault}
 use Rattle.acd_program.specs.declared.fault.Fault.TheVariants.{Opening, Archive}
@@ -23,9 +24,10 @@ use Rattle.acd_program.specs.declared.fault.Fault.TheVariants as ended_by
 use Rattle.acd_program.specs.declared.fault.WorkFault.{WorkFault}
 use Rattle.acd_program.specs.declared.desk.Work.{Work}
 use Rattle.acd_program.specs.declared.desk.Work.TheVariants as kind
+use Rattle.acd_program.specs.declared.pruning.Pruning.{Pruning}
 use Rattle.acd_program.specs.declared.asked.Address.{Address}
 use Rattle.acd_program.specs.declared.asked.Task.{Task}
-use Rattle.acd_program.specs.declared.asked.Task.TheVariants.{Lines, Serve, Import, AuditWhole, AuditWithArchive, Read}
+use Rattle.acd_program.specs.declared.asked.Task.TheVariants.{Lines, Serve, Import, AuditWhole, AuditWithArchive, Prune, Read}
 
 -- `IsFresh is_log file` says that a file is a log, or a database file, that was just opened
 module _ {D : Type 0} (disk : Ghosts D) (IsFresh : Bool → D → Type 0) where
@@ -67,6 +69,20 @@ module _ {D : Type 0} (disk : Ghosts D) (IsFresh : Bool → D → Type 0) where
     pub shut : IsShut last
     pub kept : Unserved false (file_state conn) (file_state last)
 
+  -- a prune was done, and a beginning of what came of it was printed
+  pub record PruneCut (quiet : Bool) (old_output new_output : Option (List ℕ)) (conn last : OfFiles disk) : Type 0 where
+    pub pruning : Pruning
+    pub ending : Ending
+    pub read : IsSomeEnding ending
+    pub done : OverConnection (λ old new. BookPruned disk IsFresh ending old new pruning) false (file_state conn) (file_state last)
+    pub printed : Begins old_output new_output (pruning_line quiet pruning)
+
+  -- a fault ended one, and the connection to the desk's file was shut: a reopening finds there what it could find before, or that without what has gone
+  pub record PruneShut (conn : OfFiles disk) : Type 0 where
+    pub last : OfFiles disk
+    pub shut : IsShut last
+    pub kept : LeftOver disk IsFresh (file_state conn) (file_state last)
+
   -- ---- by what was to be done, where `Unwritten` says that nothing was written
 
   abbrev pub WorkEndedIn : Bool → Work → Option (List ℕ) → Option (List ℕ) → Type 0 → Fault → Type 0
@@ -89,6 +105,13 @@ module _ {D : Type 0} (disk : Ghosts D) (IsFresh : Bool → D → Type 0) where
       (conn : OfFiles disk) × IsOpenedFrom disk IsFresh conn × (left : AuditShut conn) × (Unwritten ⊎ AuditCut counts whole old_output new_output conn left.last)
   AuditWithArchiveEnded counts whole old_output new_output Unwritten (Archive why) = (conn : OfFiles disk) × IsOpenedFrom disk IsFresh conn × AuditShut conn × Unwritten × LeavesArchive disk IsFresh why
 
+  -- A file was to be pruned by an archive. No connection to the file was made; or the desk's work ended by a fault, before anything was printed or after; or the archive's did, and nothing was pruned.
+  abbrev pub PruneEnded : Bool → Option (List ℕ) → Option (List ℕ) → Type 0 → Fault → Type 0
+  PruneEnded quiet old_output new_output Unwritten (Opening why) = Unwritten × LeavesUnopened disk IsFresh why
+  PruneEnded quiet old_output new_output Unwritten (ended_by.Work why) =
+      (conn : OfFiles disk) × IsOpenedFrom disk IsFresh conn × (left : PruneShut conn) × (Unwritten ⊎ PruneCut quiet old_output new_output conn left.last)
+  PruneEnded quiet old_output new_output Unwritten (Archive why) = (conn : OfFiles disk) × IsOpenedFrom disk IsFresh conn × AuditShut conn × Unwritten × LeavesArchive disk IsFresh why
+
   abbrev pub ServiceEnded : Span → Address → Option (List ℕ) → Option (List ℕ) → Option (List ℕ) → Option (List ℕ) → Type 0 → Fault → Type 0
   ServiceEnded span address old_output new_output old_errors new_errors Unwritten fault = EndedIn fault (Unwritten × (new_errors ≡ old_errors)) (ServiceLeft span address old_output new_output old_errors new_errors)
 
@@ -105,4 +128,5 @@ module _ {D : Type 0} (disk : Ghosts D) (IsFresh : Bool → D → Type 0) where
   TaskEnded (Import file plan) io old_errors new_errors fault = io.unread × (new_errors ≡ old_errors) × PlanEnded io.old_output io.new_output io.unwritten fault
   TaskEnded (Read file work) io old_errors new_errors fault = io.unread × (new_errors ≡ old_errors) × WorkEndedIn false work io.old_output io.new_output io.unwritten fault
   TaskEnded (AuditWithArchive file archive counts whole) io old_errors new_errors fault = io.unread × (new_errors ≡ old_errors) × AuditWithArchiveEnded counts whole io.old_output io.new_output io.unwritten fault
+  TaskEnded (Prune file archive retention quiet) io old_errors new_errors fault = io.unread × (new_errors ≡ old_errors) × PruneEnded quiet io.old_output io.new_output io.unwritten fault
   TaskEnded (AuditWhole file counts) io old_errors new_errors fault = io.unread × (new_errors ≡ old_errors) × AuditEnded counts io.old_output io.new_output io.unwritten fault

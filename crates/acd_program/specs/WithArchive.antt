@@ -88,8 +88,8 @@ FindsWith archives archive books desk result = IsFoundWithArchive (archives.stat
 abbrev pub WasRead : BookState → BookState → Type 0
 WasRead old new = WasAsked {A = Unit {0}} old Anything (tt {0}) new
 
--- two books were asked together: neither has changed, and this is the finding of their contents
-pub record WereAsked (IsAnswer : Content → Content → Finding → Type 0) (old_archive new_archive old new : BookState) (found : Finding) : Type 0 where
+-- two books were asked together: neither has changed, and this is the answer of their contents
+pub record WereAsked {A : Type 0} (IsAnswer : Content → Content → A → Type 0) (old_archive new_archive old new : BookState) (found : A) : Type 0 where
   pub archive : WasRead old_archive new_archive
   pub current : WasAsked old Anything found new
   pub answer : IfHonest old_archive new_archive (IfHonest old new (IsAnswer old_archive.content old.content found))
@@ -139,19 +139,21 @@ module _ {D : Type 0} (disk : Ghosts D) (IsFresh : Bool → D → Type 0) where
   AskedWithArchive d e found = (conn : OfFiles disk) × IsOpenedFrom disk IsFresh conn × AskedIn conn d e found
 
   -- a book was
-  abbrev pub BookAskedWithArchive : (Content → Content → Finding → Type 0) → BookState → BookState → Finding → Type 0
+  abbrev pub BookAskedWithArchive : {A : Type 0} → (Content → Content → A → Type 0) → BookState → BookState → A → Type 0
   BookAskedWithArchive IsAnswer old new found = InArchive (λ (old_archive new_archive : BookState). WereAsked IsAnswer old_archive new_archive old new found)
 
   -- an audit of the book found this, which is left to print with how the log of its file ended before
   abbrev pub AuditsWithArchive : Bool → Ending → BookState → BookState → Done → Type 0
   AuditsWithArchive counts ending old new left.Nothing = ⊥
   AuditsWithArchive counts ending old new (left.Text text) = ⊥
+  AuditsWithArchive counts ending old new (left.Pruned pruning quiet) = ⊥
   AuditsWithArchive counts ending old new (left.Audited found end) = HasCount counts found × BookAskedWithArchive IsFindingInOrder old new found × (end ≡ ending)
 
   -- and one of the book that a database held
   abbrev pub AuditedWithArchive : Bool → Ending → State → State → Done → Type 0
   AuditedWithArchive counts ending s t left.Nothing = ⊥
   AuditedWithArchive counts ending s t (left.Text text) = ⊥
+  AuditedWithArchive counts ending s t (left.Pruned pruning quiet) = ⊥
   AuditedWithArchive counts ending s t (left.Audited found end) = HasCount counts found × OverConnection (λ (old new : BookState). BookAskedWithArchive IsFindingIn old new found) false s t × (end ≡ ending)
 
   -- ---- where a fault ended the audit once the desk was open

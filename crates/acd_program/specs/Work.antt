@@ -13,8 +13,8 @@ use Rattle.acd_desk.specs.Carried.{Archive, together}
 use Rattle.acd_desk.specs.ReadAnswers.{text_read}
 use Rattle.acd_io.specs.Sent.{Begins, Breaks}
 use Rattle.acd_lines.specs.Lines.{LinesAnswered, AllRequests, RequestsAnswered}
-use Rattle.acd_program.specs.Found.{IsFindingOf, HasCount, finding_line}
-use Rattle.acd_program.specs.Statuses.{finding_status}
+use Rattle.acd_program.specs.Found.{IsFindingOf, HasCount, finding_line, pruning_line}
+use Rattle.acd_program.specs.Statuses.{finding_status, pruning_status}
 use Rattle.acd_program.specs.Output.{Output}
 use Rattle.acd_program.specs.Over.{IsSession}
 use Rattle.acd_log.specs.declared.ending.Ending.{Ending}
@@ -24,7 +24,7 @@ use Rattle.acd_program.specs.declared.desk.Printout.TheVariants.{Report, Export}
 use Rattle.acd_program.specs.declared.desk.Work.{Work}
 use Rattle.acd_program.specs.declared.desk.Work.TheVariants.{Import, Print, Audit}
 use Rattle.acd_program.specs.declared.desk.Done.{Done}
-use Rattle.acd_program.specs.declared.desk.Done.TheVariants.{Nothing, Text, Audited}
+use Rattle.acd_program.specs.declared.desk.Done.TheVariants.{Nothing, Text, Audited, Pruned}
 use Rattle.acd_program.specs.declared.status.Status.{Status}
 use Rattle.acd_program.specs.declared.status.Status.TheVariants.{Success}
 
@@ -39,12 +39,14 @@ abbrev pub text_left : Done → List ℕ
 text_left Nothing = []
 text_left (Text text) = string_bytes text
 text_left (Audited found ending) = finding_line ending found
+text_left (Pruned pruning quiet) = pruning_line quiet pruning
 
 -- and its exit status
 abbrev pub status_left : Done → Status
 status_left Nothing = Success
 status_left (Text text) = Success
 status_left (Audited found ending) = finding_status ending found
+status_left (Pruned pruning quiet) = pruning_status pruning
 
 -- ---- over a book
 
@@ -78,6 +80,7 @@ pub record PrintsOver (printout : Printout) (old : BookState) (done : Done) (new
 abbrev pub AuditsOver : (Content → Finding → Type 0) → Bool → Ending → BookState → Done → BookState → Type 0
 AuditsOver IsAnswer counts ending old Nothing new = ⊥
 AuditsOver IsAnswer counts ending old (Text text) new = ⊥
+AuditsOver IsAnswer counts ending old (Pruned pruning quiet) new = ⊥
 AuditsOver IsAnswer counts ending old (Audited found end) new = HasCount counts found × WasAsked old IsAnswer found new × (end ≡ ending)
 
 -- the requests came in at moment 0, one after the other, and one answer line was written for each; they are a session over the book

@@ -12,6 +12,15 @@ pub(crate) enum Address<'a> {
     Socket(&'a str),
 }
 
+/// The newest records, which a prune leaves beside those that it always leaves.
+#[derive(Clone, Copy)]
+pub(crate) enum Retention {
+    /// Those of so many days of 24 hours.
+    Days(u32),
+    /// So many.
+    Records(u32),
+}
+
 /// The task of a command line, with the paths that it names.
 #[derive(Clone, Copy)]
 pub(crate) enum Task<'a> {
@@ -45,6 +54,14 @@ pub(crate) enum Task<'a> {
         archive: &'a str,
         counts: bool,
         whole: bool,
+    },
+    /// Take the old records out of the desk in a file that its archive has; where there are none, a quiet prune says
+    /// nothing.
+    Prune {
+        file: &'a str,
+        archive: &'a str,
+        retention: Retention,
+        quiet: bool,
     },
     /// Print what a read of the desk in a file finds: the queue report, all event reports, or what an audit finds.
     Read {

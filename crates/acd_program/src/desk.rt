@@ -13,6 +13,7 @@ use crate::auditing::{Finding, audited};
 use crate::connection::book_over;
 use crate::fault::WorkFault;
 use crate::progress::{Progress, Watched};
+use crate::pruning::Pruning;
 use crate::status::Status;
 use acd_book::Book;
 use acd_desk::{Desk, DeskFault};
@@ -50,6 +51,8 @@ pub(crate) enum Done {
     Nothing,
     Text(String),
     Audited(Finding, Ending),
+    /// A quiet prune prints nothing where there was nothing to prune.
+    Pruned(Pruning, bool),
 }
 
 fn imported<B: Book, W: Write>(

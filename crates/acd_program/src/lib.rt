@@ -9,6 +9,7 @@
 mod asked;
 mod auditing;
 mod connection;
+mod cut;
 mod desk;
 mod fault;
 mod file;
@@ -22,6 +23,7 @@ mod plan;
 mod plan_lines;
 mod printing;
 mod progress;
+mod pruning;
 mod reason;
 mod reasons;
 mod rights;

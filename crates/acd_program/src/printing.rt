@@ -2,14 +2,16 @@
 
 ghost use Rattle.std.specs.Prelude.{◌≡◌, OnOk, OnErr, IfOk};
 ghost use Rattle.acd_io.specs.Sent.{Sends};
-ghost use Rattle.acd_program.specs.Found.{number_between, sound_line, number_line, text_line, counted_line, again_line, again_counted_line, finding_line};
+ghost use Rattle.acd_program.specs.Found.{number_between, sound_line, number_line, text_line, counted_line, again_line, again_counted_line, finding_line, cut_line, nothing_line, pruning_line};
 ghost use Rattle.acd_program.specs.Output.{output};
-ghost use Rattle.acd_program.specs.Statuses.{sound_status, again_status, finding_status};
+ghost use Rattle.acd_program.specs.Statuses.{sound_status, again_status, finding_status, pruning_status};
 ghost use Rattle.acd_program.specs.Work.{text_left, status_left, PrintsAll, PrintsPart};
 
 use crate::auditing::Finding;
+use crate::cut::Cut;
 use crate::desk::Done;
 use crate::fault::WorkFault;
+use crate::pruning::Pruning;
 use crate::status::Status;
 use acd_io::{Stopped, send};
 use acd_log::Ending;
@@ -119,6 +121,43 @@ fn send_finding<W: Write>(found: Finding, ending: Ending, writer: &mut W) -> Res
     }
 }
 
+// Writes up to which record a prune went, and whether there is more to go.
+fn send_cut<W: Write>(cut: Cut, writer: &mut W) -> Result<(), Stopped>
+    ensures { Sends W.contents writer.old writer.new result (cut_line cut) }
+{
+    if cut.is_part {
+        return send_between(
+            writer,
+            b"pruned up to request ",
+            cut.stamp,
+            b", more to go\n",
+        );
+    }
+    send_number(writer, b"pruned up to request ", cut.stamp)
+}
+
+// Writes that there was nothing to prune, unless it is to be quiet.
+fn send_nothing<W: Write>(quiet: bool, writer: &mut W) -> Result<(), Stopped>
+    ensures { Sends W.contents writer.old writer.new result (nothing_line quiet) }
+{
+    let mut calls = CALLS;
+    if quiet {
+        return Ok(());
+    }
+    send(writer, &mut calls, b"nothing to prune\n")
+}
+
+// Writes what came of a prune, as a line or none.
+fn send_pruning<W: Write>(pruning: Pruning, quiet: bool, writer: &mut W) -> Result<(), Stopped>
+    ensures { Sends W.contents writer.old writer.new result (pruning_line quiet pruning) }
+{
+    match pruning {
+        Pruning::Refused(found, ending) => send_finding(found, ending, writer),
+        Pruning::Nothing => send_nothing(quiet, writer),
+        Pruning::UpTo(cut) => send_cut(cut, writer),
+    }
+}
+
 fn send_left<W: Write>(left: &Done, writer: &mut W) -> Result<(), Stopped>
     ensures { Sends W.contents writer.old writer.new result (text_left left.now) }
 {
@@ -127,6 +166,7 @@ fn send_left<W: Write>(left: &Done, writer: &mut W) -> Result<(), Stopped>
         Done::Nothing => Ok(()),
         Done::Text(text) => send(writer, &mut calls, text.as_bytes()),
         Done::Audited(found, ending) => send_finding(*found, *ending, writer),
+        Done::Pruned(pruning, quiet) => send_pruning(*pruning, *quiet, writer),
     }
 }
 
@@ -165,6 +205,17 @@ fn status_of(found: Finding, ending: Ending) -> Status
     }
 }
 
+// That of a prune: one that an audit refuses has the audit's.
+fn pruning_status(pruning: Pruning) -> Status
+    ensures { result ≡ pruning_status pruning }
+{
+    match pruning {
+        Pruning::Refused(found, ending) => status_of(found, ending),
+        Pruning::Nothing => Status::Success,
+        Pruning::UpTo(_) => Status::Success,
+    }
+}
+
 fn status_left(left: &Done) -> Status
     ensures { result ≡ status_left left.now }
 {
@@ -172,6 +223,7 @@ fn status_left(left: &Done) -> Status
         Done::Nothing => Status::Success,
         Done::Text(_) => Status::Success,
         Done::Audited(found, ending) => status_of(*found, *ending),
+        Done::Pruned(pruning, _) => pruning_status(*pruning),
     }
 }
 

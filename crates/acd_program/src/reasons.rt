@@ -314,6 +314,7 @@ fn archive_of(task: Task<'_>) -> Option<&str>
 {
     match task {
         Task::AuditWithArchive { archive, .. } => Some(archive),
+        Task::Prune { archive, .. } => Some(archive),
         _ => None,
     }
 }
@@ -329,6 +330,7 @@ fn file_of(task: Task<'_>) -> Option<&str>
         Task::AuditWhole { file, .. } => Some(file),
         // of two files such a fault doesn't say which is at fault
         Task::AuditWithArchive { .. } => None,
+        Task::Prune { .. } => None,
         Task::Read { file, .. } => Some(file),
     }
 }

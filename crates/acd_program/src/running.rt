@@ -6,7 +6,7 @@ ghost use Rattle.acd_lines.specs.Lines.{streams};
 ghost use Rattle.clap.specs.Words.{kind_of};
 ghost use Rattle.acd_program.specs.CommandLine.{IsRefused};
 ghost use Rattle.acd_program.specs.Ended.{EndsBoth, EndsWorkOn};
-ghost use Rattle.acd_program.specs.FileTasks.{EndsWorkIn, EndsImportIn, EndsWholeAudit, EndsAudit, EndsFileLines, EndsInput, EndsFileService, EndsTask, ExitsTask, DoneOrHelp, FaultEnded};
+ghost use Rattle.acd_program.specs.FileTasks.{EndsWorkIn, EndsImportIn, EndsWholeAudit, EndsAudit, EndsFileLines, EndsInput, EndsFileService, EndsPrune, EndsTask, ExitsTask, DoneOrHelp, FaultEnded};
 ghost use Rattle.acd_program.specs.Output.{output};
 ghost use Rattle.acd_program.specs.Serving.{service};
 ghost use Rattle.acd_program.specs.Sessions.{EndsNewLines};
@@ -14,7 +14,7 @@ ghost use Rattle.acd_program.specs.Statuses.{ExitsWithoutTask, IfDone, fault_exi
 ghost use Rattle.acd_program.specs.Tasks.{IsReadEnding};
 ghost use Rattle.acd_program.specs.Work.{EndsPrinting};
 
-use crate::asked::{Address, Task};
+use crate::asked::{Address, Retention, Task};
 use crate::connection::database_lines;
 use crate::desk::{Done, Work, over_database};
 use crate::fault::{Fault, LookFault, WorkFault};
@@ -24,6 +24,7 @@ use crate::looking::Looks;
 use crate::memory::lines_over_memory;
 use crate::plan::read_plan;
 use crate::printing::print;
+use crate::pruning::prune_over;
 use crate::reasons::explain;
 use crate::serving::serve;
 use crate::status::{Exit, Status};
@@ -244,6 +245,32 @@ fn audit_with_archive<'a, S: Start, W: Write>(
     }
 }
 
+// Prunes the desk in a file by its archive. An opening empties the log, so it is looked at first.
+fn prune_file<'a, S: Start, W: Write>(
+    rt: &HostRuntime,
+    start: S,
+    beside: S,
+    file: &'a str,
+    archive: &'a str,
+    retention: Retention,
+    quiet: bool,
+    writer: &mut W,
+) -> Result<Status, Fault<'a>>
+    ensures { EndsPrune ⟦<FileFrom<S> as Disk>⟧ quiet
+        (output W.contents writer.old writer.new) result }
+{
+    let ending = log_ending(Looks::new(rt), file)?;
+    let (conn, _) = connect(rt, file, false, start)?;
+    let (done, conn) = prune_over(rt, conn, beside, archive, ending, retention);
+    let closed = close_connection(conn);
+    let pruning = done?;
+    let left = Done::Pruned(pruning, quiet);
+    match print_done(&left, closed, writer) {
+        Ok(status) => Ok(status),
+        Err(fault) => Err(Fault::Work(fault)),
+    }
+}
+
 fn serve_file<'a, S: Start, W: Write, E: Write>(
     rt: &HostRuntime,
     start: S,
@@ -303,6 +330,12 @@ fn execute<'a, S: Start, R: Read, W: Write, E: Write>(
             counts,
             whole,
         } => audit_with_archive(rt, start, beside, file, archive, counts, whole, writer),
+        Task::Prune {
+            file,
+            archive,
+            retention,
+            quiet,
+        } => prune_file(rt, start, beside, file, archive, retention, quiet, writer),
         Task::Read { file, work } => work_in(rt, start, file, false, work, writer),
     }
 }
@@ -388,7 +421,7 @@ fn print_error<W: Write, E: Write>(
 /// Does what the words ask for; the first is the program's name. It answers the exit status: 0 for success, 1 for a
 /// fault, which is one line on `errors`, 2 for a command line that it refuses, 3 for an audit that finds a difference,
 /// 4, with a fault's line, where the file is open elsewhere, 5 where a sound desk's log is damaged, and 6 where an audit
-/// with an archive finds that requests were sent again.
+/// with an archive finds that requests were sent again. A prune that its audit refuses has the audit's status.
 pub fn program<S: AsStr, R: Read, W: Write, E: Write>(
     rt: &HostRuntime,
     words: &[S],

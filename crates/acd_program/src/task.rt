@@ -2,10 +2,10 @@
 
 ghost use Rattle.std.specs.Prelude.{◌≡◌, [], false, codes, map, IsTrue, IfOk, IfErr};
 ghost use Rattle.clap.specs.Words.{app_of, found_of, kind_of, rows_of, subcommand_rows_of};
-ghost use Rattle.acd_program.specs.CommandLine.{HasApp, HasRule, IsTaskWith, FindsTask, FindsTaskIn, FindsAddress, FindsConnections, FindsSeconds, FindsSpan, IsTaskOf, IsRefusedBy, AddsCommand, acd, command_of, export_shape, file_rule, flag_rule, import_shape, is_given, lines_shape, number_rule, option_rule, report_shape, audit_shape, serve_shape};
+ghost use Rattle.acd_program.specs.CommandLine.{HasApp, HasRule, IsTaskWith, FindsTask, FindsTaskIn, FindsAddress, FindsConnections, FindsRetention, FindsSeconds, FindsSpan, IsTaskOf, IsRefusedBy, AddsCommand, acd, command_of, export_shape, file_rule, flag_rule, import_shape, is_given, lines_shape, number_rule, option_rule, report_shape, audit_shape, prune_shape, serve_shape};
 ghost use Rattle.acd_program.specs.Statuses.{IsHelp};
 
-use crate::asked::{Address, Task};
+use crate::asked::{Address, Retention, Task};
 use crate::desk::{Printout, Work};
 use acd_http::Span;
 use acd_log::Ending;
@@ -45,6 +45,12 @@ const WHOLE: &str = "whole";
 
 const ARCHIVE: &str = "archive";
 
+const DAYS: &str = "days";
+
+const KEEP: &str = "keep";
+
+const QUIET: &str = "quiet";
+
 const GREATEST_PORT: u64 = 65_535;
 
 // Why a service is refused, as the library of command lines says it.
@@ -56,8 +62,18 @@ const NO_END: &str = "the following required arguments were not provided:\n  --c
 
 const TWO_ENDS: &str = "the argument '--connections <N>' cannot be used with '--endless'";
 
+const NO_RETENTION: &str = "the following required arguments were not provided:\n  --days <N>";
+
+const TWO_RETENTIONS: &str = "the argument '--days <N>' cannot be used with '--keep <N>'";
+
 /// How many connections are answered at most.
 const MOST_CONNECTIONS: u64 = 1_000_000;
+
+/// Of how many days a prune leaves the records at most.
+const MOST_DAYS: u64 = 36_500;
+
+/// How many records it leaves at most.
+const MOST_RECORDS: u64 = 1_000_000_000;
 
 /// How many seconds a service waits at most.
 const MOST_SECONDS: u64 = 3600;
@@ -254,6 +270,36 @@ fn audit_command<'a>(alloc: Global) -> Result<Command<'a>, AllocError>
         ))
 }
 
+fn prune_command<'a>(alloc: Global) -> Result<Command<'a>, AllocError>
+    ensures { IfOk result (HasApp (record { top = prune_shape; subs = [] })) }
+{
+    let days = number_option(
+        alloc,
+        DAYS,
+        "N",
+        "Keep the requests of the last N days of 24 hours, from 1 to 36500",
+        MOST_DAYS,
+    );
+    let keep = number_option(
+        alloc,
+        KEEP,
+        "N",
+        "Keep the last N requests, from 1 to 1000000000",
+        MOST_RECORDS,
+    );
+    Command::new(alloc, "prune")
+        .about("Remove old requests and events from the file, once its archive has them")
+        .after_help(
+            "Example:\n  acd prune --file desk.db --archive copy.db --days 2\n\nThe file is audited with the archive first: if that finds anything but sound, or that\nrequests were sent again, its line and its status are those of the audit, and nothing\nis removed. A thousand requests and those of the last hour always stay.",
+        )
+        .override_usage("acd prune --file <F> --archive <A> <--days <N>|--keep <N>> [--quiet]")
+        .arg(file_option(alloc).required(true))?
+        .arg(archive_option(alloc).required(true))?
+        .arg(days)?
+        .arg(keep)?
+        .arg(flag(alloc, QUIET, "Print nothing if there is nothing to prune"))
+}
+
 // The command with one more below it.
 fn with<'a>(
     acd: Result<Command<'a>, AllocError>,
@@ -276,7 +322,8 @@ fn all_commands<'a>(alloc: Global) -> Result<Command<'a>, AllocError>
     let acd = with(acd, import_command(alloc));
     let acd = with(acd, report_command(alloc));
     let acd = with(acd, export_command(alloc));
-    with(acd, audit_command(alloc))
+    let acd = with(acd, audit_command(alloc));
+    with(acd, prune_command(alloc))
 }
 
 // Whether the flag was given.
@@ -414,6 +461,30 @@ fn audit_of<'a>(options: &ArgMatches<'a>) -> Option<Task<'a>>
     }
 }
 
+// What a prune leaves: of the days or of the records, one of both is asked for.
+fn retention_of(options: &ArgMatches<'_>) -> Option<Retention>
+    ensures { FindsRetention (rows_of (found_of options.now)) result }
+{
+    if options.contains_id(KEEP) {
+        if options.contains_id(DAYS) {
+            return None;
+        }
+        return Some(Retention::Records(options.get_one(KEEP)?));
+    }
+    Some(Retention::Days(options.get_one(DAYS)?))
+}
+
+fn prune_of<'a>(options: &ArgMatches<'a>) -> Option<Task<'a>>
+    ensures { FindsTask (codes "prune") (rows_of (found_of options.now)) result }
+{
+    Some(Task::Prune {
+        file: options.get_str(FILE)?,
+        archive: options.get_str(ARCHIVE)?,
+        retention: retention_of(options)?,
+        quiet: is_given(options, QUIET),
+    })
+}
+
 // A text of the desk in a file.
 fn printout_of<'a>(options: &ArgMatches<'a>, printout: Printout) -> Option<Task<'a>>
     ensures { FindsTask (command_of printout) (rows_of (found_of options.now)) result }
@@ -435,6 +506,7 @@ fn named<'a>(command: &str, options: &ArgMatches<'a>) -> Option<Task<'a>>
         "report" => printout_of(options, Printout::Report),
         "export" => printout_of(options, Printout::Export),
         "audit" => audit_of(options),
+        "prune" => prune_of(options),
         _ => None,
     }
 }
@@ -467,12 +539,47 @@ fn refusal(matches: &ArgMatches<'_>) -> (ErrorKind, &'static str)
     (ErrorKind::MissingRequiredArgument, NO_END)
 }
 
+fn prune_refusal(matches: &ArgMatches<'_>) -> (ErrorKind, &'static str)
+    ensures { ¬ IsHelp result.0 }
+{
+    match matches.subcommand() {
+        Some((_, options)) if options.contains_id(DAYS) => {
+            (ErrorKind::ArgumentConflict, TWO_RETENTIONS)
+        }
+        _ => (ErrorKind::MissingRequiredArgument, NO_RETENTION),
+    }
+}
+
+fn is_prune(matches: &ArgMatches<'_>) -> bool {
+    match matches.subcommand() {
+        Some((command, _)) => command == "prune",
+        None => false,
+    }
+}
+
 // How they are refused.
 fn refused_service(alloc: Global, matches: &ArgMatches<'_>) -> Result<Error, AllocError>
     ensures { IfOk result (λ error. ¬ IsHelp (kind_of error)) }
 {
     let (kind, why) = refusal(matches);
     serve_command(alloc)?.error(kind, why)
+}
+
+// The same of a prune: it leaves so many days, or so many records.
+fn refused_prune(alloc: Global, matches: &ArgMatches<'_>) -> Result<Error, AllocError>
+    ensures { IfOk result (λ error. ¬ IsHelp (kind_of error)) }
+{
+    let (kind, why) = prune_refusal(matches);
+    prune_command(alloc)?.error(kind, why)
+}
+
+fn refused(alloc: Global, matches: &ArgMatches<'_>) -> Result<Error, AllocError>
+    ensures { IfOk result (λ error. ¬ IsHelp (kind_of error)) }
+{
+    if is_prune(matches) {
+        return refused_prune(alloc, matches);
+    }
+    refused_service(alloc, matches)
 }
 
 // The task of the words.
@@ -489,7 +596,7 @@ fn chosen<'a, S: AsStr>(
     let matches = commands.try_get_matches_from_mut(words)?;
     match task_in(&matches) {
         Some(task) => Ok(task),
-        None => Err(refused_service(alloc, &matches)?),
+        None => Err(refused(alloc, &matches)?),
     }
 }
 

@@ -47,11 +47,11 @@ fn asked_over<S: Alter, B: Book>(
     }
 }
 
-// A fault that ended the audit comes before one of closing its archive.
-fn found_and_closed(
-    found: Result<Finding, WorkFault>,
+/// A fault that ended the audit comes before one of closing its archive.
+pub(crate) fn found_and_closed<T: Copy>(
+    found: Result<T, WorkFault>,
     closed: Result<(), BookFault>,
-) -> Result<Finding, WorkFault>
+) -> Result<T, WorkFault>
     ensures { IfOk result (λ x. (found ≡ Ok x) × (closed ≡ Ok tt)) }
 {
     let found = found?;

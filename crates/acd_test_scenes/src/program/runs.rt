@@ -563,6 +563,44 @@ patch {plan} "call":1} "call":2}
 < differs at request 2
 
 
+prune_of_a_young_file: A file of a few requests and its archive: there is nothing to prune, which a quiet prune doesn't say. What an audit of both says of another archive refuses it; a file that is open elsewhere, and one that isn't there.
+0 acd lines --file {file}
+> 0 {"requester":"plan","invoke":1,"service":"addGroup","device":"100","name":"Billing","ring":20,"wrap":30}
+> 10 {"requester":"pbx","invoke":1,"service":"arriveCall","caller":"0301234","called":"100"}
+< 200 {"invoke":1,"requester":"plan","result":{}}
+< 200 {"invoke":1,"requester":"pbx","result":{"call":1}}
+
+put {file} {plan}
+
+0 acd prune --file {file} --archive {plan} --days 1
+< nothing to prune
+
+0 acd prune --file {file} --archive {plan} --keep 1 --quiet
+
+4 acd prune --file {file} --archive {file} --keep 1
+! acd: {file} is open elsewhere
+
+0 acd lines --file {file}
+> 900000 {"requester":"pbx","invoke":2,"service":"clearConnection","call":1,"device":"0301234"}
+< 200 {"invoke":2,"requester":"pbx","result":{}}
+
+0 acd prune --file {file} --archive {plan} --days 1
+< nothing to prune
+
+3 acd prune --file {plan} --archive {file} --days 1
+< differs at request 3
+
+1 acd prune --file /absent/a.db --archive {plan} --days 1
+! acd: cannot open /absent/a.db
+
+1 acd prune --file {file} --archive /absent/a.db --days 1
+! acd: cannot open /absent/a.db
+
+0 acd audit --file {file} --archive {plan} --count
+< sound
+< executed 3
+
+
 desk_over_http: A client that calls when it is said that the desk listens gets its reply, and other programs say that the file is open elsewhere. Of a port that is taken the file's fault is found before the port's.
 serve {file}
 > 4 acd report --file {file}

@@ -26,6 +26,16 @@ fn command_lines() -> &'static str {
 2 acd audit --archive /absent/a.db
 2 acd audit --file /absent/a.db --archive
 2 acd report --file /absent/a.db --archive /absent/b.db
+2 acd prune --file /absent/a.db --days 1
+2 acd prune --archive /absent/b.db --days 1
+2 acd prune --file /absent/a.db --archive /absent/b.db
+2 acd prune --file /absent/a.db --archive /absent/b.db --quiet
+2 acd prune --file /absent/a.db --archive /absent/b.db --days 1 --keep 1
+2 acd prune --file /absent/a.db --archive /absent/b.db --days 0
+2 acd prune --file /absent/a.db --archive /absent/b.db --days 36501
+2 acd prune --file /absent/a.db --archive /absent/b.db --keep 0
+2 acd prune --file /absent/a.db --archive /absent/b.db --keep 1000000001
+2 acd prune --file /absent/a.db --archive /absent/b.db --keep all
 2 acd serve --file /absent/a.db --port 1
 2 acd serve --file /absent/a.db --connections 1
 2 acd serve --port 1 --connections 1
@@ -44,7 +54,8 @@ fn command_lines() -> &'static str {
 0 acd import --help
 0 acd report --help
 0 acd export --help
-0 acd audit --help"
+0 acd audit --help
+0 acd prune --help"
 }
 
 // The status of the program, called with this line, and whether it writes nothing, and prints no fault.

@@ -12,7 +12,7 @@ returns-in_err-conn g c = match_from c.from_residual-in_err-conn.result _ _ _ c.
 
 pub returns-in_err-left : goal.returns-in_err-left
 returns-in_err-left g c =
-    match_err c.from_residual-in_err-left.result c.in_err-left.field-0.0 _ _ (search rules)
+    match_from c.from_residual-in_err-left.result c.in_err-left.field-0.0 _ _ c.from_residual-in_err-left.ensures.1
     (audit_stopped _ IsFresh c.in_err-left.field-0.0 c.args.counts c.args.whole c.in_ok-conn.conn c.over_archive-done.result.1 _ _ _ c.in_ok-conn.ensures.opened c.close_connection-closed.ensures.shut
     c.over_archive-done.ensures.kept refl (if_is_err c.over_archive-done.result.0 c.in_err-left.field-0.0 _ c.in_err-left.was c.over_archive-done.ensures.left))
 

@@ -44,6 +44,12 @@ returns-in-AuditWithArchive-clause-result g c =
     (task.AuditWithArchive c.in-AuditWithArchive.file c.in-AuditWithArchive.archive c.in-AuditWithArchive.counts c.in-AuditWithArchive.whole) c.in-AuditWithArchive.is
     (match_so c.audit_with_archive.result _ _ _ _ (λ status h. h) (λ fault h. (refl, refl, h)) c.audit_with_archive.ensures)
 
+pub returns-in-Prune-clause-result : goal.returns-in-Prune-clause-result
+returns-in-Prune-clause-result g c =
+    task_ends _ IsFresh c.prune_file.result c.args.task (streams g.R.Read.remaining g.W.Write.contents (c.args.reader.now, c.args.reader.now) (c.args.writer.now, c.prune_file.new.writer)) _ _
+    (task.Prune c.in-Prune.file c.in-Prune.archive c.in-Prune.retention c.in-Prune.quiet) c.in-Prune.is
+    (match_so c.prune_file.result _ _ _ _ (λ status h. h) (λ fault h. (refl, refl, h)) c.prune_file.ensures)
+
 pub returns-clause-result : goal.returns-clause-result
 returns-clause-result g c =
     let io : _ = streams g.R.Read.remaining g.W.Write.contents (c.args.reader.now, c.args.reader.now) (c.args.writer.now, c.work_in.new.writer) in
@@ -64,6 +70,9 @@ returns-in-AuditWhole-clause-elsewhere g c = err_elsewhere _ IsFresh _ _ _ _ _ (
 
 pub returns-in-AuditWithArchive-clause-elsewhere : goal.returns-in-AuditWithArchive-clause-elsewhere
 returns-in-AuditWithArchive-clause-elsewhere g c = err_elsewhere _ IsFresh _ _ _ _ _ (returns-in-AuditWithArchive-clause-result g c)
+
+pub returns-in-Prune-clause-elsewhere : goal.returns-in-Prune-clause-elsewhere
+returns-in-Prune-clause-elsewhere g c = err_elsewhere _ IsFresh _ _ _ _ _ (returns-in-Prune-clause-result g c)
 
 pub returns-clause-elsewhere : goal.returns-clause-elsewhere
 returns-clause-elsewhere g c = err_elsewhere _ IsFresh _ _ _ _ _ (returns-clause-result g c)

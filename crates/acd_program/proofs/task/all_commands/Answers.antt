@@ -3,7 +3,7 @@ use Rattle.clap.specs.Simple.{app_of_fields, new_shape, on_top}
 use Rattle.clap.specs.Words.{App, Shape, with_subcommand}
 use Rattle.clap.specs.declared.builder.Command.{Command}
 use Rattle.clap.specs.declared.builder.command.Command.TheOpen.{Command-F}
-use Rattle.acd_program.specs.CommandLine.{HasApp, lines_shape, serve_shape, import_shape, report_shape, export_shape, audit_shape}
+use Rattle.acd_program.specs.CommandLine.{HasApp, lines_shape, serve_shape, import_shape, report_shape, export_shape, audit_shape, prune_shape}
 use Rattle.acd_program.proofs.task.all_commands.Goals as goal
 
 abbrev alone : Shape → App
@@ -27,6 +27,9 @@ four = with_subcommand three report_shape
 abbrev five : App
 five = with_subcommand four export_shape
 
+abbrev six : App
+six = with_subcommand five audit_shape
+
 abbrev needs : Command-F Command → Command-F Command
 needs f = record f { subcommand_required = true }
 
@@ -47,4 +50,5 @@ returns c =
     let third = c.with-acd-3.ensures two (alone import_shape) second c.import_command.ensures in
     let fourth = c.with-acd-4.ensures three (alone report_shape) third c.report_command.ensures in
     let fifth = c.with-acd-5.ensures four (alone export_shape) fourth c.export_command.ensures in
-    c.with.ensures five (alone audit_shape) fifth c.audit_command.ensures
+    let sixth = c.with-acd-6.ensures five (alone audit_shape) fifth c.audit_command.ensures in
+    c.with.ensures six (alone prune_shape) sixth c.prune_command.ensures

@@ -12,7 +12,7 @@ returns-in-Some-clause-task g c is =
 pub returns-clause-refused : goal.returns-clause-refused
 returns-clause-refused g c is =
     inr (inr (
-      c.in_ok-refused_service-in-None.ensures,
+      c.in_ok-refused-in-None.ensures,
       none_named (subcommand_rows_of c.in_ok-matches.matches) (map g.S.AsStr.text c.args.words.now)
           (matches_are _ (map g.S.AsStr.text c.args.words.now) c.in_ok-matches.matches is c.in_ok-matches.ensures.ok.2) c.in-None.ensures,
     ))
