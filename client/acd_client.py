@@ -157,7 +157,7 @@ class AnotherHistory(Exception):
 
 
 class Missed(AnotherHistory):
-    """The desk's file has the next events no longer: it was carried over, and only an archive has them. A new snapshot
+    """The desk's file has the next events no longer: it was pruned, and only an archive has them. A new snapshot
     shows the present state."""
 
 

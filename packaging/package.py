@@ -32,7 +32,7 @@ CLIENT = TOP / "client"
 MAINTAINER = "The maintainers of acd <maintainers@users.noreply.hullapricot.example>"
 UNITS = ("acd.service", "acd-tick.service", "acd-gate.service", "acd-copy.service", "acd-copy.timer",
          "acd-local.service", "acd-node.service", "acd-node-upkeep.service", "acd-node-upkeep.timer",
-         "acd-records.service", "acd-follow.service", "acd-carry.service", "acd-carry.timer", "acd-certificate.service",
+         "acd-records.service", "acd-follow.service", "acd-prune.service", "acd-prune.timer", "acd-certificate.service",
          "acd-certificate.timer", "acd-rules.service")
 # until the next minor version
 OLD_NAMES_OF_USERS = ("acd-calls", "acd-export", "acd-plan", "acd-trail")
@@ -355,7 +355,7 @@ def lay_out(root, options, moment):
                           "Suggests: nginx, etcd-server, etcd-client\nSection: net\nPriority: optional\n"
                           f"Description: {DESCRIPTION} Built by {toolchain} from the sources of checksum\n {source}.\n")
     put("DEBIAN/md5sums", sums)
-    for script in ("postinst", "prerm", "postrm"):
+    for script in ("preinst", "postinst", "prerm", "postrm"):
         put(f"DEBIAN/{script}", (PACKAGING / "acd" / script).read_bytes(), 0o755)
     return version
 

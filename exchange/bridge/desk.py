@@ -103,7 +103,7 @@ class DeskLine:
         print(f"following the desk from event {self.x.steps.place.known.get('number', 0)}", flush=True)
 
     async def begin(self) -> None:
-        """If the desk's file was carried over, the snapshot shows who is logged on, and the exchange follows the events
+        """If the desk's file was pruned, the snapshot shows who is logged on, and the exchange follows the events
         after its last one."""
         shown = await self.call(self.client.attempt, "GET", "/snapshot")
         if shown.status != 200:

@@ -1,4 +1,4 @@
-"""A desk's file with the archives that it was carried over from, read as one: each request and each event once, in
+"""A desk's file with the archives that it continues, read as one: each request and each event once, in
 order. Tested, not proved.
 
     rows = opened(file, archives, folder)
@@ -59,7 +59,7 @@ def link_of(file: Path, folder: Path, is_live: bool) -> Link:
         version, *lasts = rows.execute("SELECT version, last_stamp, last_event FROM meta").fetchone()
     except (sqlite3.Error, TypeError):
         raise Fault(f"{file} is no desk's file") from None
-    # of a file that wasn't carried over version 1 is read too
+    # of a file that wasn't pruned version 1 is read too
     if version not in (1, VERSION):
         raise Fault(f"{file}: wrong version {version}")
     link = Link(file, rows, {}, dict(zip(HISTORY, lasts)))

@@ -12,12 +12,11 @@ from pathlib import Path
 
 from acd_service import chain
 from acd_service.log import Damaged, Unreadable, look
-from acd_service.pair import holds_something, log_of
+from acd_service.pair import log_of, no_log_left
 
 SOUND, AGAIN, EARLY, UNSOUND, UNAUDITED = "sound", "again", "early", "unsound", "unaudited"
 # what `acd audit --whole` ends with where the log ends early, and `acd audit --archive` where requests were sent again
 ENDS_EARLY, SENT_AGAIN = 5, 6
-QUIETLY = ["nice", "-n", "19", "acd"]
 NO_MEMORY = "acd: no memory"
 
 
@@ -32,9 +31,14 @@ class Finding:
         return self.verdict in (SOUND, AGAIN)
 
 
-def run(*words: str | Path) -> tuple[int, list[str]]:
+def quietly(program: str) -> list[str]:
+    """A program that leaves the processor to the desk."""
+    return ["nice", "-n", "19", program]
+
+
+def run(program: str, *words: str | Path) -> tuple[int, list[str]]:
     """The status, and the lines that it printed."""
-    done = subprocess.run([*QUIETLY, *words], stdin=subprocess.DEVNULL, stdout=subprocess.PIPE,
+    done = subprocess.run([*quietly(program), *words], stdin=subprocess.DEVNULL, stdout=subprocess.PIPE,
                           stderr=subprocess.STDOUT, text=True)
     return done.returncode, done.stdout.splitlines()
 
@@ -57,19 +61,16 @@ def last_stamp(file: Path) -> int:
     return stamp
 
 
-def carried(file: Path, archive: Path) -> Finding:
-    """The verdict on a file that was carried over. A program that can't audit it with its archive opens it, and SQL
+def carried(file: Path, archive: Path, program: str) -> Finding:
+    """The verdict on a file that continues an archive. A program that can't audit it with its archive opens it, and SQL
     compares the rows of both."""
-    log_existed = log_of(archive).exists()
-    audit = chain.audited(QUIETLY, file, archive, "--whole", "--count")
-    # the audit makes one beside an archive, too, and leaves nothing in it
-    if not log_existed and not holds_something(log_of(archive)):
-        log_of(archive).unlink(missing_ok=True)
+    with no_log_left(archive):
+        audit = chain.audited(quietly(program), file, archive, "--whole", "--count")
     if audit:
         return finding(audit[0], audit[1].splitlines())
     if isinstance(look(log_of(file)), (Damaged, Unreadable)):
         return Finding(EARLY, "its log ends early")
-    status, lines = run("lines", "--file", file)
+    status, lines = run(program, "lines", "--file", file)
     if status:
         return finding(status, lines)
     difference = chain.differences(file, archive)
@@ -79,13 +80,14 @@ def carried(file: Path, archive: Path) -> Finding:
     return Finding(SOUND, said, last_stamp(file))
 
 
-def audited(file: Path, archive: Path | None = None) -> Finding:
+def audited(file: Path, archive: Path | None = None, program: str = "acd") -> Finding:
     """The finding of the audit, with the archive if there is one. The audit empties the log; if the file isn't sound,
     the old log is put back."""
     log, aside = log_of(file), Path(f"{log_of(file)}.aside")
     if log.exists():
         shutil.copy2(log, aside)
-    found = carried(file, archive) if archive else finding(*run("audit", "--whole", "--count", "--file", file))
+    found = (carried(file, archive, program) if archive else
+             finding(*run(program, "audit", "--whole", "--count", "--file", file)))
     if os.path.exists(aside) and found.is_good():
         os.unlink(aside)
     elif os.path.exists(aside):

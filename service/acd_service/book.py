@@ -117,7 +117,7 @@ class Book:
         moment: int = self.one("SELECT last_moment FROM meta")[0]
         return moment
 
-    # requests in other files, if the file was carried over and not all of its archives are read
+    # requests in other files, if the file was pruned and not all of its archives are read
 
     def begins(self) -> int | None:
         """The moment of its first request, where it hasn't those before it; else nothing."""

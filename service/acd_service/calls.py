@@ -282,7 +282,7 @@ def add_files(parser: argparse.ArgumentParser) -> None:
                     help="a copy of the desk's file, with its log beside it where it has one")
     of.add_argument("--copies", type=Path, metavar="FOLDER", help="a folder of copies: the newest good one there")
     parser.add_argument("--archive", action="append", default=[], type=Path, metavar="A",
-                        help="an archive that the file was carried over from, in place of those that its note names; "
+                        help="an archive that the file continues, in place of those that its note names; "
                              "as often as there are some, from the oldest on")
 
 

@@ -1,16 +1,15 @@
 """The archives that a desk's file goes on from. Tested, not proved.
 
-Beside a file F that was carried over is F.archive, the note of the file from which it was carried over, which is its
-archive:
+Beside a file F that was pruned is F.archive, the note of its archive, which has what F had up to then:
 
     archive desk.db-2026-11-28-81234
     last 81234
     digest 5e88...
-    was 131 1800000000.5
 
-The archive's name, in F's folder; its last stamp; its SHA-256; and its inode, with the moment when that was made, as F
-had it until then. An archive that was itself carried over has such a note too, so archives are a chain. A folder of
-copies has each archive once, in the folder `archives`, with its note and its digest at the time of the copy."""
+The archive's name, in F's folder; its last stamp; and its SHA-256. Notes of before 1.16 have a line more, `was`: then
+the old F became the archive, and this is its inode, with the moment when that was made. An archive may have such a note
+too, so archives are a chain. A folder of copies has each archive once, in the folder `archives`, with its note and its
+digest at the time of the copy."""
 import contextlib
 import hashlib
 import os
@@ -28,7 +27,7 @@ from acd_service.command import Fault
 NOTE, DIGEST = ".archive", ".sha256"
 # beside a copy that isn't wholly sound: which request was sent again after a cut
 AGAIN = ".again"
-# the folder beside a file in which acd-carry makes the file that replaces it
+# the folder beside a file in which acd-carry made, before 1.16, the file that replaced it
 BESIDE = ".carry"
 FOLDER = "archives"
 # the columns of meta that are limits
@@ -48,10 +47,11 @@ class Note:
     name: str
     last: int
     digest: str
-    was: str
+    was: str = ""
 
     def text(self) -> str:
-        return f"archive {self.name}\nlast {self.last}\ndigest {self.digest}\nwas {self.was}\n"
+        was = f"was {self.was}\n" if self.was else ""
+        return f"archive {self.name}\nlast {self.last}\ndigest {self.digest}\n{was}"
 
 
 def note_of(file: Path) -> Path:
@@ -59,10 +59,10 @@ def note_of(file: Path) -> Path:
 
 
 def read_note(file: Path) -> Note | None:
-    """The note beside a file; None if the file wasn't carried over."""
+    """The note beside a file; None if the file continues no archive."""
     try:
         said = dict(line.partition(" ")[::2] for line in note_of(file).read_text().splitlines())
-        return Note(said["archive"], int(said["last"]), said["digest"], said["was"])
+        return Note(said["archive"], int(said["last"]), said["digest"], said.get("was", ""))
     except FileNotFoundError:
         return None
     except (KeyError, ValueError):
@@ -97,16 +97,17 @@ def chain(file: Path, folders: Sequence[Path] = ()) -> list[Note]:
     return found
 
 
-def exchanged(file: Path) -> Note | None:
-    """The note of an exchange that has put the new file in place and isn't finished: the note is in the folder where
-    the new file was made. Else None."""
-    note = read_note(Path(f"{file}{BESIDE}") / file.name)
-    return note if note and pair.identity(file) != note.was else None
-
-
 def unfinished(file: Path) -> str | None:
-    """The text for an exchange that was broken off."""
-    return f"acdctl carry of {file} was broken off: acdctl carry --file {file} ends it" if exchanged(file) else None
+    """How to end a carry-over of before 1.16 that was broken off once the new file was in place; None if there is
+    none."""
+    folder = Path(f"{file}{BESIDE}")
+    note = read_note(folder / file.name)
+    if not note or pair.identity(file) == note.was:
+        return None
+    steps = [f"mv {note_of(folder / file.name)} {note_of(file)}", f"rm -r {folder}"]
+    if (folder / file.name).exists():
+        steps[:0] = [f"mv {folder / file.name} {file.parent / note.name}"]
+    return f"a carry-over of {file} was broken off before 1.16; this ends it: {' && '.join(steps)}"
 
 
 # The archive

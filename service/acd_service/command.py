@@ -20,14 +20,14 @@ ENDING = (signal.SIGHUP, signal.SIGINT, signal.SIGTERM)
 FAILED, REFUSED, MEND = 1, 2, 64
 # what the new names say, and what the old ones say in its place: the words of a command, and sentences
 OLD_WORDS = ((r"\bacdctl restore --undo", "acd-copy --undo"), (r"\bacdctl restore\b", "acd-copy --restore"),
-             (r"\bacdctl (calls|carry|certificate|copy|export|follow|forget|gate|local|node|plan|ready|tick|trail)\b",
+             (r"\bacdctl prune\b", "acd-carry"),
+             (r"\bacdctl (calls|certificate|copy|export|follow|forget|gate|local|node|plan|ready|tick|trail)\b",
               r"acd-\1"),
              (r"; it is in (.*), and all older copies are kept$",
               r"; it lies in \1, and the older copies are all kept"),
              ("be audited with its archive: ", "be looked at behind its archive: "),
              ("can't audit with an archive ", "can't look behind an archive "),
-             (" is no folder put-away-", " lies no folder put-away-"), ("isn't sound with ", "isn't sound behind "),
-             (r" is sound with (\S+) \(audit", r" is sound behind \1 (audit"),
+             (" is no folder put-away-", " lies no folder put-away-"),
              (" is on another disk than ", " lies on another disk than "),
              ("this file is elsewhere$", "this file lies elsewhere"),
              ("and is ignored: remove", "and is passed over: remove"),

@@ -4,8 +4,8 @@ back.
 It copies the file while the desk runs, and then halts the desk for its log: if nothing wrote to the file meanwhile,
 both are what a power cut would leave, and every answered request is in them. A copy whose name is its moment alone is
 good, and has no fewer requests than the copy before. It keeps all other copies beside these for a look, ends with
-status 1, and clears no old copy away. It audits a file that was carried over together with its archive, and copies each
-archive once. It is tested, not proved."""
+status 1, and clears no old copy away. It audits a file that was pruned with its archive, and copies each archive once.
+It is tested, not proved."""
 import argparse
 import calendar
 import contextlib
@@ -37,6 +37,8 @@ BRIEF, PATIENCE, PAUSE, LONGEST = 2, 600, 0.1, 60
 TICK, SECOND = 0.1, 2.1
 # the most copies of one day that stay
 MOST = 20
+# the note in a folder of copies that says how many requests the last good one has, and of which file it is
+EXECUTED = "executed"
 # seconds from which on a copy takes long, and how many bytes are compared at once
 SLOW, BLOCK = 1, 1 << 20
 CHANGED = "its file was written, or moved, while it was copied"
@@ -184,23 +186,31 @@ def taken(file: Path, new: Path, seconds: int) -> Desk | None:
         pause = min(2 * pause, LONGEST)
 
 
+def which(file: Path) -> dict[str, str]:
+    return {"device": str(os.stat(file).st_dev), "inode": identity(file)}
+
+
+def noted(folder: Path) -> tuple[int, dict[str, str] | None]:
+    """How many requests the last good copy had, and of which file it is; of none if nothing says so."""
+    try:
+        then = dict(line.partition(" ")[::2] for line in (folder / EXECUTED).read_text().splitlines())
+        return int(then.pop("executed")), then
+    except (FileNotFoundError, KeyError, ValueError):
+        return 0, None
+
+
 def counted(folder: Path, file: Path, executed: int) -> str | None:
     """Looks how many requests the last sound copy had of the same file, or of one that it goes on from. Returns a line
     if this one has fewer; else writes down its number."""
-    note, same = folder / "executed", {"device": str(os.stat(file).st_dev), "inode": identity(file)}
+    same, (before, then) = which(file), noted(folder)
     earlier = [{**same, "inode": archive.was} for archive in chain.chain(file, [chain.copies_of(folder)])]
-    then: dict[str, str] | None
-    try:
-        then = dict(line.partition(" ")[::2] for line in note.read_text().splitlines())
-        before = int(then.pop("executed"))
-    except (FileNotFoundError, KeyError, ValueError):
-        then = None
     if then in (same, *earlier) and executed < before:
         return f"the copy has {executed} executed requests, and the last one of the same file had {before}"
     if then not in (None, same, *earlier):
         say(f"this is another file than that of the last copy, which had {before} executed requests: counted anew, "
             f"from {executed}")
-    put.put(note, "".join(f"{name} {value}\n" for name, value in {"executed": str(executed), **same}.items()))
+    lines = (f"{name} {value}\n" for name, value in {"executed": str(executed), **same}.items())
+    put.put(folder / EXECUTED, "".join(lines))
     return None
 
 

@@ -7,7 +7,6 @@ other, and the archives themselves are put away until --confirm. It doesn't touc
 over it meanwhile; while that file has the number, it does nothing. It is tested, not proved."""
 import argparse
 import contextlib
-import fcntl
 import itertools
 import json
 import mmap
@@ -366,23 +365,15 @@ def prepared(file: Path, archives: dict[Path, str], device: str, program: str, s
 
 @contextlib.contextmanager
 def alone(file: Path) -> Iterator[None]:
-    """Nobody else puts files away in this folder, or carries the file over."""
+    """Nobody else puts files away in this folder, or prunes the file."""
     restoring.become(*restoring.owner_of(file))
     unfinished = restoring.unfinished(file) or chain.unfinished(file)
     if unfinished:
         raise Fault(unfinished)
-    folder = os.open(file.parent, os.O_RDONLY)
-    try:
-        fcntl.flock(folder, fcntl.LOCK_EX | fcntl.LOCK_NB)
-        if Path(f"{file}{chain.BESIDE}").exists():
-            raise BlockingIOError
+    with restoring.alone_in(file.parent, f"{file} is pruned, or put back, just now; nothing was changed"):
         for left in file.parent.glob(f"{SCRATCH}*"):
             shutil.rmtree(left)
         yield
-    except BlockingIOError:
-        raise Fault(f"{file} is carried over, or put back, just now; nothing was changed") from None
-    finally:
-        os.close(folder)
 
 
 def forget(file: Path, copies: Path, named: list[Path], device: str, program: str, scratch: Path) -> None:
@@ -399,8 +390,8 @@ def forget(file: Path, copies: Path, named: list[Path], device: str, program: st
             refuse_others(rows, link, device)
             found[link] = tables_with(rows, device)
             if found[file]:
-                raise Fault(f"{device} is still in {file} ({', '.join(found[file])}). The first carry-over two days or "
-                            "more after its last call removes it; nothing was changed")
+                raise Fault(f"{device} is still in {file} ({', '.join(found[file])}). The first prune two days or more "
+                            "after its last call removes it; nothing was changed")
     if any(found.values()):
         done = prepared(file, archives, device, program, scratch)
         done.go(file, copies)
@@ -410,6 +401,8 @@ def forget(file: Path, copies: Path, named: list[Path], device: str, program: st
         say(f"{device} is in no archive")
     for place in others_with(file, archives, copies.parent, scratch, device):
         say(f"{device} is still in {place}")
+    if any(is_in_bytes(part, device) for part in (file, log_of(file)) if part.is_file()):
+        say(f"{device} is still in free pages of {file}: compact it, as OPERATING says ('Leaving old requests behind')")
 
 
 def confirm(file: Path) -> None:

@@ -20,19 +20,25 @@ class Command(NamedTuple):
     about: str
 
 
+class Former(NamedTuple):
+    """The module with its `main`, and the words that do the same now."""
+    module: str
+    now: str
+
+
 COMMANDS = {
     "calls": Command("calls", "print each call, leg of a call, agent's day or group's quarter of an hour as CSV"),
-    "carry": Command("leaving.carry", "make a new file that continues the desk's, and leave the old one as an archive"),
     "certificate": Command("certificate", "tell when the certificate ends that a port shows"),
     "check": Command("check", "judge settings, roles, logins, names, and nginx's ports and certificate"),
     "copy": Command("copy", "copy the desk's file, audit the copy, and clear old copies away"),
-    "export": Command("leaving.export", "print all events of a file and its archives as CSV"),
+    "export": Command("export", "print all events of a file and its archives as CSV"),
     "follow": Command("follow", "keep a copy of a desk that runs elsewhere"),
     "forget": Command("forget", "make a caller's number unknown in the archives"),
     "gate": Command("gate.main", "judge logins for the proxy, and let each ask for no more than its role may"),
     "local": Command("local", "keep this machine's other users from the desk's ports"),
     "node": Command("node.main", "feed this machine's desk from a log that several machines share"),
     "plan": Command("plan", "print the desk's plan, or change it to another one"),
+    "prune": Command("prune", "take old requests out of the desk's file, once an archive has them"),
     "ready": Command("ready", "look whether the desk can be served, and serve it"),
     "records": Command("records", "write files of the days that are over: calls, agents and groups"),
     "restore": Command("restore", "put a copy of the desk's file back, or take that back"),
@@ -41,8 +47,11 @@ COMMANDS = {
     "tick": Command("tick", "send the desk its ticks"),
     "trail": Command("trail", "print who asked the desk for what, when, and with which result"),
 }
+# commands of before 1.16, which go with the old names: no page has them, nor --help
+FORMER = {"carry": Former("prune", "acdctl prune")}
 # commands of before 1.15
-OLD = {f"acd-{name}": name for name in COMMANDS if name not in ("check", "records", "restore", "rules", "status")}
+OLD = {f"acd-{name}": name for name in ("calls", "carry", "certificate", "copy", "export", "follow", "forget", "gate",
+                                        "local", "node", "plan", "ready", "tick", "trail")}
 
 
 def usage() -> str:
@@ -53,9 +62,19 @@ def usage() -> str:
                       f"  {'--version':{width}}  print the version"])
 
 
+def module_of(name: str) -> str:
+    return COMMANDS[name].module if name in COMMANDS else FORMER[name].module
+
+
+def words_now(called: str) -> str:
+    """The words that do by now what an old name did."""
+    name = OLD.get(called, called.removeprefix("acdctl "))
+    return FORMER[name].now if name in FORMER else f"acdctl {name}"
+
+
 def run(name: str, called: str, words: list[str]) -> NoReturn:
     command.call_it(called, called in OLD)
-    sys.exit(importlib.import_module(f"acd_service.{COMMANDS[name].module}").main(words))
+    sys.exit(importlib.import_module(f"acd_service.{module_of(name)}").main(words))
 
 
 def is_first_of_the_day(old: str) -> bool:
@@ -81,7 +100,7 @@ def tell_new_words(old: str) -> None:
     """Once a day, in the journal alone: scripts read what the command prints."""
     if os.path.exists(JOURNAL) and is_first_of_the_day(old):
         syslog.openlog(old)
-        syslog.syslog(syslog.LOG_NOTICE, f"'{old}' is 'acdctl {OLD[old]}' now; the next minor version doesn't have the "
+        syslog.syslog(syslog.LOG_NOTICE, f"'{old}' is '{words_now(old)}' now; the next minor version doesn't have the "
                                          "old name any more")
         syslog.closelog()
 
@@ -91,7 +110,9 @@ def main(argv: list[str]) -> NoReturn:
     if called in OLD:
         tell_new_words(called)
         run(OLD[called], called, words)
-    if words and words[0] in COMMANDS:
+    if words and words[0] in FORMER:
+        tell_new_words(f"acdctl {words[0]}")
+    if words and words[0] in (*COMMANDS, *FORMER):
         run(words[0], f"acdctl {words[0]}", words[1:])
     if words in (["--help"], ["-h"]):
         print(usage())

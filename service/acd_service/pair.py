@@ -7,9 +7,11 @@ line each. If there was no log, the note says 'log none'.
 A stop adds how the desk left them: 'left 20480 1800000002000000000 8416' are the file's size and time, in nanoseconds,
 and the log's size. The next start takes that line away. So a log that was removed in between is seen, unless somebody's
 program wrote it into the file before."""
+import contextlib
 import os
 import re
 import subprocess
+from collections.abc import Iterator
 from pathlib import Path
 
 from acd_service import put
@@ -31,6 +33,18 @@ def note_of(file: Path) -> Path:
 def holds_something(log: Path) -> bool:
     """Whether it is longer than one that was emptied."""
     return log.exists() and log.stat().st_size > EMPTY
+
+
+@contextlib.contextmanager
+def no_log_left(file: Path) -> Iterator[None]:
+    """A program that opens a file without a log makes one, and leaves nothing in it: beside this file it doesn't
+    stay."""
+    existed = log_of(file).exists()
+    try:
+        yield
+    finally:
+        if not existed and not holds_something(log_of(file)):
+            log_of(file).unlink(missing_ok=True)
 
 
 def identity(path: Path) -> str:

@@ -317,23 +317,38 @@ def become(user: int, group: int) -> None:
 
 
 @contextlib.contextmanager
+def alone_in(folder: Path, busy: str) -> Iterator[None]:
+    """Nobody else puts files away in this folder, prunes one, or forgets a caller in one as long as this lasts; else it
+    raises a fault of this text."""
+    opened = os.open(folder, os.O_RDONLY | os.O_DIRECTORY)
+    try:
+        fcntl.flock(opened, fcntl.LOCK_EX | fcntl.LOCK_NB)
+    except BlockingIOError:
+        os.close(opened)
+        raise Fault(busy) from None
+    try:
+        yield
+    finally:
+        os.close(opened)
+
+
+@contextlib.contextmanager
 def alone(file: Path) -> Iterator[None]:
     """Nobody else puts files away in this folder, and no program opens the file while it is in place."""
     owner = owner_of(file)
     refuse_beside(file)
     become(*owner)
     refuse_machines(file)
+    busy = (f"another program, which this user can't see, has {file} open, "
+            "or restores it: stop it first; nothing was touched")
     with contextlib.ExitStack() as stack:
-        folder = os.open(file.parent, os.O_RDONLY)
-        stack.callback(os.close, folder)
-        try:
-            fcntl.flock(folder, fcntl.LOCK_EX | fcntl.LOCK_NB)
-            if inode(file) is not None:
-                has = stack.enter_context(open(file, "rb+", buffering=0))
+        stack.enter_context(alone_in(file.parent, busy))
+        if inode(file) is not None:
+            has = stack.enter_context(open(file, "rb+", buffering=0))
+            try:
                 fcntl.lockf(has, fcntl.LOCK_EX | fcntl.LOCK_NB, LOCKS, LOCKS_AT)
-        except BlockingIOError:
-            raise Fault(f"another program, which this user can't see, has {file} open, "
-                        "or restores it: stop it first; nothing was touched") from None
+            except BlockingIOError:
+                raise Fault(busy) from None
         yield
 
 

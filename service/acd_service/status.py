@@ -187,7 +187,7 @@ class Desk:
     def archive(self) -> Found:
         note = chain.read_note(self.file)
         if note is None:
-            return Found(None, "none: the file wasn't carried over")
+            return Found(None, "none: the file wasn't pruned")
         is_there = (self.file.parent / note.name).is_file()
         return Found({"name": note.name, "last": note.last, "isThere": is_there},
                      f"{note.name}, with the requests up to "

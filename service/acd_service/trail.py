@@ -241,7 +241,7 @@ def parser() -> command.Parser:
                        help="a copy of the desk's file, with its log beside it where it has one")
     found.add_argument("--live", action="store_true", help="of a file that a desk has open: what it has at this moment")
     found.add_argument("--archive", action="append", default=[], metavar="A",
-                       help="an archive that the file was carried over from; as often as there are some, "
+                       help="an archive that the file continues; as often as there are some, "
                             "from the oldest on")
     reach.add_login_options(found)
     found.add_argument("--since", type=when, metavar="WHEN",

@@ -1,7 +1,7 @@
 """Stops the desk's unit and keeps it down, while something is done to its file, and starts it again. By root; tested,
 not proved.
 
-/run/acd-carry, which a power cut empties, has two files without bytes. `down` is a condition of the unit: while it is
+/run/acd-prune, which a power cut empties, has two files without bytes. `down` is a condition of the unit: while it is
 there nobody starts the unit, whoever asks for it, and systemd remembers that somebody asked. `start` says that the unit
 was up, and has to be started again. Both are there before the unit is stopped, and `start` until it is started: so
 either command may be killed at any moment, and the second one alone, run once more, does the rest."""
@@ -12,7 +12,7 @@ from pathlib import Path
 from acd_service.command import Fault
 
 UNIT = "acd.service"
-FOLDER = Path("/run/acd-carry")
+FOLDER = Path("/run/acd-prune")
 DOWN, START = FOLDER / "down", FOLDER / "start"
 # states in which somebody wants it up: it runs, or is started, or is about to be
 UP = ("active", "activating", "reloading")

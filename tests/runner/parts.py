@@ -81,7 +81,7 @@ BY_HAND = {
     "gate whole": Part("try-gate", (), ("try-gate", "gate/followed.py", "gate/older.py", "gate/alike.py", "gate/waits.py", "gate/monitor.py", "gate/many.py"), (*NGINX, "python3-h2", "python3-prometheus-client")),
     "http": Part("try-http", (), ("try-http",), (*NGINX, "apache2-utils", "curl", "sqlite3")),
     "node": Part("try-node", (), ("node/carried.py", "node/day.py", "node/hostile.py"), (), ("etcd",)),
-    "office": Part("try-office", (), tuple(f"office/{name}.py" for name in ("starting", "damage", "clock", "copies", "carried", "plans", "program", "byhand", "clone")), (), ("booted",), False),
+    "office": Part("try-office", (), tuple(f"office/{name}.py" for name in ("starting", "damage", "clock", "copies", "pruned", "plans", "program", "byhand", "clone")), (), ("booted",), False),
     "package": Part("try-package", (), ("try-package",), ("debootstrap", "iproute2", "lintian", "util-linux"), ("root",), False),
     "prune": Part("try-prune", (), ("try-prune",)),
     "ready": Part("try-ready", (), tuple(f"ready/{name}.py" for name in ("cuts", "logs", "notices", "settings", "starts", "stops")), (), ("root",)),

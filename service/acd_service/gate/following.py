@@ -152,7 +152,7 @@ class Following:
         page = await self.page(f"/history?after={max(0, last - 1)}")
         events: list[Text] = page["events"]
         if last > 0:
-            # over a file that was carried over it may be that the last one isn't there any more
+            # over a file that was pruned it may be that the last one isn't there any more
             again = events.pop(0) if events and events[0]["number"] == last else None
             is_other = self.seen is not None and again != self.seen
             if page["last"] < last or is_other or (events and events[0]["number"] > last + 1):

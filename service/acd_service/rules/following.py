@@ -63,8 +63,8 @@ def begin(desk: Desk, rules: Rules, clock: float) -> tuple[Picture, Event | None
 
 
 def history(desk: Desk, since: int, last: int) -> Iterator[Event]:
-    """The events from a moment on, up to the one of this number, and not many earlier ones. Of a file that was carried
-    over those that it still has."""
+    """The events from a moment on, up to the one of this number, and not many earlier ones. Of a file that was pruned
+    those that it still has."""
     low, high = 0, last
     while high - low > FEW:
         middle = (low + high) // 2
@@ -106,7 +106,7 @@ class Following:
                 self.send(move, self.now(picture))
         except AnotherHistory as fault:
             self.picture = None
-            # what was carried over has the same keys; an older copy hasn't
+            # what was pruned has the same keys; an older copy hasn't
             if not isinstance(fault, Missed):
                 self.tried.clear()
             report(f"the desk is read anew: {fault}", NOTICE)

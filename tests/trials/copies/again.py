@@ -1,4 +1,4 @@
-"""A request that a client sends again after a cut: the copy is good up to there, and so is what is made of it; and which good copies stay, day by day."""
+"""A request that a client sends again after it was pruned: the copy is good up to there, and so is what is made of it; and which good copies stay, day by day."""
 import contextlib
 import os
 import re
@@ -17,7 +17,15 @@ DAY = 86400
 PLANNED = '0 {"requester":"p","invoke":1,"service":"addGroup","device":"100","name":"B","ring":20,"wrap":30}\n'
 ARRIVES = '{"requester":"pbx","invoke":1,"service":"arriveCall","caller":"0301555","called":"100"}'
 TICK = '{"requester":"clock","invoke":1,"service":"tick"}'
-TOLD = r"sound, but request 4 was sent again; executed \d+\n"
+# so many stay in any case, beside the tick of before
+MANY = 1000
+LAST, SENT = 3 + MANY, 4 + MANY
+TOLD = rf"sound, but request {SENT} was sent again; executed \d+\n"
+
+
+def ticks(requester, moment):
+    """So many, of one moment."""
+    return "".join(f'{moment} {{"requester":"{requester}","invoke":{number},"service":"tick"}}\n' for number in range(1, MANY + 1))
 
 
 def moment_of(days, second=0):
@@ -28,17 +36,20 @@ def moment_of(days, second=0):
 class Again(Part):
     # a request that is sent again
 
-    def carried(self):
-        """A desk with a call of before the cut, that its archive alone has, and a good copy; then this call is sent again, and answered with another number."""
+    def pruned(self):
+        """A desk with a call that was pruned, that its archive alone has, and a good copy; then this call is sent again, and answered with another number."""
         office = Office(tempfile.mkdtemp(dir=self.folder), self.program, self.script)
-        self.lines(office, f"{PLANNED}5 {ARRIVES}\n300000 {TICK}\n")
-        status, said, faults = office.run(PYTHON, self.script.parent / "acd-carry", "--file", office.file)
-        self.expect(f"carried over: {said}{faults}", (status, faults), (0, ""))
-        office.archive = office.folder / "desk.db-1970-01-04-3"
+        self.lines(office, f"{PLANNED}5 {ARRIVES}\n300000 {TICK}\n" + ticks("laid", 300000))
+        self.prune(office, "pruned up to request 2\n")
+        office.archive = office.folder / f"desk.db-1970-01-04-{LAST}"
         office.sound = office.copies / office.copy_now()
         answers = self.lines(office, f"300100 {ARRIVES}\n300101 {TICK.replace('1', '2', 1)}\n")
         self.expect("it acts again", answers.splitlines()[0], '200 {"invoke":1,"requester":"pbx","result":{"call":2}}')
         return office
+
+    def prune(self, office, wanted):
+        status, said, faults = office.run(PYTHON, self.script.parent / "acdctl", "prune", "--file", office.file)
+        self.expect(f"pruned: {faults}", (status, said, faults), (0, wanted, ""))
 
     def lines(self, office, given):
         status, said, faults = office.run("acd", "lines", "--file", office.file, given=given)
@@ -54,7 +65,7 @@ class Again(Part):
 
     def try_again(self):
         """It is kept under its moment, and of the copies that are wholly sound all stay, however old they are; of the others those of the last days."""
-        office = self.carried()
+        office = self.pruned()
         office.sound = office.sound.rename(office.copies / moment_of(30))
         older = shutil.copytree(office.sound, office.copies / moment_of(40))
         first = self.copied("the first", office, "--keep", "1")
@@ -63,16 +74,16 @@ class Again(Part):
         second = self.copied("the second", office, "--keep", "1")
         self.expect("what stays", [path.exists() for path in (older, office.sound, first, second)], [True, True, False, True])
         self.expect("nothing is kept aside", sorted(path.name for path in office.copies.iterdir() if not path.name.endswith("Z")), ["archives", "executed"])
-        # the next cut leaves it behind, and all is sound again
-        self.lines(office, "700000 " + TICK.replace("1", "3", 1) + "\n")
-        office.run(PYTHON, self.script.parent / "acd-carry", "--file", office.file)
+        # the next prune takes it out, and all is sound again
+        self.lines(office, ticks("later", 700000))
+        self.prune(office, f"sound, but request {SENT} was sent again; executed {2 * MANY + 5}\npruned up to request {SENT + 1}\n")
         status, said, faults = office.copy("--keep", "1")
-        self.expect(f"after the next cut: {said}{faults}", (status, bool(re.search(SOUND, said)), faults), (0, True, ""))
+        self.expect(f"after the next one: {said}{faults}", (status, bool(re.search(SOUND, said)), faults), (0, True, ""))
         self.expect("what stays then", [path.exists() for path in (older, office.sound, second)], [False, False, True])
 
     def try_good(self):
         """What is made of such a copy takes it as good, and says the line."""
-        office = self.carried()
+        office = self.pruned()
         made = self.copied("a copy", office)
         status, said, faults = office.run(PYTHON, self.script.parent / "acd-calls", "--copies", office.copies, "--since", "1970-01-04", "--until", "1970-01-04")
         self.expect(f"records: {faults}", (status, said.count("\n"), bool(re.fullmatch(f"acd-calls: {TOLD}", faults))), (0, 2, True))
@@ -87,27 +98,26 @@ class Again(Part):
 
     def try_forgotten(self):
         """A caller of before is forgotten, and the line is said."""
-        office = self.carried()
+        office = self.pruned()
         self.lines(office, '600000 {"requester":"pbx","invoke":2,"service":"arriveCall","caller":"0301666","called":"100"}\n')
         status, said, faults = office.run(PYTHON, self.script.parent / "acd-forget", "--file", office.file, "--folder", office.copies, "--caller", "0301777", "--archive", office.archive)
         self.expect(f"nobody's number: {said}{faults}", (status, faults), (0, ""))
         self.lines(office, '900000 {"requester":"pbx","invoke":3,"service":"clearConnection","call":1,"device":"0301555"}\n'
-                   '900000 {"requester":"pbx","invoke":4,"service":"clearConnection","call":2,"device":"0301555"}\n1300000 ' + TICK.replace("1", "3", 1) + "\n")
-        status, said, faults = office.run(PYTHON, self.script.parent / "acd-carry", "--file", office.file)
-        archives = [office.archive, *office.folder.glob("desk.db-1970-01-16-?")]
-        self.expect(f"carried over: {said}{faults}", (status, len(archives)), (0, 2))
+                   '900000 {"requester":"pbx","invoke":4,"service":"clearConnection","call":2,"device":"0301555"}\n' + ticks("later", 1300000))
+        self.prune(office, f"sound, but request {SENT} was sent again; executed {2 * MANY + 8}\npruned up to request {SENT + 4}\n")
+        archives = [office.archive, office.folder / f"desk.db-1970-01-16-{2 * MANY + 8}"]
         words = [word for archive in archives for word in ("--archive", archive)]
         status, said, faults = office.run(PYTHON, self.script.parent / "acd-forget", "--file", office.file, "--folder", office.copies, "--caller", "0301555", *words)
-        self.expect(f"forgotten: {said}{faults}", (status, "sound, but request 4 was sent again" in said, faults), (0, True, ""))
+        self.expect(f"forgotten: {said}{faults}", (status, f"sound, but request {SENT} was sent again" in said, faults), (0, True, ""))
 
     def try_others(self):
         """What isn't so: another difference before it or behind it, a log that ends early."""
-        for stamp in (3, 5):
-            office = self.carried()
+        for stamp in (LAST, SENT + 1):
+            office = self.pruned()
             self.change(office, f"UPDATE kept SET body = '{{\"invoke\":1}}' WHERE stamp = {stamp}")
             status, said, faults = office.copy()
             self.expect(f"reply {stamp} was changed: {faults}", (status, f"'differs at request {stamp}'; it lies in {office.copies}/unsound" in faults), (1, True))
-        office = self.carried()
+        office = self.pruned()
         with Lines(self.program, office.file) as desk:
             for number in range(9):
                 desk.say(f"300200 {compact(Requests(n=number)('tick', 'n'))}")

@@ -16,7 +16,7 @@ FEW = ("rename", "link", "symlink", "unlink", "rmdir", "write")
 TRACED = ",".join(f"?{name}" for name in CALLS)
 # how many wait in the copy, in the file alone that was in place, and in it with its log
 COPIED, LAID_IN, IN_PLACE = 2, 4, 7
-# what lies beside a file that was carried over twice, in the way that has it: notes and archives, of which a restore looks at the names alone
+# what lies beside a file that was pruned twice, in the way that has it: notes and archives, of which a restore looks at the names alone
 ARCHIVES = {".archive": "archive desk.db-2026-01-02-7\nlast 7\ndigest 0\nwas 1 1\n", "-2026-01-02-7": "the last one", "-2026-01-01-5": "the first one",
             "-2026-01-02-7.archive": "archive desk.db-2026-01-01-5\nlast 5\ndigest 0\nwas 1 1\n"}
 DONE, UNDONE, NOTHING = "Restored ", "Took the restore of ", "there is no restore to take back"

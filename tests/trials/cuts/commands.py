@@ -1,9 +1,11 @@
 """Each command that promises something of a power cut: what it leaves at each of its syncs, and that all is on the disk once it has ended."""
+import hashlib
 import re
+import shutil
 import tempfile
 from pathlib import Path
 
-from again import ARRIVES, PLANNED, TICK
+from again import ARRIVES, PLANNED, TICK, ticks
 from disks import KINDS, Disk
 from ground import PYTHON, Office, Part, call, kept
 from kills import DONE, UNDONE, Kills, lies
@@ -52,9 +54,9 @@ class Cuts(Part):
         return PYTHON, self.script.parent / name
 
     def with_a_day_behind(self, folder):
-        """A desk whose only call was over long before its last request."""
+        """A desk whose only call was over long before its last requests, as many as stay in any case."""
         office = self.office_in(folder)
-        self.fed(office, PLANNED.rstrip("\n"), f"5 {ARRIVES}", f"100 {CLEARED}", f"300000 {TICK}")
+        self.fed(office, PLANNED.rstrip("\n"), f"5 {ARRIVES}", f"100 {CLEARED}", f"300000 {TICK}", ticks("laid", 300000).rstrip("\n"))
         self.all = kept(office.file)
         return office
 
@@ -157,38 +159,47 @@ class Undone(Kept):
         self.expect(f"{what}: what was in place is kept", [sum(key.startswith("x ") for key in kept(one / office.file.name)) for one in taken], [self.kills.numbers()[0] + 1])
 
 
-class Carried(Cuts):
-    """The file is the old one or the new one, as a whole; no request is lost; the same again ends it."""
+class Pruned(Cuts):
+    """The file is as it was or pruned, and goes on from the archive that its note names; no request is lost; the same again does the rest."""
 
-    def try_carry(self):
+    def try_prune(self):
         self.on_each_kind()
 
     def laid(self, folder):
         return self.with_a_day_behind(folder)
 
     def words(self, office):
-        return *self.other_script("acd-carry"), "--file", office.file
+        return *self.other_script("acdctl"), "prune", "--file", office.file
 
     def ended(self, office, done):
-        self.archive, = (path for path in office.folder.glob("desk.db-????-??-??-*") if path.suffix != ".archive")
+        self.archive, = archives_of(office)
         self.new = kept(office.file)
         self.names = {path.name for path in office.folder.iterdir()}
-        self.see("requests are left behind", 0 < len(self.new) < len(self.all), self.new)
+        self.see("requests are pruned", 0 < len(self.new) < len(self.all), len(self.new))
         self.expect("the archive", kept(self.archive), self.all)
 
     def judge(self, what, office, is_last):
-        found = kept(office.file)
-        self.see(f"{what}: the old file or the new one", found == self.new or not is_last and found == self.all, found)
+        found, note = kept(office.file), Path(f"{office.file}.archive")
+        self.see(f"{what}: the file is as it was, or pruned", found == self.new or not is_last and found == self.all, len(found))
         if is_last:
             self.expect(f"{what}: files and notes have their names", self.names - {path.name for path in office.folder.iterdir()}, set())
-        beside = Path(f"{office.file}.carry") / office.file.name
-        self.see(f"{what}: no request is lost", self.all in (found, kept(beside), kept(self.archive)), found)
+        self.see(f"{what}: pruned with its archive alone", found == self.all or note.exists(), len(found))
+        if note.exists():
+            self.expect(f"{what}: the archive that is noted", kept(self.archive), self.all)
+            self.expect(f"{what}: and its digest", re.findall("digest (.*)", note.read_text()), [hashlib.sha256(self.archive.read_bytes()).hexdigest()])
+        status, said, faults = office.copy()
+        self.expect(f"{what}: a copy: {said}{faults}", (status, "sound: " in said, faults), (0, True, ""))
+        shutil.rmtree(office.copies)
         status, said, faults = office.run(*self.words(office))
-        self.see(f"{what}, the same again: {said}{faults}", status in (0, 3), status)
+        self.expect(f"{what}, the same again: {said}{faults}", (status, faults), (0, ""))
         self.expect(f"{what}, the same again: the files", (kept(office.file), kept(self.archive)), (self.new, self.all))
         status, said, faults = office.run("acd", "audit", "--file", office.file, "--archive", self.archive)
         self.expect(f"{what}: the audit: {faults}", (status, said), (0, SOUND))
-        self.expect(f"{what}: what is left", sorted(path.name for path in office.folder.glob("*.carry")), [])
+        self.expect(f"{what}: what is left", sorted(path.name for path in office.folder.glob(".prune*")), [])
+
+
+def archives_of(office):
+    return [path for path in office.folder.glob("desk.db-????-??-??-*") if not path.name.endswith((".archive", "-wal"))]
 
 
 class Forgotten(Cuts):
@@ -199,9 +210,9 @@ class Forgotten(Cuts):
 
     def laid(self, folder):
         office = self.with_a_day_behind(folder)
-        status, _, faults = office.run(*self.other_script("acd-carry"), "--file", office.file)
-        self.archive, = (path for path in office.folder.glob("desk.db-????-??-??-*") if path.suffix != ".archive")
-        self.expect(f"carried over: {faults}", (status, self.holds(self.archive)), (0, True))
+        status, _, faults = office.run(*self.other_script("acdctl"), "prune", "--file", office.file)
+        self.archive, = archives_of(office)
+        self.expect(f"pruned: {faults}", (status, self.holds(self.archive)), (0, True))
         office.copy_now()
         self.copy = office.copies / "archives" / self.archive.name
         return office

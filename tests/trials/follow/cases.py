@@ -3,6 +3,7 @@ import base64
 import contextlib
 import json
 import os
+import shutil
 import signal
 import sqlite3
 import subprocess
@@ -311,40 +312,43 @@ class Cases(Ground):
         self.expect(f"a tick that differs: {told}", secret in told, False)
         desk.kill()
 
-    # a file that was carried over
+    # a file that was pruned
 
-    def try_carried(self):
-        whole, new = self.folder / "carried/whole.db", self.folder / "carried/desk.db"
+    def pruned(self, name):
+        """A desk's file of a day and of ticks two hours later, and a copy that was pruned: 90 requests of the day stay, with the ticks the thousand that stay in any case."""
+        whole, new = self.folder / name / "whole.db", self.folder / name / "desk.db"
         whole.parent.mkdir()
-        self.feed(whole, self.lines)
+        later = int(self.lines[-1].partition(" ")[0]) + 7200
+        self.feed(whole, [*self.lines, *(f'{later + number} {{"requester":"late","invoke":{number},"service":"tick"}}' for number in range(1, 911))])
+        shutil.copy(whole, new)
+        done = self.ran(self.program, "prune", "--file", new, "--archive", whole, "--keep", 1000)
+        self.expect(f"acd prune: {done}", (done[0], done[1].startswith("pruned up to request ")), (0, True))
+        return whole, new
+
+    def try_pruned(self):
+        whole, new = self.pruned("pruned")
         up_to_date = self.new_file(of=whole)
         self.feed(whole.with_name("behind.db"), self.lines[:70])
         behind = self.new_file(of=whole.with_name("behind.db"))
-        status, said, told = self.script("acd-carry", "--from", whole, "--to", new, "--keep", 90)
-        self.expect(f"acd-carry: {told}", status, 0)
         first = held(new)["kept"][0][0]
         desk = Served(self, new).start()
-        self.follow("carried over, up to date", desk.address, up_to_date, 0)
+        self.follow("pruned, up to date", desk.address, up_to_date, 0)
         needed = len(held(behind)["kept"])
         for what, file, number in (("behind", behind, needed), ("anew", self.new_file(), 1)):
-            self.follow(f"carried over, {what}", desk.address, file, LACKS, f"request {number} is needed", f"is {first}: ")
-            self.expect(f"carried over, {what}: nothing was fed", len(held(file)["kept"]), number if what == "behind" else 0)
+            self.follow(f"pruned, {what}", desk.address, file, LACKS, f"request {number} is needed", f"is {first}: ")
+            self.expect(f"pruned, {what}: nothing was fed", len(held(file)["kept"]), number if what == "behind" else 0)
         for number in range(20):
             ask(desk.port, "/csta", b'{"requester":"later","invoke":%d,"service":"tick"}' % (number + 1))
         for what, file in (("up to date", up_to_date), ("of the archive", self.new_file(of=whole)), ("of the new file", self.new_file(of=new))):
-            self.follow(f"carried over, {what}, later", desk.address, file, 0)
+            self.follow(f"pruned, {what}, later", desk.address, file, 0)
             has, wanted = held(file), desk.rows()
             kept = {table: rows[-len(wanted[table]):] if table in ("kept", "events") else rows for table, rows in has.items()}
-            self.expect(f"carried over, {what}, later: row for row", [table for table in wanted if kept[table] != wanted[table]], [])
+            self.expect(f"pruned, {what}, later: row for row", [table for table in wanted if kept[table] != wanted[table]], [])
         desk.kill()
 
-    def try_carried_at_the_cut(self):
-        """A copy whose last request is the last one that the cut left behind: it continues; one with another history, whose next replies are others, doesn't."""
-        whole, new = self.folder / "cut/whole.db", self.folder / "cut/desk.db"
-        whole.parent.mkdir()
-        self.feed(whole, self.lines)
-        status, _, told = self.script("acd-carry", "--from", whole, "--to", new, "--keep", 90)
-        self.expect(f"acd-carry: {told}", status, 0)
+    def try_pruned_up_to_its_last(self):
+        """A copy whose last request is the last one that was pruned: it continues; one with another history, whose next replies are others, doesn't."""
+        whole, new = self.pruned("last")
         first = held(new)["kept"][0][0]
         desk = Served(self, new).start()
         for number in range(3):
@@ -357,15 +361,15 @@ class Cases(Ground):
             return file
 
         file = beginning(first - 1)
-        told, _ = self.follow("up to the cut", desk.address, file, 0)
+        told, _ = self.follow("up to the last one", desk.address, file, 0)
         has, wanted = held(file), desk.rows()
-        self.expect("up to the cut: row for row", [table for table in wanted if (has[table][-len(wanted[table]):] if table in ("kept", "events") else has[table]) != wanted[table]], [])
-        self.follow("up to the cut, and again", desk.address, file, 0)
+        self.expect("up to the last one: row for row", [table for table in wanted if (has[table][-len(wanted[table]):] if table in ("kept", "events") else has[table]) != wanted[table]], [])
+        self.follow("up to the last one, and again", desk.address, file, 0)
         file = beginning(first - 2)
-        self.follow("one before the cut", desk.address, file, LACKS, f"request {first - 2} is needed", f"is {first}: ")
+        self.follow("one before it", desk.address, file, LACKS, f"request {first - 2} is needed", f"is {first}: ")
         moment = held(whole)["kept"][first - 3][3]
         file = beginning(first - 2, f'{moment} {{"requester":"other","invoke":1,"service":"arriveCall","caller":"0308","called":"100"}}')
-        self.follow("another history up to the cut", desk.address, file, DIFFERS)
+        self.follow("another history up to the last one", desk.address, file, DIFFERS)
         desk.kill()
 
     def try_caught_up(self):

@@ -14,8 +14,8 @@ import time
 from http.client import HTTPException
 from pathlib import Path
 
-from shipped import shipped, text_of
-from trial import Connection, Desk, Trial, planted, ran, until
+from shipped import shipped
+from trial import Connection, Desk, Trial, ran, until
 from trial.files import copied, held
 
 import office
@@ -25,8 +25,6 @@ import tables
 # that of Debian, which the scripts are run by
 PYTHON = "/usr/bin/python3"
 STATE = re.compile(r" has the requests up to (\d+); (?:the desk hasn't answered yet|the last that the desk told of is (\d+), at ([-0-9: ]+ UTC))\n$")
-# what acd-carry keeps at least; a short day has less
-CARRY = planted(text_of("leaving/carry.py"), "LEAST, HOUR, DAY = 1000, 3600, 86400", "LEAST, HOUR, DAY = 1, 0, 86400")
 PATIENCE = 120
 # all that is tried is alone in its network, and below these nobody is given a port
 PORTS = itertools.count(18001)
@@ -43,7 +41,7 @@ class Ground(Trial):
         program = cls.folder / "bin/acd"
         program.parent.mkdir()
         cls.program = Path(shutil.copy(Trial.program, program))
-        cls.scripts = shipped(cls.folder / "scripts", {"leaving/carry.py": CARRY, **({"follow.py": cls.another} if cls.another else {})})
+        cls.scripts = shipped(cls.folder / "scripts", {"follow.py": cls.another} if cls.another else {})
 
     @classmethod
     def settings(cls, more=()):

@@ -25,7 +25,7 @@ MAY = {
     "acd-tick.service": (LOOPBACK | {"signal the desk", "see what the desk has open"}, LOOPBACK | OF_ROOT),
     "acd-gate.service": (LOOPBACK | {"AF_UNIX", "read the roles", "read the users"}, LOOPBACK | OF_ROOT | {"AF_UNIX"}),
     "acd-copy.service": (DESK | {"priority"}, OF_ROOT | {"priority"}),
-    "acd-carry.service": (DESK, OF_ROOT),
+    "acd-prune.service": (DESK | {"priority"}, OF_ROOT | {"priority"}),
     "acd-local.service": ({"AF_UNIX", "AF_NETLINK", "load a table"}, OF_ROOT | {"AF_UNIX", "AF_NETLINK", "load a table"}),
     "acd-node.service": (INTERNET | DESK - {"see what the desk has open"}, INTERNET | OF_ROOT),
     "acd-follow.service": (INTERNET | DESK - {"see what the desk has open"}, INTERNET | OF_ROOT),
@@ -47,7 +47,7 @@ LIMITS = {
     "acd-edge": {"TasksMax": "128", "MemoryMax": str(1536 << 20)},
     "acd-node": {"CPUWeight": "400", "TasksMax": "4096", "MemoryMax": str(6 << 30), "OOMScoreAdjust": "-500"},
     "acd-node-upkeep": {"CPUWeight": "20", "TasksMax": "16", "MemoryMax": str(256 << 20)},
-    "acd-tick": {"TasksMax": "64"}, "acd-local": {"TasksMax": "64"}, "acd-follow": {"TasksMax": "64"}, "acd-carry": {"TasksMax": "64"},
+    "acd-tick": {"TasksMax": "64"}, "acd-local": {"TasksMax": "64"}, "acd-follow": {"TasksMax": "64"}, "acd-prune": {"TasksMax": "64"},
     "acd-certificate": {"TasksMax": "64"}, "acd-rules": {"TasksMax": "64"}, "acd-edge-limit": {"TasksMax": "16"},
 }
 FOLDER = "/usr/lib/systemd/system"

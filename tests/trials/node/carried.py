@@ -1,4 +1,4 @@
-"""Three machines whose desks are carried over: all are stopped at one place, cut at one stamp, and go on, as docs/OPERATING.md has it."""
+"""Three machines whose desks are pruned: all are stopped at one place, pruned up to one request, and go on, as docs/OPERATING.md has it."""
 import base64
 import json
 import subprocess
@@ -15,12 +15,12 @@ OLD, NEW = 1500, 400
 
 class Carried(OfMachines):
     def try_carried(self):
-        """Requests of four days; the machines are carried over; more requests: answers and events are those of a desk that keeps all."""
+        """Requests of four days; the machines are pruned; more requests: answers and events are those of a desk that keeps all."""
         machines, chance = self.begin(), self.chance
         put_old_days(machines, chance)
         answered, again = [], []
         requests_of_today(machines, "08", chance, answered)
-        place, log = carry_over(machines, self.program)
+        place, log = prune(machines, self.program)
         for it in list(answered):
             machines.ask_until_answered(it.body, chance, again)
         self.see("a repeat of these days has its first reply", [(it.status, it.reply) for it in again] == [(it.status, it.reply) for it in answered], again[:1])
@@ -54,17 +54,17 @@ def requests_of_today(machines, front, chance, answered):
         machines.ask_until_answered(json.dumps(body), chance, answered)
 
 
-def carry_over(machines, program):
+def prune(machines, program):
     """All machines at once, while the clients wait. What the log had up to that place, which it has no longer then."""
     machines.see("the places are equal", machines.wait_until_equal(180), machines.places())
     place, log, said = int(machines.places()[0][0]), machines.log(), []
     for n in (1, 2, 3):
         machines.kill_node(n)
     for n in (1, 2, 3):
-        done = run([COMMANDS / "acd-carry", "--file", machines.folder / f"m{n}/desk.db", "--desk", program], stderr=subprocess.STDOUT, text=True)
-        machines.see(f"machine {n} is carried over", done.returncode == 0, done.stdout)
-        said.append(done.stdout.replace(f"/m{n}/", "/"))
-    machines.see("all are cut at one stamp", said == said[:1] * 3 and " is the last request that " in said[0], said)
+        done = run([COMMANDS / "acdctl", "prune", "--file", machines.folder / f"m{n}/desk.db", "--desk", program], stderr=subprocess.STDOUT, text=True)
+        machines.see(f"machine {n} is pruned", done.returncode == 0, done.stdout)
+        said.append(done.stdout)
+    machines.see("all up to one request", said == said[:1] * 3 and said[0].startswith("pruned up to request "), said)
     machines.see("the log is compacted up to that place", machines.compact(place))
     for n in (1, 2, 3):
         machines.start_node(n)
@@ -89,8 +89,8 @@ def look(machines, program, answered, log):
         events, report = printed_by(program, "export", whole), printed_by(program, "report", whole)
     for folder in [machines.folder / f"m{n}" for n in (1, 2, 3)]:
         file = folder / "desk.db"
-        words = [COMMANDS / "acd-export", "--file", file, "--archive", next(folder.glob("desk.db-2*-*")), "--desk", program]
-        joined = run(words, stderr=subprocess.STDOUT)
+        archive, = (path for path in folder.glob("desk.db-2*-*") if path.suffix != ".archive" and not path.name.endswith("-wal"))
+        joined = run([COMMANDS / "acd-export", "--file", file, "--archive", archive, "--desk", program], stderr=subprocess.STDOUT)
         machines.see(f"archive and file of {folder.name} have all events", (joined.returncode, joined.stdout) == (0, events), joined.stdout[-200:])
         machines.see(f"the file of {folder.name} alone has fewer", printed_by(program, "export", file).count(b"\n") < events.count(b"\n"))
         machines.see(f"the report of {folder.name}", printed_by(program, "report", file) == report)

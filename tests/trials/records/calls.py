@@ -402,10 +402,10 @@ class Calls(Records):
                 self.expect(f"status of {file.name}'s {name}", (status, fault), (0, ""))
                 self.expect_lines(f"{file.name}'s {name}", said.splitlines(), tables[name])
 
-    # a file that was carried over
+    # a file that was pruned
 
     def carried(self, file):
-        """Two archives and the file that goes on from them, as the desk leaves them where it is carried over twice; and the first request that the file has."""
+        """Two archives and the file that goes on from them, as two prunes leave them; and the first request that the file has."""
         folder = Path(tempfile.mkdtemp(dir=self.folder))
         with contextlib.closing(sqlite3.connect(file)) as book:
             kept = book.execute("SELECT moment, request FROM kept ORDER BY stamp").fetchall()
@@ -422,7 +422,7 @@ class Calls(Records):
         return made[:-1], made[-1], kept[cuts[-1]][0]
 
     def try_archives(self):
-        """With its archives it is as if it had never been carried over; without them the calls are missing that came before."""
+        """With its archives it is as if it had never been pruned; without them the calls are missing that came before."""
         for file, zone, tables, _ in self.days:
             archives, last, begin = self.carried(file)
             words = ["--file", last, *(word for archive in archives for word in ("--archive", archive))]
@@ -461,7 +461,7 @@ class Calls(Records):
         return f"acd-calls: what was before {datetime.datetime.fromtimestamp(begin, zoneinfo.ZoneInfo(zone)):%Y-%m-%d %H:%M:%S} isn't there: name the archives that have it, by --archive\n"
 
     def noted(self, file, folder):
-        """The same files in a folder as acd-carry leaves them, with a note beside each that goes on from another one: the file, the archives from the oldest on, and where the file begins."""
+        """The same files in a folder as acdctl prune leaves them, with a note beside each that goes on from another one: the file, the archives from the oldest on, and where the file begins."""
         archives, last, begin = self.carried(file)
         folder.mkdir()
         names, place, note = [], folder / "desk.db", ""
@@ -501,7 +501,7 @@ class Calls(Records):
         self.without_archives(place, archives, begin, zone)
 
     def days_by_notes(self, copies, folder, file, zone, moment):
-        """Files of all days, as out of a file that was never carried over."""
+        """Files of all days, as out of a file that was never pruned."""
         self.expect("files by the notes", self.write(folder, copies, zone)[::2], (0, ""))
         has = self.files(folder)
         shutil.rmtree(folder)

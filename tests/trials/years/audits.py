@@ -1,11 +1,11 @@
-"""What acd audit --archive says of carried files: of whole ones, of those in which something was altered, and behind wrong archives."""
+"""What acd audit --archive says of pruned files: of whole ones, of those in which something was altered, and behind wrong archives."""
 import random
 import shutil
 import sqlite3
 
 # by cuts the folder of tests is among those that modules are looked for in
 from cuts import Cuts, Day
-from ground import Ground, firsts
+from ground import LEAST, Ground, firsts
 from trial.files import log_of
 import office
 
@@ -45,9 +45,9 @@ class Audits:
         return self.ground.ran("acd", "audit", "--file", file, "--archive", archive, *more)[:2]
 
     def begin(self):
-        """Whether there was a place for a cut."""
-        self.cuts.begin(self.chance.randrange(100, 400))
-        if not self.cuts.cut(self.what, self.chance.randrange(20, len(self.cuts.day.asked))):
+        """Whether there was a place for it."""
+        self.cuts.begin(LEAST + self.chance.randrange(100, 400))
+        if not self.cuts.cut(self.what, LEAST + self.chance.randrange(0, len(self.cuts.day.asked) - LEAST)):
             return False
         self.cuts.go_on(self.what, self.chance.randrange(1, 100))
         self.file, self.archive = self.cuts.file, self.cuts.archives[0]
@@ -128,4 +128,4 @@ class OfAudits(Ground):
                     done += 1
                     for case in (audits.sound, audits.records, audits.events, audits.tables, audits.others):
                         case()
-        self.expect("days have places for cuts", done >= days * 0.8)
+        self.expect("days have places for a prune", done >= days * 0.8)

@@ -1,29 +1,33 @@
-"""acd-carry in a file's own place, killed before each call of the system that changes something; the notes that it leaves; and acd-copy over files that were
-carried over: copies, their archives, and putting back what was copied before a cut."""
+"""acdctl prune by hand: rows, archives and the notes that it leaves, and full disks; and acd-copy over pruned files: copies, their archives, and putting back what was copied before a
+prune."""
 import hashlib
 import json
 import re
 import shutil
-import signal
 import subprocess
+import time
 from pathlib import Path
 
 from cases import changed, disk, listing
-from ground import PYTHON, Ground, from_on
+from ground import DAY, HOUR, PYTHON, TOP, Ground, goes_of, without
 from trial.files import copied, held, log_of
-from kills import PLAN, Kills
+from kills import PLAN
 
-HOUR, DAY = 3600, 86400
 ALONE = ("desk.db", "desk.db-wal", "desk.db-pair", "desk.db.archive")
 
 
+# requests of each hour: a caller's two, and ticks
+TICKS = 20
+
+
 def days(first, last):
-    """Callers who come, one an hour, and hang up ten seconds later."""
+    """Callers who come, one an hour, and hang up ten seconds later; and ticks, so that two days are more than the thousand requests that stay in any case."""
     for number in range(first, last):
         moment = DAY + HOUR * number
         yield f"{moment} " + json.dumps({"requester": "pbx", "invoke": 2 * number, "service": "arriveCall", "caller": f"030{number:08}", "called": "100"})
         yield f"{moment + 10} " + json.dumps({"requester": "pbx", "invoke": 2 * number + 1, "service": "clearConnection", "call": number,
                                               "device": f"030{number:08}"})
+        yield from (f"{moment + 60 * tick} " + json.dumps({"requester": "clock", "invoke": TICKS * number + tick, "service": "tick"}) for tick in range(1, TICKS + 1))
 
 
 def identity(path):
@@ -44,13 +48,17 @@ def note_of(file):
 
 
 class Office:
-    """A folder with a desk's file, which is carried over in its place, and its copies."""
+    """A folder with a desk's file, which is pruned, and its copies."""
 
     def __init__(self, ground, folder):
         self.ground, self.folder, self.file, self.copies = ground, folder, folder / "desk.db", folder / "copies"
 
-    def carry(self, *words, **how):
-        return self.ground.carry("--file", self.file, *words, short=False, **how)
+    def prune(self, *words, **how):
+        return self.ground.prune(self.file, *words, **how)
+
+    def last(self):
+        """Of the last executed request the stamp and the moment."""
+        return held(self.file)["meta"][0][8:10]
 
     def copy(self, *words, program=None):
         path = {"wrapped": ["env", f"PATH={program.parent}:{self.ground.program.parent}:/usr/sbin:/usr/bin:/sbin:/bin"]} if program else {}
@@ -85,62 +93,53 @@ class Chains:
         office.serve(1, 81)
         return office
 
-    # in its place
+    # by hand
 
-    def in_place(self):
+    def by_hand(self):
         """Twice: rows, notes, and that nothing else is left."""
-        ground, office = self.ground, self.office("place")
-        for day, last, first in (("1970-01-05", 162, 66), ("1970-01-07", 262, 166)):
-            rows, was = held(office.file), identity(office.file)
-            own = text_of(f"{office.file}.archive")
-            status, printed, faults = office.carry()
-            ground.expect(f"carried over: {faults}", (status, faults), (0, ""))
-            archive = office.folder / f"desk.db-{day}-{last}"
+        ground, office = self.ground, self.office("hand")
+        for turn in range(2):
+            rows, was, own = held(office.file), identity(office.file), text_of(f"{office.file}.archive")
+            last, moment = office.last()
+            goes = goes_of(rows, last, days=2)
+            ground.expect("pruned", office.prune(), (0, f"pruned up to request {goes[0]}\n", ""))
+            archive = office.folder / f"desk.db-{time.strftime('%Y-%m-%d', time.gmtime(moment))}-{last}"
             ground.expect("the archive's rows", archive.exists() and held(archive) == rows)
-            event = next(row[0] for row in rows["events"] if row[1] >= rows["kept"][first - rows["kept"][0][0]][3])
-            ground.expect("the new file's rows", held(office.file) == from_on(rows, first, event))
-            ground.expect("the note", note_of(office.file), {"archive": archive.name, "last": str(last), "digest": sha256(archive), "was": was})
+            ground.expect("the file's rows", held(office.file) == without(rows, goes))
+            ground.expect("the file is in its place", identity(office.file), was)
+            ground.expect("the note", note_of(office.file), {"archive": archive.name, "last": str(last), "digest": sha256(archive)})
             ground.expect("the archive's own", text_of(f"{archive}.archive"), own)
-            ground.expect("which file and log are together", text_of(f"{office.file}-pair"), f"file {identity(office.file)}\nlog none\n")
             archived = {f"{each.name}{part}" for each in office.archives() for part in ("", ".archive")}
             ground.expect("the rest", {path.name for path in office.folder.iterdir()} - archived <= set(ALONE))
-            office.serve(81 + (last - 162) // 2, 131 + (last - 162) // 2)
+            office.serve(81 + 50 * turn, 131 + 50 * turn)
         self.refusals(office)
 
     def refusals(self, office):
-        ground, last = self.ground, held(office.file)["meta"][0]
-        taken = office.folder / f"desk.db-1970-01-09-{last[8]}"
+        ground, (last, moment) = self.ground, office.last()
+        taken = office.folder / f"desk.db-{time.strftime('%Y-%m-%d', time.gmtime(moment))}-{last}"
         for part in ("", ".archive"):
             Path(f"{taken}{part}").write_text("mine")
             before = listing(office.folder)
-            status, printed, faults = office.carry()
+            status, printed, faults = office.prune()
             after = listing(office.folder)
             for found in (before, after):
                 found.pop("desk.db-wal", None)
             ground.expect(f"a name that is taken: {faults}", (status, faults, after == before),
-                          (1, f"acd-carry: {taken}{part} is there already; nothing was changed\n", True))
+                          (1, f"acdctl prune: {taken}{part} is there already; nothing was changed\n", True))
             Path(f"{taken}{part}").unlink()
-        for words in ((), ("--file", office.file, "--to", "x"), ("--from", "x"), ("--from", "x", "--to", "y", "--file", "z")):
-            ground.expect(f"{words}", ground.carry(*words)[0], 2)
-        ground.expect("carried over once more", office.carry()[0], 0)
-        ground.expect("and there is nothing to leave behind", office.carry()[0], 3)
+        ground.expect("pruned once more", (office.prune()[0], len(office.archives())), (0, 3))
+        ground.expect("and there is nothing to prune", office.prune(), (0, "nothing to prune\n", ""))
+        ground.expect("nor by an older name, with the status that it had", ground.ran(PYTHON, ground.scripts / "acd-carry", "--file", office.file, "--days", 2)[:2], (3, "nothing to prune\n"))
 
     def beside(self):
-        """What was broken off behind the exchange is ended beside a desk, too, which goes on."""
+        """It is refused beside a desk, which goes on."""
         ground, office = self.ground, self.office("beside")
-        rows = held(office.file)
-        status, printed, faults = office.carry(wrapped=["strace", "-qq", "-o", "/dev/null", "-e", "trace=renameat2", "-e", "inject=renameat2:signal=KILL:when=2"])
-        ground.expect("broken off behind the exchange", (status, len(held(office.file)["kept"]) < len(rows["kept"]), office.archives()),
-                      (-signal.SIGKILL, True, []))
         desk = subprocess.Popen([ground.program, "lines", "--file", office.file], stdin=subprocess.PIPE, stdout=subprocess.PIPE, text=True)
         try:
             self.ask(desk, 81)
-            status, printed, faults = office.carry()
-            ground.expect(f"ended: {faults}", (status, printed.endswith("what was broken off is ended\n"),
-                                               [held(archive) == rows for archive in office.archives()]), (0, True, [True]))
-            office.good("a copy")
+            status, printed, faults = office.prune()
+            ground.expect(f"refused: {faults}", (status, f"is open in process {desk.pid}" in faults, office.archives()), (1, True, []))
             self.ask(desk, 82)
-            ground.expect("and then it is refused beside a desk", office.carry()[0], 1)
         finally:
             desk.stdin.close()
             desk.wait()
@@ -151,45 +150,69 @@ class Chains:
         self.ground.expect("the desk goes on", desk.stdout.readline()[:4], "200 ")
 
     def full(self):
-        """On disks of each size from too small to great enough it is the old file, with nothing else, or the new one with all that belongs to it."""
+        """On disks of each size from too small to great enough it is the file as it was, with nothing else, or the pruned one with all that belongs to it."""
         ground, whole, states = self.ground, self.office("whole"), set()
         rows = held(whole.file)
-        for size in range(100, 1000, 100):
+        goes = goes_of(rows, rows["meta"][0][8], days=2)
+        for size in range(500, 3500, 250):
             folder = self.folder / "full"
             folder.mkdir(exist_ok=True)
             with disk(folder, f"{size}k"):
                 office = Office(ground, folder)
                 shutil.copy(whole.file, folder)
-                status, printed, faults = office.carry()
-                states.add(status)
-                lies = {path.name for path in folder.iterdir()} - {"desk.db-wal", "desk.db-pair"}
-                wanted = {"desk.db", "desk.db.archive", "desk.db-1970-01-05-162"} if status == 0 else {"desk.db"}
-                ground.expect(f"a disk of {size} kB: {faults}", (lies, faults.count("\n"), held(office.file) == rows),
-                              (wanted, 1 if status else 0, status != 0))
-        ground.expect("some go through, and some don't", states, {0, 1})
+                status, printed, faults = office.prune()
+                found = held(office.file)
+                states.add((status, found == rows))
+                lies = {path.name for path in folder.iterdir()} - {"desk.db-wal"}
+                archive = {"desk.db.archive", *(path.name for path in office.archives())}
+                # the program may have had no room where the archive has its place already
+                ground.expect(f"a disk of {size} kB: {printed}{faults}", (lies in ({"desk.db"}, {"desk.db", *archive}), faults.count("acdctl prune: "), found in (rows, without(rows, goes)), found == rows),
+                              (True, 1 if status else 0, True, status != 0))
+                ground.expect("pruned with its archive alone", found == rows or len(archive) == 2)
+        ground.expect("some go through, and some don't", states, {(0, False), (1, True)})
+
+    def compacted(self):
+        """The lines of OPERATING that compact a file: the same rows with the same archive, nothing of who was pruned in its bytes, and a copy of it is good."""
+        ground, office = self.ground, self.office("compacted")
+        lines = re.search(r"runuser -u acd -- sh -euc '\n(.*?)'; systemctl start acd && systemctl start acd-copy\n", (TOP / "docs/OPERATING.md").read_text(), re.DOTALL)[1]
+        ground.expect("pruned", office.prune()[0], 0)
+        rows, size = held(office.file), office.file.stat().st_size
+        folder = self.folder / "programs"
+        folder.mkdir()
+        # as the program of this name does, which isn't everywhere
+        (folder / "sqlite3").write_text(f"#!{PYTHON}\nimport sqlite3, sys\nsqlite3.connect(sys.argv[1], isolation_level=None).execute(sys.argv[2])\n")
+        (folder / "sqlite3").chmod(0o755)
+        status, printed, faults = ground.ran("env", f"PATH={folder}:{ground.program.parent}:/usr/bin:/bin", "sh", "-euc", lines.replace("cd /var/lib/acd", f"cd {office.folder}"))
+        ground.expect(f"compacted: {faults}", (status, printed, held(office.file) == rows), (0, "sound\n", True))
+        ground.expect("it is smaller", office.file.stat().st_size < size * 0.8)
+        ground.expect("nothing is left of a caller of before", (b"03000000001" in office.file.read_bytes(), b"03000000001" in office.archives()[0].read_bytes()), (False, True))
+        lies = {path.name for path in office.folder.iterdir()} - {"desk.db-wal", f"{office.archives()[0].name}-wal"}
+        ground.expect("nothing else lies there", lies, {"desk.db", "desk.db.archive", office.archives()[0].name})
+        office.good("a copy of it")
+        office.serve(81, 91)
 
     # copies
 
     def copied(self):
-        """Each archive is copied once, and its digest looked at; the number of requests goes on over cuts."""
+        """Each archive is copied once, and its digest looked at; the number of requests goes on."""
         ground, office = self.ground, self.office("copied")
-        before = office.good("before the first cut")
+        before, last = office.good("before the first one"), office.last()[0]
         ground.expect("it has no archive", [path.name for path in before.iterdir() if "archive" in path.name], [])
         # one of another day, that goes where anything is cleared away
         before.rename(office.copies / "1970-01-05T000000Z")
-        office.carry()
+        office.prune()
         first = office.archives()[0]
         made = office.good("behind it")
         lies = office.copies / "archives" / first.name
         ground.expect("the archive's copy, and its digest", (sha256(lies), text_of(f"{lies}.sha256")), (sha256(first), f"{sha256(first)}  {first.name}\n"))
         ground.expect("the note goes along", note_of(made / "desk.db"), note_of(office.file))
-        ground.expect("the number goes on", (office.copies / "executed").read_text().splitlines()[0], "executed 162")
+        ground.expect("the number goes on", (office.copies / "executed").read_text().splitlines()[0], f"executed {last}")
         ground.expect("nothing else lies there", {path.name for path in lies.parent.iterdir()}, {first.name, f"{first.name}.sha256"})
         ground.expect("audited by hand", (ground.audit(made / "desk.db", "--archive", lies)[0], log_of(lies).exists()), (0, True))
         office.serve(81, 131)
         was = lies.stat()
-        office.carry()
-        office.good("behind the second cut")
+        office.prune()
+        office.good("behind the second one")
         ground.expect("it isn't copied again", (lies.stat().st_ino, lies.stat().st_mtime_ns), (was.st_ino, was.st_mtime_ns))
         ground.expect("both are there", [path.name for path in office.archives(lies.parent)], [path.name for path in office.archives()])
         self.fewer(office)
@@ -206,14 +229,18 @@ class Chains:
         self.ground.expect(f"{what}: nothing is cleared away", before <= {path.name for path in office.copies.glob("*Z")})
 
     def fewer(self, office):
-        """A file that was carried over goes on from the one that was copied before: it can't have fewer requests than that."""
-        note = office.copies / "executed"
+        """A pruned file goes on from the one that was copied before: it can't have fewer requests than that; nor one that an older version carried over."""
+        note, last = office.copies / "executed", office.last()[0]
         office.serve(131, 135)
-        office.carry("--days", "1")
+        office.prune("--days", "1")
         text = note.read_text()
-        note.write_text(text.replace("executed 262", "executed 999"))
-        self.bad("fewer than the file that it was carried over from", office, r"fewer-\S+",
-                 "the copy has 270 executed requests, and the last one of the same file had 999")
+        note.write_text(text.replace(f"executed {last}", "executed 9999"))
+        said = f"the copy has {office.last()[0]} executed requests, and the last one of the same file had 9999"
+        self.bad("fewer than before it was pruned", office, r"fewer-\S+", said)
+        note.write_text(re.sub("inode .*", "inode 131 1.5", text.replace(f"executed {last}", "executed 9999")))
+        own = Path(f"{office.file}.archive")
+        own.write_text(own.read_text() + "was 131 1.5\n")
+        self.bad("fewer than the file that an older version carried over", office, r"fewer-\S+", said)
         note.write_text(text)
         office.good("as many")
 
@@ -265,7 +292,7 @@ class Chains:
                                        ("no memory", "echo 'acd: no memory' >&2; exit 1", r"\S+\.unaudited", "the copy's audit wasn't ended"),
                                        ("differs", "echo 'differs at request 7'; exit 3", "unsound", "the audit says 'differs at request 7'"),
                                        ("early", "echo 'sound, but its log ends early'; exit 5", r"\S+\.early", "log ends early"),
-                                       ("sound", f'case "$*" in *--archive\\ {last}*) echo sound; echo executed 9;; esac', None, "")):
+                                       ("sound", f'case "$*" in *--archive\\ {last}*) echo sound; echo executed {office.last()[0]};; esac', None, "")):
             program = self.stand_in(f"{does}; exit")
             if name:
                 self.bad(what, office, name, said, program=program)
@@ -276,12 +303,12 @@ class Chains:
     # restores
 
     def restored(self):
-        """Copies of before each cut are put back, with the archives that they go on from; and each time that is taken back, to the byte."""
+        """Copies of before each prune are put back, with the archives that they go on from; and each time that is taken back, to the byte."""
         ground, office = self.ground, self.office("restored")
         moments = []
         for first in (81, 131, 181):
-            moments.append((office.good("before a cut"), held(office.file), [path.name for path in office.archives()]))
-            office.carry()
+            moments.append((office.good("before one"), held(office.file), [path.name for path in office.archives()]))
+            office.prune()
             office.serve(first, first + 50)
         for made, rows, archives in moments:
             before, all_archives = listing(office.folder), [path.name for path in office.archives()]
@@ -318,73 +345,11 @@ class Chains:
         office.good("and goes on")
 
     def all(self, case=None):
-        for each in [case] if case else ("in_place", "beside", "full", "copied", "restored"):
+        for each in [case] if case else ("by_hand", "beside", "full", "compacted", "copied", "restored"):
             getattr(self, each)()
-
-
-class Places(Kills):
-    """The same kills as of one over two paths."""
-
-    def __init__(self, ground, folder):
-        super().__init__(ground, folder)
-        self.archive = "desk.db-1970-01-01-31"
-
-    def words(self, file):
-        return ["--file", file, "--keep", 12]
-
-    def new_of(self, file):
-        return file
-
-    def look(self, what, file, again):
-        ground, rows = self.ground, held(file)
-        is_new, archive = rows == self.wanted, file.with_name(self.archive)
-        self.states.add(is_new)
-        ground.expect(f"{what}: the file is the old one or the new one", is_new or rows == self.rows)
-        # before they change places the other one may be half made, and can't be read
-        places = [path for path in (archive, file.parent / "desk.db.carry/desk.db") if is_new and path.exists()]
-        ground.expect(f"{what}: the old one is there", self.rows in (rows, *map(held, places)))
-        status, printed, faults = ground.ran(PYTHON, ground.scripts / "acd-copy", "--file", file, "--folder", file.parent / "copies")
-        done = not (is_new and (file.parent / "desk.db.carry/desk.db.archive").exists())
-        ground.expect(f"{what}: a copy {faults}", (status, "was broken off" in faults), (0, False) if done else (1, True))
-        shutil.rmtree(file.parent / "copies", ignore_errors=True)
-        status, printed, faults = ground.carry(*self.words(file))
-        ground.expect(f"{what}, the same again: {printed}{faults}", status in (0, 3) and (status == 0 or is_new))
-        ground.expect(f"{what}, the same again: both", (held(file) == self.wanted, held(archive) == self.rows), (True, True))
-        ground.expect(f"{what}, the same again: the note", note_of(file).get("digest"), sha256(archive))
-        ground.expect(f"{what}, the same again: what lies there", {path.name for path in file.parent.iterdir()} - {"desk.db-wal"},
-                      {"desk.db", "desk.db-pair", "desk.db.archive", self.archive})
-
-    def power(self):
-        """What was written is on the disk before the two change places, and all is before it is told."""
-        file = self.made()
-        self.ground.carry(*self.words(file), wrapped=["strace", "-f", "-qq", "-y", "-s", "999", "-o", self.trace, "-e",
-                                                      "trace=?write,?pwrite64,?ftruncate,?fsync,?fdatasync,?renameat2,?rename"])
-        unsynced, folders, exchanged = set(), set(), False
-        for name, path, line in re.findall(r"^\d+ +(\w+)\((?:\d+<([^>]*)>|)(.*)", self.trace.read_text(), re.MULTILINE):
-            if name in ("write", "pwrite64", "ftruncate") and path.startswith(f"{file.parent}/"):
-                unsynced.add(path)
-            elif name in ("fsync", "fdatasync"):
-                unsynced.discard(path)
-                folders.discard(path)
-            elif "RENAME_EXCHANGE" in line:
-                self.ground.expect("not on the disk as they change places", {path for path in unsynced if not path.endswith(("-wal", "-shm", "-journal"))},
-                                   set())
-                exchanged, folders = True, {str(file.parent)}
-            elif name.startswith("rename") and exchanged:
-                folders.add(str(file.parent))
-            elif name == "write" and " continues " in line:
-                self.ground.expect("the names as it is told", (exchanged, folders), (True, set()))
 
 
 class OfChains(Ground):
     def try_chains(self):
         with self.scratch() as folder:
             Chains(self, folder).all(self.case)
-
-
-class OfPlaces(Ground):
-    def try_places(self):
-        with self.scratch() as folder:
-            places = Places(self, folder)
-            places.power()
-            print(f"{places.all()} kills in its place", flush=True)

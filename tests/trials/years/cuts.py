@@ -1,14 +1,13 @@
-"""Carried over at random places of random days, and gone on with: answers, rows, snapshot and report are those over the uncut file, and those that the
-switch in Python foresees."""
+"""Pruned at random places of random days, and gone on with: answers, rows, snapshot and report are those over the whole file, and those that the switch in Python
+foresees."""
 import copy
 import json
 import random
 import shutil
 import sqlite3
 from collections import Counter
-from pathlib import Path
 
-from ground import Ground, firsts, from_on, joined
+from ground import HOUR, LEAST, Ground, firsts, goes_of, joined, without
 from trial.files import held
 
 import limits
@@ -17,7 +16,7 @@ import switch
 import tables
 
 LAID = 1000000
-# how often a request that was left behind, and is sent again, is answered so: by service and result or refusal
+# how often a request that was pruned, and is sent again, is answered so: by service and result or refusal
 AGAIN = Counter()
 
 
@@ -54,30 +53,26 @@ class Day(office.Office):
         self.asked = asked
 
     def go_on(self, requests):
-        """So many more; the lines of them, and what they are answered."""
+        """So many more, the last ones more than an hour later; the lines of them, and what they are answered."""
         until = len(self.asked) + requests
         while len(self.asked) < until:
+            self.work()
+        self.now += HOUR + 60
+        while len(self.asked) < until + 3:
             self.work()
         begin, self.fed = self.fed, len(self.given)
         return self.given[begin:], self.wanted[begin:]
 
 
-def place_of(day, keep):
-    """The first request that is kept: of the places where the moment changes the last that leaves so many."""
-    moments = day.desk.moments
-    places = [place for place in range(1, len(moments)) if moments[place - 1] < moments[place] and len(moments) - place >= keep]
-    return day.desk.laid + max(places, default=-1) + 1 if places else None
-
-
-def lay_history(ground, file, count):
-    """A file in which so many ticks are kept."""
+def lay_history(ground, file, count, seconds=0):
+    """A file in which so many ticks are kept, of so many seconds."""
     ground.feed(file, [])
     book = sqlite3.connect(file, isolation_level=None)
     book.execute("PRAGMA journal_mode = DELETE")
     book.execute("BEGIN")
     text = '\'{"invoke":\' || n || \',"requester":"laid","service":"tick"}\', 200, \'{"invoke":\' || n || \',"requester":"laid","result":{}}\''
-    book.execute(f"INSERT INTO kept WITH RECURSIVE numbers(n) AS (SELECT 1 UNION ALL SELECT n + 1 FROM numbers WHERE n < {count}) SELECT n, 'laid', n, 0, {text} FROM numbers")
-    book.execute("UPDATE meta SET last_stamp = ?", (count,))
+    book.execute(f"INSERT INTO kept WITH RECURSIVE numbers(n) AS (SELECT 1 UNION ALL SELECT n + 1 FROM numbers WHERE n < {count}) SELECT n, 'laid', n, n * {seconds} / {count}, {text} FROM numbers")
+    book.execute("UPDATE meta SET last_stamp = ?, last_moment = ?", (count, seconds))
     book.execute("COMMIT")
     book.close()
 
@@ -85,7 +80,7 @@ def lay_history(ground, file, count):
 class Cuts:
     def __init__(self, ground, day, folder, chance):
         self.ground, self.day, self.folder, self.chance = ground, day, folder, chance
-        self.uncut, self.file, self.archives = folder / "uncut.db", folder / "desk.db", []
+        self.uncut, self.file, self.archives, self.gone = folder / "uncut.db", folder / "desk.db", [], (0, -1)
 
     def begin(self, requests):
         self.day.open()
@@ -95,38 +90,37 @@ class Cuts:
         self.ground.expect("the answers before", self.ground.feed(self.uncut, lines), wanted)
         shutil.copy(self.uncut, self.file)
 
+    def goes(self, keep):
+        """The last request that goes, and its moment; those that were laid into the file have one moment before all others."""
+        rows, laid = self.day.desk.rows(), self.day.desk.laid
+        return goes_of({**rows, "kept": [*([(laid, "", 0, 0)] if laid else []), *rows["kept"]]}, rows["meta"][0][8], keep)
+
     def cut(self, what, keep):
         """Whether there was a place for it."""
-        ground, day, wanted = self.ground, self.day, place_of(self.day, keep)
-        new = self.folder / "new.db"
-        status, printed, faults = ground.carry("--from", self.file, "--to", new, "--keep", keep)
-        if wanted is None or wanted <= firsts(self.file)[0]:
-            ground.expect(f"{what}: no place for a cut: {printed}{faults}", (status, new.exists()), (3, False))
+        ground, day, wanted = self.ground, self.day, self.goes(keep)
+        archive, (first, _) = self.folder / f"archive-{len(self.archives)}.db", firsts(self.file)
+        status, printed, faults = ground.prune_by(archive, self.file, "--keep", keep)
+        if wanted is None or wanted[0] < first:
+            ground.expect(f"{what}: nothing goes", (status, printed, faults), (0, "nothing to prune\n", ""))
+            archive.unlink()
             return False
-        ground.expect(f"{what}: {faults}", (status, [path.name for path in self.folder.glob("new*")]), (0, ["new.db"]))
-        event = 1 + sum(row[1] < day.desk.moments[wanted - day.desk.laid - 1] for row in day.desk.rows()["events"])
-        ground.expect(f"{what}: the first request and event", firsts(new), (wanted, min(event, len(day.switch.events) + 1)))
-        ground.expect(f"{what}: the rows", held(new) == from_on(day.desk.rows(), wanted, event))
-        # what the caller of the script does
-        archive = self.folder / f"archive-{len(self.archives)}.db"
-        for old, name in ((self.file, archive), (new, self.file)):
-            Path(f"{old}-wal").unlink(missing_ok=True)
-            old.rename(name)
+        ground.expect(f"{what}: {faults}", (status, printed), (0, f"pruned up to request {wanted[0]}\n"))
+        ground.expect(f"{what}: the rows", held(self.file) == without(day.desk.rows(), wanted))
+        ground.expect(f"{what}: the archive", held(archive) == without(day.desk.rows(), self.gone))
         self.archives.append(archive)
-        day.first = wanted - 1 - day.desk.laid
+        self.gone, day.first = wanted, wanted[0] - day.desk.laid
         return True
 
     def go_on(self, what, requests):
         ground, day = self.ground, self.day
         lines, wanted = day.go_on(requests)
-        first, event = firsts(self.file)
-        ground.expect(f"{what}: the answers over the uncut file", ground.feed(self.uncut, lines) == wanted)
-        ground.expect(f"{what}: the answers over the new one", ground.feed(self.file, lines) == wanted)
+        ground.expect(f"{what}: the answers over the whole file", ground.feed(self.uncut, lines) == wanted)
+        ground.expect(f"{what}: the answers over the pruned one", ground.feed(self.file, lines) == wanted)
         ground.expect(f"{what}: snapshot and report", ground.shown(self.file), ground.shown(self.uncut))
-        ground.expect(f"{what}: the rows of before and behind", held(self.file) == from_on(day.desk.rows(), first, event))
+        ground.expect(f"{what}: the rows of before and behind", held(self.file) == without(day.desk.rows(), self.gone))
 
     def again(self, what):
-        """Requests that were left behind act anew: they are answered as by a desk that keeps all but those."""
+        """Requests that were pruned act anew: they are answered as by a desk that keeps all but those."""
         desk, file = copy.deepcopy(self.day.desk), self.folder / "again.db"
         for key in list(desk.kept)[:self.day.first]:
             del desk.kept[key]
@@ -136,7 +130,7 @@ class Cuts:
             wanted.append(desk.take(self.day.now, requester, invoke, service, **members))
             AGAIN[service, json.loads(wanted[-1][4:]).get("error", {"name": "200"})["name"]] += 1
         shutil.copy(self.file, file)
-        self.ground.expect(f"{what}: what was left behind is sent again", self.ground.feed(file, lines), wanted)
+        self.ground.expect(f"{what}: what was pruned is sent again", self.ground.feed(file, lines), wanted)
 
     def end(self, what):
         links = [*self.archives, self.file]
@@ -148,18 +142,18 @@ class Cuts:
 
 
 def try_day(ground, seed, laid=0):
-    """How many cuts there were: one, or three in a row."""
+    """How many there were: one, or three in a row."""
     chance = random.Random(seed)
     size = (office.DAY if chance.random() < 0.2 else office.MORNING)._replace(seed=seed)
     done = 0
     with ground.scratch() as folder:
         cuts = Cuts(ground, Day(size, laid), folder, chance)
-        cuts.begin(chance.randrange(20, 400))
+        cuts.begin(LEAST + chance.randrange(20, 400))
         for number in range(chance.choice([1, 1, 3])):
             what = f"day {seed}, cut {number}"
             has = len(cuts.day.asked) - cuts.day.first
-            done += cuts.cut(what, chance.randrange(1, has))
-            cuts.go_on(what, len(cuts.day.asked) if number == 0 else 50)
+            done += cuts.cut(what, LEAST + chance.randrange(0, max(1, has - LEAST)))
+            cuts.go_on(what, 200)
         cuts.again(f"day {seed}")
         cuts.end(f"day {seed}")
     return done
@@ -170,7 +164,7 @@ class OfCuts(Ground):
         """Where a fault is planted a few days find it."""
         days, laid = (12, 0) if self.count.is_planted else (self.options.days, self.options.million)
         cut = sum(try_day(self, seed) for seed in range(1, days + 1))
-        self.expect("days have places for cuts", cut >= days * 0.8)
+        self.expect("days have places for prunes", cut >= days * 0.8)
         print(f"{cut} cuts in {days} days; sent again: {', '.join(f'{service} {name} {count}' for (service, name), count in sorted(AGAIN.items()))}", flush=True)
         for seed in range(laid):
             cut = try_day(self, 100000 + seed, LAID)
@@ -179,20 +173,21 @@ class OfCuts(Ground):
 
 class OfLimits(Ground):
     def try_limits(self):
-        """An office at its limits, cut in the middle of its day, by the script as it is."""
+        """An office at its limits, pruned where its day ends."""
         course = limits.Course().day()
+        lines, half = course.lines(), len(course.asked) * 2 // 3
+        # the day is shorter than the hour of which all stay; its end is long after it
+        end = next(place for place, asked in enumerate(course.asked) if asked[0] == limits.LAST) + 1
         with self.scratch() as folder:
-            file, new = folder / "desk.db", folder / "new.db"
-            lines, half = course.lines(), len(course.asked) * 2 // 3
+            file, archive = folder / "desk.db", folder / "archive.db"
             self.expect("the answers before", self.feed(file, lines[:half]) == course.wanted[:half])
-            status, printed, faults = self.carry("--from", file, "--to", new, "--keep", 1000, short=False)
-            # the day is shorter than the hour that is kept in any case
-            self.expect(f"within an hour: {faults}", status, 3)
-            status, printed, faults = self.carry("--from", file, "--to", new, "--keep", 1000)
-            self.expect(f"at the limits: {faults}", status, 0)
-            self.expect("the answers behind", self.feed(new, lines[half:]) == course.wanted[half:])
-            first, event = firsts(new)
-            self.expect("the rows", held(new) == from_on(tables.rows(course.desk), first, event))
-            whole = joined([file], new, folder / "joined.db")
+            self.expect("within an hour", self.prune_by(archive, file, "--keep", LEAST), (0, "nothing to prune\n", ""))
+            self.expect("the answers up to the end", self.feed(file, lines[half:end]) == course.wanted[half:end])
+            found = held(file)
+            goes = goes_of(found, found["meta"][0][8], LEAST)
+            self.expect("at the limits", self.prune_by(archive, file, "--keep", LEAST), (0, f"pruned up to request {goes[0]}\n", ""))
+            self.expect("the answers behind", self.feed(file, lines[end:]) == course.wanted[end:])
+            self.expect("the rows", held(file) == without(tables.rows(course.desk), goes))
+            whole = joined([archive], file, folder / "joined.db")
             self.expect("together", self.audit(whole), (0, f"sound\nexecuted {course.switch.stamp}\n", ""))
-            print(f"at the limits: {first - 1} of {course.switch.stamp} requests are left behind", flush=True)
+            print(f"at the limits: {goes[0]} of {course.switch.stamp} requests are pruned", flush=True)

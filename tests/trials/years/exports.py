@@ -1,5 +1,5 @@
-"""acd-export over a file and its archives, and archives.py: what they read is what one file of all has; holes, altered rows and a wrong order are told. And who
-follows events over a file that was carried over."""
+"""acd-export over a file and its archives, and archives.py: what they read is what one file of all has; holes, altered rows and a wrong order are told. And who follows events over a
+file that was pruned."""
 import asyncio
 import importlib.util
 import json
@@ -10,7 +10,7 @@ import urllib.request
 from unittest import mock
 
 from trial import Desk
-from trial.files import copied, held, log_of
+from trial.files import copied, held
 
 from cases import changed
 from ground import TOP, Ground, firsts, joined
@@ -32,29 +32,37 @@ def module(ground):
     return found
 
 
+# requests before each prune, and one of how many is a call
+MANY, CALL = 1100, 25
+
+
+def requests(first, last):
+    """A request each minute: calls, and ticks between them."""
+    for number in range(first, last):
+        call, = calls(number, number + 1)
+        yield call if number % CALL == 0 else f'{1000 + 60 * number} {{"requester":"clock","invoke":{number},"service":"tick"}}'
+
+
 class Exports:
     def __init__(self, ground, folder):
         self.ground, self.folder, self.archives = ground, folder, []
-        file, new = folder / "desk.db", folder / "new.db"
+        file = folder / "desk.db"
         ground.feed(file, PLAN)
         for number in range(3):
-            ground.feed(file, calls(1 + 40 * number, 41 + 40 * number))
-            status, _, faults = ground.carry("--from", file, "--to", new, "--keep", 15)
-            ground.expect(f"carried over: {faults}", status, 0)
+            ground.feed(file, list(requests(1 + MANY * number, 1 + MANY * (number + 1))))
             archive = folder / f"archive-{number}.db"
-            log_of(file).unlink()
-            file.rename(archive)
-            new.rename(file)
+            status, _, faults = ground.prune_by(archive, file, "--keep", 1000)
+            ground.expect(f"pruned: {faults}", status, 0)
             self.archives.append(archive)
-        ground.feed(file, calls(121, 140))
+        ground.feed(file, list(requests(1 + 3 * MANY, 20 + 3 * MANY)))
         # the last ones are in its log alone
-        ground.kill_behind(file, calls(140, 150))
+        ground.kill_behind(file, list(requests(20 + 3 * MANY, 30 + 3 * MANY)))
         self.file = file
         with ground.scratch() as scratch:
             closed = copied(file, scratch)
             ground.shown(closed)
             self.whole = joined(self.archives, closed, folder / "joined.db")
-        ground.expect("together they are sound", ground.audit(self.whole)[1], "sound\nexecuted 151\n")
+        ground.expect("together they are sound", ground.audit(self.whole)[1], f"sound\nexecuted {31 + 3 * MANY}\n")
         self.text = ground.ran("acd", "export", "--file", self.whole)[1]
 
     def words(self, archives, file):
@@ -66,7 +74,7 @@ class Exports:
         ground = self.ground
         for archives in (self.archives, self.archives[::-1], self.archives + self.archives[:1]):
             ground.expect("each event once, in whichever order archives are named", ground.export(*self.words(archives, self.file)), (0, self.text, ""))
-        ground.expect("a file that wasn't carried over", ground.export("--file", self.whole), (0, self.text, ""))
+        ground.expect("a file that wasn't pruned", ground.export("--file", self.whole), (0, self.text, ""))
         lines = self.text.splitlines(keepends=True)
         for archives in (self.archives[1:], self.archives[:1] + self.archives[2:], self.archives[:2], []):
             has = {1 + number for each in (*archives, self.file) for number in range(firsts(each)[1] - 1, held(each)["meta"][0][12])}
@@ -108,7 +116,7 @@ class Exports:
         ground.expect("all rows, each once", self.reads(self.archives, self.file) == (wanted["events"], kept, wanted["meta"][0]))
         ground.expect("of one file", self.reads([], self.whole) == (wanted["events"], kept, wanted["meta"][0]))
         alone = self.reads([], self.file)
-        ground.expect("of one that was carried over", alone[0], before["events"])
+        ground.expect("of one that was pruned", alone[0], before["events"])
         ground.expect("the last archive and itself", len(self.reads(self.archives[2:], self.archives[2])[1]), len(held(self.archives[2])["kept"]))
         with ground.scratch() as scratch:
             for what, archives, said in self.bad_chains(scratch):
@@ -117,16 +125,16 @@ class Exports:
     def bad_chains(self, scratch):
         first, second, third = self.archives
         number, stamp = firsts(second)[1] + 3, firsts(third)[0] + 2
-        yield "in the wrong order", [second, first, third], f"{second} has requests up to 82, and {first} up to 42: archives are named from the oldest on"
-        yield "one is left out", [first, third], f"requests 43 to {firsts(third)[0] - 1} are neither in {first} nor in {third}"
+        yield "in the wrong order", [second, first, third], f"{second} has requests up to {2 + 2 * MANY}, and {first} up to {2 + MANY}: archives are named from the oldest on"
+        yield "one is left out", [first, third], f"requests {3 + MANY} to {firsts(third)[0] - 1} are neither in {first} nor in {third}"
         yield "none", [scratch / "none.db"], f"there is no file {scratch / 'none.db'}"
         (scratch / "text.db").write_text("no database")
         yield "no desk's", [scratch / "text.db"], f"{scratch / 'text.db'} is no desk's file"
         for what, statement, place, said in (
                 ("an event is another one", f"UPDATE events SET call = 9 WHERE number = {number}", 1, f"{first} and {{}} differ at event {number}"),
                 ("a reply is another one", f"UPDATE kept SET body = '{{}}' WHERE stamp = {stamp}", 2, f"{second} and {{}} differ at request {stamp}"),
-                ("a request is missing", "DELETE FROM kept WHERE stamp = 60", 1, "{} hasn't all of its requests from 28 to 82"),
-                ("an event is missing", "DELETE FROM events WHERE number = (SELECT max(number) FROM events)", 0, "{} hasn't all of its events from 1 to 40"),
+                ("a request is missing", "DELETE FROM kept WHERE stamp = 1500", 1, f"{{}} hasn't all of its requests from {firsts(second)[0]} to {2 + 2 * MANY}"),
+                ("an event is missing", "DELETE FROM events WHERE number = (SELECT max(number) FROM events)", 0, f"{{}} hasn't all of its events from 1 to {MANY // CALL}"),
                 ("of another version", "UPDATE meta SET version = 3", 0, "{}: wrong version 3")):
             folder = scratch / what.replace(" ", "-")
             folder.mkdir()
@@ -137,7 +145,7 @@ class Exports:
     # followers
 
     def follow(self):
-        """One whose last event is in the file goes on without a word; one whose last event was left behind sees another history, or, where it asks by the number alone, that it missed some."""
+        """One whose last event is in the file goes on without a word; one whose last event was pruned sees another history, or, where it asks by the number alone, that it missed some."""
         moments = [int(line.split(",")[1]) for line in self.text.splitlines()[1:]]
         first = firsts(self.file)[1]
         with (self.ground.scratch() as scratch, Desk(self.ground.program, copied(self.file, scratch)) as desk,
@@ -145,7 +153,7 @@ class Exports:
             known, = client.page(first - 1)["events"][:1]
             self.ground.expect("the first event that is there", (known["number"], known["moment"]), (first, moments[first - 1]))
             self.ground.expect("behind it", [event["number"] for event in client.page(first, known)["events"]], list(range(first + 1, len(moments) + 1))[:99])
-            for what, after, seen, fault in (("its last event was left behind", first - 1, {**known, "number": first - 1}, acd_client.AnotherHistory),
+            for what, after, seen, fault in (("its last event was pruned", first - 1, {**known, "number": first - 1}, acd_client.AnotherHistory),
                                              ("by the number alone", first - 2, None, acd_client.Missed), ("from the beginning", 0, None, acd_client.Missed)):
                 try:
                     self.ground.expect(what, client.page(after, seen), fault)
@@ -153,12 +161,13 @@ class Exports:
                     self.ground.expect(what, type(found), fault)
 
     def pages(self):
-        """The board and the gate over a file whose events are all left behind: what comes is handed on, once. And where a day begins that the file hasn't."""
+        """The board and the gate over a file whose events are all pruned: what comes is handed on, once. And where a day begins that the file hasn't."""
         with self.ground.scratch() as scratch:
-            file, new = scratch / "desk.db", scratch / "new.db"
-            self.ground.feed(file, [*PLAN, *calls(1, 400), '90000 {"requester":"clock","invoke":1,"service":"tick"}'])
-            self.ground.carry("--from", file, "--to", new, "--keep", 1)
-            with Desk(self.ground.program, new) as desk:
+            file = scratch / "desk.db"
+            ticks = (f'{90000 + 60 * number} {{"requester":"clock","invoke":{number},"service":"tick"}}' for number in range(1, 1101))
+            self.ground.feed(file, [*PLAN, *calls(1, 400), *ticks])
+            self.ground.prune_by(scratch / "archive.db", file, "--keep", 1000)
+            with Desk(self.ground.program, file) as desk:
                 address = f"http://127.0.0.1:{desk.port}"
                 gate = following.Following(lambda _, path: asked(address, path))
                 asyncio.run(gate.catch_up())
@@ -170,7 +179,7 @@ class Exports:
                 self.ground.expect("what the gate knows", (gate.state.last, len(gate.state.groups["100"].waiting)), (409, 409))
                 found = json.loads(board.communicate(timeout=60)[0])
                 self.ground.expect("what the board takes", (found["taken"], found["anew"]), (list(range(400, 410)), 0))
-                # events 1 to 399 were left behind, so that no day is whole that began before event 400
+                # events 1 to 399 were pruned, so that no day is whole that began before event 400
                 self.ground.expect("where a day begins, and whether it is whole", found["before"], [{"last": 399, "isWhole": False}] * 4 + [{"last": 409, "isWhole": True}])
                 self.ground.expect("in few reads", found["reads"] < 40)
                 self.ground.expect("as the gate finds it", [asyncio.run(days.first_of(lambda after: gate.events(f"/events?after={after}"), 409, moment)) for moment in (2000, 90000)], [399, 399])

@@ -1,14 +1,14 @@
-"""What a cut and an opening cost, in seconds of processor time and in memory: of files that are carried over each night, and of the first cut from a million.
+"""What a prune and an opening cost, in seconds of processor time and in memory: of files that are pruned each night, and at the first time of a million.
 What it has to keep to is meant for a machine that has nothing else to do."""
 import json
+import shutil
 import subprocess
 
 from cuts import LAID, lay_history
-from ground import PYTHON, Ground
+from ground import DAY, PYTHON, Ground
 from trial.files import log_of
 from kills import PLAN
 
-DAY = 86400
 # of the opened file: what is kept, and at most so many seconds and bytes
 OPENINGS = {"two days of 2,000 calls": (0.2, 25e6), "three days of 20,000 calls": (2.5, 140e6), "the last 40,000": (0.5, 40e6)}
 
@@ -22,16 +22,17 @@ def requests(count, days, begin=DAY):
 
 # a process has its parent's greatest memory as it begins, so it is begun by a small one
 MEASURE = """import os, subprocess, sys
-child = subprocess.Popen(sys.argv[1:], stdout=subprocess.DEVNULL)
+child = subprocess.Popen(sys.argv[1:], stdout=subprocess.PIPE)
+*_, last = [b"", *child.stdout]
 _, status, used = os.wait4(child.pid, 0)
-print(used.ru_utime + used.ru_stime, used.ru_maxrss * 1024, os.waitstatus_to_exitcode(status))
+print(used.ru_utime + used.ru_stime, used.ru_maxrss * 1024, os.waitstatus_to_exitcode(status), last.decode().strip(), flush=True)
 os._exit(0)"""
 
 
 def measured(words):
-    """Seconds of processor time and the most memory in bytes, of it and of what it began, and the status."""
-    seconds, memory, status = subprocess.run([PYTHON, "-c", MEASURE, *map(str, words)], capture_output=True, text=True).stdout.split()
-    return float(seconds), int(memory), int(status)
+    """Seconds of processor time and the most memory in bytes, of it and of what it began, the status, and the last line."""
+    seconds, memory, status, said = subprocess.run([PYTHON, "-c", MEASURE, *map(str, words)], capture_output=True, text=True).stdout.rstrip("\n").split(" ", 3)
+    return float(seconds), int(memory), int(status), said
 
 
 class Figures:
@@ -40,36 +41,41 @@ class Figures:
 
     def opened(self, what, file):
         # what else runs makes it slower, and never quicker
-        seconds, memory, status = min(measured([self.ground.program, "report", "--file", file]) for _ in range(3))
+        seconds, memory, status, _ = min(measured([self.ground.program, "report", "--file", file]) for _ in range(3))
         self.ground.expect(f"{what}: opened", status, 0)
         most = OPENINGS.get(what, (seconds + 1, memory + 1))
         self.ground.expect(f"{what}: opened in {seconds} s with {memory} bytes", seconds < most[0] and memory < most[1])
         print(f"{what}: opened in {seconds:.2f} s, {memory / 1e6:.0f} MB", flush=True)
 
-    def carried(self, what, file, *words):
-        new = self.folder / "new.db"
-        for part in (new, log_of(new)):
-            part.unlink(missing_ok=True)
-        seconds, memory, status = measured([PYTHON, self.ground.scripts / "acd-carry", "--from", file, "--to", new, "--desk", self.ground.program, *words])
-        self.ground.expect(f"{what}: carried over", status, 0)
-        print(f"{what}: carried over in {seconds:.2f} s, {memory / 1e6:.0f} MB at most", flush=True)
-        return new
+    def pruned(self, what, file, *words):
+        """A copy of the file, by the program alone."""
+        made, archive = self.folder / "pruned.db", self.folder / "archive.db"
+        for part in (made, archive):
+            log_of(part).unlink(missing_ok=True)
+            shutil.copyfile(file, part)
+        rounds, most, spent, said = 0, 0, 0.0, ", more to go"
+        while said.endswith(", more to go"):
+            seconds, memory, status, said = measured([self.ground.program, "prune", "--file", made, "--archive", archive, *(words or ("--days", 2))])
+            self.ground.expect(f"{what}: {said}", (status, said.startswith("pruned up to request ")), (0, True))
+            rounds, most, spent = rounds + 1, max(most, memory), spent + seconds
+        print(f"{what}: pruned in {spent:.2f} s, {most / 1e6:.0f} MB at most, in {rounds} steps; the file keeps its {made.stat().st_size / 1e6:.1f} MB", flush=True)
+        return made
 
     def nights(self):
         small, great = self.folder / "small.db", self.folder / "great.db"
         for file, count in ((small, 24000), (great, 232500)):
             self.ground.feed(file, [*PLAN, *requests(count, 3)])
-        self.opened("two days of 2,000 calls", self.carried("three days of 2,000 calls", small))
+        self.opened("two days of 2,000 calls", self.pruned("three days of 2,000 calls", small))
         self.opened("three days of 20,000 calls", great)
-        self.opened("two days of 20,000 calls", self.carried("three days of 20,000 calls", great))
-        self.opened("the last 40,000", self.carried("three days of 20,000 calls", great, "--keep", 40000))
+        self.opened("two days of 20,000 calls", self.pruned("three days of 20,000 calls", great))
+        self.opened("the last 40,000", self.pruned("three days of 20,000 calls", great, "--keep", 40000))
 
-    def first_cut(self):
+    def first_one(self):
         file = self.folder / "million.db"
-        lay_history(self.ground, file, LAID)
+        lay_history(self.ground, file, LAID, DAY)
         self.ground.feed(file, [*PLAN, *requests(24000, 3)])
         self.opened("a million", file)
-        self.opened("two days of 2,000 calls", self.carried("a million", file))
+        self.opened("two days of 2,000 calls", self.pruned("a million", file))
 
 
 class OfFigures(Ground):
@@ -77,4 +83,4 @@ class OfFigures(Ground):
         with self.scratch() as folder:
             figures = Figures(self, folder)
             figures.nights()
-            figures.first_cut()
+            figures.first_one()

@@ -50,7 +50,9 @@ class Lines:
         yield self.ask(moment + 8, "holdCall", call=self.call, device=caller)
         yield self.ask(moment + 9, "singleStepTransfer", call=self.call, device="201", to=caller)
         yield self.ask(moment + 20, "clearConnection", call=self.call, device=caller)
-        yield self.ask(moment + 60, "tick")
+        # so many that two days are more than the thousand requests that stay in any case
+        for minute in range(1, 85):
+            yield self.ask(moment + 60 * minute, "tick")
 
     def days(self, first, last, callers):
         for number in range(first, last):
@@ -95,10 +97,10 @@ class Forgets:
         for first in range(0, 60, 20):
             self.feed(self.first, lines.days(first, first + 20, [*CALLERS, STAYS]))
             self.first.good("a copy")
-            ground.expect("carried over", self.first.carry()[0], 0)
-            # the last two days are of those who stay, so that the next cut leaves the others behind
+            ground.expect("pruned", self.first.prune()[0], 0)
+            # the last two days are of those who stay, so that the next prune takes the others out
         self.feed(self.first, lines.days(60, 80, [STAYS]))
-        self.first.carry()
+        self.first.prune()
         ground.kill_behind(self.first.file, list(lines.days(80, 82, [STAYS])))
         self.first.good("the last copy")
 
@@ -167,7 +169,9 @@ class Forgets:
         ground.expect("the audit of all", self.whole(office), sound)
         ground.expect("the desk's file", {path: path.read_bytes() for path in desk} == desk)
         self.digests(office, archives)
-        listed = {line.rpartition(" ")[2] for line in printed.splitlines() if " is still in " in line}
+        listed = {line.rpartition(" ")[2] for line in printed.splitlines() if " is still in " in line and " is still in free pages of " not in line}
+        ground.expect("free pages of the file that have it are told", f"{caller} is still in free pages of {office.file}: compact it" in printed,
+                      any(f'"{caller}"'.encode() in data for data in desk.values()))
         ground.expect("the copies that have it yet are listed", listed,
                       {str(path.parent) for path in office.copies.glob("*Z/desk.db") if f'"{caller}"'.encode() in path.read_bytes()})
         return {path: held(path) for path in archives}, self.calls(office)

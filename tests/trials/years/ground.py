@@ -7,35 +7,29 @@ from pathlib import Path
 
 from shipped import PACKAGE, shipped
 from trial import TOP, Lines, Trial, planted, ran
-from trial.files import held
+from trial.files import held, log_of
 
 UNITS = TOP / "service/units"
 
-CARRY = "leaving/carry.py"
 MODULES = {str(file.relative_to(PACKAGE)): file.read_text() for file in PACKAGE.rglob("*.py")}
-TEXTS = {**MODULES, **{name: (UNITS / name).read_text() for name in ("acd.service", "acd-carry.service")}}
+TEXTS = {**MODULES, **{name: (UNITS / name).read_text() for name in ("acd.service", "acd-prune.service")}}
 # that of Debian, which the scripts are run by
 PYTHON = "/usr/bin/python3"
 HISTORY = {"kept": "stamp", "events": "number"}
+# what stays in any case: so many requests, and those of so many seconds before the last one
+LEAST, HOUR, DAY = 1000, 3600, 86400
 READS = "0 GET /snapshot\n0 GET /reports/queues\n"
 
 
-def short(carry):
-    """It keeps at least so few requests, and of no seconds all, since a short day has neither."""
-    return planted(carry, "LEAST, HOUR, DAY = 1000, 3600, 86400", "LEAST, HOUR, DAY = 1, 0, 86400")
-
-
 class Ground(Trial):
-    """A class has the program as `acd`, the scripts, of which one may have a fault, and a copy of acd-carry that short days can be cut by. `case` is the one that is tried of a part
-    that has several."""
+    """A class has the program as `acd`, and the scripts, of which one may have a fault. `case` is the one that is tried of a part that has several."""
 
-    texts, short_carry, case = TEXTS, short(TEXTS[CARRY]), None
+    texts, case = TEXTS, None
 
     @classmethod
     def lay(cls, faults):
         """For all that are tried from here on: pairs of texts by the file's name."""
         Ground.texts = {name: planted(text, *faults[name]) if name in faults else text for name, text in TEXTS.items()}
-        Ground.short_carry = short(Ground.texts[CARRY])
 
     @classmethod
     def setUpClass(cls):
@@ -45,7 +39,6 @@ class Ground(Trial):
         cls.program = Path(shutil.copy(Trial.program, program))
         modules = {name: cls.texts[name] for name in MODULES}
         cls.scripts = shipped(cls.folder / "scripts", modules)
-        cls.short = shipped(cls.folder / "short", {**modules, CARRY: cls.short_carry})
         for name in cls.texts.keys() - modules.keys():
             (cls.scripts / name).write_text(cls.texts[name])
 
@@ -59,8 +52,22 @@ class Ground(Trial):
     def ran(self, *words, wrapped=(), **how):
         return ran(*wrapped, *words, seconds=3600, env={"PATH": f"{self.program.parent}:/usr/sbin:/usr/bin:/sbin:/bin", "LC_ALL": "C.UTF-8"}, **how)
 
-    def carry(self, *words, short=True, wrapped=()):
-        return self.ran(PYTHON, (self.short if short else self.scripts) / "acd-carry", *words, wrapped=wrapped)
+    def acdctl(self, *words, wrapped=()):
+        return self.ran(PYTHON, self.scripts / "acdctl", *words, wrapped=wrapped)
+
+    def prune(self, file, *words, wrapped=()):
+        """By the command, which makes the archive."""
+        return self.acdctl("prune", "--file", file, *words, wrapped=wrapped)
+
+    def prune_by(self, archive, file, *words):
+        """By the program alone, as long as there is more to go; the archive is a copy that is made now. What is said last."""
+        self.shown(file)
+        shutil.copyfile(file, archive)
+        said = self.ran("acd", "prune", "--file", file, "--archive", archive, *words)
+        while said[1].endswith(", more to go\n"):
+            said = self.ran("acd", "prune", "--file", file, "--archive", archive, *words)
+        log_of(archive).unlink(missing_ok=True)
+        return said
 
     def export(self, *words):
         return self.ran(PYTHON, self.scripts / "acd-export", *words)
@@ -87,9 +94,18 @@ class Ground(Trial):
 
 # What a file holds
 
-def from_on(found, stamp, number):
-    """Of these rows what goes on from a request and an event."""
-    return {**found, "kept": [row for row in found["kept"] if row[0] >= stamp], "events": [row for row in found["events"] if row[0] >= number]}
+def goes_of(found, archive_last, keep=0, days=0):
+    """Of these rows: the last request that goes, and its moment; nothing where none does. No request of its moment stays, and no fewer than it says."""
+    moments, last = [(row[0], row[3]) for row in found["kept"]], found["meta"][0][9]
+    goes = [(stamp, moment) for left, ((stamp, moment), (_, then)) in zip(range(len(moments) - 1, 0, -1), zip(moments, moments[1:]))
+            if moment < then and stamp <= archive_last and left >= max(LEAST, keep) and moment < last - max(HOUR, days * DAY)]
+    return goes[-1] if goes else None
+
+
+def without(found, goes):
+    """These rows without those that go."""
+    stamp, moment = goes
+    return {**found, "kept": [row for row in found["kept"] if row[0] > stamp], "events": [row for row in found["events"] if row[1] > moment]}
 
 
 def firsts(file):

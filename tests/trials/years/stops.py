@@ -1,5 +1,5 @@
-"""How long nobody is answered while acd-carry.service carries a desk's file over, by the clock: each night, and at the first time. Beside it stands what the openings
-of both files and their audit take alone."""
+"""How long nobody is answered while acd-prune.service prunes a desk's file, by the clock: each night, and at the first time. Beside it stands what the openings of file and archive
+and their audit take alone."""
 import shutil
 import subprocess
 import threading
@@ -10,7 +10,8 @@ from figures import requests
 from ground import Ground
 from trial.files import log_of
 from kills import PLAN
-from service import DAY, Service, try_service
+from ground import DAY
+from service import Service, try_service
 
 NIGHTS = {"three days of 2,000 calls": 24000, "three days of 20,000 calls": 232500}
 DAYS = 3
@@ -27,8 +28,10 @@ class Stops(Service):
             part.unlink(missing_ok=True)
         begin = int(time.time()) - DAYS * DAY
         if laid:
-            lay_history(self.ground, self.first, laid)
+            lay_history(self.ground, self.first, laid, begin)
         self.ground.feed(self.first, [*(f"{begin} {line.partition(' ')[2]}" for line in PLAN), *requests(count, DAYS, begin)])
+        shutil.rmtree(self.copies, ignore_errors=True)
+        self.copy()
 
     def seconds(self, *words):
         """By the clock, the least of two: what else runs makes it slower."""
@@ -52,7 +55,7 @@ class Stops(Service):
 
         asking = threading.Thread(target=ask)
         asking.start()
-        self.carried("carried over")
+        self.pruned("pruned")
         self.ground.expect("the desk is back", self.is_there(300))
         time.sleep(0.2)
         is_over.set()
@@ -63,14 +66,15 @@ class Stops(Service):
         self.laid(seconds=300)
         took = self.stopped()
         self.desk.stop()
-        archive, = (path for path in self.place.glob("desk.db-????-??-??-*") if not path.name.endswith(".archive"))
+        archive, = (path for path in self.place.glob("desk.db-????-??-??-*") if not path.name.endswith((".archive", "-wal")))
         old, new = self.seconds("report", "--file", archive), self.seconds("report", "--file", self.file)
         audit = self.seconds("audit", "--file", self.file, "--archive", archive)
-        # the old one is opened once, and the new one twice, and then by the desk
-        alone = old + 2 * new + audit
-        self.ground.expect(f"{what}: {took:.2f} s, and its openings and audit {alone:.2f} s", took < SLOWER * alone + BESIDES)
-        print(f"{what}: nobody is answered for {took:.2f} s. An opening of the old file takes {old:.2f} s, of the new one {new:.2f} s, their audit {audit:.2f} s: "
-              f"one, two and one are {alone:.2f} s", flush=True)
+        steps = self.unit.said.count("pruned up to request")
+        # each step opens both, the file as it was then, and audits them; then the desk opens what is left
+        alone = steps * (2 * old + audit) + new
+        self.ground.expect(f"{what}: {took:.2f} s, and its openings and audits {alone:.2f} s", took < SLOWER * alone + BESIDES)
+        print(f"{what}: nobody is answered for {took:.2f} s, in {steps} steps. An opening of the archive takes {old:.2f} s, of the pruned file {new:.2f} s, their audit {audit:.2f} s",
+              flush=True)
         shutil.rmtree(self.place)
 
 
@@ -81,7 +85,7 @@ def measure_all(ground, folder):
             stops.file_of(count)
             stops.measure(what)
         stops.file_of(NIGHTS["three days of 2,000 calls"], LAID)
-        stops.measure("the first time, behind a million")
+        stops.measure("the first time, of a million")
     finally:
         stops.desk.stop()
 

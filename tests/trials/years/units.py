@@ -1,4 +1,4 @@
-"""A stand-in for systemd, as far as acd-carry.service needs one: it starts and stops acd.service, minds its condition, and runs the lines of acd-carry.service in their
+"""A stand-in for systemd, as far as acd-prune.service needs one: it starts and stops acd.service, minds its condition, and runs the lines of acd-prune.service in their
 order, the last ones however the others ended. Both units are read as they are installed.
 
 usage: units.py STATE WORDS ..       what a script named systemctl is: show --property=ActiveState, start and stop of acd.service
@@ -95,11 +95,11 @@ class Desk:
             subprocess.run(command(line, self.settings["scripts"], values), stdin=subprocess.DEVNULL, env=values)
 
 
-class Carrying:
-    """acd-carry.service: what each start of it leaves is looked at by its trial."""
+class Pruning:
+    """acd-prune.service: what each start of it leaves is looked at by its trial."""
 
     def __init__(self, desk):
-        self.desk, self.unit = desk, Path(desk.settings["scripts"]) / "acd-carry.service"
+        self.desk, self.unit = desk, Path(desk.settings["scripts"]) / "acd-prune.service"
         self.said, self.begun = "", None
 
     def lines(self):

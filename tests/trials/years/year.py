@@ -1,4 +1,4 @@
-"""A year of an office, by a clock that is handed in: each week its file is carried over by the command of acd-carry.service, which is killed at times. At the end archives and file, joined by
+"""A year of an office, by a clock that is handed in: each week its file is pruned by the commands of acd-prune.service, which are killed at times. At the end archives and file, joined by
 SQLite, are sound, and so large was every file that was opened."""
 import json
 import os
@@ -8,7 +8,7 @@ import subprocess
 import sys
 import time
 
-from ground import TOP, Ground, joined
+from ground import DAY, HOUR, TOP, Ground, joined
 from trial.files import held
 from trial import Lines
 from units import command, lines_of
@@ -16,7 +16,9 @@ from units import command, lines_of
 sys.path.append(str(TOP / "client"))
 import acd_due  # noqa: E402
 
-DAY, HOUR, WEEKS, CALLS, TALK, STEP = 86400, 3600, 52, 20, 180, 10
+WEEKS, CALLS, TALK, STEP = 52, 20, 180, 10
+# requests from which on a file is pruned: some more than stay in any case
+MOST = 1500
 GROUPS, AGENTS = ("100", "110"), 4
 
 
@@ -81,30 +83,34 @@ class Office:
 
 def archives_of(file):
     """In their order."""
-    return sorted((path for path in file.parent.glob("desk.db-????-??-??-*") if not path.name.endswith(".archive")), key=lambda path: int(path.name.rpartition("-")[2]))
+    return sorted((path for path in file.parent.glob("desk.db-????-??-??-*") if not path.name.endswith((".archive", "-wal"))), key=lambda path: int(path.name.rpartition("-")[2]))
 
 
-def carry(ground, program, file, count, chance):
-    """By the unit's own command; at times it is killed, and the same command ends it."""
-    unit = ground.scripts / "acd-carry.service"
-    words = [*command(*lines_of(unit, "ExecStart"), ground.scripts, {"ACD_FILE": str(file), "ACD_CARRY_DAYS": "2"}), "--desk", program]
-    for _ in range(chance.choice([0, 0, 1, 2])):
+def prune(ground, program, file, count, chance):
+    """By the unit's own commands, which need no desk; at times one is killed, and the same commands do the rest."""
+    unit = ground.scripts / "acd-prune.service"
+    values = {"ACD_FILE": str(file), "ACD_COPY_FOLDER": str(file.parent / "copies"), "ACD_CARRY_DAYS": "2"}
+    prepares, prunes = ([*command(*lines_of(unit, line), ground.scripts, values), "--desk", program] for line in ("ExecCondition", "ExecStart"))
+    for words in chance.choice([(), (), (prepares,), (prepares, prunes)]):
         killed = subprocess.Popen(words, stdout=subprocess.DEVNULL, stderr=subprocess.DEVNULL, start_new_session=True)
         time.sleep(chance.uniform(0, 1.2))
         # with what it had begun, as systemd does
         os.killpg(killed.pid, signal.SIGKILL)
         killed.wait()
         time.sleep(0.1)
-    status, printed, faults = ground.ran(*words)
-    # status 3: the one that was killed had done all of it
-    ground.expect(f"carried over: {faults}", (status in (0, 3), len(archives_of(file))), (True, count))
-    ground.expect(f"and audited: {printed}", status == 3 or "what was broken off is ended" in printed or printed.splitlines()[1:] == ["sound"])
+    status, printed, faults = ground.ran(*prepares)
+    # status 1: those that were killed had done all of it
+    ground.expect(f"the archive: {printed}{faults}", (status in (0, 1), len(archives_of(file))), (True, count))
+    if status == 0:
+        status, printed, faults = ground.ran(*prunes)
+        ground.expect(f"pruned: {printed}{faults}", (status, printed.startswith("pruned up to request ")), (0, True))
+    ground.expect("they are sound", ground.audit(file, "--archive", archives_of(file)[-1])[1].splitlines()[:1], ["sound"])
 
 
 class OfYear(Ground):
     def try_year(self, weeks=WEEKS):
         chance = random.Random(73)
-        office, longest, greatest = Office(chance), 0.0, 0
+        office, longest, greatest, pruned = Office(chance), 0.0, 0, 0
         with self.scratch() as folder:
             file = folder / "desk.db"
             for week in range(weeks):
@@ -118,11 +124,12 @@ class OfYear(Ground):
                     office.day((7 * week + day + 1) * DAY)
                 office.desk.ends()
                 rows = held(file)["kept"]
-                greatest, longest = max(greatest, len(rows)), max(longest, opened)
-                carry(self, self.program, file, week + 1, chance)
+                greatest, longest, pruned = max(greatest, len(rows)), max(longest, opened), pruned + (len(rows) > MOST)
+                if len(rows) > MOST:
+                    prune(self, self.program, file, pruned, chance)
             archives = archives_of(file)
             self.expect("archives and file together", self.audit(joined(archives, file, folder / "joined.db")), (0, f"sound\nexecuted {office.asked}\n", ""))
-            self.expect("no file has over nine days", greatest < office.asked / weeks / 7 * 9 + 400)
+            self.expect("no file has over a week more than it keeps", greatest < MOST + office.asked / weeks + 400)
             status, printed, faults = self.export("--file", file, *(word for archive in archives for word in ("--archive", archive)))
             self.expect(f"all events of the year: {faults}", (status, printed), (0, self.ran("acd", "export", "--file", folder / "joined.db")[1]))
         print(f"{weeks} weeks: {office.asked} requests, in files of {greatest} at most, opened in {longest:.3f} s at most", flush=True)

@@ -17,17 +17,24 @@ def sha256(path):
 
 
 class Notes(ground.Case):
-    NOTE = Note("desk.db-2026-11-28-81234", 81234, "5e88", "131 1800000000.5")
-    TEXT = "archive desk.db-2026-11-28-81234\nlast 81234\ndigest 5e88\nwas 131 1800000000.5\n"
+    NOTE = Note("desk.db-2026-11-28-81234", 81234, "5e88")
+    TEXT = "archive desk.db-2026-11-28-81234\nlast 81234\ndigest 5e88\n"
+    BEFORE = TEXT + "was 131 1800000000.5\n"
 
     def test_form(self):
         chain.put_note(self.file, self.NOTE)
         self.assertEqual((self.home / "desk.db.archive").read_text(), self.TEXT)
         self.assertEqual(chain.read_note(self.file), self.NOTE)
 
+    def test_of_before(self):
+        """It has a line more, and keeps it."""
+        chain.note_of(self.file).write_text(self.BEFORE)
+        found = chain.read_note(self.file)
+        self.assertEqual((found, found.text()), (Note("desk.db-2026-11-28-81234", 81234, "5e88", "131 1800000000.5"), self.BEFORE))
+
     def test_none_and_what_is_none(self):
         self.assertIsNone(chain.read_note(self.file))
-        for text in ("", "archive a\n", self.TEXT.replace("81234\n", "x\n"), self.TEXT.replace("was", "is"), b"\xff"):
+        for text in ("", "archive a\n", self.TEXT.replace("81234\n", "x\n"), self.TEXT.replace("digest", "sum"), b"\xff"):
             chain.note_of(self.file).write_bytes(text if isinstance(text, bytes) else text.encode())
             with self.subTest(text=text), self.assertRaisesRegex(Broken, r"\A/.*/desk\.db\.archive is no note of an archive\Z"):
                 chain.read_note(self.file)
@@ -69,7 +76,15 @@ class Notes(ground.Case):
         beside.mkdir()
         self.assertIsNone(chain.unfinished(self.file))
         chain.put_note(beside / "desk.db", Note("a", 1, "", "131 1.5"))
-        self.assertEqual(chain.unfinished(self.file), f"acdctl carry of {self.file} was broken off: acdctl carry --file {self.file} ends it")
+        said, _, steps = chain.unfinished(self.file).partition("; this ends it: ")
+        self.assertEqual(said, f"a carry-over of {self.file} was broken off before 1.16")
+        (beside / "desk.db").write_bytes(b"old")
+        both = chain.unfinished(self.file).partition("; this ends it: ")[2]
+        self.assertEqual(both, f"mv {beside}/desk.db {self.home}/a && {steps}")
+        subprocess.run(both, shell=True, check=True)
+        self.assertEqual({one.name: one.read_bytes() for one in self.home.iterdir()}, {"desk.db": b"new", "a": b"old", "desk.db.archive": b"archive a\nlast 1\ndigest \nwas 131 1.5\n"})
+        self.assertIsNone(chain.unfinished(self.file))
+        beside.mkdir()
         born = subprocess.run(["stat", "--format=%i %.9W", self.file], capture_output=True, text=True, env={**os.environ, "LC_ALL": "C"}).stdout.strip()
         chain.put_note(beside / "desk.db", Note("a", 1, "", born))
         self.assertIsNone(chain.unfinished(self.file))

@@ -130,10 +130,8 @@ class Lines(Named):
                          ("acdctl ready --make --file F", "acd-ready --make --file F"), ("by acdctl copy, or", "by acd-copy, or"),
                          ("acdctl status says more", "acdctl status says more"), ("acdctl copying", "acdctl copying"),
                          ("why; it is in /c/unsound, and all older copies are kept", "why; it lies in /c/unsound, and the older copies are all kept"),
-                         ("whether /n is sound with /o (audit --archive)", "whether /n is sound behind /o (audit --archive)"),
-                         ("/n isn't sound with /o: the audit says 'x'", "/n isn't sound behind /o: the audit says 'x'"),
                          ("place 7 of the log has no entry; ignored (3 such since the start)", "what stands at place 7 of the log is no entry, and is passed over (3 such since the start)"),
-                         ("acdctl carry of F was broken off: acdctl carry --file F ends it", "acd-carry of F was broken off: acd-carry --file F ends it")):
+                         ("only the user acd prunes F: runuser -u acd -- acdctl prune", "only the user acd prunes F: runuser -u acd -- acd-carry")):
             command.call_it("acdctl copy")
             self.assertEqual(command.spoken(new), new)
             command.call_it("acd-copy", by_old_name=True)

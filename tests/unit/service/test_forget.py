@@ -247,13 +247,10 @@ class Refused(Archives):
             forget.chained(self.file, self.copies, [self.archive])
 
     def test_beside_another_one(self):
-        (self.home / "desk.db.carry").mkdir()
-        self.unchanged(("--confirm",), 1, f"{self.file} is carried over, or put back, just now; nothing was changed")
-        (self.home / "desk.db.carry").rmdir()
         folder = os.open(self.home, os.O_RDONLY)
         self.addCleanup(os.close, folder)
         fcntl.flock(folder, fcntl.LOCK_EX)
-        self.unchanged(("--confirm",), 1, "is carried over, or put back, just now; nothing was changed")
+        self.unchanged(("--confirm",), 1, f"{self.file} is pruned, or put back, just now; nothing was changed")
 
     def test_one_that_was_broken_off(self):
         self.file.rename(self.home / "other")

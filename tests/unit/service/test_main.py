@@ -109,6 +109,12 @@ class OldNamesTest(unittest.TestCase):
         self.assertEqual(len(self.told(2, age=main.DAY - 60)), 1)
         self.assertEqual(len(self.told(2, age=main.DAY + 60)), 2)
 
+    def test_what_commands_of_before_are_now(self):
+        for old, now in (("acd-carry", "acdctl prune"), ("acdctl carry", "acdctl prune"), ("acd-export", "acdctl export")):
+            with mock.patch.object(main, "STAMPS", "/none"), mock.patch.object(main, "JOURNAL", "/"), mock.patch("syslog.syslog") as tells:
+                main.tell_new_words(old)
+            self.assertIn(f"'{old}' is '{now}' now", tells.call_args.args[1])
+
     def test_where_nothing_can_be_noted_each_use_is_told(self):
         with mock.patch.object(main, "STAMPS", "/none"), mock.patch.object(main, "JOURNAL", "/"), mock.patch("syslog.syslog") as tells:
             main.tell_new_words("acd-tick")

@@ -52,6 +52,7 @@ class Made(unittest.TestCase):
         for name in OLD_PAGES:
             link = re.fullmatch(r"\.so (man8/acdctl-[a-z]+\.8)\n", (self.folder / f"man{name[-1]}" / name).read_text())
             self.assertTrue((self.folder / link[1]).is_file())
+        self.assertEqual((self.folder / "man8/acd-carry.8").read_text(), ".so man8/acdctl-prune.8\n")
 
     def test_the_page_of_all_names_each(self):
         text = (self.folder / "man8/acdctl.8").read_text().replace("\\-", "-")
@@ -75,7 +76,7 @@ class Made(unittest.TestCase):
 
     def test_commands_are_completed(self):
         self.assertEqual(self.completed("acdctl", ""), {*self.names, "--help", "--version"})
-        self.assertEqual(self.completed("acdctl", "ca"), {"calls", "carry"})
+        self.assertEqual(self.completed("acdctl", "re"), {"ready", "records", "restore"})
         self.assertEqual(self.completed("acdctl", "none", ""), set())
 
     def test_options_are_completed(self):
@@ -86,7 +87,7 @@ class Made(unittest.TestCase):
 
     def test_after_an_option_of_a_file_names_are_offered_and_after_others_nothing(self):
         file = f"{SERVICE}/settings/acd.env"
-        for words, offered in ((("acdctl", "calls", "--file"), {file}), (("acd-trail", "--archive"), {file}), (("acdctl", "carry", "--days"), set()), (("acdctl", "records", "--copies"), {file}),
+        for words, offered in ((("acdctl", "calls", "--file"), {file}), (("acd-trail", "--archive"), {file}), (("acdctl", "prune", "--days"), set()), (("acdctl", "records", "--copies"), {file}),
                                (("acdctl", "trail", "--since"), set()), (("acdctl", "gate", "--port"), set())):
             with self.subTest(words):
                 self.assertEqual(self.completed(*words, file[:-1]), offered)

@@ -25,6 +25,18 @@ class Pairs(ground.Case):
     def test_names(self):
         self.assertEqual((self.log.name, pair.note_of(self.file).name), ("desk.db-wal", "desk.db-pair"))
 
+    def test_a_log_that_a_program_leaves(self):
+        """It goes where there was none and it holds nothing, whatever becomes of the program."""
+        for before, after, stays in ((None, EMPTIED, False), (None, EMPTIED + b"a frame", True), (EMPTIED, EMPTIED, True), (None, None, False)):
+            self.log.unlink(missing_ok=True)
+            if before:
+                self.log.write_bytes(before)
+            with self.subTest(before=before, after=after), self.assertRaises(KeyError), pair.no_log_left(self.file):
+                if after:
+                    self.log.write_bytes(after)
+                raise KeyError
+            self.assertEqual(self.log.exists(), stays)
+
     def test_what_the_note_has(self):
         pair.remember(self.file)
         lines = pair.note_of(self.file).read_text().splitlines()

@@ -236,7 +236,7 @@ class Around(Machine):
         self.assertEqual(self.found()["unknown"]["standby"], "the other desk hasn't answered yet")
 
     def test_an_archive(self):
-        self.assertEqual(self.lines()["archive"], "none: the file wasn't carried over")
+        self.assertEqual(self.lines()["archive"], "none: the file wasn't pruned")
         Path(f"{self.file}.archive").write_text(f"archive desk.db-2026-11-27-4000\nlast 4000\ndigest {'0' * 64}\nwas 1 2\n")
         self.assertEqual(self.found()["archive"], {"name": "desk.db-2026-11-27-4000", "last": 4000, "isThere": False})
         self.assertIn("not beside the file", self.lines()["archive"])
