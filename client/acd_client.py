@@ -6,9 +6,10 @@
             ...
 
 It needs Python 3.11 and nothing else. A request is sent again, with its requester and invoke, until it is answered; the
-desk acts once. A client without a name of its own takes a requester that nobody has used, so its invokes may begin with
-1; where its address has a login the requester begins with that, since the desk's gate lets a login use no other. One
-that must be the same requester after a new start keeps its last invoke on disk before it asks, and hands it in.
+desk acts once. After a day without an answer it isn't sent again (Expired), since a desk may have forgotten its key by
+then. A client without a name of its own takes a requester that nobody has used, so its invokes may begin with 1; where
+its address has a login the requester begins with that, since the desk's gate lets a login use no other. One that must
+be the same requester after a new start keeps its last invoke on disk before it asks, and hands it in.
 
 What no further attempt mends is raised at once: a certificate that isn't trusted (ssl.SSLCertVerificationError;
 `context` says which are), an unknown name (socket.gaierror), https where the desk speaks http (ssl.SSLError). The
@@ -24,14 +25,15 @@ import secrets
 import socket
 import ssl
 import threading
+import time
 from collections.abc import Callable, Iterator
 from functools import partial
 from typing import Any, NamedTuple, NotRequired, TypedDict, TypeVar, cast
 from urllib.parse import SplitResult, unquote, urlsplit
 
 __all__ = [
-    "AnotherHistory", "Answer", "Client", "Event", "ExecutedRequest", "Missed", "Page", "Request", "RequestsPage",
-    "Snapshot", "Stopped", "Unanswered"
+    "AnotherHistory", "Answer", "Client", "Event", "ExecutedRequest", "Expired", "Missed", "Page", "Request",
+    "RequestsPage", "Snapshot", "Stopped", "Unanswered"
 ]
 
 Request = dict[str, Any]
@@ -42,6 +44,11 @@ SEND_AGAIN = (429, 502, 503, 504)
 
 # bytes: more than any reply of a desk has
 MOST = 1 << 24
+
+# seconds after which a request isn't sent again: a desk may have forgotten its key by then, and would execute it once
+# more; and the clock for that, which runs while the machine sleeps, where the system has such a one
+LONGEST = 86400
+CLOCK = getattr(time, "CLOCK_BOOTTIME", time.CLOCK_MONOTONIC)
 
 # the attempt at which the logger tells that there is no answer yet
 TOLD = 3
@@ -149,6 +156,14 @@ class Stopped(Exception):
 
     def __init__(self, request: Request | None = None):
         super().__init__("the client was stopped")
+        self.request = request
+
+
+class Expired(Exception):
+    """A request had no answer for a day, and isn't sent again. It may have been executed; what the desk shows says."""
+
+    def __init__(self, request: Request):
+        super().__init__("there was no answer for a day, so the request isn't sent again")
         self.request = request
 
 
@@ -285,10 +300,13 @@ class Client:
         return {"requester": self.requester, "invoke": self.invoke, "service": service, **members}
 
     def until_answered(self, attempt: Callable[[], Found], request: Request | None = None) -> Found:
-        """What an attempt returns, which is made again while there is no answer; raises why if no address can give
-        one."""
+        """What an attempt returns, which is made again while there is no answer, one of a request for a day; raises why
+        if no address can give one."""
         failed = lasting = 0
+        began = time.clock_gettime(CLOCK)
         while not self.stopped.is_set():
+            if request is not None and time.clock_gettime(CLOCK) - began > LONGEST:
+                raise Expired(request)
             try:
                 return attempt()
             except Unanswered as fault:
@@ -310,7 +328,8 @@ class Client:
         self.told.add(address)
 
     def insist(self, request: Request) -> Answer:
-        """Sends a request until it is answered."""
+        """Sends a request until it is answered, for a day at most. One that a program kept on disk is the program's
+        matter: it isn't to be sent again more than a day after it was sent first."""
         return self.until_answered(lambda: self.send(request), request)
 
     def ask(self, service: str, **members: Any) -> Answer:

@@ -27,7 +27,7 @@ class Calls:
             self.takers[row.then](row, self.rows.legs.get(row.leg), answer)
 
     def pass_over(self, row: Request) -> None:
-        """The step of a reply failed: the leg that it was for is ended."""
+        """The step of a reply failed, or there was none for too long: the leg that it was for is ended."""
         self.rows.requests.remove(row.key)
         if row.leg in self.rows.legs:
             self.dialogs.end(self.rows.legs[row.leg], 500)

@@ -8,7 +8,7 @@ from contextlib import suppress
 from typing import Any
 
 import acd_due
-from acd_client import Client, Missed, Request, Unanswered
+from acd_client import LONGEST, Client, Missed, Request, Unanswered
 
 from .exchange import Exchange
 
@@ -136,6 +136,10 @@ class DeskLine:
 
     async def send(self) -> None:
         row = self.x.rows.requests[min(self.x.rows.requests, key=int)]
+        if row.since and self.x.steps.now() - row.since > LONGEST:
+            self.x.steps.say_hourly("the desk answered nothing for a day: requests of before aren't sent again")
+            self.x.steps.step(self.x.calls.pass_over, row)
+            return
         try:
             answer = await self.call(self.client.send, row.body)
         except Unanswered as fault:

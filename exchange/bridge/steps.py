@@ -71,7 +71,7 @@ class Steps:
         """Puts a request to the desk aside."""
         self.place.invoke += 1
         body = {"requester": self.requester, "invoke": self.place.invoke, "service": service, **members}
-        self.rows.requests.add(Request(str(self.place.invoke), body, then, leg.key if leg else "", served))
+        self.rows.requests.add(Request(str(self.place.invoke), body, then, leg.key if leg else "", served, self.now()))
 
     def ring_alarms(self) -> float:
         """Rings some of the alarms that are due, and returns the seconds until the next one."""

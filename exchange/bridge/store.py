@@ -7,7 +7,7 @@ from dataclasses import dataclass, field
 from typing import Any, Generic, TypeVar
 
 # the members of rows that are moments, or 0 for none
-MOMENTS = ("due", "ends")
+MOMENTS = ("due", "ends", "since")
 
 
 @dataclass

@@ -33,6 +33,8 @@ BEYOND = 999_999_999_999_999
 GOOD_COPY = "%Y-%m-%dT%H%M%SZ"
 FOLLOWED = re.compile(r"has the requests up to (\d+); the last that the desk told of is (\d+), at (\S+ \S+) UTC")
 UNITS = ("acd*", "nginx.service")
+# seconds that a kept request adds to a start, as PERFORMANCE.md has them
+OPENING = 9e-6
 LOGGED_OFF = "null"
 SPANS = ((86400, "day"), (3600, "hour"), (60, "minute"), (1, "second"))
 
@@ -120,18 +122,17 @@ class Desk:
         try:
             moment, stamp = self.read("/snapshot")["moment"], self.read(f"/requests?after={BEYOND}")["last"]
         except Fault as fault:
-            with contextlib.suppress(OSError, sqlite3.Error, TypeError):
-                return self.dated(*self.counters(), f"; no desk answers ({fault})")
+            with contextlib.suppress(OSError, sqlite3.Error, TypeError), self.idle() as book:
+                moment, stamp = book.execute("SELECT last_moment, last_stamp FROM meta").fetchone()
+                return self.dated(moment, stamp, f"; no desk answers ({fault})")
             raise
         return self.dated(moment, stamp, "")
 
-    def counters(self) -> tuple[int, int]:
-        """Moment and number of the last request of a file that nobody has open, and whose log holds nothing."""
+    def idle(self) -> contextlib.closing[sqlite3.Connection]:
+        """The file, if nobody has it open, and its log holds nothing."""
         if held.holders(self.file) or pair.holds_something(pair.log_of(self.file)):
             raise TypeError
-        with contextlib.closing(sqlite3.connect(f"{chain.immutable(self.file)}&mode=ro", uri=True)) as book:
-            moment, stamp = book.execute("SELECT last_moment, last_stamp FROM meta").fetchone()
-        return moment, stamp
+        return contextlib.closing(sqlite3.connect(f"{chain.immutable(self.file)}&mode=ro", uri=True))
 
     def dated(self, moment: int, stamp: int, more: str) -> Found:
         # a plan of before the first call, and a desk without a clock, have the moment 0
@@ -140,6 +141,21 @@ class Desk:
         age = max(int(self.now) - moment, 0)
         return Found({"stamp": stamp, "moment": moment, "age": age},
                      f"number {stamp}, {span(age)} ago ({moment_text(moment)}){more}")
+
+    def kept(self) -> Found:
+        """How many requests the file has, whose numbers follow one another, and what a start takes for them."""
+        try:
+            page = self.read("/requests?after=0")
+            count = page["last"] + 1 - page["requests"][0]["stamp"] if page["requests"] else 0
+        except Fault:
+            with contextlib.suppress(OSError, sqlite3.Error, TypeError), self.idle() as book:
+                return self.opened(*book.execute("SELECT count(*) FROM kept").fetchone())
+            raise
+        return self.opened(count)
+
+    def opened(self, count: int) -> Found:
+        seconds = round(count * OPENING, 1)
+        return Found({"count": count, "opening": seconds}, f"{count}, which take some {seconds} s of the next start")
 
     def waiting(self) -> Found:
         since = [one["queued"] for call in self.read("/snapshot")["calls"] for one in call["connections"]
@@ -212,8 +228,9 @@ class Desk:
 
 QUESTIONS: tuple[tuple[str, str, Callable[[Desk], Found]], ...] = (
     ("version", "version", Desk.version), ("file", "file", Desk.which),
-    ("lastRequest", "last request", Desk.last_request), ("callsWaiting", "calls waiting", Desk.waiting),
-    ("agents", "agents", Desk.agents), ("lastGoodCopy", "last good copy", Desk.copy),
+    ("lastRequest", "last request", Desk.last_request), ("kept", "kept requests", Desk.kept),
+    ("callsWaiting", "calls waiting", Desk.waiting), ("agents", "agents", Desk.agents),
+    ("lastGoodCopy", "last good copy", Desk.copy),
     ("standby", "standby", Desk.standby), ("archive", "archive", Desk.archive),
     ("certificate", "certificate", Desk.certificate), ("failedUnits", "failed units", Desk.failed))
 

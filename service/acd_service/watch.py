@@ -20,6 +20,8 @@ MINUTE, HOUR = 60, 3600
 LAST = 4294967295
 # seconds between two questions until the desk answers for the first time, and for its answer
 PAUSE, SOON = 0.1, 5
+# seconds that an opening may take without a word
+SLOW = 5
 
 
 class Journal:
@@ -98,6 +100,12 @@ def moment_of(snapshot: bytes) -> int:
     return moment if type(moment) is int and moment <= LAST else 0
 
 
+def report_opening(seconds: float) -> None:
+    if seconds > SLOW:
+        command.report(f"the desk took {seconds:.0f} s to open its file: the more requests it has, the longer it takes "
+                       "('Leaving old requests behind' in OPERATING.md)")
+
+
 # The process beside a desk
 
 class Beside:
@@ -125,9 +133,11 @@ class Beside:
 
     def begin(self) -> bool:
         """Tells systemd that the desk answers for the first time; whether it lives to do so."""
+        began = time.monotonic()
         while not self.ends_within(PAUSE):
             with contextlib.suppress(Unanswered):
                 self.answer("/", SOON)
+                report_opening(time.monotonic() - began)
                 acd_notify.tell("READY=1")
                 return True
         return False

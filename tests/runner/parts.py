@@ -15,7 +15,7 @@ from .jobs import PYTHON, TOP, Job
 UNIT = "tests/unit"
 PLAIN = TOP / "tests/runner/plain.py"
 # what unit tests need: a folder of them can't be left out by .ci/run
-UNIT_PACKAGES = {"client": (), "exchange": (), "gate": ("python3-aiohttp", "python3-bcrypt", "python3-passlib"), "node": (), "runner": (),
+UNIT_PACKAGES = {"client": (), "exchange": (), "gate": ("python3-aiohttp", "python3-bcrypt", "python3-passlib"), "node": ("python3-aiohttp",), "runner": (),
                  "service": ("python3-bcrypt", "python3-passlib")}
 HELPERS = ("python3-pytest", "python3-pytest-timeout")      # unittest takes their place where they are missing
 NGINX = ("nginx-light", "openssl", "python3-aiohttp", "python3-bcrypt", "python3-passlib")
@@ -80,7 +80,7 @@ BY_HAND = {
     "follow whole": Part("try-follow", (), ("follow/cases.py", "follow/kills.py", "follow/runs.py"), SPACES, ("root",)),
     "gate whole": Part("try-gate", (), ("try-gate", "gate/followed.py", "gate/older.py", "gate/alike.py", "gate/waits.py", "gate/monitor.py", "gate/many.py"), (*NGINX, "python3-h2", "python3-prometheus-client")),
     "http": Part("try-http", (), ("try-http",), (*NGINX, "apache2-utils", "curl", "sqlite3")),
-    "node": Part("try-node", (), ("node/carried.py", "node/day.py", "node/hostile.py"), (), ("etcd",)),
+    "node": Part("try-node", (), ("node/carried.py", "node/day.py", "node/hostile.py", "node/values.py"), (), ("etcd",)),
     "office": Part("try-office", (), tuple(f"office/{name}.py" for name in ("starting", "damage", "clock", "copies", "pruned", "plans", "program", "byhand", "clone")), (), ("booted",), False),
     "package": Part("try-package", (), ("try-package",), ("debootstrap", "iproute2", "lintian", "util-linux"), ("root",), False),
     "prune": Part("try-prune", (), ("try-prune",)),

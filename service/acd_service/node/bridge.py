@@ -4,29 +4,16 @@ import http.client
 import subprocess
 import threading
 import time
-import uuid
 from collections import deque
-from dataclasses import dataclass, field
 
-from acd_service.node.entries import entry_of, parts
+from acd_service.node.entries import Entry, entries_of
 from acd_service.node.folder import Checked, Folder, Reached, State
 from acd_service.node.journal import Journal
 from acd_service.node.log import Forgotten, Log
+from acd_service.node.waiting import Waiting, moment
 
 PERIOD = 1000                                              # entries between two digests
 HOUR = 3600
-
-
-@dataclass
-class Waiter:
-    """One who asked here, and gets the answer once `done` is set."""
-    done: threading.Event = field(default_factory=threading.Event)
-    answer: bytes = b""
-
-
-def moment() -> int:
-    """The seconds since 1970, as a line has them."""
-    return min(max(int(time.time()), 0), 2 ** 32 - 1)
 
 
 def has_reads(program: str) -> bool:
@@ -35,17 +22,16 @@ def has_reads(program: str) -> bool:
 
 
 class Bridge:
-    """Feeds every entry, in order, one at a time, and writes the place after the reply. All machines alike pass over an
-    entry that hasn't the form of one."""
+    """Feeds every entry of every value, in order, one at a time, and writes the place after the replies to a whole
+    value: what a desk was fed of it before a fault adds nothing when it is fed again. All machines alike pass over what
+    hasn't the form of a value."""
 
     def __init__(self, folder: str, program: str, log: Log, journal: Journal, patience: float = 10,
                  pause: float = 10) -> None:
         self.folder, self.program, self.log, self.journal = Folder(folder), program, log, journal
-        self.patience, self.pause = patience, pause
-        self.waiting: dict[bytes, Waiter] = {}             # by the tokens of their entries
+        self.pause, self.waiting = pause, Waiting(log, journal, patience)
         self.desk: subprocess.Popen[bytes] | None = None
-        # of those who wait, and whose line the desk answers
-        self.lock, self.turn = threading.Lock(), threading.Lock()
+        self.turn = threading.Lock()                       # whose line the desk answers
         self.reads = ["--reads"] if has_reads(program) else []
         self.passed = 0
         self.due: deque[Checked] = deque(maxlen=10)        # digests that are yet to be published
@@ -79,32 +65,35 @@ class Bridge:
             time.sleep(0.1)
 
     def pass_over(self, place: int) -> None:
-        """Counts an entry without the form of one, and reports it once an hour at most."""
+        """Counts what is no value, and reports it once an hour at most."""
         self.passed += 1
         self.journal.report(f"place {place} of the log has no entry; ignored "
                             f"({self.passed} such since the start): who puts it there?", "passed", 3600)
 
-    def take(self, place: int, entry: bytes) -> bool:
-        """Feeds the desk one entry; whether it answered."""
-        found, answer = parts(entry), entry
-        if found:
-            with self.turn:
-                answer = self.ask(self.desk, found[1]) if self.desk else b""
-            if not answer:
-                return False
-        else:
+    def take(self, place: int, value: bytes) -> bool:
+        """Feeds the desk the entries of one value; whether it answered all of them."""
+        entries = entries_of(value)
+        if not entries:
             self.pass_over(place)
-        count, digest = self.reached.count + 1, hashlib.sha256(self.reached.digest + answer).hexdigest().encode()
-        checked = Checked(count, digest) if count % PERIOD == 0 else self.folder.state.checked
+        (_, count, digest), checked, due = self.reached, self.folder.state.checked, []
+        for reply in map(self.answer_to, entries) if entries else [value]:
+            if entries and not reply:
+                return False
+            count, digest = count + 1, hashlib.sha256(digest + reply).hexdigest().encode()
+            if count % PERIOD == 0:
+                checked = Checked(count, digest)
+                due.append(checked)
         self.folder.write(State(Reached(place, count, digest), checked, place))
-        with self.lock:
-            waiter = self.waiting.pop(found[0], None) if found else None
-        if waiter:
-            waiter.answer = answer
-            waiter.done.set()
-        if count % PERIOD == 0:
-            self.due.append(checked)
+        self.due.extend(due)
         return True
+
+    def answer_to(self, entry: Entry) -> bytes:
+        """The desk's answer, of which who asked here hears; empty if the desk ended."""
+        with self.turn:
+            answer = self.ask(self.desk, entry.line) if self.desk else b""
+        if answer:
+            self.waiting.tell(entry.token, answer)
+        return answer
 
     def feed(self) -> int:
         """Ends when the desk ends, with its status. The caller starts the desk again, from the place that it
@@ -112,10 +101,10 @@ class Bridge:
         words = [self.program, "lines", *self.reads, "--end-on-store-fault", "--file", f"{self.folder.path}/desk.db"]
         desk = self.desk = subprocess.Popen(words, stdin=subprocess.PIPE, stdout=subprocess.PIPE)
         try:
-            for place, entry in self.log.follow(self.reached.place, self.folder.state.seen):
-                if entry is None:
+            for place, value in self.log.follow(self.reached.place, self.folder.state.seen):
+                if value is None:
                     self.folder.write(self.folder.state._replace(seen=place))
-                elif not self.take(place, entry):
+                elif not self.take(place, value):
                     break
         finally:
             desk.kill()
@@ -153,22 +142,12 @@ class Bridge:
             return False
         return True
 
-    def answer(self, request: bytes) -> bytes:
-        """The answer line to a request, found by the token of its entry. Empty if it doesn't come in time, or if
-        requests are refused."""
+    async def answer(self, request: bytes) -> bytes:
+        """The answer line to a request. Empty if it doesn't come in time, or if requests are refused."""
         if self.held or self.answers_nothing():
             return b""
-        token, waiter = uuid.uuid4().hex.encode(), Waiter()
-        with self.lock:
-            self.waiting[token] = waiter
-        try:
-            self.log.append(entry_of(token, moment(), request))
-            waiter.done.wait(self.patience)
-        except OSError as fault:
-            self.journal.report(f"a request gets 503: {fault}", "append", 60)
-        with self.lock:
-            self.waiting.pop(token, None)
-        return b"" if self.answers_nothing() else waiter.answer
+        answer = await self.waiting.answer(request)
+        return b"" if self.answers_nothing() else answer
 
     def read(self, target: bytes) -> bytes:
         """The answer line to a read, after the entries that the desk has answered. Empty if there is no desk, if the

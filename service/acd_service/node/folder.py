@@ -4,8 +4,8 @@ import os
 from typing import NamedTuple
 
 
-# How far a machine came: the place of the last entry, the number of entries, and a digest of their replies (of its
-# bytes, for one without the form of an entry).
+# How far a machine came: the revision of the last value that was answered whole, the number of entries until then, and
+# a digest of their replies (of its bytes, for what is no value).
 Reached = NamedTuple("Reached", [("place", int), ("count", int), ("digest", bytes)])
 # The digest that machines compare, and after how many entries it was taken.
 Checked = NamedTuple("Checked", [("count", int), ("digest", bytes)])

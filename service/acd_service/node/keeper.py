@@ -44,10 +44,14 @@ class Keeper:
 
     def measure(self) -> None:
         """Reports members of etcd that use half of their quota. Near the quota it lets the bridge refuse requests: the
-        rest of the room is for places, without which the log can forget nothing."""
+        rest of the room is for places, without which the log can forget nothing. And it lets puts go to the member that
+        leads, which the others would ask."""
         if self.measured_at is not None and self.clock() < self.measured_at + (1 if self.is_large else 5):
             return
         members = [member for member in map(self.log.member, self.log.ends) if member]
+        for member in members:
+            if member.leads:
+                self.log.prefer(member.end)
         large = [member for member in members if 2 * member.size >= member.quota]
         held = any(8 * member.size >= 7 * member.quota and 4 * member.used >= 3 * member.quota for member in large)
         self.measured_at, self.is_large, self.bridge.held = self.clock(), bool(large), held

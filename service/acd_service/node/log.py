@@ -18,11 +18,12 @@ Record = dict[str, Any]                                    # an object of JSON, 
 
 
 class Member(NamedTuple):
-    """The state of a member of etcd: the bytes of its file, those in use, and its quota."""
+    """The state of a member of etcd: the bytes of its file, those in use, and its quota; and whether it leads."""
     end: End
     size: int
     used: int
     quota: int
+    leads: bool = False
 
 
 class Published(NamedTuple):
@@ -155,10 +156,19 @@ class Log:
         """This member doesn't answer: the next one, and none of the connections to this one again."""
         with self.lock:
             if self.ends[self.at % len(self.ends)] == end:
-                self.at += 1
-                for connection in self.idle:
-                    connection.close()
-                self.idle.clear()
+                self.turn_to(self.at + 1)
+
+    def prefer(self, end: End) -> None:
+        """Calls go to this member from now on."""
+        with self.lock:
+            if self.ends[self.at % len(self.ends)] != end:
+                self.turn_to(self.ends.index(end))
+
+    def turn_to(self, at: int) -> None:
+        self.at = at
+        for connection in self.idle:
+            connection.close()
+        self.idle.clear()
 
     def keep(self, end: End, connection: http.client.HTTPConnection) -> None:
         with self.lock:
@@ -388,7 +398,8 @@ class Log:
             return None
         quota = re.search(rb"^etcd_server_quota_backend_bytes ([0-9.e+]+)$", metrics, re.MULTILINE)
         return Member(end, int(status.get("dbSize", 0)), int(status.get("dbSizeInUse", 0)),
-                      int(float(quota.group(1))) if quota else QUOTA)
+                      int(float(quota.group(1))) if quota else QUOTA,
+                      status.get("leader") == status["header"]["member_id"])
 
     def metrics(self, end: End) -> bytes:
         connection = self.connect(end, self.patience)

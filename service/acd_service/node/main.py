@@ -4,15 +4,16 @@ feeds this machine's desk.
 Not verified: what is proved of the desk is said in docs/PROVED.md, what this has to do for it in docs/OPERATING.md.
 Clients send requests as to `acd serve`, by POST to /csta, to any machine, and send one again, with its key, until its
 answer isn't 503. A read, by GET or HEAD, is answered by this machine's own desk (`acd lines --reads`), behind all that
-this machine has answered; it goes into no log, no count and no digest. F/desk.db is the desk, F/at the place of the
-last entry of the log that it has answered, how many those were, and a digest of their replies. Every 1,000 entries the
-machines compare digests: one that differs from two others of --machines says so, and answers 503 to everything. So does
-one that needs an entry that the log no longer has. F must then be replaced by a copy of another machine's.
+this machine has answered; it goes into no log, no count and no digest. F/desk.db is the desk, F/at the revision of the
+last value of the log of which it has answered all entries, how many entries those were until then, and a digest of
+their replies. Every 1,000 entries the machines compare digests: one that differs from two others of --machines says so,
+and answers 503 to everything. So does one that needs an entry that the log no longer has. F must then be replaced by a
+copy of another machine's.
 
 It asks nobody who they are, so it listens on the loopback address, behind a proxy and a gate, or asks each client for a
-certificate (--client-ca): then no gate knows the client's role, and /requests is 403. An entry is 32 hexadecimal
-digits, a blank, a moment of 1 to 10 digits, a blank, and a request of 1 to 4,096 bytes that begins with neither GET nor
-HEAD, without CR or LF. All else in the log is passed over, on all machines alike, and told.
+certificate (--client-ca): then no gate knows the client's role, and /requests is 403. Requests that wait while etcd
+writes go into the log together, as one value. The module `entries` has the form of a value; all else in the log is
+passed over, on all machines alike, and told.
 
 Each machine of --machines tells its place, every 1,000 entries and every minute, and the log is kept from the least of
 them on. For one that has told none for --gone hours (72) it isn't kept. With --etcd-user it asks etcd as this user,
@@ -20,22 +21,32 @@ whose password is in a file that only root and a group may read: so etcd lets it
 own name, and nothing else. --upkeep, for a timer, looks after etcd once: it gives back what the files of its members
 have free, and lets a full one take entries again."""
 import argparse
+import asyncio
+import contextlib
 import ipaddress
 import os
 import re
+import socket
 import ssl
 import sys
 import threading
 import time
-from typing import NoReturn
+import traceback
+from types import TracebackType
+from typing import Any, NoReturn
 
 from acd_service import command
+from acd_service.gate.main import loop_of
 from acd_service.node import upkeep
 from acd_service.node.bridge import Bridge
-from acd_service.node.front import Front, end_process
 from acd_service.node.journal import Journal
 from acd_service.node.keeper import Keeper
 from acd_service.node.log import Log
+
+# seconds after which a thread that has the interpreter lets another one have it: an answer passes through three
+TURN = 0.0005
+# connections that the kernel keeps until they are taken
+BACKLOG = 1024
 
 
 def name(word: str) -> str:
@@ -155,7 +166,31 @@ def front_context(options: argparse.Namespace) -> ssl.SSLContext | None:
     return context
 
 
+def end_process(kind: type[BaseException], fault: BaseException | None, trace: TracebackType | None) -> NoReturn:
+    """An unforeseen fault ends the process, in whichever thread it happens: half a machine would answer from an old
+    state for ever."""
+    traceback.print_exception(kind, fault, trace)
+    sys.stderr.flush()
+    os._exit(1)
+
+
+def end_on(_: asyncio.AbstractEventLoop, about: dict[str, Any]) -> None:
+    """In the loop too. A client that left is no fault."""
+    fault = about.get("exception")
+    if fault is not None and not isinstance(fault, OSError):
+        end_process(type(fault), fault, fault.__traceback__)
+
+
+def listening_at(address: str, port: int) -> socket.socket:
+    family = socket.AF_INET6 if ":" in address else socket.AF_INET
+    return socket.create_server((address, port), family=family, backlog=BACKLOG)
+
+
 def run(options: argparse.Namespace, log: Log, journal: Journal) -> None:
+    # connections wait there while the node starts
+    listening = listening_at(options.bind, options.port)
+    # only here: who asks for the words of each command needs no more than Python has
+    from acd_service.node.front import Front
     os.makedirs(options.folder, exist_ok=True)
     if not options.machines:
         journal.report("without --machines the log is never shortened, and no digest is compared")
@@ -165,11 +200,14 @@ def run(options: argparse.Namespace, log: Log, journal: Journal) -> None:
         journal.report("without --etcd-user each machine may write what another one says of itself")
     bridge = Bridge(options.folder, options.desk, log, journal)
     keeper = Keeper(options.name, options.machines, options.gone, log, bridge, journal)
-    front = Front((options.bind, options.port), bridge, front_context(options))
+    front = Front(bridge, journal, front_context(options))
     keeper.look()                                          # before the first answer: a folder that differed still does
-    for work in (bridge.run, keeper.run):
+    for work in (bridge.run, bridge.waiting.put_for_ever, keeper.run):
         threading.Thread(target=work, daemon=True).start()
-    front.serve_forever()
+    sys.setswitchinterval(TURN)
+    with contextlib.suppress(KeyboardInterrupt), asyncio.Runner(loop_factory=loop_of()) as runner:
+        runner.get_loop().set_exception_handler(end_on)
+        runner.run(front.listen(listening, BACKLOG))
 
 
 def do(options: argparse.Namespace) -> int:

@@ -45,7 +45,7 @@ LIMITS = {
     "acd-records": {"CPUWeight": "20", "TasksMax": "64"},
     "acd-exchange": {"CPUWeight": "400", "TasksMax": "64", "MemoryMax": str(256 << 20)},
     "acd-edge": {"TasksMax": "128", "MemoryMax": str(1536 << 20)},
-    "acd-node": {"CPUWeight": "400", "TasksMax": "4096", "MemoryMax": str(6 << 30), "OOMScoreAdjust": "-500"},
+    "acd-node": {"CPUWeight": "400", "TasksMax": "64", "MemoryMax": str(6 << 30), "OOMScoreAdjust": "-500"},
     "acd-node-upkeep": {"CPUWeight": "20", "TasksMax": "16", "MemoryMax": str(256 << 20)},
     "acd-tick": {"TasksMax": "64"}, "acd-local": {"TasksMax": "64"}, "acd-follow": {"TasksMax": "64"}, "acd-prune": {"TasksMax": "64"},
     "acd-certificate": {"TasksMax": "64"}, "acd-rules": {"TasksMax": "64"}, "acd-edge-limit": {"TasksMax": "16"},

@@ -25,6 +25,13 @@ BAD = [b"nospace", b"", b" ", TOKEN, TOKEN + b" ", TOKEN + b" 5", TOKEN + b" 5 "
        TOKEN + b" 5 " + b"x" * 4097, b"x" * 100000, bytes(range(256)), b"\xff" * 39, "ähm".encode()]
 # These are, and the desk answers each of them 400: no moment, no JSON, bytes of any kind, a read that isn't one.
 ODD = [TOKEN + b" 4294967296 " + TICK, TOKEN + b" 9999999999 " + TICK, TOKEN + b" 5 x", TOKEN + b" 5 \x00\xff", TOKEN + b" 5 get /snapshot", TOKEN + b" 5  GET /snapshot", TOKEN + b" 5 " + b"x" * 4096]
+GOOD = TOKEN + b" 5 " + TICK
+LONG = TOKEN + b" 5 " + b"x" * 4096
+# None of these is a value of several entries, and not one of those in it is fed.
+BAD += [b"*", b"*\n", b"*" + GOOD, b"*\n" + GOOD + b"\n", b"*\n\n" + GOOD, b"*\n" + GOOD + b"\n*\n" + GOOD, b"**\n" + GOOD, b"*\r\n" + GOOD, b"\n*\n" + GOOD, b"*" + 101 * (b"\n" + GOOD),
+        b"*" + 64 * (b"\n" + LONG), *(b"*\n" + GOOD + b"\n" + bad + b"\n" + GOOD for bad in BAD)]
+# And these are.
+ODD += [b"*\n" + b"\n".join(ODD), b"*" + 100 * (b"\n" + GOOD), b"*" + 63 * (b"\n" + LONG), b"*\n" + GOOD]
 JSON = b'{"error":{"code":30,"member":"json","name":"malformed"}}'
 
 
@@ -91,7 +98,7 @@ def requests(machines):
     """By a certificate executed requests aren't read; where a gate stands before it a node tells what its desk tells."""
     status = 403 if machines.context else 200
     for target, wanted in (("/requests", status), ("/requests?after=0", status), ("http://desk/requests", status), ("HTTP://desk/requests?/x", status),
-                           ("//requests", status), ("/requests/", 404), ("/%72equests", 404)):
+                           ("//requests", 404), ("/requests/", 404), ("/%72equests", 404)):
         reply = send(machines, 1, f"GET {target} HTTP/1.1\r\nHost: desk\r\n\r\n".encode(), machines.context)
         machines.see(f"{target} of a node", reply.startswith(b"HTTP/1.1 %d " % wanted) and (b'"requests":[' in reply) == (wanted == 200), reply[:200])
 

@@ -18,8 +18,9 @@ COMMANDS = Path(__file__).resolve().parents[3] / "service/bin"
 LINE = base64.b64encode(b"desk/line").decode()
 NAMES = "m1,m2,m3"
 USERS = [*NAMES.split(","), "upkeep", "root"]
-# An entry, as docs/OPERATING.md says: written anew here, so that a node that reads it otherwise is found.
+# An entry, as docs/OPERATING.md says: written anew here, so that a node that reads it otherwise is found. As many may be in a value, of so many bytes.
 ENTRY = re.compile(rb"[0-9a-fA-F]{32} ([0-9]{1,10} [^\r\n]{1,4096})", re.DOTALL)
+MOST, LONGEST_VALUE = 100, 262144
 # Seconds: until a request has its answer, and what waits for the machines ends; and for a program that ends by itself.
 PATIENCE, LONGEST = 120, 600
 # A request that was answered: when it was first sent, how long it took, and how often it was sent.
@@ -29,6 +30,13 @@ Answered = namedtuple("Answered", "body status reply start seconds tries machine
 def is_entry(entry):
     found = ENTRY.fullmatch(entry)
     return bool(found) and not found.group(1).split(b" ", 1)[1].startswith((b"GET", b"HEAD"))
+
+
+def entries_in(value):
+    """What counts one each: the entries of a value, or what is no value."""
+    lines = value[2:].split(b"\n") if value.startswith(b"*\n") else [value]
+    good = all(map(is_entry, lines)) and len(lines) <= MOST and len(value) <= LONGEST_VALUE
+    return lines if good else [value]
 
 
 def run(words, **more):
@@ -55,8 +63,8 @@ class Machines:
     """With names each machine puts its place into etcd, and the log is shortened; a quota is etcd's. With users each machine and the upkeep has one at etcd, which asks for
     them from `ask_for_users` on."""
 
-    def __init__(self, program, folder, encrypted, see, names=False, quota=0, gone=72.0, users=False):
-        self.program, self.folder, self.see, self.etcd, self.nodes = program, Path(folder), see, {}, {}
+    def __init__(self, program, folder, encrypted, see, names=False, quota=0, gone=72.0, users=False, commands=COMMANDS):
+        self.program, self.folder, self.see, self.etcd, self.nodes, self.commands = program, Path(folder), see, {}, {}, commands
         self.names, self.quota, self.gone = names, quota, gone
         self.passwords = {user: os.urandom(8).hex() for user in USERS} if users else {}
         self.user, self.tokens = None, {}                  # as whom this trial asks etcd
@@ -134,7 +142,7 @@ class Machines:
         self.user = "root"
 
     def start_node(self, n):
-        words = [COMMANDS / "acd-node", "--name", f"m{n}", "--folder", self.folder / f"m{n}", "--port", self.ports[n], "--desk", self.program, *self.etcd_options(f"m{n}")]
+        words = [self.commands / "acd-node", "--name", f"m{n}", "--folder", self.folder / f"m{n}", "--port", self.ports[n], "--desk", self.program, *self.etcd_options(f"m{n}")]
         words += ["--machines", NAMES, "--gone", self.gone] if self.names else []
         if self.context:
             words += ["--cert", self.folder / "m.crt", "--key", self.folder / "m.key", "--client-ca", self.folder / "ca.crt"]
@@ -223,7 +231,7 @@ class Machines:
         return done.returncode == 0
 
     def everything(self, begin=1):
-        """All that was put as an entry from this place on, as etcd keeps it; what was deleted is empty."""
+        """All that was put from this revision on, as etcd keeps it: entries, each by itself, and what is no value; what was deleted is empty."""
         last = max([int(kv["mod_revision"]) for kv in self.etcd_call(1, "/v3/kv/range", {"key": LINE}).get("kvs", [])], default=0)
         place, found = begin - 1, []
         with Connection(self.clients[1], self.context) as watch:
@@ -232,11 +240,11 @@ class Machines:
             while place < last:
                 for event in json.loads(answer.readline())["result"].get("events", []):
                     place = int(event["kv"]["mod_revision"])
-                    found.append(base64.b64decode(event["kv"].get("value", "")))
+                    found += entries_in(base64.b64decode(event["kv"].get("value", "")))
         return found
 
     def log(self, begin=1):
-        """The entries of the log from this place on, without their tokens."""
+        """The entries of the log from this revision on, without their tokens."""
         return [entry.split(b" ", 1)[1] for entry in self.everything(begin) if is_entry(entry)]
 
     def compact(self, place):
@@ -305,9 +313,9 @@ class OfMachines(Trial):
 
     chance = None
 
-    def begin(self, program=None, encrypted=None, **how):
+    def begin(self, program=None, encrypted=None, folder=None, **how):
         """Three machines, which are stopped with the method."""
-        machines = Machines(program or self.program, self.folder, encrypted or self.options.tls, self.see, **how)
+        machines = Machines(program or self.program, folder or self.folder, encrypted or self.options.tls, self.see, **how)
         self.addCleanup(machines.stop)
         machines.start()
         return machines

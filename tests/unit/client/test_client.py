@@ -23,7 +23,7 @@ from unittest import mock
 TOP = Path(__file__).resolve().parents[3]
 sys.path.insert(0, str(TOP / "client"))
 
-from acd_client import AnotherHistory, Client, Event, Missed, Stopped, Unanswered  # noqa: E402
+from acd_client import AnotherHistory, Client, Event, Expired, Missed, Stopped, Unanswered  # noqa: E402
 
 PROGRAM = os.environ.get("ACD", str(TOP / "release/acd"))
 # made once: the key is that of each
@@ -250,6 +250,23 @@ class AgainstAFalseDesk(unittest.TestCase):
         client = Client(FalseDesk(answers + [reply(good)]).address, requester="pbx", invoke=4, pause=0.01)
         self.assertEqual(client.ask("tick").body, good)
         client.disconnect()
+
+    def test_no_request_is_sent_again_after_a_day(self) -> None:
+        """However long the machine slept between two attempts; a read goes on."""
+        moments = iter([1000.0, 1000.0, 44200.0, 87400.0, 87401.0])
+        desk = FalseDesk([reply("", "503 Service Unavailable")] * 4)
+        client = Client(desk.address, requester="pbx", pause=0.01)
+        with mock.patch("acd_client.time.clock_gettime", side_effect=lambda clock: next(moments)) as asked:
+            with self.assertRaises(Expired) as ended:
+                client.ask("tick")
+        self.assertEqual((len(desk.asked), ended.exception.request), (3, {"requester": "pbx", "invoke": 1, "service": "tick"}))
+        self.assertEqual({call.args for call in asked.call_args_list}, {(time.CLOCK_BOOTTIME,)})
+        moments = iter([0.0, 86401.0, 999999.0])
+        with mock.patch("acd_client.time.clock_gettime", side_effect=lambda clock: next(moments)):
+            threading.Timer(0.5, client.stop).start()
+            with self.assertRaises(Stopped):
+                client.read("/snapshot")
+        self.assertEqual(len(desk.asked), 4)
 
     def test_at_a_socket(self) -> None:
         """The path is no part of what is asked; where nobody listens the client waits, and says for whom."""

@@ -2,6 +2,7 @@
 from __future__ import annotations
 
 import asyncio
+import re
 import socket
 import ssl
 import time
@@ -13,7 +14,7 @@ from typing import Any
 from unittest import mock
 
 from acd_client import Answer, Event, Missed, Page, Unanswered
-from exchange_bench import Bench
+from exchange_bench import TOP, Bench
 from bridge import desk
 from bridge.desk import DeskLine
 
@@ -100,6 +101,45 @@ class Line(unittest.TestCase):
         with self.assertRaises(Unanswered):
             asyncio.run(line.once())
         self.assertEqual((desk.asked, [service for service, _ in bench.asked()]), (["first", "second", "silence"], ["silence", "third"]))
+
+    def test_no_request_is_sent_again_after_a_day(self) -> None:
+        """Also if the bridge was stopped meanwhile. What came later is sent, and a leg that waited for the reply ends."""
+        desk = Desk({})
+        bench, line = self.line(desk)
+        bench.x.steps.step(bench.x.steps.ask, "silence")
+        for later in (0, 43200, 43200):
+            bench.now += later
+            with self.assertRaises(Unanswered):
+                asyncio.run(line.once())
+        bench.x.steps.step(bench.x.steps.ask, "second")
+        bench.restart()
+        line = DeskLine(bench.x)
+        setattr(line, "client", desk)
+        bench.now += 1
+        said = mock.Mock()
+        setattr(bench.x.steps, "say", said)
+        asyncio.run(line.once())
+        self.assertEqual((desk.asked, bench.asked()), (["silence"] * 3 + ["second"], []))
+        said.assert_called_once_with("the desk answered nothing for a day: requests of before aren't sent again")
+
+    def test_a_request_in_a_file_of_before_has_no_moment(self) -> None:
+        desk = Desk({})
+        bench, line = self.line(desk)
+        bench.x.steps.step(bench.x.steps.ask, "first")
+        bench.x.steps.store.base.execute("UPDATE rows SET row = json_remove(row, '$.since') WHERE kind = 'Request'")
+        bench.x.steps.store.base.commit()
+        bench.restart()
+        self.assertEqual([row.since for row in bench.x.rows.requests.values()], [0.0])
+        line = DeskLine(bench.x)
+        setattr(line, "client", desk)
+        asyncio.run(line.once())
+        self.assertEqual(desk.asked, ["first"])
+
+    def test_the_edge_asks_no_desk(self) -> None:
+        """It speaks SIP alone, so it sends no key at all."""
+        modules = set(re.findall(r'loadmodule "(\w+)\.so"', (TOP / "exchange/kamailio.cfg").read_text()))
+        self.assertGreaterEqual(modules, {"tm", "sl", "registrar"})
+        self.assertFalse([module for module in modules if re.search("http|curl|json|exec|app_|evapi|rest", module)])
 
     def test_events_are_followed_from_the_last_one(self) -> None:
         """If the step of a page fails, the exchange takes the page event by event, and passes over the one that fails."""

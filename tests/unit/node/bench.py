@@ -9,7 +9,7 @@ from pathlib import Path
 
 HERE = Path(__file__).resolve().parent
 SERVICE = HERE.parents[2] / "service"
-sys.path[:0] = [str(SERVICE), str(HERE)]
+sys.path[:0] = [str(SERVICE), str(SERVICE.parent / "client"), str(HERE)]
 
 from acd_service.node.journal import Journal  # noqa: E402
 from acd_service.node.log import Log  # noqa: E402

@@ -1,6 +1,7 @@
 #!/usr/bin/python3
-"""A desk of the tests. It answers each line with 200 and the line itself, and writes it into its file. At the first `memory` it has no memory, and at the first `fault` it ends."""
+"""A desk of the tests. It answers each line with 200 and the line itself, and writes it into its file. At the first `memory` it has no memory, at the first `fault` it ends, `slow` takes a while, and the answer to `odd` is none of a desk."""
 import sys
+import time
 from pathlib import Path
 
 if "--help" in sys.argv:
@@ -18,5 +19,6 @@ for line in sys.stdin.buffer:
         if not word.startswith("GET "):
             with open(file, "ab") as lines_fed:
                 lines_fed.write(line)
-        sys.stdout.write(f"200 {word}\n")
+        time.sleep(0.05 if word.startswith("slow") else 0)
+        sys.stdout.write(f"{'odd' if word == 'odd' else 200} {word}\n")
     sys.stdout.flush()

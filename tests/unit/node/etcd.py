@@ -16,11 +16,11 @@ def data(word):
 
 class Store:
     """The common state of the members: each change with its revision, the revision up to which changes are forgotten, the alarm of a full etcd, and the users with their
-    passwords and what they may write; without any everybody may write everything."""
+    passwords and what they may write; without any everybody may write everything. `leader` is the member that leads, if any does."""
 
     def __init__(self):
         self.changes, self.revision, self.compacted, self.full, self.changed = [], 1, 0, False, threading.Condition()
-        self.users, self.rights = {}, {}
+        self.users, self.rights, self.leader = {}, {}, None
 
     def put(self, key, value):
         with self.changed:
@@ -87,6 +87,7 @@ class Member:
         self.server = ThreadingHTTPServer(("127.0.0.1", port), Handler)
         self.server.daemon_threads, self.server.member = True, self
         self.end = f"127.0.0.1:{self.server.server_address[1]}"
+        self.name = str(self.server.server_address[1] + 10 ** 18)
         threading.Thread(target=self.server.serve_forever, kwargs={"poll_interval": 0.05}, daemon=True).start()
 
     def close(self):
@@ -148,7 +149,8 @@ class Member:
 
     def status(self, body):
         self.used = self.leaves.pop(0) if self.leaves else self.used
-        return {"version": "3.4.23", "dbSize": str(self.size), "dbSizeInUse": str(self.used)}
+        leads = {"leader": self.store.leader.name} if self.store.leader else {}
+        return {"version": "3.4.23", "dbSize": str(self.size), "dbSizeInUse": str(self.used), **leads}
 
     def alarm(self, body):
         if body["action"] == "DEACTIVATE":
@@ -167,7 +169,7 @@ class Member:
                 raise Refused(*NO_LEADER)
             self.asked.append((path, body))
             self.admit(path, body, token)
-            return {"header": {"revision": str(self.store.revision)}, **calls[path](body)}
+            return {"header": {"revision": str(self.store.revision), "member_id": self.name}, **calls[path](body)}
 
     def news(self, first, last, start):
         """The changes of some keys from a revision on, as far as this member knows; waits for some."""

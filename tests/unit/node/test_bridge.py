@@ -1,4 +1,5 @@
-"""The feeding loop: each entry once, in order, none passed over but what is no entry; and answers to what was asked here."""
+"""The feeding loop: each entry of each value, in order, none passed over but what is no value; and answers to what was asked here."""
+import asyncio
 import hashlib
 import os
 import shutil
@@ -30,13 +31,32 @@ class Bridging(Bench):
         folder.mkdir(exist_ok=True)
         found = Bridge(str(folder), DESK, self.log(**times), self.journal)
         if feeds:
-            threading.Thread(target=found.run, daemon=True).start()
+            self.begin(found)
         self.addCleanup(self.end, found)
         return found
 
+    def begin(self, bridge):
+        for work in (bridge.run, bridge.waiting.put_for_ever):
+            threading.Thread(target=work, daemon=True).start()
+
     def end(self, bridge):
-        """Lets the thread end with its desk."""
-        bridge.log.begin = lambda *_: sys.exit()
+        """Lets the threads end, and the desk with them."""
+        bridge.log.begin = bridge.log.append = lambda *_: sys.exit()
+        bridge.waiting.waiters[b"end"] = None
+        bridge.waiting.unput.put((b"end", b""))
+
+    def answers(self, bridge, *requests):
+        """The answers to requests that come at once."""
+        async def all_of_them():
+            return await asyncio.gather(*map(bridge.answer, requests))
+        return asyncio.run(all_of_them())
+
+    def answer(self, bridge, request):
+        return self.answers(bridge, request)[0]
+
+    def several(self, *words):
+        """A value of several entries."""
+        self.store.put(LINE, b"*" + b"".join(b"\n%s 5 %s" % (token(number), word) for number, word in enumerate(words, 1)))
 
     def fed(self, folder=None):
         file = (folder or self.folder) / "desk.db"
@@ -105,6 +125,66 @@ class Feeding(Bridging):
         self.assertEqual(self.fed(), ["5 line 1", "5 line 2", "5 fault", "5 line 4", "5 line 5"])
         self.assertIn("the desk ended with status 1", self.said.getvalue())
 
+    def test_several_of_one_value(self):
+        self.member()
+        self.entries(1)
+        self.several(*(b"word %d" % number for number in range(100)))
+        self.several(b"last")
+        bridge = self.bridge()
+        replies = [b"200 line 1\n", *(b"200 word %d\n" % number for number in range(100)), b"200 last\n"]
+        self.until(lambda: bridge.reached == Reached(4, 102, digest_of(replies)))
+        self.assertEqual(self.fed(), ["5 line 1", *(f"5 word {number}" for number in range(100)), "5 last"])
+
+    def test_a_fault_in_the_middle_of_a_value(self):
+        """All of it is fed again, in order: what was executed is repeated, and none is passed over."""
+        self.member()
+        self.entries(1)
+        self.several(b"a", b"b", b"fault", b"c", b"d")
+        bridge = self.bridge()
+        self.until(lambda: bridge.reached == Reached(3, 6, digest_of([b"200 %s\n" % word for word in (b"line 1", b"a", b"b", b"fault", b"c", b"d")])))
+        self.assertEqual(self.fed(), ["5 line 1", "5 a", "5 b", "5 a", "5 b", "5 fault", "5 c", "5 d"])
+
+    def test_no_memory_in_the_middle_of_a_value(self):
+        self.member()
+        self.several(b"a", b"memory", b"b")
+        bridge = self.bridge()
+        self.until(lambda: bridge.reached == Reached(2, 3, digest_of([b"200 a\n", b"200 memory\n", b"200 b\n"])))
+        self.assertEqual(self.fed(), ["5 a", "5 memory", "5 b"])
+
+    def test_a_desk_that_is_killed_in_the_middle_of_a_value(self):
+        """The place is that of before the value, until all of it is answered."""
+        self.member()
+        self.entries(1)
+        bridge = self.bridge()
+        self.until(lambda: bridge.reached.count == 1)
+        self.several(*(b"slow %d" % number for number in range(20)))
+        self.until(lambda: len(self.fed()) > 3)
+        self.assertEqual(bridge.reached.place, 2)
+        bridge.desk.kill()
+        self.until(lambda: bridge.reached.place == 3)
+        self.assertEqual((bridge.reached.count, bridge.reached.digest), (21, digest_of([b"200 line 1\n", *(b"200 slow %d\n" % number for number in range(20))])))
+        lines, slow = self.fed(), [f"5 slow {number}" for number in range(20)]
+        self.assertEqual((lines[-20:], lines[1:-20]), (slow, slow[:len(lines) - 21]))
+        self.assertTrue(3 <= len(lines) - 21 < 20, len(lines))
+
+    def test_a_value_of_which_one_is_no_entry_is_fed_in_no_part(self):
+        self.member()
+        self.several(b"a", b"GET /snapshot", b"b")
+        self.several(b"c")
+        bridge = self.bridge()
+        bad = self.store.changes[0]["value"]
+        self.until(lambda: bridge.reached == Reached(3, 2, digest_of([bad, b"200 c\n"])))
+        self.assertEqual((self.fed(), bridge.passed), (["5 c"], 1))
+
+    def test_a_digest_that_is_due_in_the_middle_of_a_value(self):
+        self.member()
+        (self.folder / "at").write_text(f"1 {PERIOD - 2} " + "a" * 64)
+        self.several(b"a", b"b", b"c", b"d")
+        bridge = self.bridge()
+        self.until(lambda: bridge.reached.count == PERIOD + 2)
+        digest = hashlib.sha256(hashlib.sha256(b"a" * 64 + b"200 a\n").hexdigest().encode() + b"200 b\n").hexdigest().encode()
+        self.assertEqual((list(bridge.due), bridge.folder.state.checked), ([Checked(PERIOD, digest)], Checked(PERIOD, digest)))
+
     def test_a_place_that_is_lost_or_no_place(self):
         self.member()
         self.entries(3)
@@ -128,49 +208,74 @@ class Feeding(Bridging):
     def test_answers(self):
         self.member()
         bridge = self.bridge()
-        self.assertEqual([bridge.answer(b"mine %d" % number) for number in range(5)], [b"200 mine %d\n" % number for number in range(5)])
+        self.assertEqual([self.answer(bridge, b"mine %d" % number) for number in range(5)], [b"200 mine %d\n" % number for number in range(5)])
         self.store.put(LINE, token(1) + b" 5 somebody else's")
-        self.assertEqual((bridge.answer(b"mine"), bridge.waiting), (b"200 mine\n", {}))
+        self.assertEqual((self.answer(bridge, b"mine"), bridge.waiting.waiters), (b"200 mine\n", {}))
 
     def test_an_append_that_is_acknowledged_late_stands_twice_and_is_answered_once(self):
         for _ in range(2):
             self.member(late=0.5)
         bridge = self.bridge(patience=0.3)
-        self.assertEqual(bridge.answer(b"late"), b"")      # nobody acknowledged: send it again
+        self.assertEqual(self.answer(bridge, b"late"), b"")      # nobody acknowledged: send it again
         for member in self.members:
             member.late = 0
         self.until(lambda: len(self.fed()) == 3)           # and yet it is in the log, once a try
-        self.assertEqual((bridge.answer(b"again"), bridge.waiting), (b"200 again\n", {}))
+        self.assertEqual((self.answer(bridge, b"again"), bridge.waiting.waiters), (b"200 again\n", {}))
 
     def test_appends_that_are_put_twice(self):
         self.member(twice=True)
         bridge = self.bridge()
-        self.assertEqual([bridge.answer(b"%d" % number) for number in range(3)], [b"200 0\n", b"200 1\n", b"200 2\n"])
+        self.assertEqual([self.answer(bridge, b"%d" % number) for number in range(3)], [b"200 0\n", b"200 1\n", b"200 2\n"])
         self.until(lambda: len(self.fed()) == 6)
 
-    def test_each_of_many_at_once_gets_its_answer(self):
+    def test_many_at_once_are_few_puts_and_each_gets_its_answer(self):
         self.member(late=0.05)
-        bridge, found = self.bridge(), {}
-        asking = [threading.Thread(target=lambda number=number: found.__setitem__(number, bridge.answer(b"mine %d" % number))) for number in range(40)]
-        for thread in asking:
-            thread.start()
-        for thread in asking:
-            thread.join()
-        self.assertEqual(found, {number: b"200 mine %d\n" % number for number in range(40)})
+        bridge, requests = self.bridge(), [b"mine %d" % number for number in range(350)]
+        self.assertEqual(self.answers(bridge, *requests), [b"200 " + request + b"\n" for request in requests])
+        values = [change["value"] for change in self.store.changes]
+        self.assertEqual([value.count(b"\n") for value in values][-3:-1], [100, 100])
+        self.assertTrue(len(values) <= 5 and all(value.startswith(b"*\n") for value in values), len(values))
+        self.assertEqual([line.partition(" ")[2].encode() for line in self.fed()], requests)
+
+    def test_no_value_is_too_long(self):
+        self.member(late=0.05)
+        bridge, requests = self.bridge(), [b"%d" % number + b"x" * 4000 for number in range(80)]
+        self.assertEqual(self.answers(bridge, *requests), [b"200 " + request + b"\n" for request in requests])
+        self.assertLessEqual(max(len(change["value"]) for change in self.store.changes), 262144)
+
+    def test_all_of_a_put_that_nobody_acknowledges_are_sent_again(self):
+        member = self.member()
+        bridge = self.bridge()
+        self.answer(bridge, b"first")
+        member.away = True
+        self.assertEqual(self.answers(bridge, b"x", b"y", b"z"), [b""] * 3)
+        self.assertIn("requests get 503: no member of etcd acknowledged", self.said.getvalue())
+        member.away = False
+        self.assertEqual(self.answers(bridge, b"x", b"y"), [b"200 x\n", b"200 y\n"])
+
+    def test_who_has_given_up_is_not_put(self):
+        self.member()
+        bridge = self.bridge(feeds=False)
+        bridge.waiting.patience = 0.1
+        self.assertEqual(self.answers(bridge, b"x", b"y"), [b"", b""])
+        bridge.waiting.patience = 30
+        self.begin(bridge)
+        self.assertEqual((self.answer(bridge, b"z"), self.fed()[0].partition(" ")[2], len(self.store.changes)), (b"200 z\n", "z", 1))
 
     def test_nothing_without_its_entry(self):
         self.member()
         bridge = self.bridge(feeds=False)
-        bridge.patience = 0.2
-        self.assertEqual((bridge.answer(b"x"), bridge.waiting, self.store.revision), (b"", {}, 2))
+        bridge.waiting.patience = 0.2
+        threading.Thread(target=bridge.waiting.put_for_ever, daemon=True).start()
+        self.assertEqual((self.answer(bridge, b"x"), bridge.waiting.waiters, self.store.revision), (b"", {}, 2))
 
     def test_nothing_is_put_while_etcd_is_nearly_full(self):
         self.member()
         bridge = self.bridge()
         bridge.held = True
-        self.assertEqual((bridge.answer(b"x"), self.store.revision), (b"", 1))
+        self.assertEqual((self.answer(bridge, b"x"), self.store.revision), (b"", 1))
         bridge.held = False
-        self.assertEqual(bridge.answer(b"x"), b"200 x\n")
+        self.assertEqual(self.answer(bridge, b"x"), b"200 x\n")
 
     def test_reads_go_into_no_digest(self):
         self.member()
@@ -202,7 +307,7 @@ class Feeding(Bridging):
         self.until(lambda: bridge.folder.state.seen == 6)
         self.store.compacted = 6                           # nothing in it shows the place 5
         self.until(lambda: bridge.log.begin(5, 6) == (7, 0))
-        self.assertEqual(bridge.answer(b"mine"), b"200 mine\n")
+        self.assertEqual(self.answer(bridge, b"mine"), b"200 mine\n")
         self.assertNotIn("copy the folder", self.said.getvalue())
 
     def test_a_disk_that_takes_no_place_is_no_fault_of_etcd(self):
@@ -217,13 +322,13 @@ class Feeding(Bridging):
     def test_nothing_is_answered_while_the_replies_differ(self):
         self.member()
         bridge = self.bridge()
-        self.assertEqual(bridge.answer(b"x"), b"200 x\n")
+        self.assertEqual(self.answer(bridge, b"x"), b"200 x\n")
         bridge.differs = True
-        self.assertEqual((bridge.answer(b"x"), bridge.read(b"/snapshot"), self.store.revision), (b"", b"", 2))
+        self.assertEqual((self.answer(bridge, b"x"), bridge.read(b"/snapshot"), self.store.revision), (b"", b"", 2))
         self.entries(1)
         self.until(lambda: bridge.reached.count == 2)      # it is fed all the same, so that its digests are told
         bridge.differs = False
-        self.assertEqual((bridge.answer(b"y"), bridge.read(b"/snapshot")), (b"200 y\n", b"200 GET /snapshot\n"))
+        self.assertEqual((self.answer(bridge, b"y"), bridge.read(b"/snapshot")), (b"200 y\n", b"200 GET /snapshot\n"))
 
 
 class Mending(Bridging):
@@ -240,7 +345,7 @@ class Mending(Bridging):
         bad = self.bridge(self.folder / "bad", feeds=False)
         bad.pause = 0.1
         (self.folder / "bad/desk.db").write_text("older")
-        threading.Thread(target=bad.run, daemon=True).start()
+        self.begin(bad)
         self.until(lambda: bad.lacks)
         return bad
 
@@ -250,7 +355,7 @@ class Mending(Bridging):
 
     def test_it_says_so_and_answers_nothing(self):
         bridge = self.lacking()
-        self.assertEqual((bridge.answer(b"x"), bridge.read(b"/snapshot"), self.store.revision), (b"", b"", 10))
+        self.assertEqual((self.answer(bridge, b"x"), bridge.read(b"/snapshot"), self.store.revision), (b"", b"", 10))
         self.until(lambda: "place 0: copy the folder of another machine. Until that is done all requests and reads get 503" in self.said.getvalue())
         time.sleep(0.5)
         self.assertEqual((self.said.getvalue().count("copy the folder"), self.fed(self.folder / "bad")), (1, ["older"]))
@@ -259,7 +364,7 @@ class Mending(Bridging):
         bridge = self.lacking()
         self.copy("at", "desk.db")
         self.until(lambda: not bridge.lacks)
-        self.assertEqual(bridge.answer(b"mine"), b"200 mine\n")
+        self.assertEqual(self.answer(bridge, b"mine"), b"200 mine\n")
         self.assertEqual(len(self.fed(self.folder / "bad")), 10)
 
     def test_it_goes_on_with_another_folder_at_its_path(self):
@@ -268,7 +373,7 @@ class Mending(Bridging):
         time.sleep(0.3)
         shutil.copytree(self.folder / "good", self.folder / "bad")
         self.until(lambda: not bridge.lacks)
-        self.assertEqual(bridge.answer(b"mine"), b"200 mine\n")
+        self.assertEqual(self.answer(bridge, b"mine"), b"200 mine\n")
 
     def test_it_goes_on_where_the_log_has_the_entries_after_all(self):
         """A member of etcd said otherwise."""
@@ -277,7 +382,7 @@ class Mending(Bridging):
         self.assertTrue(bridge.lacks)
         self.store.compacted = 0
         self.until(lambda: not bridge.lacks)
-        self.assertEqual(bridge.answer(b"mine"), b"200 mine\n")
+        self.assertEqual(self.answer(bridge, b"mine"), b"200 mine\n")
 
     def test_the_place_alone_is_no_folder(self):
         bridge = self.lacking()
@@ -292,7 +397,7 @@ class Mending(Bridging):
         (self.folder / "bad/at").write_text("4 3 " + "a" * 64)
         self.copy("desk.db")
         self.until(lambda: "place 4: copy the folder" in self.said.getvalue())
-        self.assertEqual((bridge.answer(b"x"), bridge.reached.place), (b"", 4))
+        self.assertEqual((self.answer(bridge, b"x"), bridge.reached.place), (b"", 4))
 
 
 class Folders(Bench):

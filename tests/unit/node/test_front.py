@@ -1,4 +1,7 @@
-"""The answers to a client: the refusals of the desk. A body that can't be an entry makes none."""
+"""The answers to a client: the refusals of the desk. A body that can't be an entry makes none.
+
+Needs python3-aiohttp (Debian package)."""
+import asyncio
 import contextlib
 import random
 import socket
@@ -13,9 +16,11 @@ from unittest import mock
 sys.path.insert(0, str(Path(__file__).resolve().parent))
 
 from bench import PATIENCE, Bench  # noqa: E402
+from acd_service.gate.main import loop_of  # noqa: E402
 from acd_service.node import handshakes  # noqa: E402
 from acd_service.node.front import Front  # noqa: E402
 from acd_service.node.handshakes import network_of  # noqa: E402
+from acd_service.node.main import BACKLOG, listening_at  # noqa: E402
 
 IN_TIME = handshakes.SECONDS
 # of two authorities, and made once
@@ -38,7 +43,7 @@ class Answers:
     def __init__(self):
         self.asked, self.silent = [], False
 
-    def answer(self, request):
+    async def answer(self, request):
         self.asked.append(request)
         return b"" if self.silent else b"200 " + request + b"\n"
 
@@ -54,18 +59,35 @@ def read_all(connection):
 
 
 class Fronting(Bench):
-    def front(self, context=None, most=None):
-        Front.most = most or 2000
-        self.answers = Answers()
-        self.server = Front(("127.0.0.1", 0), self.answers, context)
-        self.addCleanup(self.server.server_close)
-        self.addCleanup(self.server.shutdown)
-        threading.Thread(target=self.server.serve_forever, kwargs={"poll_interval": 0.05}, daemon=True).start()
-        return self.server.server_address
+    new_loop = staticmethod(asyncio.new_event_loop)
+
+    def front(self, context=None, most=2000, address="127.0.0.1"):
+        """A front in a loop of its own, which a fault ends with the test."""
+        self.answers, faults, loop = Answers(), [], self.new_loop()
+        self.server, listening = Front(self.answers, self.journal, context), listening_at(address, 0)
+        self.server.most, self.address, self.loop = most, listening.getsockname(), loop
+        loop.set_exception_handler(lambda _, about: faults.append(about))
+        serving = loop.create_task(self.server.listen(listening, BACKLOG))
+        thread = threading.Thread(target=loop.run_until_complete, args=(asyncio.wait([serving]),), daemon=True)
+        thread.start()
+
+        def end():
+            loop.call_soon_threadsafe(serving.cancel)
+            thread.join()
+            self.assertFalse([one for one in faults if not isinstance(one.get("exception"), OSError)])
+
+        self.addCleanup(end)
+        return self.address
+
+    def in_loop(self, do):
+        """What a function returns that the loop calls."""
+        async def call():
+            return do()
+        return asyncio.run_coroutine_threadsafe(call(), self.loop).result(PATIENCE)
 
     def exchange(self, sent, address=None):
         """The status and the body of a reply; None where there is none."""
-        with socket.create_connection(address or self.server.server_address, timeout=PATIENCE) as connection:
+        with socket.create_connection(address or self.address, timeout=PATIENCE) as connection:
             connection.sendall(sent)
             connection.shutdown(socket.SHUT_WR)
             reply = read_all(connection)
@@ -119,8 +141,9 @@ class Requests(Fronting):
         self.assertEqual(self.post(b"{}", b"/csta?x=1"), (200, b"{}"))
         for method in [b"PUT", b"DELETE", b"OPTIONS", b"get", b"CONNECT"]:
             self.assertEqual(self.exchange(method + b" /csta HTTP/1.1\r\nHost: desk\r\nContent-Length: 2\r\n\r\n{}"), (501, NOT_IMPLEMENTED))
-        for head in [b"x\r\n\r\n", b"GET / HTTP/9.x\r\n\r\n", b"GET / x HTTP/1.1\r\n\r\n", b"\x16\x03\x01\x02\x00\r\n"]:
+        for head in [b"x\r\n\r\n", b"GET / HTTP/9.x\r\n\r\n", b"GET / x HTTP/1.1\r\n\r\n", b"\x16\x03\x01\x02\x00\r\n\r\n", b"\r\n\r\n"]:
             self.assertEqual(self.exchange(head), (400, HEAD), head)
+        self.assertIsNone(self.exchange(b"\x16\x03\x01\x02\x00\r\n"))   # the desk answers nothing either
         self.assertEqual(self.exchange(b"GET /" + b"x" * 70000 + b" HTTP/1.1\r\n\r\n"), (431, HEAD_TOO_LARGE))
         self.assertEqual(self.exchange(b"GET / HTTP/1.1\r\n" + b"a: b\r\n" * 200 + b"\r\n"), (431, HEAD_TOO_LARGE))
 
@@ -134,15 +157,16 @@ class Requests(Fronting):
     def test_more_connections_than_there_is_room_for(self):
         address = self.front(most=20)
         silent = [socket.create_connection(address) for _ in range(20)]
-        self.until(lambda: self.server.room._value == 0)
-        self.assertIsNone(self.exchange(b""))
+        self.until(lambda: self.server.open == 20)
+        with contextlib.suppress(ConnectionResetError):
+            self.assertIsNone(self.exchange(b""))
         for connection in silent:
             connection.close()
-        self.until(lambda: self.server.room._value == 20)
+        self.until(lambda: self.server.open == 0)
         self.assertEqual(self.post(b"{}"), (200, b"{}"))
 
     def test_hostile_bytes_end_nothing(self):
-        """An end of the process would end the tests."""
+        """A fault in the loop would fail the test."""
         self.front()
         chance = random.Random(4)
         good = b"POST /csta HTTP/1.1\r\nHost: desk\r\nContent-Length: 7\r\nX: y\r\n\r\n{\"a\":1}"
@@ -170,7 +194,7 @@ class Certificates(Fronting):
 
     def tried(self, context, sent=b"POST /csta HTTP/1.1\r\nHost: desk\r\nContent-Length: 2\r\n\r\n{}"):
         """The bytes that a client gets after its request."""
-        with socket.create_connection(self.server.server_address, timeout=PATIENCE) as plain:
+        with socket.create_connection(self.address, timeout=PATIENCE) as plain:
             try:
                 with context.wrap_socket(plain, server_hostname="127.0.0.1") as connection:
                     connection.sendall(sent)
@@ -192,32 +216,26 @@ class Certificates(Fronting):
         self.front_of(ours)
         self.assertTrue(self.tried(self.client(ours, ours)).endswith(b"\r\n\r\n{}"))
         self.assertEqual((self.tried(self.client(ours)), self.tried(self.client(ours, theirs)), self.answers.asked), (b"", b"", [b"{}"]))
-        with socket.create_connection(self.server.server_address, timeout=PATIENCE) as plain:
+        with socket.create_connection(self.address, timeout=PATIENCE) as plain:
             plain.sendall(b"POST /csta HTTP/1.1\r\nHost: desk\r\nContent-Length: 2\r\n\r\n{}")
             try:
                 self.assertNotIn(b"HTTP", read_all(plain))
             except ConnectionError:
                 pass
-        with socket.create_connection(self.server.server_address):   # in a handshake that goes on for ever
+        with socket.create_connection(self.address):       # in a handshake that goes on for ever
             self.until(lambda: self.server.handshakes.many == 1)
             self.assertTrue(self.tried(self.client(ours, ours)).endswith(b"{}"))
             self.assertEqual(self.server.handshakes.many, 1)
 
     def silent(self, many, address="127.0.0.1"):
         """Connections from an address that send nothing. They are closed at the end."""
-        found = [socket.create_connection(self.server.server_address, timeout=PATIENCE, source_address=(address, 0)) for _ in range(many)]
+        found = [socket.create_connection(self.address, timeout=PATIENCE, source_address=(address, 0)) for _ in range(many)]
         self.addCleanup(lambda: [connection.close() for connection in found])
         return found
 
     def is_served(self, context):
         """Not only once others, whose time is over much later, have given up."""
         self.assertTrue(self.tried(context).endswith(b"{}"))
-
-    def end_all_handshakes(self):
-        """Their time is over."""
-        with self.server.handshakes.lock:
-            for connections in self.server.handshakes.of.values():
-                connections.update(dict.fromkeys(connections, 0.0))
 
     def test_who_has_no_handshake_takes_nobodys_place(self):
         ours = CERTIFICATES / "ours"
@@ -230,23 +248,20 @@ class Certificates(Fronting):
         self.is_served(client)
         self.until(lambda: self.server.handshakes.many >= 497)   # the client took the place of some, and has gone
         self.assertTrue(counts[0] <= 60 and max(counts) <= 500, counts)
-        self.until(lambda: self.server.room._value == Front.most == 2000)
-        held = {network: len(connections) for network, connections in self.server.handshakes.of.items()}
+        self.until(lambda: self.server.open == 0)
+        held = self.in_loop(lambda: {network: len(handshakes) for network, handshakes in self.server.handshakes.of.items()})
         self.assertTrue(all(held.get(f"127.0.1.{number}") for number in range(1, 61)), held)   # nobody's only ones were given up for another's many
-        self.end_all_handshakes()
+        self.in_loop(lambda: [handshake.cancel() for handshakes in self.server.handshakes.of.values() for handshake in handshakes])
         self.until(lambda: self.server.handshakes.many == 0 and not self.server.handshakes.of)
         self.assertEqual([read_all(connection) for connection in strangers], [b""] * 1200)
 
-    def test_one_that_is_given_up_before_its_handshake(self):
-        """An end of the process would end the tests."""
+    def test_one_that_is_given_up_within_its_handshake(self):
         self.front_of(CERTIFICATES / "ours")
-        met = []
-        self.server.handshakes.meet = lambda *one: met.append(one)
-        self.silent(1)[0].sendall(b"\x16")
-        self.until(lambda: met)
-        self.server.handshakes.give_up(network_of("127.0.0.1"))
-        self.assertFalse(self.server.is_met(*met[0]))
-        met[0][0].close()
+        silent = self.silent(1)[0]
+        silent.sendall(b"\x16")
+        self.until(lambda: self.server.handshakes.many == 1)
+        self.in_loop(lambda: self.server.handshakes.give_up(network_of("127.0.0.1")))
+        self.assertEqual((read_all(silent), self.server.handshakes.many, self.server.open), (b"", 0, 0))
 
     def test_a_handshake_is_over_in_time(self):
         """However often a byte comes."""
@@ -270,11 +285,12 @@ class Certificates(Fronting):
         context.load_cert_chain(ours / "desk.crt", ours / "desk.key")
         self.front(context, most=20)
         met = [self.client(ours).wrap_socket(connection, server_hostname="127.0.0.1") for connection in self.silent(20)]
-        self.until(lambda: self.server.room._value == 0)
-        self.assertEqual((self.tried(self.client(ours)), self.server.handshakes.many), (b"", 0))
+        self.until(lambda: self.server.open == 20)
+        self.assertEqual(self.tried(self.client(ours)), b"")
+        self.until(lambda: self.server.handshakes.many == 0)
         for connection in met:
             connection.close()
-        self.until(lambda: self.server.room._value == 20)
+        self.until(lambda: self.server.open == 0)
         self.is_served(self.client(ours))
 
     def test_who_counts_as_one(self):
@@ -283,24 +299,33 @@ class Certificates(Fronting):
             self.assertEqual(network_of(one) == network_of(other), same, (one, other))
 
     def test_an_address_of_ipv6(self):
-        Front.most = 2000
-        with Front(("::1", 0), Answers()) as front:
-            threading.Thread(target=front.serve_forever, kwargs={"poll_interval": 0.05}, daemon=True).start()
-            self.addCleanup(front.shutdown)
-            self.assertEqual(self.exchange(b"GET /x HTTP/1.1\r\nHost: desk\r\n\r\n", front.server_address[:2]), (200, b"/x"))
+        address = self.front(address="::1")
+        self.assertEqual(self.exchange(b"GET /x HTTP/1.1\r\nHost: desk\r\n\r\n", address[:2]), (200, b"/x"))
 
     def test_executed_requests_are_read_by_no_certificate(self):
         ours = CERTIFICATES / "ours"
         for asks in (True, False):
             self.front_of(ours, asks)
-            for target, is_one in ((b"/requests", True), (b"/requests?after=7", True), (b"//requests", True), (b"http://desk/requests?x", True),
+            for target, is_one in ((b"/requests", True), (b"/requests?after=7", True), (b"//requests", False), (b"http://desk/requests?x", True),
                                    (b"HtTp:///requests", True), (b"/requests/", False), (b"/Requests", False), (b"/%72equests", False), (b"/events?/requests", False),
                                    (b"http://desk?/requests", False)):
                 head, _, body = self.tried(self.client(ours, ours), b"GET %s HTTP/1.1\r\nHost: desk\r\n\r\n" % target).partition(b"\r\n\r\n")
-                wanted = (b"403", FORBIDDEN) if asks and is_one else (b"200", b"/requests" if target == b"//requests" else target)
+                wanted = (b"403", FORBIDDEN) if asks and is_one else (b"200", target)
                 self.assertEqual((head.split()[1], body), wanted, target)
             answer = self.tried(self.client(ours, ours), b"HEAD /requests HTTP/1.1\r\nHost: desk\r\n\r\n")
             self.assertTrue(answer.startswith(b"HTTP/1.1 403 " if asks else b"HTTP/1.1 200 ") and answer.endswith(b"\r\n\r\n"), answer)
+
+
+@unittest.skipUnless(loop_of(), "python3-uvloop isn't installed")
+class RequestsByUvloop(Requests):
+    def new_loop(self):
+        return loop_of()()
+
+
+@unittest.skipUnless(loop_of(), "python3-uvloop isn't installed")
+class CertificatesByUvloop(Certificates):
+    def new_loop(self):
+        return loop_of()()
 
 
 if __name__ == "__main__":

@@ -278,6 +278,20 @@ class Keeping(Bench):
         self.assertEqual(printed.count(f"etcd at {member.end} has 500 bytes of its quota of 1000, 400 of them in use"), 2)
         self.assertNotIn(other.end, printed)
 
+    def test_puts_go_to_the_member_that_leads(self):
+        members = [self.members[0], self.member(), self.member()]
+        self.keepers["m1"].log = log = self.log()
+        for leader in (*members, *members):
+            self.store.leader = leader
+            self.look("m1", after=5)
+            before = len(leader.asked)
+            log.append(b"x")
+            self.assertEqual(leader.asked[before:], [("/v3/kv/put", mock.ANY)])
+        self.store.leader = None                           # nobody knows one: it stays as it is
+        self.look("m1", after=5)
+        log.append(b"x")
+        self.assertEqual(members[2].asked[-1][0], "/v3/kv/put")
+
     def test_near_the_quota_requests_are_refused_and_places_published_all_the_time(self):
         member = self.members[0]
         for size, used, held in [(874, 874, False), (875, 749, False), (875, 750, True), (999, 999, True), (999, 100, False), (100, 100, False)]:

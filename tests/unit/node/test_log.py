@@ -276,6 +276,19 @@ class Calling(Bench):
         self.assertEqual(log.idle[0].port, int(second.end.split(":")[1]))
         self.assertEqual(len(log.idle), 1)
 
+    def test_the_member_that_is_preferred(self):
+        first, second = self.member(), self.member()
+        log = self.log()
+        for member, end in ((first, log.ends[0]), (second, log.ends[1]), (second, log.ends[1])):
+            log.prefer(end)
+            before = len(member.asked)
+            log.append(b"x")
+            log.append(b"y")
+            self.assertEqual((len(member.asked), len(log.idle)), (before + 2, 1))
+        second.away = True                                 # and the next one where it doesn't answer
+        log.append(b"z")
+        self.assertEqual([change["value"] for change in self.store.changes][-1], b"z")
+
     def test_no_majority(self):
         for _ in range(3):
             self.member(away=True)
@@ -331,7 +344,11 @@ class Calling(Bench):
         member, gone = self.member(size=3000, used=1000, quota=3e6), self.member()
         log = self.log()
         gone.close()
-        self.assertEqual(log.member(log.ends[0]), (log.ends[0], 3000, 1000, 3000000))
+        self.assertEqual(log.member(log.ends[0]), (log.ends[0], 3000, 1000, 3000000, False))
+        self.store.leader = member
+        self.assertTrue(log.member(log.ends[0]).leads)
+        self.store.leader = gone
+        self.assertFalse(log.member(log.ends[0]).leads)
         self.assertIsNone(log.member(log.ends[1]))
         member.quota = 2147483648
         self.assertEqual(log.member(log.ends[0]).quota, QUOTA)

@@ -3,6 +3,7 @@ import http.client
 import os
 import signal
 import socket
+import struct
 import subprocess
 import sys
 import tempfile
@@ -88,6 +89,26 @@ class Processes(Bench):
         self.members[0].lines = lambda *_: iter([{"header": {}, "events": [{"kv": {"no": "revision"}}]}])
         self.assertEqual(process.wait(PATIENCE), 1)
         self.assertIn("KeyError", process.stderr.read())
+
+    def test_and_the_loop_with_the_process(self):
+        self.member()
+        process = self.start()
+        self.answers(process)
+        self.ask(b"odd")
+        self.assertEqual(process.wait(PATIENCE), 1)
+        self.assertIn("ValueError", process.stderr.read())
+
+    def test_clients_that_leave_end_nothing(self):
+        self.member()
+        process = self.start()
+        self.answers(process)
+        for sent in (b"", b"POST /csta HTTP/1.1\r\nContent-Le", b"POST /csta HTTP/1.1\r\nHost: desk\r\nContent-Length: 9\r\n\r\n12", b"POST /csta HTTP/1.1\r\nHost: desk\r\nContent-Length: 4\r\n\r\nslow",
+                     b"GET /snapshot HTTP/1.1\r\nHost: desk\r\n\r\n"):
+            for _ in range(20):
+                with socket.create_connection(("127.0.0.1", self.port), timeout=PATIENCE) as connection:
+                    connection.setsockopt(socket.SOL_SOCKET, socket.SO_LINGER, struct.pack("ii", 1, 0))
+                    connection.sendall(sent)
+        self.answers(process, b"y")
 
     def test_and_a_thread_that_answers_with_the_process(self):
         self.member()

@@ -92,6 +92,27 @@ class Served(Starts):
         self.assertEqual(self.serve("--tick", "10", "--patience", "30").status, 0)
         self.became.assert_called_once_with("acd", ["acd", "serve", "--file", str(self.file), "--port", str(self.port), "--endless", "--tick", "10", "--patience", "30"])
 
+    def test_a_slow_opening_is_told(self):
+        """Of a desk that is played, and takes a little more than five seconds."""
+        self.desk()
+        (self.folder / "slow").mkdir()
+        played = self.folder / "slow/acd"
+        played.write_text(f"#!{sys.executable}\nimport socket, sys, time\ntime.sleep(5.2)\nlistener = socket.create_server(('127.0.0.1', {self.port}))\n"
+                          "while True:\n    asks = listener.accept()[0]\n    asks.recv(4096)\n    asks.sendall(b'HTTP/1.1 404 Not Found\\r\\n\\r\\n')\n    asks.close()\n")
+        played.chmod(0o755)
+        words = [sys.executable, ground.SERVICE / "bin/acdctl", "ready", "--serve", "--file", self.file, "--port", str(self.port)]
+        with socket.socket(socket.AF_UNIX, socket.SOCK_DGRAM) as told:
+            told.bind(str(self.folder / "notify"))
+            told.settimeout(60)
+            variables = {**os.environ, "NOTIFY_SOCKET": str(self.folder / "notify"), "PATH": f"{self.folder}/slow:{os.environ['PATH']}"}
+            with subprocess.Popen(words, env=variables, stdout=subprocess.DEVNULL, stderr=subprocess.PIPE, text=True) as desk:
+                try:
+                    self.assertEqual(told.recv(100), b"READY=1")
+                    line = desk.stderr.readline()
+                finally:
+                    desk.kill()
+        self.assertRegex(line, r"\Aacdctl ready: the desk took \d+ s to open its file: the more requests it has, the longer it takes \('Leaving old requests behind' in OPERATING\.md\)\n\Z")
+
     def test_without_the_program(self):
         self.desk()
         self.became.side_effect = FileNotFoundError

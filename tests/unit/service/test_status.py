@@ -132,6 +132,18 @@ class Served(Machine):
                     self.assertEqual(json.loads(self.said("--json", *words))["agents"]["planned"], 1)
                     desk.shutdown()
 
+    def test_how_many_requests_are_kept(self):
+        """Whether the desk serves or not, and also where the first ones are in an archive alone."""
+        self.plan(*REQUESTS)
+        with self.served():
+            self.assertEqual(self.found()["kept"], {"count": EXECUTED, "opening": 0.0})
+        self.assertEqual(self.lines()["kept requests"], f"{EXECUTED}, which take some 0.0 s of the next start")
+        answers = {"/requests?after=0": {"last": 650_000, "requests": [{"stamp": 50_001}]}, f"/requests?after={status.BEYOND}": {"last": 650_000, "requests": []}}
+        with mock.patch.object(status.Client, "attempt", side_effect=lambda _, path: mock.Mock(status=200, body=answers.get(path, {}))):
+            self.assertEqual(self.found()["kept"], {"count": 600_000, "opening": 5.4})
+            answers["/requests?after=0"] = {"last": 0, "requests": []}
+            self.assertEqual(self.found()["kept"], {"count": 0, "opening": 0.0})
+
     def test_a_plan_alone(self):
         self.plan()
         with self.served():
