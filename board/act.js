@@ -15,7 +15,7 @@ export const lead = {
     this.requester = requesterOf(login);
   },
 
-  leads({state, groups}) { return state !== 'null' && groups.some(group => this.groups.has(group)); },
+  leads({doing, groups}) { return doing !== 'null' && groups.some(group => this.groups.has(group)); },
 
   // A lead moves a call that waits, and ends one that an agent has.
   may({group, state}) { return group !== null && this.groups.has(group) && ['queued', 'alerting', 'connected', 'hold'].includes(state); },
@@ -25,7 +25,7 @@ export const lead = {
     if (requested) await this.send('setAgentState', {agent, requested}, word(`agent.${requested}`), who);
   },
 
-  async ofCall(state, {number: call, device, state: is}) {
+  async ofCall(state, {number: call, at: device, state: is}) {
     const who = word('agents.call', {call: `${call}`});
     if (is !== 'queued') {
       if (await ask(word('act.end.sure', {who})) !== null) await this.send('clearConnection', {call, device}, word('act.end'), who);

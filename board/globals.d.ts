@@ -3,20 +3,20 @@ import * as types from './types';
 
 declare global {
   type Agent = types.Agent;
-  type AgentReport = types.AgentReport;
   type Alarm = types.Alarm;
   type Known = types.Known;
+  type Told = types.Told;
+  type News = types.News;
+  type Lost = types.Lost;
+  type Heard = types.Heard;
+  type Step = types.Step;
   type Values = types.Values;
-  type InGroups = types.InGroups;
-  type DoingAt = types.DoingAt;
   type Attributes = types.Attributes;
   type Call = types.Call;
-  type CallLine = types.CallLine;
-  type CallReport = types.CallReport;
   type Column = types.Column;
   type ConnectionState = types.ConnectionState;
   type Course = types.Course;
-  type Day = import('./day.js').Day;
+  type Day = import('./figures.js').Day;
   type Doing = types.Doing;
   type Drawn = types.Drawn;
   type Group = types.Group;
@@ -26,7 +26,6 @@ declare global {
   type Made = types.Made;
   type OfSums = (sum: Sums) => number | null;
   interface Navigator { userActivation?: {hasBeenActive: boolean} }
-  type Keeps = types.Keeps;
   type Order<T> = types.Order<T>;
   type Search = types.Search;
   type Judge = types.Judge;
@@ -43,7 +42,6 @@ declare global {
   type Charts = types.Charts;
   type Chart = types.Chart;
   type SettingsOf = types.SettingsOf;
-  type Reads = types.Reads;
   type Labelled = types.Labelled;
   type Asks = types.Asks;
   type Sets = types.Sets;
@@ -52,20 +50,15 @@ declare global {
   type Quarter = types.Quarter;
   type Line = types.Line;
   type Report = types.Report;
+  type Rule = types.Rule;
   type Settings = typeof import('./settings.js').USUAL & {[ofGroup: `${string}.${string}`]: number};
-  type Shown = {id: string, name: string} & ReturnType<DoingAt>;
-  type AgentText = types.AgentText;
+  type Shown = Pick<Agent, 'id' | 'name' | 'doing' | 'since' | 'group'>;
   type Sentence = types.Sentence;
   type Signed = types.Signed;
   type Severity = types.Severity;
-  type Snapshot = types.Snapshot;
-  type State = import('./state.js').State;
+  type State = import('./desk.js').State;
   type Sums = types.Sums;
-  type Agents = types.Agents;
   type Share = types.Share;
-  type Follower = types.Follower;
-  type Page = types.Page;
   type AgentState = types.AgentState;
-  type Station = types.Station;
   type View = {draw: (drawn: Drawn, anew: boolean) => void, file: (drawn: Drawn) => (string | number)[][]};
 }

@@ -1,16 +1,14 @@
 // The board: a desk, its day, and the view that is looked at.
 import {lead} from './act.js';
 import {save} from './csv.js';
+import {State} from './desk.js';
 import {byId, drawStatus, make, put, set, withNumber} from './draw.js';
-import {Day} from './day.js';
-import {Feed, history, lastBefore} from './feed.js';
-import {ahead} from './net.js';
-import {callLines, groupLines, totals} from './reckon.js';
-import {ask, logIn, logOut, openSession} from './session.js';
-import {chosenOf, dayBegin, FIELDS, FILTERS, greatestLimit, searchOf, settings, settingsOf, valueOf} from './settings.js';
+import {Day} from './figures.js';
+import {callLines, groupLines, totals} from './lines.js';
+import {logIn, logOut, openSession} from './session.js';
+import {chosenOf, dayBegin, FIELDS, FILTERS, limitsSaid, searchOf, settings, settingsOf, valueOf} from './settings.js';
 import {soundWhere} from './sound.js';
-import {State} from './state.js';
-import {fault, office, translate, word} from './words.js';
+import {fault, office, refusal, translate, word} from './words.js';
 import * as agents from './views/agents.js';
 import * as alarms from './views/alarms.js';
 import * as calls from './views/calls.js';
@@ -20,14 +18,14 @@ import {drawTotals, queues, wall} from './views/groups.js';
 
 /** @type {Record<string, View>} */
 const VIEWS = {wall, queues, agents, calls, day, events};
-const OLD = 5000, RECENT = 4000, ASKING = 8;
+const OLD = 8000, WEEK = 7;
 
-let view = 'wall', state = new State(), counting = new Day(), counted = false, reading = false;
-/** @type {Report[]} */ let recent = [];
-/** @type {Map<number, Day|undefined>} */ let others = new Map();
+let view = 'wall', state = new State(office.names), counting = new Day(), counted = false, followed = '', ahead = 0;
+// what only one view shows, from when it was looked at first
+/** @type {Set<string>} */ const shows = new Set();
 /** @type {Drawn|undefined} */ let drawn;
-// when the desk last answered, in milliseconds; how much of the day has been read
-let answered = 0, unseen = 0, share = 0, due = false;
+// when the desk was last known to answer, in milliseconds
+let answered = 0, unseen = 0, due = false;
 /** @type {Course} */ let course = {kind: 'begins'};
 
 const serverClock = () => (Date.now() + ahead) / 1000;
@@ -35,103 +33,62 @@ const serverClock = () => (Date.now() + ahead) / 1000;
 // The desk's clock; it stops if the connection is lost: no wait grows that may have ended.
 const now = () => Math.max(state.moment, course.kind === 'lost' && answered ? Math.min(serverClock(), (answered + OLD + ahead) / 1000) : serverClock());
 
-const feed = new Feed({
-  begin(snapshot) {
-    const anew = state.last === 0;
-    state = new State(snapshot, state);
-    for (const kind of /** @type {const} */ (['groups', 'agents'])) for (const one of state[kind].values()) one.name = office.names[kind][one.id] ?? one.name;
-    if (anew) {
-      recent = [];
-      count();
-    }
-    schedule();
-  },
-  take(reports) {
-    for (const report of reports) {
-      state.apply(report);
-      if (counted) counting.apply(report);
-    }
-    recent = [...recent, ...reports].slice(-RECENT);
-    // who logged on in several groups: in which
-    for (const agent of state.unknown) ask(`/agents/${agent}`).then(text => state.learn(text), () => {});
-    schedule();
-  },
-  show(what) {
-    if (what.kind === 'anew') state = new State();
-    if (what.kind === 'live') {
-      answered = Date.now();
-      if (course.kind !== 'live') performance.mark('live');
-    }
-    if ('status' in what && what.status === 401) logIn();   // a session that has ended
-    course = what;
-    drawTop();
-    schedule();
-  },
-});
+const worker = new Worker(new URL('stream.js', import.meta.url), {type: 'module'});
+/** @param {{data: Heard}} heard */
+worker.onmessage = ({data}) => hear(data);
 
-const newDay = (back = 0) => new Day(dayBegin(now(), back), group => settings[`limit.${group}`] ?? settings.limit, chosenOf());
+// Other days as the gate is to count them, each to its end; none where this one begins at a moment.
+const pastDays = () => settings.since.includes(':') && shows.has('day') ? [1, WEEK].map(back => `${dayBegin(now(), back)}-${dayBegin(now(), back - 1)}`) : [];
 
-// Some events before a day show since when calls wait.
-const before = (begin = 0) => lastBefore(feed.last, begin - greatestLimit() - 1);
-
-// Counts what is of a day, a page at a time.
-/** @type {Reads} */
-const read = (day, goesOn, end = Infinity) => history(day.last, feed.last, reports => {
-  const found = reports.filter(({number, moment}) => number <= feed.last && moment < end);
-  for (const report of found) day.apply(report);
-  return goesOn(found) && found.length === reports.length;
-});
-
-// Counts up to the feed, which continues from there.
-async function count() {
-  const mine = counting = newDay();
-  /** @type {Report[]} */ let found = [];
-  counted = false;
-  share = 0;
-  others = new Map();
-  try {
-    const {last} = await before(mine.begin);
-    mine.last = last;
-    while (mine === counting && mine.last < feed.last) await read(mine, more => {
-      found = [...found, ...more].slice(-RECENT);
-      share = (mine.last - last) / Math.max(1, feed.last - last);
-      return mine === counting;
-    });
-    if (mine !== counting) return;
-    counted = true;
-    recent = found;
-    performance.mark('counted');
-    redraw();
-  } catch { if (mine === counting) setTimeout(count, OLD); }
+// Follows what the settings ask for: the day and its limits, the chosen groups, and what a view shows besides; says whether that is something else.
+function follow() {
+  const begin = dayBegin(now()), asked = new URLSearchParams({begin: `${begin}`, ...limitsSaid(), groups: settings.groups, show: [...shows].sort().join(','), past: pastDays().join(',')});
+  for (const [name, value] of [...asked]) if (!value) asked.delete(name);
+  const path = `/stream?${asked}`.replaceAll('%2C', ',');
+  if (path === followed) return false;
+  followed = path;
+  worker.postMessage(path);
+  return true;
 }
 
-// Another day, so many days before; it reads one after the other.
-function past(back = 0) {
-  if (!others.has(back) && !reading && counted && settings.since.includes(':')) readPast(back);
-  return others.get(back);
+// Figures of other settings are shown no longer.
+const count = () => { if (follow()) counted = false; };
+
+/** @param {Heard} heard */
+function hear(heard) {
+  if (heard.kind === 'lost') {
+    if (heard.status === 401) logIn();   // a session that has ended
+    lose(heard.status ? refusal(heard.status, heard.text) : word(`lost.${heard.text}`), heard.status);
+  }
+  // one of other settings may be on its way
+  if ((heard.kind === 'picture' || heard.kind === 'change') && heard.path === followed) take(heard);
 }
 
-async function readPast(back = 0) {
-  const day = newDay(back), mine = others;
-  reading = true;
-  try {
-    const {last, isWhole} = await before(day.begin);
-    day.last = last;
-    // a day whose beginning is in an archive isn't shown beside this one
-    if (isWhole) await read(day, () => mine === others, dayBegin(now(), back - 1));
-    mine.set(back, isWhole ? day : undefined);
-    reading = false;
-    redraw();
-  } catch { setTimeout(() => { reading = false; }, OLD); }
+function lose(why = '', status = 0) {
+  course = {kind: 'lost', status, why};
+  drawTop();
+  schedule();
 }
 
-// No event has the caller, but the call has.
-/** @param {number[]} numbers */
-async function learn(numbers) {
-  const wanted = numbers.flatMap(number => state.calls.get(number) ?? []).filter(call => !call.asked).slice(0, ASKING);
-  for (const call of wanted) call.asked = true;
-  for (const call of wanted) try { call.caller = (await ask(`/calls/${call.number}`)).caller; } catch { /* it ended, or the next snapshot shows */ }
+/** @param {News} heard */
+function take({told, kind, ahead: clock, received}) {
+  const isWhole = kind === 'picture';
+  ahead = clock;
+  state.take(told, isWhole);
+  if (isWhole) counting = new Day(Number(new URLSearchParams(followed.split('?')[1]).get('begin')), chosenOf());
+  counting.take(told, isWhole);
+  if (counting.share === 1 && !counted) performance.mark('counted');
+  counted = counting.share === 1;
+  if (!told.live) return lose(word('error.gatewayTimeout'));
+  if (course.kind !== 'live') performance.mark('live');
+  answered = received;
+  course = {kind: 'live'};
+  drawTop();
+  schedule();
 }
+
+// Another day, so many days before, once the gate has counted it.
+const past = (back = 0) => settings.since.includes(':') ? counting.past.get(dayBegin(now(), back)) : undefined;
 
 function schedule() {
   if (due) return;
@@ -146,21 +103,21 @@ function draw(anew = false) {
   if (!state.last && !state.groups.size) return course.kind === 'live' ? empty(word('empty.plan')) : undefined;
   const looked = {state, day: counting, now: now()}, lines = groupLines(looked), choice = field('group');
   if (lines.length && !lines.some(line => line.id === settings.group)) settings.group = '';   // none of the chosen ones any more
-  drawn = {...looked, settings, counted, recent, lines, all: totals(looked, lines), past, learn, empty, lead, filter, redraw};
+  drawn = {...looked, settings, counted, recent: state.events, lines, all: totals(looked, lines), past, empty, lead, filter, redraw};
   empty(lines.length ? '' : word(state.groups.size ? 'empty.groups' : 'empty.plan'));
   put(choice, make('option', {value: ''}, word('set.group.')), ...lines.map(line => make('option', {value: line.id}, withNumber(line))));
   if (choice.value !== settings.group) choice.value = settings.group;
   if (course.kind === 'live') unseen = alarms.draw(drawn, serverClock(), view === 'wall');
   drawTotals(drawn);
   VIEWS[view].draw(drawn, anew);
-  if (counted && dayBegin(now()) !== counting.begin && course.kind === 'live') count();   // another day
+  if (counted && dayBegin(now()) !== counting.begin && course.kind === 'live') count();   // another day has begun
 }
 
 const title = () => settings.title || office.title || word('title.usual');
 
 function drawTop() {
   const lost = course.kind === 'lost', late = course.kind === 'live' && Date.now() - answered > OLD;
-  const said = drawStatus(late ? 'late' : course.kind, answered, 'why' in course ? course.why : '', serverClock(), counted ? '' : `${Math.floor(100 * share)} %`);
+  const said = drawStatus(late ? 'late' : course.kind, answered, 'why' in course ? course.why : '', serverClock(), counted ? '' : `${Math.floor(100 * counting.share)} %`);
   put('band', lost && `■ ${said}`);
   document.title = `${lost ? `■ ${word('title.lost')} – ` : unseen ? `■ ${word('title.alarms', {n: unseen})} – ` : ''}${title()}: ${word(`view.${view}`)}`;
 }
@@ -172,6 +129,8 @@ function show() {
   for (const part of document.querySelectorAll('[data-for]')) set(part, {hidden: !part.getAttribute('data-for')?.split(' ').includes(view)});
   put('views', ...Object.keys(VIEWS).map(name => make('li', make('a', {href: `#${name}`, 'aria-current': name === view && 'page'}, word(`view.${name}`)))));
   put('view', word(`view.${view}`));
+  if (view === 'day' || view === 'events') shows.add(view);
+  follow();
   drawTop();
   redraw();
 }
@@ -223,7 +182,7 @@ function change({target: one}) {
 const PRESSED = {
   agents: group => filter({group, find: ''}, 'agents'),
   calls: (_, __, {dataset}) => filter({group: '', find: dataset.call ?? ''}, 'calls'),
-  agent: (_, line) => filter({group: '', states: '', find: line ? state.agentAt(line.device)?.id ?? line.device : ''}, 'agents'),
+  agent: (_, line) => filter({group: '', states: '', find: line ? state.agentAt(line.at)?.id ?? line.at : ''}, 'agents'),
   call: (_, line) => line && lead.ofCall(state, line),
   state: key => lead.ofAgent(state, key),
   priority: key => lead.ofGroup(state, key),
@@ -245,15 +204,13 @@ set('csv', {onclick: () => { if (drawn) save(`${view}-${new Date(serverClock() *
 soundWhere(() => Boolean(settings.tone));
 addEventListener('hashchange', show);
 addEventListener('resize', redraw);
-document.addEventListener('visibilitychange', () => feed.wake());
 setInterval(() => { drawTop(); schedule(); }, 1000);
 useSettings();
 show();
-feed.run();
 openSession(logOut).then(who => {
   lead.begin(who);
   set(document.body, {'data-lead': lead.groups.size > 0});
   redraw();
 });
 // for the console, and for tests
-Object.assign(window, {board: {feed, state: () => state, day: () => counting, counted: () => counted, settings}});
+Object.assign(window, {board: {state: () => state, day: () => counting, counted: () => counted, settings}});

@@ -9,16 +9,12 @@ export const sleep = (milliseconds = 0) => new Promise(done => setTimeout(done, 
 // How long to wait after so many losses: not all pages alike.
 export const pause = (losses = 0) => Math.min(LONGEST, 1000 * 2 ** losses) * (0.75 + Math.random() / 2);
 
-// the server's clock less this one's, in milliseconds: it has whole seconds, between question and reply
-export let ahead = 0;
-
 // A reply; an error `silent` where none came in time, `server` where nobody is there.
 /** @param {RequestInit} [how] */
 export async function ask(path = '', how, patience = PATIENCE, giving = new AbortController()) {
   const timer = setTimeout(() => giving.abort(), patience);
   try {
-    const sent = Date.now(), reply = await fetch(base + path, {cache: 'no-store', ...how, signal: giving.signal}), date = Date.parse(reply.headers.get('date') ?? '');
-    if (date) ahead = Math.min(Math.max(ahead, date - Date.now()), date + 1000 - sent);
+    const reply = await fetch(base + path, {cache: 'no-store', ...how, signal: giving.signal});
     return {status: reply.status, text: await reply.text()};
   } catch { throw new Error(giving.signal.aborted ? 'silent' : 'server'); } finally { clearTimeout(timer); }
 }

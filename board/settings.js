@@ -54,7 +54,8 @@ export function limitsOf(group = '') {
   return {limit: of('limit'), goal: of('goal'), lost: of('lost'), long, bad: Math.max(long, of('bad'))};
 }
 
-export const greatestLimit = () => Math.max(...Object.entries(settings).flatMap(([name, value]) => /^limit\b/.test(name) ? Number(value) : []));
+// the limits of all groups, and of single ones
+export const limitsSaid = () => Object.fromEntries(Object.entries(settings).flatMap(([name, value]) => /^limit\b/.test(name) ? [[name, `${value}`]] : []));
 
 // All groups count as chosen if none was.
 export function chosenOf(groups = settings.groups) {

@@ -4,16 +4,15 @@ export type ConnectionState = 'initiated' | 'alerting' | 'connected' | 'hold' | 
 export type AgentState = 'null' | 'notReady' | 'ready' | 'busy' | 'workingAfterCall';
 export type Figures = {entered: number, answered: number, abandoned: number, moved: number, waited: number};
 
-// what the desk answers
+// what the gate tells
 
-export type Snapshot = {agents: AgentText[], calls: CallText[], groups: GroupText[], last: number, moment: number, stations: StationText[]};
-/** one group, or several */
-export type InGroups = {group?: string, groups?: string[]};
-export type AgentText = InGroups & {agent: string, device?: string, name: string, pending?: string, since: number, stamp: number, state: AgentState};
-type ConnectionText = {device: string, group?: string, state: ConnectionState, offered?: number, place?: number, queued?: number};
-type CallText = {call: number, called: string, caller: string, connections: ConnectionText[], since: number};
-type GroupText = Figures & {device: string, kind: 'group', name: string, priority?: number, ring: number, wrap: number};
-type StationText = {agent?: string, connections: {call: number, state: ConnectionState}[], device: string, kind: 'station'};
+/** tables of lines by their keys, null for what is gone; whether the desk answers, when it last did, and the server's clock, in seconds */
+export type Told = {live: boolean, answered: number, clock: number, [table: string]: any};
+/** path: what was asked for; ahead: the server's clock less this one's, in milliseconds */
+export type News = {kind: 'picture' | 'change', told: Told, path: string, ahead: number, received: number};
+/** what the worker hears: why nothing came, and each second that it is alive */
+export type Lost = {kind: 'lost', status: number, text: string};
+export type Heard = News | Lost | {kind: 'beat'};
 
 /** what is left out of an event of a call: `callCleared` has no device */
 export type CallReport = {number: number, moment: number, call: number, device: string, group?: string, waited?: number,
@@ -22,30 +21,26 @@ export type CallReport = {number: number, moment: number, call: number, device: 
 export type AgentReport = {number: number, moment: number, agent: string, device: string, group?: string,
   event: 'agentLoggedOn' | 'agentLoggedOff' | 'agentNotReady' | 'agentReady' | 'agentBusy' | 'agentWorkingAfterCall'};
 export type Report = CallReport | AgentReport;
-export type Page = {events: Report[], last: number};
 
 // the state
 
-export type Group = {id: string, name: string, ring: number, wrap: number, priority: number, waiting: Set<Call>, ringing: Set<Call>};
-/** what an agent does, since when, and for which group */
-export type DoingAt = (agent: {state: AgentState, since: number}, here: {state: ConnectionState, since: number, group?: string | null}[]) => {doing: Doing, since: number, group: string | null};
-/** does: as it was drawn last; rank: of the ready agents of a group the least is next */
-export type Agent = {id: string, name: string, state: AgentState, does: Doing, since: number, rank: number, station: string | null, groups: string[], pending: string | null};
-export type Connection = {device: string, state: ConnectionState, group: string | null, since: number};
-/** rank: of the calls of a queue the least is first; ended: the report that began to clear it; asked: that its caller was asked for */
-export type Call = {number: number, caller: string, since: number, rank: number, queued: number, connections: Map<string, Connection>, ended: number, asked?: boolean};
-export type Station = {id: string, agent: string | null, calls: Set<number>};
+/** queued: since when the first of those waits that wait longest; next: the agent who gets the next call */
+export type Group = {id: string, name: string, ring: number, wrap: number, priority: number, waiting: number, ringing: number, queued: number, counts: Partial<Record<Doing, number>>, next: string};
+/** whether a group is closed by its hours, and where rules moved its callers lately */
+export type Rule = {closed?: boolean, to?: string};
+/** what an agent does, since when, and for which group; calls: those at the agent's station */
+export type Agent = {id: string, name: string, doing: Doing, since: number, group: string | null, station: string | null, groups: string[], pending: string | null, calls: number[]};
+/** a call, by the connection that says most of it, which is `at` a device */
+export type Call = {number: number, caller: string, begun: number, state: ConnectionState | 'none', since: number, group: string | null, at: string};
 
 // the day
-/** within: answered in time; late: abandoned later than that; longest: wait of an answered call; handled, handling: calls that agents are done with, and seconds for them */
-export type Sums = Figures & {within: number, late: number, longest: number, handled: number, handling: number};
+/** within: answered in time; late: abandoned later than that; longest: wait of an answered call; handled, handling: calls that agents are done with, and seconds for them; closed: calls that a rule ended */
+export type Sums = Figures & {within: number, late: number, longest: number, handled: number, handling: number, closed: number};
 /** top and end: how many more wait than at the day's begin, at most and in the end */
 export type Step = Sums & {top: number, end: number};
 /** a step where it is shown; beside: the same one of another day */
 export type Quarter = Sums & {at: number, peak: number, running?: boolean, beside: Sums | null};
 export type Line = {steps: Map<number, Step>, sum: Sums, balance: number};
-/** spent: seconds by the event that began it; doing: the last event; group: of the call that is handled, since `handled` */
-export type Agents = {calls: number, missed: number, spent: Record<string, number>, doing: string, since: number, groups: Set<string>, group: string, handled: number};
 
 // what is reckoned of them
 
@@ -54,7 +49,7 @@ export type Severity = 'none' | 'calm' | 'long' | 'bad';
 export type Limits = {limit: number, goal: number, lost: number, long: number, bad: number};
 export type Share = {level: number | null, levelSeverity: Severity, lost: number | null, lostSeverity: Severity};
 /** wait: of the call that waits longest, since `queued`; next: the agent who gets the next call; level: the share answered in time; lost: the share that gave up */
-export type GroupLine = Sums & Share & {id: string, name: string, priority: number, waiting: number, ringing: number, queued: number, wait: number | null, severity: Severity,
+export type GroupLine = Sums & Share & {rule: Rule | undefined, id: string, name: string, priority: number, waiting: number, ringing: number, queued: number, wait: number | null, severity: Severity,
   counts: Record<Doing, number>, loggedOn: number, next: Agent | null, limits: Limits};
 /** since: if the figures show it, else 0 */
 export type Alarm = {key: string, kind: string, since: number, values: () => Values};
@@ -62,8 +57,6 @@ export type Alarm = {key: string, kind: string, since: number, values: () => Val
 export type Known = {since: number, last: number, seen: boolean};
 /** what a word has values for */
 export type Values = Record<string, string | number>;
-/** a call, with its busiest connection */
-export type CallLine = {number: number, state: ConnectionState | 'none', since: number, group: string | null, device: string, caller: string, begun: number, rank: number};
 /** of a line */
 export type Cell = (line: any) => string | number;
 export type Figure = (line: any) => number | null;
@@ -72,10 +65,8 @@ export type Column = {head: string, kind?: string, day?: boolean, text?: Cell, s
 /** look: first, second or third, by which the style distinguishes them, with colour and without; a bar, or a line */
 export type Series = {name: string, look: string, value: Figure, isLine?: boolean};
 
-// a follower of a desk: the course of the feed, a snapshot to begin with, and then the reports
-
-export type Course = {kind: 'begins' | 'live' | 'anew'} | {kind: 'lost', why: string, status: number};
-export type Follower = {show: (course: Course) => void, begin: (snapshot: Snapshot) => void, take: (events: Report[]) => void};
+/** whether the desk is known */
+export type Course = {kind: 'begins' | 'live'} | {kind: 'lost', why: string, status: number};
 
 // what a page is made of
 
@@ -94,11 +85,9 @@ export type Sentence = {moment: number, number: string, words: string};
 // functions
 
 export type Order<T> = (one: T, other: T) => number;
-export type Concerns = (state: import('./state.js').State, report: any, chosen: (group: string) => boolean) => boolean | undefined;
+export type Concerns = (state: import('./desk.js').State, report: any, chosen: (group: string) => boolean) => boolean | undefined;
 export type Signed = (area: string, signs: Record<string, string>) => Record<string, {sign: string, words: string}>;
 
-/** what a map has for a key, or gets */
-export type Keeps = <K, V>(map: Map<K, V>, key: K, made: () => V & {}) => V;
 export type Search = <T>(lines: T[], find: string, texts: (line: T) => string[]) => T[];
 /** of a share that misses its goal by so many percent, of which so many are bad */
 export type Judge = (share: number | null, missed: number, far: number) => Severity;
@@ -107,7 +96,7 @@ export type Tile = (head: string, value: string | number, note?: string | false,
 /** a figure as bars, or as a line */
 export type Charted = (head: string, look: string, value: Figure, isLine?: boolean) => Series;
 /** by the key of its row, and the call in it */
-export type Pressed = (key: string, line: CallLine | undefined, button: HTMLElement) => void;
+export type Pressed = (key: string, line: Call | undefined, button: HTMLElement) => void;
 /** leave: what the button does; late: that nobody answers yet, and why */
 export type OpenSession = (leave: () => void, late?: (why: string) => void) => Promise<Who>;
 
@@ -121,20 +110,18 @@ export type Charts = (steps: Quarter[], then: string | undefined, settings: Sett
 /** times: what is shown of a value; top: the greatest value; goal: a line across */
 export type Chart = (steps: Quarter[], title: string, series: Series[], times?: number, top?: number, goal?: number) => Part;
 export type SettingsOf = (said: Iterable<[string, string]>, before?: Settings) => Settings;
-/** goesOn: whether to read on after these; end: of the day */
-export type Reads = (day: import('./day.js').Day, goesOn: (counted: Report[]) => boolean, end?: number) => Promise<void>;
 export type Labelled = (setting: string[], attributes?: Attributes) => Part;
 export type Asks = (question: string, choices?: string[][], chosen?: string) => Promise<string | null>;
 
 // who leads groups
-export type LeadOf = {groups: Set<string>, requester: string, invoke: number, begin(who: Who): void, leads(agent: Agent): boolean, may(line: CallLine): boolean,
-  ofAgent(state: import('./state.js').State, agent: string): Promise<void>, ofCall(state: import('./state.js').State, line: CallLine): Promise<void>,
-  ofGroup(state: import('./state.js').State, group: string): Promise<void>, send(service: string, members: object, what: string, who: string, to?: string): Promise<void>};
+export type LeadOf = {groups: Set<string>, requester: string, invoke: number, begin(who: Who): void, leads(agent: Agent): boolean, may(line: Call): boolean,
+  ofAgent(state: import('./desk.js').State, agent: string): Promise<void>, ofCall(state: import('./desk.js').State, line: Call): Promise<void>,
+  ofGroup(state: import('./desk.js').State, group: string): Promise<void>, send(service: string, members: object, what: string, who: string, to?: string): Promise<void>};
 
 // what a view draws
 /** what all is reckoned from */
-export type Looked = {state: import('./state.js').State, day: import('./day.js').Day, now: number};
-/** counted: whether the day's events have been read; all: the chosen groups together; lines: one for each; past: another day, so many days before; learn: reads who calls; empty: says why nothing is shown; filter: sets filters, and shows a view; redraw: draws all anew */
+export type Looked = {state: import('./desk.js').State, day: import('./figures.js').Day, now: number};
+/** counted: whether the day's events have been read; all: the chosen groups together; lines: one for each; past: another day, so many days before; empty: says why nothing is shown; filter: sets filters, and shows a view; redraw: draws all anew */
 export type Drawn = Looked & {settings: Settings, counted: boolean, recent: Report[], lines: GroupLine[],
-  all: ReturnType<typeof import('./reckon.js').totals>, past: (back: number) => import('./day.js').Day | undefined, learn: (calls: number[]) => void, empty: (text: string) => void, lead: LeadOf,
+  all: ReturnType<typeof import('./lines.js').totals>, past: (back: number) => import('./figures.js').Day | undefined, empty: (text: string) => void, lead: LeadOf,
   filter: (wanted: Record<string, string>, view?: string) => void, redraw: () => void};

@@ -63,6 +63,7 @@ age: {clock} old
 server: the server cannot be reached
 silent: no answer
 status: the answer was {status}
+streams: more than eight pages of this name are open
 [error]
 # what the desk, its gate or its proxy means by the name of an error
 unknownDevice: no such number is planned
@@ -158,6 +159,7 @@ moved: Moved
 average: Speed of answer
 handling: Handling time
 priority: Priority
+closed: Closed
 act: Act
 onCalls: On calls
 call: Call
@@ -184,7 +186,11 @@ of: of {what}
 limit: within {n} s
 limits: within the group's limit
 goal: goal {goal}
+closed: {n} closed
 occupancy: Occupancy
+[rule]
+closed: closed
+to: overflow to {to}
 [wall]
 rest.one: and {n} more group with {waiting} waiting
 rest.other: and {n} more groups with {waiting} waiting

@@ -1,15 +1,15 @@
 // An agent's page.
+import {order} from '../desk.js';
 import {byId, drawStatus, make, put, set, table, withNumber} from '../draw.js';
 import {logIn, logOut, openSession} from '../session.js';
 import {isHeard, soundWhere, tone} from '../sound.js';
-import {order} from '../state.js';
 import {clock, DOING, named, office, plain, query, refusal, timeOfDay, translate, word} from '../words.js';
 import {beat, drawCalls, joined, ring, say} from './calls.js';
-import {doing, isFree, isOverdue, meant, placesOf, sideOf, STATES, states, wrapLeft} from './mine.js';
+import {isFree, isOverdue, meant, placesOf, sideOf, STATES, states, taken, wrapLeft} from './mine.js';
 import {Requests} from './requests.js';
 
 // milliseconds until the page is late, a text fades, a refusal fades, a click is no second one
-const OLD = 6000, FLEETING = 5000, REFUSED = 30000, SECOND = 400, MOST_GROUPS = 8, form = byId('log-on');
+const OLD = 8000, FLEETING = 5000, REFUSED = 30000, SECOND = 400, MOST_GROUPS = 8, form = byId('log-on');
 
 let id = query.get('agent') ?? '', acts = false, leaves = false, begun = false, isFilled = false, free = [''], offered = [''];
 /** @type {Mine} */ let mine;
@@ -108,15 +108,21 @@ function hear(heard) {
     lost = heard;
     if (heard.status === 401) return logIn();
   }
-  if (heard.kind === 'told') {
-    lost = null;
-    ({mine, ahead} = heard);
-    if (mine.live) known = heard.received;
-    if (mine.names) takeNames(mine.names);
-    if (mine.live && acts && !begun) requests.takeUp();
-    begun ||= mine.live;
-  }
+  if (heard.kind === 'picture' || heard.kind === 'change') take(heard);
   draw();
+}
+
+/** @param {News} news */
+function take({told, kind, ahead: clock, received}) {
+  lost = null;
+  ahead = clock;
+  // it is alive, and has never known the desk
+  if (!mine && kind === 'change') return;
+  mine = taken(mine, told, kind === 'picture');
+  if (mine.live) known = received;
+  if (told.names && mine.names) takeNames(mine.names);
+  if (mine.live && acts && !begun) requests.takeUp();
+  begun ||= mine.live;
 }
 
 // Offers the stations where nobody is, and the groups, or those of the login.
@@ -155,7 +161,7 @@ function draw() {
   drawStatus(lost || (mine && !mine.live) ? 'lost' : !known ? 'begins' : age() > OLD ? 'late' : 'live', known, why, (Date.now() + ahead) / 1000);
   if (!mine) return;
   const {agent, calls, groups} = mine, {state, device, pending, name} = agent, moment = now(), isLiving = isLive(), may = acts && isLiving ? states(mine) : new Set();
-  const offer = isLiving ? offerOf(moment) : undefined, {doing: does, since} = doing(mine), left = wrapLeft(mine, moment), {sign, words} = DOING[does];
+  const offer = isLiving ? offerOf(moment) : undefined, {doing: does, since} = mine.doing, left = wrapLeft(mine, moment), {sign, words} = DOING[does];
   put('name', withNumber({id, name: office.names.agents[id] ?? name}));
   put('states', ...STATES.map(requested => make('button', {'data-requested': requested, disabled: !may.has(requested) || requests.out.has(requested), onclick: () => ask(requested)}, say(requested))));
   const hidden = {'at-station': !device, 'own-queues': !device, states: !device || !acts, 'log-on': state !== 'null' || !acts, dial: !acts || !isLiving || !isFree(mine), 'no-calls': calls.length > 0};
@@ -270,9 +276,9 @@ async function begin() {
   if (!id) return notice('nobody', say('noNumber', {login}), [], make('a', {href: '../'}, say('board')));
   if (!acts) notice('looks', say('looks', {login, number: id}));
   requests = new Requests(id, who.login, {isLive, logOn: () => mine?.agent.logOn ?? null, show, ask: askAbout});
-  const worker = new Worker(new URL('listening.js', import.meta.url), {type: 'module'});
+  const worker = new Worker(new URL('../stream.js', import.meta.url), {type: 'module'});
   worker.onmessage = ({data}) => hear(data);
-  worker.postMessage(`/mine?agent=${id}`);
+  worker.postMessage(`/stream?agent=${id}`);
 }
 begin();
 Object.assign(window, {agent: {mine: () => mine, requests: () => requests}});

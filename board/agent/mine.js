@@ -1,12 +1,21 @@
 // An agent's services, and the places for calls. No document.
-import {doingAt, GRACE} from '../state.js';
+import {GRACE} from '../desk.js';
 
 const MOST = 8;
 export const STATES = ['ready', 'notReady', 'workingAfterCall', 'loggedOff'];
 
 const plain = (name = '') => name.normalize('NFKC').toLocaleLowerCase().trim();
 
-export const {sideOf, sides, isFree, states, services, doing, ringLeft, wrapLeft, isOverdue, placesOf, meant} = /** @type {Rules} */ ({
+/** @param {{agents: string[][], groups: string[][], stations: string[]}} told @returns {Names} */
+const namesOf = ({agents, groups, stations}) => ({agents: agents.map(([agent, name, device]) => ({agent, name, device})), groups: groups.map(([device, name]) => ({device, name})), stations});
+
+export const {taken, sideOf, sides, isFree, states, services, ringLeft, wrapLeft, isOverdue, placesOf, meant} = /** @type {Rules} */ ({
+  // What the gate tells, with what it told before. Names come again only where they changed, and of a group that is left nothing is told.
+  taken(before, {groups, names: given, ...told}, isWhole) {
+    const lines = {...!isWhole && before?.lines, ...groups}, names = given ? namesOf(given) : before?.names, mine = {doing: {doing: 'null', since: 0}, ...!isWhole && before, ...told, names};
+    return {...mine, lines, groups: mine.queues.flatMap((/** @type {string} */ queue) => lines[queue] ?? [])};
+  },
+
   sideOf: ({agent}, call) => call.connections.find(({device}) => device === agent.device),
 
   sides: mine => mine.calls.flatMap(call => sideOf(mine, call) ?? []),
@@ -29,8 +38,6 @@ export const {sideOf, sides, isFree, states, services, doing, ringLeft, wrapLeft
     const given = {alerting: ['answerCall', 'deflectCall'], initiated: ['phoneOffHook'], connected: ['holdCall', ...moves], hold: back, fail: [], queued: []}[here.state];
     return new Set([...given, here.state === 'alerting' && here.group ? 'rejectCall' : 'clearConnection']);
   },
-
-  doing: mine => doingAt({state: 'null', since: 0, ...mine.agent}, sides(mine)),
 
   // For how long a call rings yet; null where no tick ends it.
   ringLeft({groups}, {state, group, since}, now) {

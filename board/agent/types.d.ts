@@ -1,8 +1,8 @@
 // The gate's answers about an agent, and the types of the agent's page, for the checker of types. No browser loads this file.
-import type {AgentState, ConnectionState} from '../types';
+import type {AgentState, ConnectionState, Doing, News} from '../types';
 
 declare global {
-  // what GET /mine answers
+  // what the gate tells
 
   type Side = {device: string, group?: string, since: number, state: ConnectionState};
   type MyCall = {call: number, called?: string, caller?: string, connections: Side[], queued?: number, since: number};
@@ -13,15 +13,11 @@ declare global {
   type Missed = {call: number, caller?: string, group?: string, moment: number, since: number};
   type DayCall = {call: number, caller?: string, group?: string, moment: number, talked: number};
   type MyDay = {answered: number, begins: number, calls: DayCall[], missed: number, talking: number};
-  type Names = {agents: {agent: string, device?: string, name: string}[], groups: {device: string, name: string}[], number: number, stations: string[]};
-  type Mine = {agent: MyState, calls: MyCall[], day?: MyDay, groups: MyQueue[], live: boolean, missed?: Missed, moment: number, names?: Names, number: number};
+  type Names = {agents: {agent: string, device?: string, name: string}[], groups: {device: string, name: string}[], stations: string[]};
+  /** lines: those of groups that were told, by their numbers; queues: which of them are the agent's */
+  type Mine = {agent: MyState, calls: MyCall[], day?: MyDay | null, doing: {doing: Doing, since: number, group?: string | null}, groups: MyQueue[], lines: Record<string, MyQueue>, live: boolean, missed?: Missed | null, names?: Names, queues: string[]};
   /** what GET /session answers */
   type Who = {agent?: string, begun?: number, ends?: number, groups?: string[], login?: string, reads?: string, role?: string, stations?: string[], why?: string};
-
-  // messages of the worker: an answer, with the server's and this browser's time of it, or why there was none; and a beat each second
-
-  type Lost = {kind: 'lost', status: number, text: string};
-  type Heard = {kind: 'told', mine: Mine, ahead: number, received: number} | Lost | {kind: 'beat'};
 
   // what is asked for
 
@@ -41,8 +37,9 @@ declare global {
   type OfficeNames = typeof import('../words.js').office.names;
   type Namer = (device?: string) => string;
   type Rules = {
+    taken(before: Mine | undefined, told: any, isWhole: boolean): Mine,
     sideOf(mine: Mine, call: MyCall): Side | undefined, sides(mine: Mine): Side[], isFree(mine: Mine): boolean, states(mine: Mine): Set<string>, services(mine: Mine, call: MyCall): Set<string>,
-    doing(mine: Mine): ReturnType<DoingAt>, ringLeft(mine: Mine, side: Side, now: number): number | null, wrapLeft(mine: Mine, now: number): number | null, isOverdue(mine: Mine, now: number): boolean,
+    ringLeft(mine: Mine, side: Side, now: number): number | null, wrapLeft(mine: Mine, now: number): number | null, isOverdue(mine: Mine, now: number): boolean,
     placesOf(names: Names, office: OfficeNames): Places, meant(typed: string, known: Places, station?: string): Goal[] | null,
   };
   type Say = (key: string, values?: Record<string, string | number>) => string;

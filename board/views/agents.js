@@ -1,7 +1,7 @@
 // Agents as tiles, of which only those on the screen are written; and what each did today, as a table.
+import {order} from '../desk.js';
 import {AS_IT_IS, byId, make, put, set, table, withNumber} from '../draw.js';
-import {chosenAgents, noCounts, search} from '../reckon.js';
-import {order} from '../state.js';
+import {chosenAgents, noCounts, search} from '../lines.js';
 import {clock, DOING, named, word} from '../words.js';
 
 const SORTED_EVERY = 5000, KINDS = /** @type {Doing[]} */ (Object.keys(DOING));
@@ -40,7 +40,7 @@ export function draw(drawn) {
 }
 
 /** @param {Drawn} drawn */
-const people = drawn => chosenAgents(drawn).map(agent => ({id: agent.id, name: agent.name, ...drawn.state.doing(agent)}));
+const people = drawn => chosenAgents(drawn).map(({id, name, doing, since, group}) => ({id, name, doing, since, group}));
 
 /** @param {Drawn} drawn */
 const drawDays = (drawn, shown = people(drawn)) => days.draw(shown.map(one => ({...one, ...drawn.day.agent(one.id, drawn.now), counted: drawn.counted, key: one.id})));
@@ -64,7 +64,7 @@ function arranged(shown, sort = '') {
 function tile({state, now, settings, lead}, {id, doing, group, since}) {
   if (!seen.has(id)) return make('li', {'data-key': id}, AS_IT_IS);
   const groupName = (id = '') => named(state.nameOf(id)), agent = state.agent(id), {name, station, groups, pending} = agent, who = named(name || word('agents.one', {id})), {sign, words} = DOING[doing];
-  const isOff = doing === 'null', isLong = !isOff && doing !== 'ready' && now - since > settings[doing], calls = [...state.stations.get(station ?? '')?.calls ?? []].map(String);
+  const isOff = doing === 'null', isLong = !isOff && doing !== 'ready' && now - since > settings[doing], calls = agent.calls.map(String);
   const place = station ? [word('agents.at', {id, station}), ...groups.map(id => groupName(id))] : [id];
   return make('li', {'data-key': id, 'data-doing': doing, 'data-long': isLong}, make('strong', who), make('span.sign', {'aria-hidden': 'true'}, sign),
     make('span.words', words + (group && groups.length > 1 ? `: ${groupName(group)}` : '')), make('time', !isOff && `${isLong ? '! ' : ''}${clock(now - since)}`),

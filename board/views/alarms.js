@@ -1,7 +1,7 @@
 // Facts that a supervisor has to know at once, as a list, and its signs.
+import {GRACE} from '../desk.js';
 import {byId, make, put, set} from '../draw.js';
 import {isHeard, notify, tone} from '../sound.js';
-import {GRACE} from '../state.js';
 import {clock, isWord, named, percent, plain, timeOfDay, word} from '../words.js';
 
 // seconds that clocks may be apart; of fewer calls a share says nothing
@@ -11,12 +11,12 @@ const APART = 60, LEAST = 10;
 /** @param {State} state */
 function overdue(state, now = 0) {
   const late = (who = '', since = 0, given = 0) => given > 0 && now - since > given + GRACE && {who: named(who), clock: clock(now - since), given: clock(given), since: since + given};
-  for (const {ring, ringing} of state.groups.values()) for (const call of ringing) for (const {state: is, device, since} of call.connections.values()) {
-    const found = is === 'alerting' && late(state.agentAt(device)?.name || device, since, ring);
+  for (const {state: is, at, group, since} of state.calls.values()) {
+    const found = is === 'alerting' && group && late(state.agentAt(at)?.name || at, since, state.groups.get(group)?.ring);
     if (found) return found;
   }
-  for (const {id, name, state: is, groups, since} of state.agents.values()) {
-    const found = is === 'workingAfterCall' && late(name || id, since, state.groups.get(groups[0])?.wrap);
+  for (const {id, name, doing, groups, since} of state.agents.values()) {
+    const found = doing === 'workingAfterCall' && late(name || id, since, state.groups.get(groups[0])?.wrap);
     if (found) return found;
   }
 }

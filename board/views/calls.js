@@ -1,6 +1,6 @@
 // The live calls, as many as were asked for.
 import {put, set, table} from '../draw.js';
-import {callLines, search, severity} from '../reckon.js';
+import {callLines, search, severity} from '../lines.js';
 import {limitsOf} from '../settings.js';
 import {CONNECTION, named, office, SIGN, word} from '../words.js';
 
@@ -20,14 +20,13 @@ const calls = table('calls-table', [
 
 /** @param {Drawn} drawn */
 export function draw(drawn) {
-  const {state, settings: {group, find}, now, learn, lead, redraw} = drawn;
+  const {state, settings: {group, find}, now, lead, redraw} = drawn;
   const who = (device = '') => state.agentAt(device)?.name || office.names.stations[device] || device;
-  const found = search(callLines(drawn).filter(line => !group || line.group === group), find, line => [`${line.number}`, line.caller, who(line.device), state.nameOf(line.group ?? '')]);
+  const found = search(callLines(drawn).filter(line => !group || line.group === group), find, line => [`${line.number}`, line.caller, who(line.at), state.nameOf(line.group ?? '')]);
   const shown = found.slice(0, most), rest = found.length - most;
-  learn(shown.filter(line => !line.caller).map(line => line.number));
   calls.draw(shown.map(line => {
-    const {number, device, since, begun} = line, id = line.group ?? '', waits = line.state === 'queued';
-    return {...line, counted: true, key: `${number}`, at: waits ? '' : who(device), groupName: state.nameOf(id), severity: waits ? severity(now - since, limitsOf(id)) : '',
+    const {number, at, since, begun} = line, id = line.group ?? '', waits = line.state === 'queued';
+    return {...line, counted: true, key: `${number}`, at: waits ? '' : who(at), groupName: state.nameOf(id), severity: waits ? severity(now - since, limitsOf(id)) : '',
       for: now - since, whole: now - begun, act: lead.may(line) && word(waits ? 'act.move' : 'act.end')};
   }));
   put('calls-rest', !found.length && word('calls.none'));

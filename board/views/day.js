@@ -1,6 +1,6 @@
 // The day by quarters of an hour, as tables and charts; yesterday and the same weekday beside it.
 import {byId, make, put, table} from '../draw.js';
-import {abandonment, averageHandling, averageWait, level, STEP, sumOf} from '../day.js';
+import {abandonment, averageHandling, averageWait, level, STEP, sumOf} from '../figures.js';
 import {shown} from '../settings.js';
 import {dayOf, number, timeOfDay, word} from '../words.js';
 import {levelOf} from './groups.js';
@@ -17,6 +17,7 @@ const longest = sum => sum.answered ? sum.longest : null;
 const FIGURES = [
   'entered', 'answered', 'abandoned', {head: 'lost', share: abandonment}, 'moved wide', {head: 'inTime', share: inTime},
   {head: 'average wide', seconds: averageWait}, {head: 'longestWait wide', seconds: longest}, {head: 'handling wide', seconds: averageHandling},
+  'closed wide',
 ];
 const quarters = table('steps-table', [{head: 'time words', text: step => timeOfDay(step.at, 'short')}, ...FIGURES, 'peak wide']);
 const days = table('days-table', [{head: 'day words', text: line => line.key}, ...FIGURES]);

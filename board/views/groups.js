@@ -1,8 +1,8 @@
 // The chosen groups: together as a few large numbers, all of each, and the wall.
+import {order} from '../desk.js';
 import {byId, make, put, set, table, withNumber} from '../draw.js';
-import {clock, named, percent, SIGN, waits, word} from '../words.js';
-import {averageHandling, averageWait} from '../day.js';
-import {order} from '../state.js';
+import {averageHandling, averageWait} from '../figures.js';
+import {clock, named, office, percent, SIGN, waits, word} from '../words.js';
 
 // rows of the wall grow to so many times the least
 const SORTED_EVERY = 5000, GROWS = 1.9;
@@ -10,8 +10,11 @@ const SORTED_EVERY = 5000, GROWS = 1.9;
 // A share of the day, and what it means.
 /** @type {Judged} */
 const judged = (head, name) => ({head, share: line => line[name], severity: line => line.counted ? line[`${name}Severity`] : ''});
+// What an office's rules do with a group's callers.
+/** @param {GroupLine & {goes?: string}} line */
+const ruled = ({rule, goes}) => [rule?.closed && word('rule.closed'), rule?.to && word('rule.to', {to: goes ?? rule.to})].filter(Boolean).join(' · ');
 /** @type {(Column|string)[]} */
-const FIRST = [{head: 'state state', text: waits}, 'waiting', {head: 'longest', text: line => clock(line.wait), file: line => line.wait && Math.round(line.wait)}];
+const FIRST = [{head: 'state state', text: line => [waits(line), ruled(line)].filter(Boolean).join(' · ')}, 'waiting', {head: 'longest', text: line => clock(line.wait), file: line => line.wait && Math.round(line.wait)}];
 /** @type {Column[]} */
 const [READY, ON_CALLS] = [
   {head: 'ready', text: line => `${line.counts.ready} / ${line.loggedOn}`, file: line => line.counts.ready, severity: line => line.waiting && !line.loggedOn ? 'bad' : ''},
@@ -35,14 +38,19 @@ const rows = table('queues-table', [
   {head: 'average least', seconds: averageWait},
   {head: 'handling wide', seconds: averageHandling},
   'priority least',
+  'closed least day',
   {head: 'act words lead', press: 'priority'},
 ]);
 
 /** @type {View} */
 export const queues = {
   file: rows.file,
-  draw({lines, lead, counted}) { rows.draw(lines.map(line => ({...line, counted, key: line.id, act: lead.groups.has(line.id) && word('head.priority')}))); },
+  draw({lines, lead, counted, state}) { rows.draw(lines.map(line => ({...line, counted, goes: goes(state, line), key: line.id, act: lead.groups.has(line.id) && word('head.priority')}))); },
 };
+
+// The name of where a group's callers go.
+/** @param {State} state @param {GroupLine} line */
+const goes = (state, {rule}) => rule?.to && named(state.nameOf(rule.to, office.names.stations[rule.to]));
 
 const wallRows = table('wall-table', [{head: 'group name', text: line => named(line.name)}, ...FIRST, READY, ON_CALLS, judged('inTime wide', 'level')]);
 let sorted = 0, shown = 0, place = 0, places = [''];
@@ -51,13 +59,13 @@ let sorted = 0, shown = 0, place = 0, places = [''];
 /** @type {View} */
 export const wall = {
   file: wallRows.file,
-  draw({lines, counted}, anew) {
+  draw({lines, counted, state}, anew) {
     const late = anew || Date.now() - sorted > SORTED_EVERY || places.length !== lines.length;
     if (late) {
       sorted = Date.now();
       places = [...lines].sort((one, other) => (other.wait ?? -1) - (one.wait ?? -1) || other.waiting - one.waiting || order(one.id, other.id)).map(({id}) => id);
     }
-    const found = places.flatMap(key => lines.filter(({id}) => id === key).map(line => ({...line, counted, key})));
+    const found = places.flatMap(key => lines.filter(({id}) => id === key).map(line => ({...line, counted, goes: goes(state, line), key})));
     wallRows.draw(found);
     const {top} = byId('wall-table').tBodies[0].getBoundingClientRect();
     if (late || top !== place) fit(place = top);
@@ -102,7 +110,7 @@ export function drawTotals({all, settings, counted}) {
     tile('head.longestWait', clock(all.wait), all.wait !== null && waits(all), all.severity),
     tile('tile.ready', counts.ready, `${none ? '▲ ' : ''}${word('tile.loggedOn', {n: all.loggedOn})}`, none ? 'long' : 'none'),
     day('tile.level', percent(all.level), judged(levelSeverity, settings.goal), levelSeverity, word('tile.of', values)),
-    day('head.abandoned', all.abandoned, lost !== null && judged(lostSeverity, settings.lost, `${percent(lost)}, `), lostSeverity),
+    day('head.abandoned', all.abandoned, [lost !== null && judged(lostSeverity, settings.lost, `${percent(lost)}, `), all.closed && word('tile.closed', {n: all.closed})].filter(Boolean).join(', '), lostSeverity),
     day('head.answered', all.answered),
     day('head.average', clock(averageWait(all))),
     day('head.handling', clock(averageHandling(all))),

@@ -17,7 +17,7 @@ export default {
     begins: 'Die Zentrale wird gelesen', anew: 'Eine andere Zentrale ist da: sie wird gelesen', live: 'Live', counting: 'Live, der Tag wird gelesen', late: 'Spät',
     old: 'Was hier steht, ist alt: {why}', none: 'Keine Zentrale: {why}', age: '{clock} alt',
   },
-  lost: {server: 'der Server ist nicht erreichbar', silent: 'keine Antwort', status: 'die Antwort war {status}'},
+  lost: {server: 'der Server ist nicht erreichbar', silent: 'keine Antwort', status: 'die Antwort war {status}', streams: 'von diesem Namen sind mehr als acht Seiten offen'},
   error: {
     unknownDevice: 'diese Nummer ist nicht geplant', unknownCall: 'der Anruf ist zu Ende', unknownConnection: 'der Anruf ist nicht mehr hier',
     wrongConnectionState: 'der Anruf ist inzwischen in einem anderen Zustand', wrongAgentState: 'der Agent ist inzwischen in einem anderen Zustand',
@@ -46,13 +46,14 @@ export default {
   head: {
     group: 'Gruppe', state: 'Zustand', waiting: 'Warten', longest: 'Längste', ringing: 'Klingeln', ready: 'Bereit', loggedOn: 'Angemeldet', next: 'Nächster',
     afterCall: 'Nacharbeit', notReady: 'Nicht bereit', inTime: 'Rechtzeitig', entered: 'Gekommen', answered: 'Angenommen', abandoned: 'Aufgegeben', lost: 'Verlust, %', moved: 'Verlegt',
-    average: 'Wartezeit Ø', handling: 'Bearbeitung Ø', priority: 'Vorrang', act: 'Tun', onCalls: 'Im Gespräch', call: 'Anruf', for: 'Seit', at: 'Bei', caller: 'Anrufer',
+    average: 'Wartezeit Ø', handling: 'Bearbeitung Ø', priority: 'Vorrang', closed: 'Geschlossen', act: 'Tun', onCalls: 'Im Gespräch', call: 'Anruf', for: 'Seit', at: 'Bei', caller: 'Anrufer',
     whole: 'Insgesamt', time: 'Zeit', number: 'Nummer', event: 'Ereignis', longestWait: 'Längstes Warten', peak: 'Höchstens wartend', day: 'Tag', calls: 'Anrufe', agent: 'Agent', talk: 'Gespräch', missed: 'Verpasst',
   },
   tile: {
     ringing: 'und {n} klingeln', ready: 'Bereite Agenten', loggedOn: 'von {n} angemeldeten', level: 'Rechtzeitig: {limit}', of: 'von: {what}', limit: 'binnen {n} s', limits: 'in der Grenze der Gruppe',
-    goal: 'Ziel {goal}', occupancy: 'Auslastung',
+    goal: 'Ziel {goal}', closed: '{n} geschlossen', occupancy: 'Auslastung',
   },
+  rule: {closed: 'geschlossen', to: 'Überlauf nach {to}'},
   wall: {
     rest: {one: 'und {n} weitere Gruppe mit {waiting} Wartenden', other: 'und {n} weitere Gruppen mit {waiting} Wartenden'},
   },

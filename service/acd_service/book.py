@@ -9,9 +9,10 @@ import time
 from collections import Counter
 from collections.abc import Iterator, Sequence
 from pathlib import Path
-from typing import Any, NamedTuple, Protocol, overload
+from typing import Any, Protocol, overload
 
 from acd_service.command import Fault
+from acd_service.events import Event
 
 KINDS = [
     "serviceInitiated", "originated", "queued", "delivered", "diverted", "established", "held", "retrieved",
@@ -32,18 +33,6 @@ class Rows(Protocol):
     def execute(self, statement: str, values: Sequence[Any] = ..., /) -> Iterator[Any]: ...
 
     def close(self) -> None: ...
-
-
-class Event(NamedTuple):
-    moment: int
-    kind: str
-    device: str | None
-    call: int | None
-    agent: str | None
-    group: str | None
-    to: str | None
-    cause: str | None
-    waited: int | None
 
 
 @overload

@@ -6,14 +6,14 @@ import datetime
 import re
 import sys
 import tempfile
-from collections.abc import Callable, Iterator
+from collections.abc import Callable, Iterator, Mapping
 from pathlib import Path
 from typing import Any, NoReturn, TextIO
 
 from acd_service import archives, chain, command, sheets
 from acd_service.book import Book, opened
 from acd_service.command import Fault, report
-from acd_service.leaving.quarters import Quarters
+from acd_service.figures import STEP, Figures, level
 from acd_service.leaving.records import Call, Records
 from acd_service.office import FILE, Office, counting
 from acd_service.record_days import KINDS, Days, Writer, wanted_from
@@ -78,11 +78,20 @@ def agent_rows(records: Records, names: Names) -> Iterator[tuple[datetime.date, 
                     when(has.first), when(has.last), groups]
 
 
-def group_rows(quarters: Quarters) -> Iterator[tuple[int, Row]]:
-    for begin, group, has in quarters.lines():
-        yield begin, [when(begin), group, has.entered, has.answered, has.abandoned, has.moved,
-                      f"{quarters.limit_of(group):g}", has.in_time, has.late, "" if has.level is None else has.level,
-                      has.waited, "" if has.longest is None else has.longest, has.most, has.handled, has.handling]
+def group_rows(figures: Figures, waited: Mapping[str, int], begin: int, end: int,
+               limit_of: Callable[[str], float]) -> Iterator[tuple[int, Row]]:
+    """Begin and row of each quarter in which something was, in the order of time and number, where so many waited in
+    each group before the first event."""
+    found = [(number, group, has, most) for group in figures.groups.keys() | waited.keys()
+             for number, has, most in figures.steps(group, waited.get(group, 0), begin // STEP, end // STEP)]
+    for number, group, has, most in sorted(found, key=lambda one: (one[0], int("1" + one[1]))):
+        answered, abandoned, limit = len(has.answers), len(has.losses), limit_of(group)
+        if has.entered or answered or abandoned or has.moved or most or has.handled:
+            in_time, late = has.in_time(limit), has.late(limit)
+            share = level(in_time, answered, late)
+            yield number * STEP, [when(number * STEP), group, has.entered, answered, abandoned, has.moved,
+                                  f"{limit:g}", in_time, late, "" if share is None else share, sum(has.answers),
+                                  max(has.answers, default=""), most, has.handled, has.handling]
 
 
 class Form:
@@ -154,27 +163,33 @@ def archives_of(file: Path, since: datetime.date | None) -> list[Path]:
     return found
 
 
-def follow(book: Book, records: Records | None, quarters: Quarters | None, write_call: Callable[[Call], object],
-           made: int = 0) -> None:
-    """Goes through all events; a call is handed on as soon as it and those before it are finished."""
-    if quarters and book.begins() is not None:
-        quarters.begin(book.begins(), book.waited_before())
+def follow(book: Book, records: Records | None, figures: Figures | None, write_call: Callable[[Call], object],
+           made: int = 0) -> int:
+    """Goes through all events; a call is handed on as soon as it and those before it are finished. Returns the moment
+    up to which it has counted."""
     least = records.first if records else 1
     for event in book.events():
-        if quarters:
-            quarters.take(event)
+        if figures:
+            figures.take(event)
         if records:
             records.take(event)
             for done in records.finished(least):
                 write_call(done)
                 least = done.number + 1
     end = max(book.last_moment(), made)
-    if quarters:
-        quarters.finish(end)
     if records:
         records.finish(end)
         for number in sorted(records.calls):
             write_call(records.calls[number])
+    return end
+
+
+def group_rows_of(book: Book, figures: Figures, end: int, limit_of: Callable[[str], float]) -> Iterator[
+        tuple[int, Row]]:
+    """The rows of a book's groups, up to a moment."""
+    begins = book.begins()
+    waited = {} if begins is None else book.waited_before()
+    return group_rows(figures, waited, begins or 0, end, limit_of)
 
 
 # Options
@@ -201,9 +216,9 @@ class Printed:
             sys.stdout.write(sheets.MARK)
         self.writer.writerow(self.form.head(columns))
         if self.options.table == "groups":
-            quarters = Quarters(self.office.limit_of)
-            follow(book, None, quarters, lambda call: None)
-            for begin, row in group_rows(quarters):
+            figures = Figures()
+            end = follow(book, None, figures, lambda call: None)
+            for begin, row in group_rows_of(book, figures, end, self.office.limit_of):
                 self.put(columns, begin, row)
             return
         records = Records(book)
@@ -242,7 +257,7 @@ def book_of(file: Path, options: argparse.Namespace, folder: Path, since: dateti
 def write_days(folder: Path, book: Book, office: Office, form: Form, names: Names, made: int) -> bool:
     """The files of the days that are over. Returns whether none is missing."""
     heads = {kind: form.head(columns) for kind, columns in zip(KINDS, (CALLS, AGENTS, GROUPS))}
-    records, quarters = Records(book), Quarters(office.limit_of)
+    records, figures = Records(book), Figures()
     end, begins = made or book.last_moment(), book.begins()
     # an older archive has the beginning of the first request's day
     first = datetime.date.min if begins is None else datetime.date.fromtimestamp(begins) + datetime.timedelta(days=1)
@@ -260,10 +275,10 @@ def write_days(folder: Path, book: Book, office: Office, form: Form, names: Name
         def write(call: Call) -> None:
             days.write("records", datetime.date.fromtimestamp(call.entered), form.row(CALLS, call_row(call)))
 
-        follow(book, records, quarters, write, end)
+        follow(book, records, figures, write, end)
         for day, row in agent_rows(records, names):
             days.write("agents", day, form.row(AGENTS, row))
-        for begin, row in group_rows(quarters):
+        for begin, row in group_rows_of(book, figures, end, office.limit_of):
             days.write("groups", datetime.date.fromtimestamp(begin), form.row(GROUPS, row))
     print(f"{days.written} files written")
     return not lacks

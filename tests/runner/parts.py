@@ -59,7 +59,7 @@ OF_THE_PROGRAM = {
 # of what stands around it: the parts that are done in seconds
 OF_THE_SERVICE = {
     **{f"gate {part}": Part("try-gate", ("--only", part), (f"gate/{file}",), NGINX)
-       for part, file in (("answers", "answers.py"), ("days", "days.py"), ("sessions", "sessions.py"), ("leads", "leads.py"), ("reads", "mine.py:Reads"), ("executed", "executed.py"), ("mine", "mine.py:Mine"))},
+       for part, file in (("answers", "answers.py"), ("streamed", "streamed.py"), ("days", "days.py"), ("sessions", "sessions.py"), ("leads", "leads.py"), ("reads", "mine.py:Reads"), ("executed", "executed.py"), ("mine", "mine.py:Mine"))},
     **{f"trail {part}": Part("try-trail", ("--only", part), (f"try-trail:{case}",), packages)
        for part, case, packages in (("story", "Story", ()), ("archives", "Archives", ()), ("faults", "Bad", ()), ("pages", "OfPages", ()), ("served", "Served", NGINX))},
     "rules": Part("try-rules", ("--only", "days"), ("rules/drawn_days.py",)),
@@ -85,7 +85,7 @@ BY_HAND = {
     "package": Part("try-package", (), ("try-package",), ("debootstrap", "iproute2", "lintian", "util-linux"), ("root",), False),
     "prune": Part("try-prune", (), ("try-prune",)),
     "ready": Part("try-ready", (), tuple(f"ready/{name}.py" for name in ("cuts", "logs", "notices", "settings", "starts", "stops")), (), ("root",)),
-    "records": Part("try-records", (), ("try-records", "records/calls.py", "records/changes.py"), ("curl", "nodejs", "openssl")),
+    "records": Part("try-records", (), ("try-records", "records/calls.py", "records/changes.py"), ("curl", "openssl")),
     "release": Part("try-release", (), ("try-release",), ("binutils",), (), False),
     "rules nodes": Part("try-rules", ("--only", "nodes"), ("try-rules:Nodes",), (), ("etcd",)),
     "rules whole": Part("try-rules", ("--days", "1000", "--only", "days,process,served"), ("rules/drawn_days.py", "try-rules:Process", "try-rules:Served"), NGINX),

@@ -122,9 +122,9 @@ class Days:
         return without_nothing(**day.missed_offer) if day and day.missed_offer else None
 
 
-async def first_of(ask: Callable[[int], Awaitable[list[Text]]], last: int, moment: float) -> int:
-    """The number of the last event before a moment, by bisection; if the file begins later, the number before its first
-    event. ask returns the events after a number."""
+async def beginning(ask: Callable[[int], Awaitable[list[Text]]], last: int, moment: float) -> tuple[int, bool]:
+    """The number of the last event before a moment, by bisection, and True; if the file begins later, the number before
+    its first event, and False. ask returns the events after a number."""
     low, high = 0, last
     while low < high:
         middle = (low + high) // 2
@@ -133,9 +133,9 @@ async def first_of(ask: Callable[[int], Awaitable[list[Text]]], last: int, momen
         if later is None and events:
             low = events[-1]["number"]
         elif later == 0 and events[0]["number"] > middle + 1:
-            return int(events[0]["number"]) - 1
+            return int(events[0]["number"]) - 1, False
         elif not later:
             high = middle
         else:
-            return int(events[later - 1]["number"])
-    return low
+            return int(events[later - 1]["number"]), True
+    return low, True

@@ -39,6 +39,10 @@ class Broken(Exception):
     """What came isn't a whole answer."""
 
 
+class Away(Exception):
+    """The desk doesn't answer."""
+
+
 FAILS = OSError, EOFError, ValueError, asyncio.LimitOverrunError, Broken
 
 

@@ -1,7 +1,7 @@
 """One exchange of HTTP as the routes see it: what is asked, what the gate answers, and refusals, which are exceptions.
 Unproved."""
 from collections.abc import Awaitable, Callable, Mapping
-from typing import NamedTuple
+from typing import NamedTuple, Protocol
 
 HEAD_TOO_LARGE = '"code":39,"name":"headTooLarge"'
 ERRORS = {
@@ -12,12 +12,22 @@ ERRORS = {
 }
 
 
+class Pipe(Protocol):
+    """A connection on which an answer goes on: what is written is sent at once, and nobody waits for that."""
+
+    def write(self, data: bytes) -> None: ...
+
+    def is_gone(self) -> bool: ...
+
+
 class Answer(NamedTuple):
-    """Status, type and body of an answer; `fields` are those that it has besides."""
+    """Status, type and body of an answer; `fields` are those that it has besides. In place of a body it may have what
+    goes on writing, and ends with the answer."""
     status: int
     kind: str = "text/plain"
     body: bytes = b""
     fields: tuple[tuple[str, str], ...] = ()
+    goes_on: Callable[[Pipe], Awaitable[None]] | None = None
 
 
 def error(status: int) -> Answer:

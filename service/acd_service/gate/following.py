@@ -8,11 +8,16 @@ import time
 import zlib
 from collections.abc import Awaitable, Callable
 from dataclasses import dataclass, field
+from pathlib import Path
 
 from acd_service import command
-from acd_service.gate.days import EARLIER, Days, first_of
+from acd_service.gate import lines
+from acd_service.gate.days import EARLIER, Days, beginning
+from acd_service.gate.desk import Away
 from acd_service.gate.exchanges import Answer, Left
+from acd_service.gate.ruled import FILE as RULES, Ruled
 from acd_service.gate.state import State, Text
+from acd_service.gate.streams import Streams
 from acd_service.gate.texts import agent_text, groups_of, names_text, without_nothing
 
 # seconds: between two looks at the desk, at least and without a request in between, two snapshots, two tries of a desk
@@ -25,10 +30,6 @@ NAMES_EVERY = 10
 # a page that waits for a queue's news gets its answer in every tenth turn only, so that not all pages ask again at once
 TURNS = 10
 MOST_CALLERS = 50
-
-
-class Away(Exception):
-    """The desk doesn't answer."""
 
 
 class Another(Exception):
@@ -60,25 +61,37 @@ def as_json(text: Text) -> bytes:
     return json.dumps(text, separators=(",", ":"), sort_keys=True).encode()
 
 
-class Following:
-    """Follows the desk while somebody wants to know. `ask` is the desk's: a method and a path."""
+def begun(snapshot: Text, before: State | None, has_boards: bool) -> tuple[State, dict[str, dict[str, str]]]:
+    """The state that a snapshot shows, and with boards all of their lines."""
+    state = State(snapshot, before)
+    return state, lines.all_of(state) if has_boards else {}
 
-    def __init__(self, ask: Callable[[str, str], Awaitable[Answer]], clock: Callable[[], float] = time.time) -> None:
+
+class Following:
+    """Follows the desk while somebody wants to know. `ask` is the desk's: a method and a path; `is_rules` says whether
+    a requester is that of an office's rules, and `rules` is their file."""
+
+    def __init__(self, ask: Callable[[str, str], Awaitable[Answer]], clock: Callable[[], float] = time.time,
+                 is_rules: Callable[[str], bool] = lambda requester: False, rules: Path | str = RULES) -> None:
         self.ask, self.clock, self.asking = ask, clock, asyncio.Lock()
+        self.is_rules, self.rules = is_rules, rules
         # `answered` is by the clock; `renewed`, `heard`, when all was caught up, and `spoke`, when the desk last
         # answered a question, are by one that is never set back
         self.answered, self.renewed, self.heard, self.live = 0.0, 0.0, 0.0, False
         self.spoke = 0.0
         self.state: State | None = None
+        # the last report; and whether the desk that answered last is another one, which is there and is read at once
         self.seen: Text | None = None
+        self.is_other = False
         self.days = Days(clock())
-        # numbers that no earlier gate gave, unless the clock was set back
-        self.number = int(clock() * 1000)
+        # numbers that no earlier gate gave, unless the clock was set back; the epoch is another one for another desk
+        self.number = self.epoch = int(clock() * 1000)
         self.all_changed = self.names_changed = self.number
         self.changed: dict[str, int] = {}
         self.groups_changed: dict[str, int] = {}
         self.named, self.names = 0.0, (0, b"")
         self.waiters: set[Waiter] = set()
+        self.streams = Streams(self)
         self.turn, self.turned, self.wanted = 0, 0.0, 0.0
         self.task: asyncio.Task[None] | None = None
         self.nudged = asyncio.Event()
@@ -109,6 +122,10 @@ class Following:
         found: list[Text] = (await self.page(path))["events"]
         return found
 
+    def ruled(self) -> Ruled:
+        """What the office's rules do, by the requests that the desk executes from now on, or has executed."""
+        return Ruled(lambda after: self.page(f"/requests?after={after}"), self.is_rules, self.rules, self.clock)
+
     async def catch_up(self) -> State:
         """The desk with all that it has executed by now; Away where it doesn't answer."""
         async with self.asking:
@@ -119,6 +136,7 @@ class Following:
                 await self.ask_for_more(state)
             except Another:
                 self.forget()
+                self.is_other = True
                 raise Away from None
             self.answered, self.heard = self.clock(), time.monotonic()
             self.settle(True)
@@ -134,16 +152,23 @@ class Following:
         snapshot = await self.page("/snapshot")
         if before is not None and snapshot["last"] < before.last:
             raise Another
+        # what the desk did meanwhile: no report is left out
+        while before is not None and before.last < snapshot["last"]:
+            await self.take_page(before)
         # in a thread: it takes long at the greatest plan, and others are answered meanwhile
-        state = await asyncio.to_thread(State, snapshot, before)
+        has_boards = self.streams.boards is not None
+        state, found = await asyncio.to_thread(begun, snapshot, before, has_boards)
         self.state, self.renewed = state, time.monotonic()
         if before is None or before.last != state.last:
             self.change_all()
             self.seen = None
         else:
             state.touched, state.dirty, state.renamed = before.touched, before.dirty, before.renamed
-            state.unknown = before.unknown
+            state.moved, state.unknown, state.leaving = before.moved, before.unknown, before.leaving
             state.differs(before)
+        if self.streams.boards is not None and has_boards:
+            self.number += 1
+            self.streams.boards.renew(state, found, self.number)
         return state
 
     async def take_page(self, state: State) -> bool:
@@ -163,6 +188,8 @@ class Following:
             for report in events:
                 if self.days.whole and report["number"] == (self.days.last or 0) + 1:
                     self.days.take(report, state)
+                if self.streams.boards is not None:
+                    self.streams.boards.take(report)
                 state.apply(report)
         return bool(page["last"] > state.last)
 
@@ -187,8 +214,8 @@ class Following:
             if state is None:
                 return
             if days.last is None:
-                days.last = await first_of(lambda after: self.events(f"/events?after={after}"), state.last,
-                                           days.begins - EARLIER)
+                days.last, _ = await beginning(lambda after: self.events(f"/events?after={after}"), state.last,
+                                               days.begins - EARLIER)
             for report in await self.events(f"/history?after={days.last}") if days.last < state.last else []:
                 days.take(report, state)
             is_new = days.last >= state.last and not days.whole
@@ -198,6 +225,8 @@ class Following:
 
     def forget(self) -> None:
         self.state, self.seen, self.days = None, None, Days(self.clock())
+        self.epoch += 1
+        self.streams.forget()
         self.change_all()
 
     # answers to those who wait
@@ -215,17 +244,20 @@ class Following:
         if live != self.live:
             self.live = live
             self.change_all(names=False)
-        state = self.state
-        if state is not None and (state.touched or state.dirty or state.renamed):
+        state, touched = self.state, set[str]()
+        if state is not None and (state.touched or state.dirty or state.renamed or state.moved):
             self.number += 1
             self.changed.update(dict.fromkeys(state.touched, self.number))
             self.groups_changed.update(dict.fromkeys(state.dirty, self.number))
-            state.touched, state.dirty = set(), set()
+            if self.streams.boards is not None:
+                self.streams.boards.mark(state)
+            touched, state.touched, state.dirty, state.moved = state.touched, set(), set(), set()
             if state.renamed and time.monotonic() - self.named >= NAMES_EVERY:
                 self.names_changed, self.named, state.renamed = self.number, time.monotonic(), False
         for waiter in self.waiters:
             if self.has_agent_news(waiter):
                 waiter.wake()
+        self.streams.tell(touched)
 
     def has_agent_news(self, waiter: Waiter) -> bool:
         last = max(self.changed.get(waiter.agent, 0), self.all_changed)
@@ -277,9 +309,10 @@ class Following:
     async def ends(self) -> bool:
         """Whether nobody has asked for long: then it forgets the desk."""
         async with self.asking:
-            if time.monotonic() - self.wanted <= WANTED or self.waiters:
+            if time.monotonic() - self.wanted <= WANTED or self.waiters or self.streams.all:
                 return False
-            self.task, self.state, self.live, self.days = None, None, False, Days(self.clock())
+            self.forget()
+            self.task, self.live = None, False
             return True
 
     async def look(self) -> float:
@@ -289,6 +322,9 @@ class Following:
             await self.read_day()
             return EVERY
         except Away:
+            if self.is_other:
+                self.is_other = False
+                return EVERY
             if time.monotonic() - self.heard >= AWAY:
                 self.settle(False)
         except Exception as fault:  # what nobody foresaw: begin anew

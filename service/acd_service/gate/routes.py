@@ -15,17 +15,20 @@ from pathlib import Path
 
 from acd_service import last_copy
 from acd_service.gate import files
-from acd_service.gate.desk import Desk
+from acd_service.gate.boards import TooMany, sight_of
+from acd_service.gate.desk import Away, Desk
 from acd_service.gate.door import Door, is_page, token_of
 from acd_service.gate.exchanges import Answer, Question, Refused, error
-from acd_service.gate.following import Away, Following, as_json
+from acd_service.gate.following import Following, as_json
 from acd_service.gate.health import WELL
-from acd_service.gate.judging import Logins, Look, Seen, Twice, looks_at, may, once
+from acd_service.gate.judging import Logins, Look, Seen, Twice, looks_at, may, once, owner
 from acd_service.gate.limits import Held, Rates, Replies
 from acd_service.gate.metrics import KIND, Metrics
 from acd_service.gate.passwords import RIGHT, TOO_MANY, Passwords, network
 from acd_service.gate.roles import MEMBERS, NO_KEYS, NOTHING, Role, Watched, has_keys, hashes_of, roles_of
+from acd_service.gate.ruled import DIRECT, FILE as RULES
 from acd_service.gate.sessions import Session, Sessions, cookie_field
+from acd_service.gate.streams import Stream
 from acd_service.gate.traces import Traces
 
 # who asks for these needs no login, or is judged by what they ask
@@ -45,6 +48,15 @@ def is_foreign(fields: Mapping[str, str]) -> bool:
     return is_elsewhere or (origin is not None and origin != fields.get("x-site"))
 
 
+def refuse_to_show(role: Role, agent: str | None) -> None:
+    """Refused where the role doesn't show this agent; or without one the whole desk."""
+    if not re.fullmatch(MEMBERS["agent"], agent or "0"):
+        raise Refused(error(400))
+    is_own = agent is not None and agent == role.agent
+    if role == NOTHING or role.reading == "none" or (role.reading != "all" and not is_own):
+        raise Refused(error(403))
+
+
 def form_of(body: bytes) -> tuple[str, str, str]:
     """Login, password and the page that comes next, of a form."""
     try:
@@ -61,19 +73,20 @@ class Gate:
 
     def __init__(self, desk: Desk, roles: Path | str, users: Path | str, sessions: Path | str | None = None,
                  records: Path | str = "/var/lib/acd-records", secret: str = "",
-                 copy: Path | str = last_copy.FILE) -> None:
+                 copy: Path | str = last_copy.FILE, rules: Path | str = RULES) -> None:
         self.desk, self.records = desk, records
         self.roles, self.users = Watched(Path(roles), roles_of, keeps=True), Watched(Path(users), hashes_of)
         self.passwords, self.sessions = Passwords(self.users), Sessions(sessions, self.users, secret=secret)
         self.rates, self.replies, self.held = Rates(), Replies(), Held()
-        self.following, self.reading = Following(desk.ask_soon), asyncio.Semaphore(READ_AT_ONCE)
+        self.following = Following(desk.ask_soon, is_rules=self.is_rules, rules=rules)
+        self.reading = asyncio.Semaphore(READ_AT_ONCE)
         self.traces = Traces()
         self.door = Door(self.roles, self.passwords, self.sessions, self.rates, self.traces, secret)
         self.metrics = Metrics(self, self.following, desk, copy)
         self.gets: dict[str, Place] = {
             "/auth": self.door.judge, "/auth/any": self.door.judge, "/auth/reads": self.door.judge_reads,
-            "/who": self.who, "/session": self.session, "/mine": self.mine, "/requests": self.requests,
-            "/basic": self.basic, "/health": self.health, "/metrics": self.measured}
+            "/who": self.who, "/session": self.session, "/mine": self.mine, "/stream": self.stream,
+            "/requests": self.requests, "/basic": self.basic, "/health": self.health, "/metrics": self.measured}
         self.posts: dict[str, Body] = {"/csta": self.ask_desk, "/login": self.log_in, "/logout": self.log_out,
                                        "/session": self.use_session}
         self.roles.now()
@@ -110,6 +123,11 @@ class Gate:
 
     def role_of(self, login: str) -> Role:
         return self.roles.now().get(login, NOTHING)
+
+    def is_rules(self, requester: str) -> bool:
+        """Whether it is a requester of the office's rules, through the gate or at the desk itself."""
+        login = owner(requester, self.logins())
+        return requester.startswith(f"{DIRECT}-") if login is None else self.role_of(login).name == "rules"
 
     # sessions
 
@@ -186,11 +204,10 @@ class Gate:
         role, asked = self.role_of(login), dict(urllib.parse.parse_qsl(question.query))
         numbers = [asked.get("after", "0"), asked.get("names", "0"), asked.get("hold", "20")]
         agent = asked.get("agent", role.agent)
-        are_numbers = all(re.fullmatch(r"[0-9]{1,15}", number) for number in numbers)
-        if not are_numbers or not re.fullmatch(MEMBERS["agent"], agent or "0"):
+        if not all(re.fullmatch(r"[0-9]{1,15}", number) for number in numbers):
             raise Refused(error(400))
-        is_others = agent != role.agent and role.reading != "all"
-        if role == NOTHING or role.reading == "none" or agent is None or is_others:
+        refuse_to_show(role, agent)
+        if agent is None:
             raise Refused(error(403))
         with self.held.one(login) as has_room:
             if not has_room:
@@ -201,6 +218,43 @@ class Gate:
         if page is None:
             raise Refused(error(502))
         return Answer(200, "application/json", page)
+
+    async def stream(self, question: Question) -> Answer:
+        """What a page shows, and then what changes of it: of an agent, or of the whole desk."""
+        login = question.login
+        role, asked = self.role_of(login), dict(urllib.parse.parse_qsl(question.query, keep_blank_values=True))
+        agent = asked.get("agent", role.agent if role.reading == "own" else None)
+        refuse_to_show(role, agent)
+        streams, groups = self.following.streams, role.groups if agent == role.agent else None
+        try:
+            sight = sight_of(asked) if agent is None else None
+        except ValueError:
+            raise Refused(error(400)) from None
+        if question.method != "GET":
+            raise Refused(error(501))
+        stream = Stream(login, self.stays(login, role, token_of(question)), sight, agent or "", groups or frozenset())
+        state = await self.following.known()
+        question.stay()
+        if state is None:
+            raise Refused(error(502))
+        try:
+            streams.look(stream, state)
+        except TooMany:
+            raise Refused(error(429)) from None
+        after = question.field("last-event-id") or asked.get("after", "")
+        return Answer(200, "text/event-stream", fields=(("Cache-Control", "no-store"), ("X-Accel-Buffering", "no")),
+                      goes_on=lambda pipe: streams.hold(stream, pipe, after))
+
+    def stays(self, login: str, role: Role, token: str | None) -> Callable[[], bool]:
+        """Says whether this login may still look: in this session, with this role and password."""
+        hashed = self.users.now().get(login)
+
+        def may_go_on() -> bool:
+            session = self.sessions.of(token) if token is not None else None
+            has_session = token is None or session is not None and session.login == login
+            return has_session and self.role_of(login) == role and self.users.now().get(login) == hashed
+
+        return may_go_on
 
     async def requests(self, question: Question) -> Answer:
         """The page of the desk itself; the quoted query means the same to the desk."""

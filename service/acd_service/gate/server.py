@@ -11,17 +11,20 @@ from collections.abc import Awaitable, Callable
 from typing import Any
 
 from aiohttp import web
+from aiohttp.http import HttpVersion11
 from aiohttp.http_exceptions import LineTooLong
 
 from acd_service import listening
 from acd_service.command import report
 from acd_service.gate.desk import Place
-from acd_service.gate.exchanges import Answer, Left, Question, Refused, error
+from acd_service.gate.exchanges import Answer, Left, Pipe, Question, Refused, error
 
 # connections, beyond which others wait; behind half of these none stays open. 4,000 questions may be held in all
-MOST_OPEN = 6000
+MOST_OPEN = 7000
 # seconds: for a request to come whole, and between two on a connection
 PATIENCE = 60
+# bytes of an answer that goes on, which the other end doesn't read
+MOST_UNREAD = 1 << 20
 # bytes of a line of a head, and how many fields a request may have
 LONGEST_LINE, MOST_FIELDS = 65536, 100
 SETTINGS: dict[str, Any] = {"keepalive_timeout": PATIENCE, "access_log": None, "max_line_size": LONGEST_LINE,
@@ -43,6 +46,44 @@ def response(answer: Answer, stays: bool = False) -> web.Response:
     made = web.Response(status=answer.status, body=answer.body, headers=fields)
     if not stays:
         made.force_close()
+    return made
+
+
+class Open:
+    """The connection of an answer that goes on. Who doesn't read what is sent loses it."""
+
+    def __init__(self, transport: asyncio.Transport, is_chunked: bool) -> None:
+        self.transport, self.is_chunked = transport, is_chunked
+
+    def write(self, data: bytes) -> None:
+        if self.transport.get_write_buffer_size() > MOST_UNREAD:
+            self.transport.abort()
+        if not self.transport.is_closing():
+            self.transport.write(b"%x\r\n%s\r\n" % (len(data), data) if self.is_chunked else data)
+
+    def is_gone(self) -> bool:
+        return self.transport.is_closing()
+
+    def end(self) -> None:
+        """What isn't read by now is never read."""
+        if self.transport.get_write_buffer_size() > 0:
+            self.transport.abort()
+
+
+async def go_on(request: web.BaseRequest, answer: Answer,
+                writes: Callable[[Pipe], Awaitable[None]]) -> web.StreamResponse:
+    """An answer without an end of its own."""
+    made = web.StreamResponse(status=answer.status, headers={**dict(answer.fields), "Content-Type": answer.kind})
+    made.force_close()
+    if request.version >= HttpVersion11:
+        made.enable_chunked_encoding()
+    transport = request.transport
+    if transport is None:
+        raise Left
+    await made.prepare(request)
+    opened = Open(transport, request.version >= HttpVersion11)
+    await writes(opened)
+    opened.end()
     return made
 
 
@@ -128,6 +169,8 @@ class Server(web.Server):
             if len(request.raw_headers) > MOST_FIELDS:
                 raise Refused(error(431))
             answer = await self.answer(asked(request))
+            if answer.goes_on is not None:
+                return await go_on(request, answer, answer.goes_on)
         except Refused as refused:
             answer = refused.answer
         return response(answer, request.keep_alive and self.has_room())

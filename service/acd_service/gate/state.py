@@ -3,7 +3,7 @@ from __future__ import annotations
 
 from collections.abc import Callable, Iterable
 from dataclasses import dataclass, field
-from typing import Any, TypeVar
+from typing import Any, NamedTuple, TypeVar
 
 # a snapshot ranks by stamps, of at most 1000000000; less EARLIER they come before all numbers of events, which rank
 # later things
@@ -19,15 +19,21 @@ Made = TypeVar("Made")
 
 @dataclass
 class Agent:
-    """`log_on` identifies a log-on: the number of its event, or of the last event before the gate first saw it."""
+    """`log_on` identifies a log-on: the number of its event, or of the last event before the gate first saw it. Of the
+    ready agents of a group the one of the least `rank` is next."""
     id: str
     name: str = ""
     state: str = "null"
     since: int = 0
+    rank: int = 0
     station: str | None = None
     groups: list[str] = field(default_factory=list)
     pending: str | None = None
     log_on: int | None = None
+
+    def told(self) -> tuple[object, ...]:
+        """What is told of it."""
+        return self.name, self.state, self.since, self.station, self.groups, self.pending, self.log_on
 
 
 @dataclass
@@ -36,8 +42,14 @@ class Group:
     name: str = ""
     ring: int = 0
     wrap: int = 0
+    priority: int = 0
     waiting: set[Call] = field(default_factory=set)
+    ringing: set[Call] = field(default_factory=set)
     agents: set[str] = field(default_factory=set)
+
+    def told(self) -> tuple[str, int, int, int]:
+        """What snapshots alone tell."""
+        return self.name, self.ring, self.wrap, self.priority
 
 
 @dataclass
@@ -55,15 +67,28 @@ class Connection:
     since: int
 
 
+class Doing(NamedTuple):
+    """What an agent does, since when, and for which group."""
+    doing: str
+    since: int
+    group: str | None = None
+
+
 @dataclass(eq=False)
 class Call:
+    """`ended` is the number of the report that began to clear it."""
     number: int
     since: int
     caller: str | None = None
     called: str | None = None
     rank: int = 0
     queued: int | None = None
+    ended: int = 0
     connections: dict[str, Connection] = field(default_factory=dict)
+
+    def told(self) -> tuple[object, ...]:
+        """What is told of it."""
+        return self.since, self.caller, self.called, self.queued, self.connections
 
 
 def in_order(numbers: Iterable[str]) -> list[str]:
@@ -80,38 +105,42 @@ def made(kind: Callable[[str], Made], table: dict[str, Made], number: str) -> Ma
 
 class State:
     """The desk by its reports. `touched` are the agents whose state or calls changed, `dirty` the groups whose queue or
-    agents did, `renamed` says whether a name or a station's agent did; `unknown` are agents whose groups no report
-    names."""
+    agents did, `moved` the calls that changed or ended, `renamed` says whether a name or a station's agent did;
+    `unknown` are agents whose groups no report names, `leaving` agents who leave a call that is being cleared, with the
+    rank that they then have."""
 
     def __init__(self, snapshot: Text | None = None, before: State | None = None) -> None:
-        self.last = 0
+        self.last = self.moment = 0
         self.agents: dict[str, Agent] = {}
         self.groups: dict[str, Group] = {}
         self.stations: dict[str, Station] = {}
         self.calls: dict[int, Call] = {}
         self.touched: set[str] = set()
         self.dirty: set[str] = set()
+        self.moved: set[int] = set()
         self.renamed = False
         self.unknown: set[str] = set()
+        self.leaving: dict[str, int] = {}
         if snapshot is not None:
             self.begin(snapshot, before)
 
     def begin(self, snapshot: Text, before: State | None) -> None:
-        self.last = snapshot["last"]
+        self.last, self.moment = snapshot["last"], snapshot["moment"]
         for text in snapshot["groups"]:
             group = made(Group, self.groups, text["device"])
             group.name, group.ring, group.wrap = text["name"], text["ring"], text["wrap"]
+            group.priority = text.get("priority", 0)
         for text in snapshot["stations"]:
             made(Station, self.stations, text["device"]).agent = text.get("agent")
         for text in snapshot["agents"]:
             agent = made(Agent, self.agents, text["agent"])
             agent.name, agent.state, agent.since = text["name"], text["state"], text["since"]
             agent.station, agent.pending = text.get("device"), text.get("pending")
-            agent.log_on = self.log_on_of(agent, before)
+            agent.rank, agent.log_on = text.get("stamp", 0) - EARLIER, self.log_on_of(agent, before)
             self.assign_groups(agent, text)
         for text in snapshot["calls"]:
             self.begin_call(text, before)
-        self.touched, self.dirty = set(), set()
+        self.touched, self.dirty, self.moved = set(), set(), set()
 
     def log_on_of(self, agent: Agent, before: State | None) -> int | None:
         """The log-on of before, if the agent's station, state and time of change are the same."""
@@ -167,7 +196,7 @@ class State:
     def apply(self, report: Text) -> None:
         if report["number"] <= self.last:
             return
-        self.last = report["number"]
+        self.last, self.moment = report["number"], report["moment"]
         if "agent" in report:
             self.change_agent(report)
         else:
@@ -188,6 +217,7 @@ class State:
             self.unknown.discard(agent.id)
         self.renamed |= event in ("agentLoggedOn", "agentLoggedOff")
         agent.state, agent.since = STATE_AFTER[event], report["moment"]
+        agent.rank = self.leaving.pop(agent.id, report["number"])
         self.touched.add(agent.id)
         self.dirty.update(agent.groups)
 
@@ -207,7 +237,7 @@ class State:
         elif event in BECOMES:
             self.become(call, device, BECOMES[event], moment)
         elif event in LEAVES:
-            self.take(call, device)
+            self.leave_call(call, device, report)
         elif event == "callCleared":
             self.clear(call)
         if event == "originated":
@@ -221,9 +251,10 @@ class State:
 
     def mark(self, call: Call) -> None:
         """Whom the call touches."""
-        for device in call.connections:
-            if device in self.groups:
-                self.dirty.add(device)
+        self.moved.add(call.number)
+        for device, connection in call.connections.items():
+            if connection.group in self.groups:
+                self.dirty.add(connection.group)
             agent = self.agent_at(device)
             if agent:
                 self.touched.add(agent.id)
@@ -240,22 +271,37 @@ class State:
             made(Group, self.groups, device).waiting.add(call)
         elif device in self.stations:
             self.stations[device].calls.add(call.number)
+        if state == "alerting" and group is not None:
+            made(Group, self.groups, group).ringing.add(call)
 
     def become(self, call: Call, device: str, state: str, since: int) -> None:
         connection = call.connections.get(device)
         if connection is None:
-            self.put(call, device, state, None, since)
-        else:
-            connection.state, connection.since = state, since
+            return self.put(call, device, state, None, since)
+        if connection.group is not None:
+            made(Group, self.groups, connection.group).ringing.discard(call)
+        connection.state, connection.since = state, since
+
+    def leave_call(self, call: Call, device: str, report: Text) -> None:
+        if report["event"] == "connectionCleared" and not call.ended:
+            call.ended = report["number"]
+        self.take(call, device)
 
     def take(self, call: Call, device: str) -> None:
         connection, agent = call.connections.pop(device, None), self.agent_at(device)
         if device in self.stations:
             self.stations[device].calls.discard(call.number)
-        if device in self.groups:
-            self.groups[device].waiting.discard(call)
-        if connection and connection.group and agent:
-            agent.pending = None  # it holds now
+        if connection is None or connection.group is None:
+            return
+        group = made(Group, self.groups, connection.group)
+        group.waiting.discard(call)
+        group.ringing.discard(call)
+        if agent is None:
+            return
+        agent.pending = None  # it holds now
+        # of two agents who leave one call by one request the lesser number was ready first
+        if call.ended and connection.state != "alerting":
+            self.leaving[agent.id] = call.ended
 
     def learn(self, text: Text) -> None:
         """Takes the desk's text of an agent, which the gate reads since no report names the agent's groups."""
@@ -270,26 +316,46 @@ class State:
         """The calls whose caller no report named."""
         return [call.number for call in self.calls.values() if call.caller is None or call.called is None]
 
+    def sides_of(self, agent: Agent) -> list[Connection]:
+        """The connections at the agent's station."""
+        station = self.stations.get(agent.station) if agent.station else None
+        calls = [self.calls[call] for call in sorted(station.calls) if call in self.calls] if station else []
+        return [call.connections[agent.station] for call in calls if agent.station in call.connections]
+
     def is_eligible(self, number: str) -> bool:
         """Whether the desk may offer a call to the agent."""
         agent = self.agents[number]
-        station = self.stations.get(agent.station) if agent.station else None
-        if station is None:
-            return agent.state == "ready"
-        calls = [self.calls[call] for call in station.calls if call in self.calls]
-        here = [call.connections[station.id] for call in calls if station.id in call.connections]
-        return agent.state == "ready" and all(one.state == "fail" for one in here)
+        return agent.state == "ready" and all(one.state == "fail" for one in self.sides_of(agent))
+
+    def doing(self, agent: Agent) -> Doing:
+        """What the agent does: a group's call comes before all else, then a call of the agent's own."""
+        here = self.sides_of(agent)
+        given = next((one for one in here if one.group), None)
+        if given is not None:
+            named = {"alerting": "ringing", "hold": "hold"}.get(given.state)
+            return Doing(named or "busy", given.since if named else agent.since, given.group)
+        own = next((one for one in here if one.state != "fail"), None) if agent.state == "ready" else None
+        return Doing("own", own.since) if own else Doing(agent.state, agent.since)
+
+    def is_outside(self, call: Call, device: str) -> bool:
+        """Whether it is the side of a caller from outside, who has no station."""
+        return device == call.caller and device not in self.stations
 
     def differs(self, other: State) -> None:
-        """Marks differences from an earlier state of the same moment in members that no report names."""
+        """Marks differences from an earlier state of the same moment: in members that no report names, as the side of
+        a caller from outside."""
         for number, agent in self.agents.items():
             was = other.agents.get(number)
-            if was is None or (was.name, was.pending, was.groups) != (agent.name, agent.pending, agent.groups):
+            if was is None or was.told() != agent.told():
                 self.touched.add(number)
-                self.renamed |= was is None or was.name != agent.name
+                self.renamed |= was is None or (was.name, was.station) != (agent.name, agent.station)
+        for call in self.calls.values():
+            before = other.calls.get(call.number)
+            if before is None or before.told() != call.told():
+                self.mark(call)
         for number, group in self.groups.items():
             old = other.groups.get(number)
-            if old is None or (old.name, old.ring, old.wrap) != (group.name, group.ring, group.wrap):
+            if old is None or old.told() != group.told():
                 self.dirty.add(number)
                 self.renamed |= old is None or old.name != group.name
         self.renamed |= self.stations.keys() != other.stations.keys()

@@ -31,24 +31,30 @@ def queue_text(state: State, group: Group) -> Text:
             "ring": group.ring, "wrap": group.wrap}
 
 
-def agent_text(state: State, number: str, groups: Iterable[str]) -> Text:
-    """An agent as the agent's page shows it: state, calls, queues. `groups` are those of an agent who is logged off."""
+def own_text(state: State, number: str) -> Text:
+    """An agent's state and calls."""
     agent = state.agents.get(number)
     if agent is None:
-        return {"agent": {"agent": number}, "calls": [], "groups": []}
+        return {"agent": {"agent": number}, "calls": []}
     state_text = without_nothing(agent=agent.id, device=agent.station, groups=agent.groups or None, logOn=agent.log_on,
                                  name=agent.name, pending=agent.pending, since=agent.since, state=agent.state)
     station = state.stations.get(agent.station) if agent.station else None
     calls = [call_text(state.calls[call]) for call in sorted(station.calls) if call in state.calls] if station else []
-    queues = [queue_text(state, state.groups[group]) for group in groups_of(state, number, groups)
-              if group in state.groups]
-    return {"agent": state_text, "calls": calls, "groups": queues}
+    return {"agent": state_text, "calls": calls}
+
+
+def agent_text(state: State, number: str, groups: Iterable[str]) -> Text:
+    """An agent as the agent's page shows it: state, calls, queues. `groups` are those of an agent who is logged off."""
+    queues = [queue_text(state, state.groups[group]) for group in groups_of(state, number, groups)]
+    return own_text(state, number) | {"groups": queues}
 
 
 def groups_of(state: State, number: str, groups: Iterable[str]) -> list[str]:
-    """The groups in which an agent is logged on, or those of the agent's line."""
+    """The groups of the plan in which an agent is logged on, or those of the agent's line."""
     agent = state.agents.get(number)
-    return agent.groups if agent and agent.station else in_order(groups)
+    if agent is None:
+        return []
+    return [group for group in (agent.groups if agent.station else in_order(groups)) if group in state.groups]
 
 
 def names_text(state: State) -> Text:

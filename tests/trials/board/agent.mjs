@@ -241,7 +241,7 @@ async function lost(hands) {
   await hands.sees('a desk that hangs is told', '#status-text', 'What you see is old: the desk does not answer', 8);
   see('its age stands beside, where no reader reads it each second', await browser.run(`const age = document.querySelector('#status-age'); return /old$/.test(age.textContent) && !age.closest('[role=status], [role=alert]')`));
   see('buttons are off', await browser.run('return [...document.querySelectorAll("#states button")].every(button => button.disabled)'));
-  await sleep(6000);
+  await sleep(8000);
   const stood = await clock();
   await sleep(2500);
   see('the clock stands', stood === await clock(), `${stood} ${await clock()}`);

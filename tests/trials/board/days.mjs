@@ -83,10 +83,8 @@ export async function overMidnight(see, browser, front) {
   await browser.fresh(front.page('sup', '/board/#wall'));
   await live(browser);
   const before = await browser.run('return window.board.day().begin');
-  // an hour later by the page's clock, and by the server's
-  await browser.run(`const real = Date.now, get = Headers.prototype.get;
-    Headers.prototype.get = function (name) { return name === 'date' ? null : get.call(this, name); };
-    Date.now = () => real() + 3600000;`);
+  // an hour later by the page's clock, and so by the server's, which it has as what that is ahead
+  await browser.run('const real = Date.now; Date.now = () => real() + 3600000;');
   await sleep(300);
   const after = await until(() => browser.run(`const {begin} = window.board.day(); return begin !== ${before} && begin`), 20);
   see('a new day begins at midnight', after === before + DAY, `${before} ${after}`);

@@ -37,6 +37,9 @@ export async function aDay(hours, ...words) {
   return (await run('python3', ['-B', join(HERE, 'day.py'), '--begin', end - Math.round(3600 * hours), '--end', end, ...words])).trim().split('\n');
 }
 
+/** The report's lines as lists of texts. */
+export const reportLines = text => text.trimEnd().split('\n').slice(1).map(line => line.trim().split(/ +/).slice(0, 9));
+
 export class Desk {
   constructor(program, file, port) { Object.assign(this, {program, file, port, child: null}); }
   static async make(program, file) { return new Desk(program, file, await freePort()); }

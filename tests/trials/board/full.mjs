@@ -1,5 +1,5 @@
 // A desk of a full plan behind a long day: how soon a board is whole, how soon an event is on it, and what it costs.
-import {execFileSync} from 'node:child_process';
+import {execFileSync, spawn} from 'node:child_process';
 import {sleep, until} from './browser.mjs';
 import {live, people} from './page.mjs';
 
@@ -30,7 +30,7 @@ export async function delay(browser, desk, address, times) {
 export async function mainThread(browser, address, view, seconds) {
   await opening(browser, address, view);
   await browser.command('Performance.enable');
-  const metrics = async () => Object.fromEntries((await browser.command('Performance.getMetrics')).metrics.map(({name, value}) => [name, value])), last = () => browser.run('return window.board.feed.last');
+  const metrics = async () => Object.fromEntries((await browser.command('Performance.getMetrics')).metrics.map(({name, value}) => [name, value])), last = () => browser.run('return window.board.state().last');
   await sleep(2000);
   const [before, first, begin] = [await metrics(), await last(), Date.now()];
   await sleep(1000 * seconds);
@@ -38,26 +38,21 @@ export async function mainThread(browser, address, view, seconds) {
   return {share: (after.TaskDuration - before.TaskDuration) / passed, events: (end - first) / passed};
 }
 
-/** What boards cost a desk: its processor seconds a second, with as many followers and without. */
-export async function followers(desk, boards, seconds) {
+/** What boards cost a desk: its processor seconds a second, with as many streams and without. A login has eight at most. */
+export async function followers(desk, front, boards, seconds) {
   const taken = async () => { const before = await desk.seconds(); await sleep(1000 * seconds); return (await desk.seconds() - before) / seconds; };
-  const without = await taken();
-  let going = true, polls = 0;
-  const follow = async number => {
-    let {last} = await desk.get('/snapshot'), renewed = Date.now() - 30000 * number / boards;
-    while (going) {
-      if (Date.now() - renewed > 30000) { renewed = Date.now(); await desk.get('/snapshot'); }
-      last = (await desk.get(`/history?after=${last - 1}`)).last;
-      polls++;
-      await sleep(1000);
-    }
-  };
-  const all = Array.from({length: boards}, (_, number) => follow(number));
-  await sleep(1500);
+  const without = await taken(), logins = ['sup', 'planner', 'pbx'];
+  let bytes = 0;
+  const streams = Array.from({length: boards}, (_, number) => {
+    const stream = spawn('curl', ['-skN', '-u', `${logins[number % 3]}:secret`, `${front.address}/stream?begin=0`], {stdio: ['ignore', 'pipe', 'ignore']});
+    stream.stdout.on('data', part => { bytes += part.length; });
+    return stream;
+  });
+  await sleep(5000);
+  bytes = 0;
   const share = await taken() - without;
-  going = false;
-  await Promise.all(all);
-  return {share, without, polls};
+  for (const stream of streams) stream.kill();
+  return {share, without, bytes: bytes / boards / seconds};
 }
 
 /** So many of those who wait hang up, so that others may call. */
@@ -66,7 +61,8 @@ async function giveUp(desk, callers) {
   for (const [number, members] of waiting.slice(-callers).entries()) await desk.post({requester: 'try-full', invoke: number + 1, service: 'clearConnection', ...members});
 }
 
-export async function full(see, browser, desk, address, figures) {
+export async function full(see, browser, desk, front, figures) {
+  const address = front.page('sup', '/board/');
   const first = await opening(browser, address, 'wall');
   see('the board of a full plan is whole', first !== null && first.agents === 1000 && first.groups === 64 && first.calls === 2000, JSON.stringify(first));
   if (!first) return;
@@ -83,7 +79,8 @@ export async function full(see, browser, desk, address, figures) {
     const most = await delay(browser, desk, address, 8);
     figures('an event on the board', `${(most / 1000).toFixed(2)} s at most, of 8`, most < 1500, 'within 1.5 s', load());
     await browser.open('about:blank');
-    const {share, without, polls} = await followers(desk, 20, 15);
-    figures(`twenty boards, ${polls} polls`, `${(100 * share).toFixed(1)} % of the desk's time, which takes ${(100 * without).toFixed(1)} % without them`, share < 0.05, 'under 5 %', load());
+    const {share, without, bytes} = await followers(desk, front, 20, 15);
+    see('each of twenty boards is told something', bytes > 100, bytes);
+    figures(`twenty boards, ${Math.round(bytes)} bytes a second each`, `${(100 * share).toFixed(1)} % of the desk's time, which takes ${(100 * without).toFixed(1)} % without them`, share < 0.05, 'under 5 %', load());
   } finally { await folks.end(); }
 }

@@ -20,8 +20,8 @@ export async function lostReply(hands) {
   await hands.open();
   await until(() => browser.find(requested('workingAfterCall')), 20);
   const last = await hands.last();
+  // clicked before the gate tells that the desk hangs
   desk.child.kill('SIGSTOP');
-  await sleep(500);
   await browser.click(requested('workingAfterCall'));
   see('a request without an answer is said to be sent again', Boolean(await until(async () => /no answer yet/.test(await hands.text('#told')), 20)), await hands.text('#told'));
   const before = await left(browser);

@@ -2,9 +2,8 @@
 import {spawn} from 'node:child_process';
 import {join} from 'node:path';
 import {sleep, until} from './browser.mjs';
-import {run} from './desk.mjs';
+import {reportLines, run} from './desk.mjs';
 import {contrast, unreached, untold} from './looks.mjs';
-import {reportLines} from './model.mjs';
 
 export const VIEWS = ['wall', 'queues', 'agents', 'calls', 'day', 'events'];
 export const PHONE = [390, 844], SCREEN = [1920, 1080];
@@ -33,7 +32,7 @@ export async function numbers(see, browser, desk, folks, moments, {groups = [], 
     folks.stop();
     await sleep(300);
     const {last} = await desk.get('/events?after=999999999999999');
-    see(`moment ${moment}: the board has the last event within 3 s`, Boolean(await until(() => browser.run(`return window.board.feed.last === ${last}`), 3)));
+    see(`moment ${moment}: the board has the last event within 3 s`, Boolean(await until(() => browser.run(`return window.board.state().last === ${last}`), 3)));
     await sleep(1100);
     for (const view of ['wall', 'queues']) {
       await browser.run(`location.hash = '${view}'`);
@@ -294,7 +293,7 @@ export async function losses(see, browser, desk, other, address) {
   see('the board goes on by itself within 10 s', Boolean(await until(async () => await status() === 'Live' && !await old(), 10)), await status());
   await desk.post({requester: 'try', invoke: 200, service: 'arriveCall', caller: '0309999', called: (await desk.get('/snapshot')).groups[0].device});
   const {last} = await desk.get('/events?after=999999999999999');
-  see('with what came since', Boolean(await until(() => browser.run(`return window.board.feed.last >= ${last}`), 3)));
+  see('with what came since', Boolean(await until(() => browser.run(`return window.board.state().last >= ${last}`), 3)));
   await desk.stop();
   const file = desk.file;
   desk.file = other;

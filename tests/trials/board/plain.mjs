@@ -11,10 +11,11 @@ import {tableOf} from './words.mjs';
 const TYPES = {'.html': 'text/html', '.js': 'text/javascript', '.css': 'text/css', '.json': 'application/json'};
 const text = body => typeof body === 'string' ? body : JSON.stringify(body);
 
-/** The pages by one server, without a password; `answers` has paths that are answered otherwise, all others go to the desk. */
-async function plain(desk, answers) {
+/** The pages by one server, without a password; `answers` has paths that are answered otherwise, all others go to the desk. `stream` answers what the page is told. */
+async function plain(desk, answers, stream) {
   const port = await freePort();
   const answer = async (request, reply) => {
+    if (request.url.startsWith('/stream?')) return stream(request, reply);
     const path = request.url.split('?')[0], told = answers[path] && await answers[path](request.url);
     if (told) return reply.writeHead(told[0], {'content-type': TYPES[extname(path)] ?? 'application/json'}).end(text(told[1]));
     if (path === '/board/board.json') return reply.writeHead(200, {'content-type': 'application/json'}).end('{}');
@@ -30,12 +31,18 @@ async function plain(desk, answers) {
 }
 
 const told = body => [200, body];
-/** The gate's own answer to a page's question, asked as somebody who reads all. */
-const asGate = front => async url => { const reply = await fetch(`http://127.0.0.1:${front.gate}${url}`, {headers: {'x-login': 'sup'}}); return [reply.status, await reply.text()]; };
+/** The gate's own stream, asked for as somebody who reads all. */
+const asGate = front => async (request, reply) => {
+  const leaving = new AbortController(), from = await fetch(`http://127.0.0.1:${front.gate}${request.url}`, {headers: {'x-login': 'sup'}, signal: leaving.signal});
+  reply.on('close', () => leaving.abort());
+  reply.writeHead(from.status, {'content-type': from.headers.get('content-type')});
+  for await (const part of from.body) reply.write(part);
+  reply.end();
+};
 
 /** Whose a page's requester is, for which a gate is asked until it answers; and what a login sees that is no agent's. */
 export async function owners({see, browser, desk, front, text: shown, ...hands}) {
-  const none = [404, '{"error":{"code":35,"name":"notFound"}}'], late = [502, '{"error":{"code":44,"name":"badGateway"}}'], said = () => browser.text('#told'), mine = asGate(front);
+  const none = [404, '{"error":{"code":35,"name":"notFound"}}'], late = [502, '{"error":{"code":44,"name":"badGateway"}}'], said = () => browser.text('#told'), stream = asGate(front);
   const requester = () => until(() => browser.run('return window.agent?.requests()?.requester'), 20);
   let asked = 0;
   for (const [what, who, words, wanted] of [
@@ -43,7 +50,7 @@ export async function owners({see, browser, desk, front, text: shown, ...hands})
     ['an exchange, and an agent in the address', () => told({login: 'pbx', role: 'exchange'}), '?agent=8&', /^pbx-[a-f0-9]{16}$/],
     ['a gate that is late', () => ++asked < 3 ? late : told({agent: '8', login: 'ben', role: 'agent'}), '?', /^ben-[a-f0-9]{16}$/],
   ]) {
-    const server = await plain(desk, {'/session': who, '/mine': mine});
+    const server = await plain(desk, {'/session': who}, stream);
     await browser.open(server.page(`${words}station=208&groups=100`));
     if (what.endsWith('late')) see(`${what} is told`, Boolean(await until(async () => await said() === '▲ Who is logged in? the desk does not run', 10)), await said());
     const found = await requester();
@@ -61,7 +68,7 @@ export async function owners({see, browser, desk, front, text: shown, ...hands})
     ['a login without an agent', told({login: 'sup', role: 'supervisor'}), '', ['#notices', 'The login sup has no agent of its own.The board']],
     ['who looks at another', told({login: 'sup', role: 'supervisor'}), '?agent=8', ['#notices', 'The login sup looks at agent 8 here, and asks for nothing.']],
   ]) {
-    const server = await plain(desk, {'/session': () => who, '/mine': mine});
+    const server = await plain(desk, {'/session': () => who}, stream);
     await browser.open(server.page(words));
     see(`${what} is told`, Boolean(await until(async () => (await browser.text(wanted[0])) === wanted[1], 10)), await browser.text(wanted[0]));
     if (what.startsWith('who looks')) await until(() => browser.run('return window.agent.mine()'), 10);
@@ -71,7 +78,7 @@ export async function owners({see, browser, desk, front, text: shown, ...hands})
   }
 }
 
-const NOW = () => Math.floor(Date.now() / 1000), NAMES = {agents: [{agent: AGENT, device: STATION, name: 'Ana'}, {agent: '8', device: '208', name: 'Ben'}, {agent: '9', name: 'Cem'}], groups: [{device: '100', name: 'Billing'}, {device: '130', name: 'Quick'}], number: 1, stations: [STATION, '208', '209']};
+const NOW = () => Math.floor(Date.now() / 1000), NAMES = {agents: [[AGENT, 'Ana', STATION], ['8', 'Ben', '208'], ['9', 'Cem']], groups: [['100', 'Billing'], ['130', 'Quick']], stations: [STATION, '208', '209']};
 const GROUP = {calls: [{call: 9, caller: '...678', queued: 0}], device: '100', loggedOn: 2, name: 'Billing', ready: 1, ring: 20, wrap: 30};
 const DAY = {answered: 2, begins: 0, calls: [{call: 3, caller: '0301', group: '100', moment: 1e9, talked: 61}, {call: 4, moment: 1e9, talked: 5}], missed: 1, talking: 100};
 
@@ -91,11 +98,25 @@ function states() {
   };
 }
 
-/** A server that tells one state until `mine` is another one. */
+/** What the agent does in such a state, as the gate tells it. */
+function doingOf({agent: {state = 'null', since = 0}, calls = []}) {
+  const here = calls.flatMap(({connections}) => connections), given = here.find(({group}) => group);
+  if (given) return {doing: {alerting: 'ringing', hold: 'hold'}[given.state] ?? 'busy', since: given.since, group: given.group};
+  return {doing: state === 'ready' && here.some(one => one.state !== 'fail') ? 'own' : state, since, group: null};
+}
+
+/** A server that tells one state until `mine` is another one: a new picture, three times a second. */
 async function shown(desk, state, more = {}) {
   const server = {mine: state, number: 1};
-  const mine = async () => { await sleep(300); return told({groups: [GROUP], day: DAY, live: true, moment: NOW(), names: NAMES, number: ++server.number, ...server.mine}); };
-  return Object.assign(server, await plain(desk, {'/session': () => told({agent: AGENT, begun: 1, login: 'ana', role: 'agent'}), '/mine': mine, ...more}));
+  const stream = async (request, reply) => {
+    reply.writeHead(200, {'content-type': 'text/event-stream'});
+    for (; !reply.destroyed; await sleep(300)) {
+      const {groups = [GROUP], ...mine} = {day: DAY, missed: null, names: NAMES, ...server.mine};
+      const picture = {answered: NOW(), clock: Date.now() / 1000, live: true, doing: doingOf({agent: {}, ...mine}), queues: groups.map(({device}) => device), groups: Object.fromEntries(groups.map(group => [group.device, group])), ...mine};
+      if (mine.agent) reply.write(`event: picture\nid: 1-0-${++server.number}\ndata: ${JSON.stringify(picture)}\n\n`);
+    }
+  };
+  return Object.assign(server, await plain(desk, {'/session': () => told({agent: AGENT, begun: 1, login: 'ana', role: 'agent'}), ...more}, stream));
 }
 
 /** All that a page says, in each text, title and label; runs in the page. */

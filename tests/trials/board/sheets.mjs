@@ -1,7 +1,6 @@
 // The tables of the views as files for a spreadsheet, read by Python.
 import {sleep, until} from './browser.mjs';
-import {run} from './desk.mjs';
-import {reportLines} from './model.mjs';
+import {reportLines, run} from './desk.mjs';
 import {live, VIEWS} from './page.mjs';
 
 /** What the page would save is kept in it, in place of a file. */

@@ -10,10 +10,10 @@ import {Browser, sleep} from './browser.mjs';
 import {aDay, Desk, Front, missing, run, TOP} from './desk.mjs';
 import {buttons} from './buttons.mjs';
 import {full} from './full.mjs';
-import {inLoad, record, replay, unseenFaults} from './model.mjs';
 import {alarms, nothing, troubles} from './alarms.mjs';
 import {days, overMidnight, zones} from './days.mjs';
 import {lead, office, session} from './lead.mjs';
+import {lines} from './lines.mjs';
 import {alarm, clockAhead, looks, losses, numbers, ownEvents, people, settings, still, ways} from './page.mjs';
 import {shape} from './shape.mjs';
 import {callers, sheets} from './sheets.mjs';
@@ -22,7 +22,7 @@ import {agentsPage} from './agent.mjs';
 import {PLAN} from './shift.mjs';
 
 const NEEDED = {chromedriver: 'chromium-driver', chromium: 'chromium', nginx: 'nginx-light', tsc: 'node-typescript', openssl: 'openssl', curl: 'curl', python3: 'python3'};
-const PARTS = ['files', 'gate', 'show', 'state', 'load', 'buttons', 'board', 'alarms', 'words', 'shape', 'days', 'lead', 'agent', 'full'], MOST_BYTES = 150000, MOST_CALLS = 2000, ROUNDS = 50;
+const PARTS = ['files', 'gate', 'show', 'lines', 'buttons', 'board', 'alarms', 'words', 'shape', 'days', 'lead', 'agent', 'full'], MOST_BYTES = 150000, MOST_CALLS = 2000, ROUNDS = 50;
 const ROLES = [['pbx', 'exchange'], ['planner', 'office'], ['sup', 'supervisor'], ['ana', 'agent', '7'], ['lea', 'lead', 'groups=101,102']];
 
 class Trial {
@@ -71,7 +71,7 @@ class Trial {
 
   async gate() {
     const unit = readdirSync(join(TOP, 'tests/unit/gate')).filter(name => /^test_.*\.py$/.test(name)).map(name => `tests/unit/gate/${name}`);
-    for (const test of [...unit, 'tests/trials/board/login_again.mjs']) {
+    for (const test of [...unit, 'tests/trials/board/login_again.mjs', 'tests/trials/board/stream_again.mjs']) {
       const program = test.endsWith('.mjs') ? process.execPath : '/usr/bin/python3';
       try { execFileSync(program, [join(TOP, test)], {stdio: 'pipe'}); } catch (error) { this.see(test, false, String(error.stderr).slice(-600)); }
     }
@@ -89,25 +89,19 @@ class Trial {
     this.see("nginx's own line", said.startsWith("the gate or nginx doesn't start: nginx: [emerg] bind() to ") && said.includes(`:${port} failed`) && Date.now() - begin < 20000, said);
   }
 
-  /** state.js and day.js run by node, from a copy whose folder says that they are modules. */
+  /** The pages' modules that need no document, run by node, from a copy whose folder says that they are modules. */
   async modules() {
     const copy = join(this.folder, 'modules');
     if (!existsSync(copy)) {
       await cp(join(TOP, 'board'), copy, {recursive: true});
       await writeFile(join(copy, 'package.json'), '{"type":"module"}');
     }
-    const modules = await Promise.all(['state.js', 'day.js', 'agent/mine.js'].map(name => import(pathToFileURL(join(copy, name)))));
-    return Object.assign({}, ...modules);
+    return Object.assign({}, ...await Promise.all(['desk.js', 'figures.js', 'agent/mine.js'].map(name => import(pathToFileURL(join(copy, name))))));
   }
 
-  async state() {
-    const lines = (await run('python3', ['-B', join(TOP, 'tests/office.py'), 'given'])).trim().split('\n'), size = Math.ceil(lines.length / ROUNDS);
-    const told = await record(await Desk.make(this.program, join(this.folder, 'office.db')), Array.from({length: ROUNDS}, (_, part) => lines.slice(part * size, (part + 1) * size)));
-    const {compared, wrong} = replay(await this.modules(), told);
-    this.see('the state of the page', wrong.length === 0, wrong.slice(0, 5).join('\n'));
-    const {planted, unseen} = await unseenFaults(join(TOP, 'board'), await mkdtemp(join(this.folder, 'faults')), told);
-    this.see('each planted fault is seen', unseen.length === 0, unseen.join('; '));
-    console.log(`    ${told.length} snapshots of an office's day, carried on to its end: ${compared} comparisons, ${wrong.length} differ; ${planted} faults planted in state.js and day.js, ${unseen.length} unseen`);
+  async lines() {
+    const desk = await this.desk('lines.db', await aDay(1, '--groups', 10, '--agents', 60));
+    await lines(this.see, await this.modules(), desk, await this.front(desk));
   }
 
   async buttons() {
@@ -118,16 +112,6 @@ class Trial {
     const {refused, granted, wrong} = await buttons(await this.modules(), desk, ROUNDS);
     this.see('each button is enabled where the desk grants it', wrong.length === 0 && refused > 0 && granted > 0, wrong.slice(0, 5).join('\n'));
     console.log(`    ${refused} requests of disabled buttons were refused, ${granted} of enabled ones granted, ${wrong.length} otherwise`);
-  }
-
-  async load() {
-    const lines = (await run('python3', ['-B', join(TOP, 'tests/office.py'), 'given'])).trim().split('\n'), desk = await Desk.make(this.program, join(this.folder, 'load.db'));
-    await desk.feed(lines.slice(0, 400));
-    await desk.serve();
-    this.keep(desk, () => desk.stop());
-    const {behind, wrong, still} = await inLoad(await this.modules(), desk, lines.slice(400), ROUNDS);
-    this.see('a state begun in the middle of load', wrong.length === 0 && behind > 0, wrong.slice(0, 5).join('\n'));
-    console.log(`    ${ROUNDS} rounds in the middle of load, ${behind} events behind the snapshots, ${wrong.length} differ${still ? '' : ' (the requests ended before the rounds)'}`);
   }
 
   async board() {
@@ -199,7 +183,7 @@ class Trial {
       lines.push(`${moment} ${JSON.stringify({requester: 'many', invoke, service: 'arriveCall', caller: `04${invoke}`, called: String(100 + invoke % 64)})}`);
     }
     const desk = await this.desk('full.db', lines), front = await this.front(desk), browser = await this.browser();
-    await full(this.see, browser, desk, front.page('sup', '/board/'), this.figure);
+    await full(this.see, browser, desk, front, this.figure);
   }
 }
 

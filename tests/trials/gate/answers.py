@@ -1,13 +1,15 @@
 """Each refusal at each route, as a client gets it: all bytes of 401, 403, 429 and 302, for programs, for a page's own script and for a browser that opens an
-address; who is asked for a password, who is sent to the page of log-in, who waits."""
+address; who is asked for a password, who is sent to the page of log-in, who waits; and how a page is pushed what it shows."""
 import re
+import time
+import zlib
 from base64 import b64encode
 
-from place import CLICK, ELSEWHERE, PAGE, Place, signed, token_of
-from trial import ANY, bytes_back
+from place import CLICK, ELSEWHERE, PAGE, PATIENCE, Place, signed, token_of
+from trial import ANY, Connection, bytes_back
 
 # a route of each kind: of the gate, of the desk by way of nginx, and files
-GETS = ("/who", "/session", "/mine", "/requests", "/records/", "/records/calls/2026-11-27.csv", "/basic?/board/?since=0", "/snapshot", "/events?after=0", "/calls/1", "/none", "/board/",
+GETS = ("/who", "/session", "/mine", "/stream", "/requests", "/records/", "/records/calls/2026-11-27.csv", "/basic?/board/?since=0", "/snapshot", "/events?after=0", "/calls/1", "/none", "/board/",
         "/board/?since=0&limit=30", "/board/agent/", "/board/board.json")
 POSTS = ("/csta", "/session")
 HOWS = {"a program": {}, "a script": PAGE, "a click": CLICK}
@@ -104,12 +106,12 @@ class Answers(Place):
         """Who has a password, and no line that gives a right; and who may not what is asked for."""
         for login in ("lineless", "odd"):
             self.everywhere(login, self.password(login), lambda *_: refusal(403))
-        for login, paths in (("ana", ("/requests", "/records/", "/snapshot", "/events?after=0", "/calls/1", "/none", "/mine?agent=8")), ("copy", ("/mine", "/records/", "/snapshot", "/calls/1")),
-                             ("blind", ("/mine?agent=7", "/requests", "/records/", "/snapshot")), ("sup", ("/mine", "/requests", "/records/")), ("pbx", ("/requests", "/records/"))):
+        for login, paths in (("ana", ("/requests", "/records/", "/snapshot", "/events?after=0", "/calls/1", "/none", "/mine?agent=8", "/stream?agent=8")),
+                             ("copy", ("/mine", "/stream", "/records/", "/snapshot", "/calls/1")), ("blind", ("/mine?agent=7", "/stream", "/requests", "/records/", "/snapshot")), ("sup", ("/mine", "/requests", "/records/")), ("pbx", ("/requests", "/records/"))):
             for path in paths:
                 for how, named in HOWS.items():
                     self.expect(f"{login}, {how}, {path}", self.said("GET", path, {**named, **self.password(login)}), refusal(403))
-        for path in ("/snapshot", "/events", "/who", "/mine", "/requests", "/records/"):
+        for path in ("/snapshot", "/events", "/who", "/mine", "/stream", "/requests", "/records/"):
             self.expect(f"a request at {path}", self.said("POST", path, self.password("ana"))[9:12], "403")
 
     def try_another_site(self):
@@ -117,5 +119,39 @@ class Answers(Place):
         for path in ("/csta", "/session", "/logout"):
             self.expect(f"another site's {path}", self.said("POST", path, {**ELSEWHERE, "Cookie": f"__Host-acd={token}"}), refusal(403))
 
+    def try_pushed(self):
+        """A picture at once, in few bytes for who takes that, then signs of life; and an end soon after the session's."""
+        for login, member, packed in (("sup", "sums", "gzip"), ("ana", "doing", "identity")):
+            with Pushed(self.port, {**self.password(login), "Accept-Encoding": packed}) as pushed:
+                self.expect(f"{login}, {packed}", (pushed.status, pushed.kind, pushed.packed), (200, "text/event-stream", packed))
+                told = pushed.until("\nevent: beat\n")
+                self.see(f"{login} has a picture", told.startswith("event: picture\n") and f'"{member}":' in told, told)
+                self.see(f"{login} hears that it lives", "\nevent: beat\n" in told, told)
+        token = token_of(self.log_in("sup")[1])
+        with Pushed(self.port, {**PAGE, "Cookie": f"__Host-acd={token}"}) as pushed:
+            self.see("a session's", pushed.until("\n\n").startswith("event: picture\n"), pushed.status)
+            self.expect("log-off", self.ask("POST", "/logout", cookie=token).status, 204)
+            began = time.monotonic()
+            self.see("it ends", pushed.until(None).endswith('event: end\ndata: {"why":"rights"}\n\n'), token)
+            self.figure("seconds until a stream ends after its session", time.monotonic() - began, 5)
+
     def password(self, login):
         return {"Authorization": f"Basic {b64encode(f'{login}:secret'.encode()).decode()}"}
+
+
+class Pushed(Connection):
+    """A stream of events as a page gets it."""
+
+    def __init__(self, port, fields):
+        super().__init__(port, ANY, PATIENCE)
+        self.connection.request("GET", "/stream", headers=fields)
+        self.reply = self.connection.getresponse()
+        self.status, self.kind, self.packed = self.reply.status, self.reply.getheader("Content-Type"), self.reply.getheader("Content-Encoding", "identity")
+        self.unpacked = zlib.decompressobj(zlib.MAX_WBITS | 16).decompress if self.packed == "gzip" else bytes
+
+    def until(self, awaited):
+        """What it says until that comes, or all until it ends."""
+        told = ""
+        while (awaited is None or awaited not in told) and (part := self.reply.read1()):
+            told += self.unpacked(part).decode()
+        return told

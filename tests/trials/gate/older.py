@@ -46,6 +46,10 @@ class OlderAnswers(Older, Answers):
         """The gate's verdict too."""
         return self.nobody(path, how, refusal(401, before=ASKS))
 
+    def try_pushed(self):
+        """It has no line for that: the desk is asked, which knows no such read."""
+        self.expect("nothing is pushed", [self.ask("GET", "/stream", login=login).status for login in ("sup", "ana")], [404, 403])
+
 
 class OlderExecuted(Older, Executed):
     pass

@@ -1,4 +1,4 @@
-"""What is tried of acd-calls: its tables against days that were reckoned apart, against the page of the day, and against the desk's own report;
+"""What is tried of acd-calls: its tables against days that were reckoned apart, and against the desk's own report;
 what is chosen of them, how they are written, and the files of a day each."""
 import contextlib
 import csv
@@ -25,7 +25,7 @@ from trial import TOP, Desk, Plan, Requests, ran
 import office
 import story
 from ground import Records
-from reckoning import LIMIT, Reckoning, stretched
+from reckoning import Reckoning, stretched
 
 TABLES = {"calls": ([], story.CALLS, "call_lines"), "legs": (["--legs"], story.LEGS, "leg_lines"), "agents": (["--agents"], story.AGENTS, "day_lines"),
           "groups": (["--groups"], story.GROUPS, "quarter_lines")}
@@ -34,10 +34,6 @@ WHOLE = [(0, 1, "UTC"), (1792878000, 30, "Europe/Berlin")]
 # so of ten smaller ones, each another
 ZONES = ["UTC", "Europe/Berlin", "America/New_York", "Asia/Kathmandu", "Australia/Lord_Howe", "Asia/Tokyo", "America/Sao_Paulo", "Pacific/Chatham", "Europe/London", "Asia/Kolkata"]
 SMALL = office.MORNING._replace(requests=600, repeats=20, live_calls=14, mixed=True)
-EVENTS = ("number", "moment", "call", "waited")  # of an exported event what is a number
-# what the page tells of a quarter, and the column that it has to be
-PAGE = {"entered": "entered", "answered": "answered", "abandoned": "abandoned", "moved": "moved", "in_time": "in_time", "late": "abandoned_late", "level": "service_level",
-        "waited": "waited", "most": "most_waiting", "handled": "handled", "handling": "handling"}
 OFFICE = {"zone": "America/New_York", "limits": {"limit": "10", "limit.100": 60}, "names": {"groups": {"100": "Störung; \"eins\""}, "agents": {"7": "=Ana", "8": 8}}}
 
 
@@ -51,7 +47,7 @@ HOME = tempfile.TemporaryDirectory()
 
 
 class Calls(Records):
-    days, quarters, story = [], 0, Path(HOME.name) / "story.db"
+    days, story = [], Path(HOME.name) / "story.db"
 
     @classmethod
     def setUpClass(cls):
@@ -147,10 +143,10 @@ class Calls(Records):
             file = self.written(json.dumps({"limits": {"limit": limit}}))
             lines = self.script("--file", self.story, "--office", file, "--groups")[1].splitlines()[1:]
             self.expect(f"the limit {limit}", [list(map(int, line.split(",")[7:10])) for line in lines], [first, second])
-        quarter = self.module(self.scripts["acd-calls"].parents[1] / "acd_service/leaving/quarters.py").Quarter
+        level_of = self.module(self.scripts["acd-calls"].parents[1] / "acd_service/figures.py").level
         # the fourth as the page's Math.round has it, of the same number
         for in_time, answered, late, level in ((2, 3, 0, 67), (1, 8, 0, 13), (1, 3, 0, 33), (57, 150, 50, 28), (0, 0, 4, 0), (0, 0, 0, None)):
-            self.expect(f"{in_time} of {answered} and {late}", quarter(answered=answered, in_time=in_time, late=late).level, level)
+            self.expect(f"{in_time} of {answered} and {late}", level_of(in_time, answered, late), level)
 
     @staticmethod
     def module(file):
@@ -549,24 +545,7 @@ class Calls(Records):
         words = [word for archive in archives for word in ("--archive", archive)]
         self.expect("with the archives", (self.script("--copies", copies, "--days", folder, *words, zone=zone)[0], self.files(folder) == whole), (0, True))
 
-    # the page, and the report
-
-    def try_page(self):
-        """The quarters are those of the board's page of the day, over each day: 0 differ."""
-        for file, zone, _, moment in self.days:
-            events = csv.DictReader(io.StringIO(self.ran([self.program, "export", "--file", file])[1]))
-            reports = "".join(json.dumps({name: int(value) if name in EVENTS else value for name, value in event.items() if value}) + "\n" for event in events)
-            status, said, fault = self.ran(["node", TOP / "tests/trials/records/page.mjs", moment, LIMIT], reports)
-            self.expect(f"the page over {file.name}", (status, fault), (0, ""))
-            steps = list(map(json.loads, said.splitlines()))
-            # a page that knows of no handling doesn't tell it
-            told = [name for name in PAGE if name in steps[0]]
-            page = {(step["begin"], step["group"]): {name: step[name] for name in told} for step in steps}
-            has = {(self.moment(row["begin"]), row["group"]): {name: int(row[column]) if row[column] else None for name, column in PAGE.items() if name in told}
-                   for row in self.rows(file, "UTC", "--groups")}
-            differ = {key: (has.get(key), page.get(key)) for key in has.keys() | page.keys() if has.get(key, {}) != page.get(key) and any({**has.get(key, {}), **page.get(key, {})}.values())}
-            self.expect(f"{file.name}: quarters that differ from the page's", differ, {})
-            Calls.quarters += len(page)
+    # the report
 
     def try_sums(self):
         """The legs of who called from outside make the call; the quarters make the desk's own report."""

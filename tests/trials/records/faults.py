@@ -15,6 +15,7 @@ CALLS = [
     ("the day of the file's begin is whole", "since > datetime.date.fromtimestamp(begins)", "since >= datetime.date.fromtimestamp(begins)"),
     ("each archive is opened", "[] if is_whole(book, since) else archives_of(file, since)", "archives_of(file, None)"),
     ("copies of archives aren't found", "folders = [file.parent, chain.copies_of(file.parent.parent)]", "folders = [file.parent]"),
+    ("the last wait is the longest", 'max(has.answers, default="")', 'has.answers[-1] if has.answers else ""'),
     ("a day ends with the last request", "end = max(book.last_moment(), made)", "end = book.last_moment()"),
 ]
 BOOK = [
@@ -59,17 +60,17 @@ RECORDS = [
     ("the first log-on's groups for ever", "agent.groups = number, next(self.log_ons, [])", "agent.groups = number, [next(self.log_ons, []), agent.groups][bool(agent.groups)]"),
     ("the first time that it was logged on is its last", "else day.first, end\n", "else day.first, day.last or end\n"),
 ]
-QUARTERS = [
-    ("a return enters anew", '            if cause != "noAnswer":', "            if True:"),
-    ("the limit itself isn't in time", "waited <= limit", "waited < limit"),
-    ("who gives up at once counts", "quarter.late += moment - queued > self.limit_of(group)", "quarter.late += 1"),
-    ("who waits through a quarter isn't there", "                self.found[each, group].most = waiting", "                pass"),
-    ("moved where it is distributed", 'if cause == "deflected" and group is not None:', "if group is not None:"),
+FIGURES = [
+    ("a return enters anew", '            if cause != "noAnswer":\n                self.quarter', "            if True:\n                self.quarter"),
+    ("the limit itself isn't in time", "sum(wait <= limit for wait in self.answers)", "sum(wait < limit for wait in self.answers)"),
+    ("who gives up at once counts", "sum(wait > limit for wait in self.losses)", "len(self.losses)"),
+    ("who waits through a quarter isn't there", "in range(number, at) if waiting else ():", "in ():"),
+    ("moved where it is distributed", 'if group is not None and cause == "deflected":', "if group is not None:"),
     ("who gave up waits on", "            if group in self.cleared:\n                self.change(moment, group, -1)\n", ""),
-    ("half a percent is cut off", "(self.in_time / counted) + 0.5)", "(self.in_time / counted))"),
-    ("the last wait is the longest", "max(quarter.longest or 0, waited)", "waited"),
-    ("after-call work isn't handling", '(before, kind) == ("agentBusy", "agentWorkingAfterCall")', "False"),
-    ("the level of the answered alone", "counted = self.answered + self.late", "counted = self.answered"),
+    ("half a percent is cut off", "(in_time / counted) + 0.5)", "(in_time / counted))"),
+    ("after-call work isn't handling", 'agent.kind == "agentBusy" and kind == "agentWorkingAfterCall"', "False"),
+    ("the level of the answered alone", "counted = answered + late", "counted = answered"),
+    ("who waited before isn't there", "before + counted[at].top", "counted[at].top"),
 ]
 SHEETS = [
     ("a name may seem a date", "LIKE_NUMBER.match(field) if is_name", "None if is_name"),
@@ -129,5 +130,5 @@ REACH = [
 
 # of which script, in which file
 COMMAND = [("a fault's second line isn't told", "for line in fault.args:", "for line in fault.args[:1]:")]
-ALL = [("calls", "calls.py", CALLS), ("calls", "book.py", BOOK), ("calls", "leaving/records.py", RECORDS), ("calls", "leaving/quarters.py", QUARTERS), ("calls", "record_days.py", DAYS),
+ALL = [("calls", "calls.py", CALLS), ("calls", "book.py", BOOK), ("calls", "leaving/records.py", RECORDS), ("calls", "figures.py", FIGURES), ("calls", "record_days.py", DAYS),
        ("calls", "sheets.py", SHEETS), ("calls", "office.py", OFFICE), ("plan", "plan.py", PLAN), ("plan", "reach.py", REACH), ("plan", "command.py", COMMAND)]

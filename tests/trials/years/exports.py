@@ -4,7 +4,6 @@ import asyncio
 import importlib.util
 import json
 import re
-import subprocess
 import sys
 import urllib.request
 from unittest import mock
@@ -18,7 +17,7 @@ from kills import PLAN, calls
 
 sys.path += [str(TOP / "service"), str(TOP / "client")]
 import acd_client  # noqa: E402
-from acd_service.gate import days, following  # noqa: E402
+from acd_service.gate import boards, days, following  # noqa: E402
 from acd_service.gate.exchanges import Answer  # noqa: E402
 
 
@@ -169,20 +168,24 @@ class Exports:
             self.ground.prune_by(scratch / "archive.db", file, "--keep", 1000)
             with Desk(self.ground.program, file) as desk:
                 address = f"http://127.0.0.1:{desk.port}"
-                gate = following.Following(lambda _, path: asked(address, path))
-                asyncio.run(gate.catch_up())
-                board = subprocess.Popen(["node", TOP / "tests/trials/years/feed.mjs", address, "409", "2000", "80000", "90000", "90001", str(2 ** 40)], stdout=subprocess.PIPE, text=True)
-                self.ground.expect("the board begins", board.stdout.readline(), "begun\n")
-                for number in range(500, 510):
-                    desk.post({"requester": "pbx", "invoke": number, "service": "arriveCall", "caller": "0301", "called": "100"})
-                asyncio.run(gate.catch_up())
-                self.ground.expect("what the gate knows", (gate.state.last, len(gate.state.groups["100"].waiting)), (409, 409))
-                found = json.loads(board.communicate(timeout=60)[0])
-                self.ground.expect("what the board takes", (found["taken"], found["anew"]), (list(range(400, 410)), 0))
-                # events 1 to 399 were pruned, so that no day is whole that began before event 400
-                self.ground.expect("where a day begins, and whether it is whole", found["before"], [{"last": 399, "isWhole": False}] * 4 + [{"last": 409, "isWhole": True}])
-                self.ground.expect("in few reads", found["reads"] < 40)
-                self.ground.expect("as the gate finds it", [asyncio.run(days.first_of(lambda after: gate.events(f"/events?after={after}"), 409, moment)) for moment in (2000, 90000)], [399, 399])
+                asyncio.run(self.followed(desk, address))
+
+    async def followed(self, desk, address):
+        """Events 1 to 399 were pruned, so that no day is whole that began before event 400."""
+        gate = following.Following(lambda _, path: asked(address, path))
+        sight = boards.Sight(80000, (), frozenset(), frozenset({"day", "events"}), ((2000, 80000), (90000, 2 ** 40)))
+        view = gate.streams.see(sight, await gate.catch_up())
+        for number in range(500, 510):
+            desk.post({"requester": "pbx", "invoke": number, "service": "arriveCall", "caller": "0301", "called": "100"})
+        await gate.catch_up()
+        await asyncio.gather(*gate.streams.boards.tasks)
+        gate.streams.boards.turn(gate.number + 1)
+        told = {name: json.loads(table.whole()) for name, table in view.tables.items()}
+        self.ground.expect("what the gate knows", (gate.state.last, len(gate.state.groups["100"].waiting)), (409, 409))
+        self.ground.expect("what a board is told", (told["groups"]["100"]["waiting"], told["sums"]["100"][0], list(map(int, told["events"])), told["day"]["share"]), (409, 10, list(range(400, 410)), 1))
+        self.ground.expect("of days that began before there is nothing", told["past"], {})
+        found = [await days.beginning(lambda after: gate.events(f"/events?after={after}"), 409, moment) for moment in (2000, 80000, 90000, 90001, 2 ** 40)]
+        self.ground.expect("where a day begins, and whether it is whole", found, [(399, False)] * 4 + [(409, True)])
 
 
 async def asked(address, path):

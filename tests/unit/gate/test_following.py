@@ -15,6 +15,7 @@ from standing import PATIENCE, Named
 from acd_service.gate import days, following, texts
 from acd_service.gate.exchanges import Answer, Left, error
 from acd_service.gate.state import State
+from in_memory import InMemory, event, logged_on
 
 
 def desk_state():
@@ -66,8 +67,8 @@ class FollowTest(unittest.TestCase):
 
     def test_since_when_a_connection_is_as_it_is(self):
         state = desk_state()
-        for moment, event in ((61, "held"), (62, "retrieved")):
-            self.changes(state, event=event, call=1, device="201", moment=moment)
+        for moment, kind in ((61, "held"), (62, "retrieved")):
+            self.changes(state, event=kind, call=1, device="201", moment=moment)
             self.assertEqual(state.calls[1].connections["201"].since, moment)
 
     def test_a_call_that_comes_back_keeps_its_place(self):
@@ -92,6 +93,13 @@ class FollowTest(unittest.TestCase):
         state.differs(before)
         self.assertEqual((state.touched, state.dirty, state.renamed), ({"7", "8"}, {"110"}, True))
 
+    def test_a_side_that_no_report_names(self):
+        """That of a caller from outside comes with a new snapshot, and the agent's page is told."""
+        before, state = desk_state(), desk_state()
+        del before.calls[1].connections["0301111"]
+        state.differs(before)
+        self.assertEqual((state.touched, state.dirty, state.moved), ({"7"}, {"100"}, {1}))
+
     def test_which_log_on_it_is(self):
         state = desk_state()
         self.changes(state, event="agentLoggedOn", agent="9", device="203", group="120")
@@ -115,8 +123,11 @@ class FollowTest(unittest.TestCase):
         # a file that was carried over has those from the fourth on alone, say
         for first in (1, 4):
             for moment in range(40):
-                self.assertEqual(asyncio.run(days.first_of(page, len(moments), moment)), max(first - 1, sum(one < moment for one in moments)), (first, moment))
-        self.assertEqual(asyncio.run(days.first_of(lambda after: self.fail("nothing is asked"), 0, 5)), 0)
+                wanted = sum(one < moment for one in moments)
+                self.assertEqual(asyncio.run(days.beginning(page, len(moments), moment))[0], max(first - 1, wanted), (first, moment))
+                # of moments before its first event it can't be known whether there were some
+                self.assertEqual(asyncio.run(days.beginning(page, len(moments), moment))[1], first == 1 or moment > moments[first - 1], (first, moment))
+        self.assertEqual(asyncio.run(days.beginning(lambda after: self.fail("nothing is asked"), 0, 5)), (0, True))
 
     def test_a_question_that_is_out(self):
         asked = following.Following(None)
@@ -124,39 +135,6 @@ class FollowTest(unittest.TestCase):
         self.assertTrue(asked.is_live())
         asked.heard -= following.AWAY
         self.assertFalse(asked.is_live())
-
-
-def event(number, **members):
-    return {"number": number, "moment": 1000 + number, **members}
-
-
-def logged_on(number, agent="7", device="201", **members):
-    return event(number, event="agentLoggedOn", agent=agent, device=device, **({"group": "100"} | members))
-
-
-class InMemory:
-    """A desk with stations 201 and 202, agents 7 and 8 and group 100, by its events; `asked` are the paths it was asked for."""
-
-    def __init__(self):
-        self.events, self.asked, self.answers, self.texts = [], [], True, {}
-        self.plan = {"groups": [{"device": "100", "name": "Billing", "ring": 20, "wrap": 30}], "stations": [{"device": "201"}, {"device": "202"}], "calls": [],
-                     "agents": [{"agent": agent, "name": name, "state": "null", "since": 0} for agent, name in (("7", "Ana"), ("8", "Ben"))]}
-
-    async def ask(self, _, path):
-        self.asked.append(path)
-        if not self.answers:
-            return error(502)
-        route, _, after = path.partition("?after=")
-        if route in self.texts:
-            return Answer(200, "application/json", json.dumps(self.texts[route]).encode())
-        if route == "/snapshot":
-            return self.said({"last": 0, "moment": 5, **self.plan})
-        if route in ("/history", "/events"):
-            return self.said({"events": self.events[int(after):][:3], "last": len(self.events)})
-        return error(404)
-
-    def said(self, value):
-        return Answer(200, "application/json", json.dumps(value).encode())
 
 
 class FollowingTest(Named, unittest.IsolatedAsyncioTestCase):
@@ -211,6 +189,15 @@ class FollowingTest(Named, unittest.IsolatedAsyncioTestCase):
                 with self.assertRaises(following.Away):
                     await self.following.catch_up()
             self.assertIsNone(self.following.state)
+
+    async def test_another_desk_is_read_at_once(self):
+        self.desk.events = [logged_on(1)]
+        await self.following.look()
+        self.desk.events = []
+        self.assertEqual((await self.following.look(), self.following.state), (following.EVERY, None))
+        self.assertEqual((await self.following.look(), self.following.state.last), (following.EVERY, 0))
+        self.desk.answers = False
+        self.assertEqual(await self.following.look(), following.AGAIN)
 
     async def test_a_desk_that_is_away(self):
         for broken in (Answer(200, "", b"no json"), error(502), error(404)):

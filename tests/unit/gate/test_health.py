@@ -52,7 +52,7 @@ class DueTest(unittest.TestCase):
 
     def test_for_how_long(self):
         ringing = {"call": 1, "caller": "0301", "called": "100", "since": 5, "connections": [{"device": "201", "state": "alerting", "group": "100", "offered": 10}]}
-        state = State({"last": 0, "groups": [{"device": "100", "name": "", "ring": 20, "wrap": 0}], "stations": [], "agents": [], "calls": [ringing]})
+        state = State({"last": 0, "moment": 10, "groups": [{"device": "100", "name": "", "ring": 20, "wrap": 0}], "stations": [], "agents": [], "calls": [ringing]})
         for clock, wanted in ((10, 0), (30, 0), (31, 1), (95.5, 65.5)):
             self.assertEqual(health.overdue(state, clock), wanted)
         self.assertEqual(health.overdue(State(), 95), 0)

@@ -50,7 +50,7 @@ class TextTest(unittest.TestCase):
         calls = [{"call": number, "caller": "0301", "called": "100", "since": 5, "connections": [{"device": "100", "state": "queued", "queued": since, "place": number}]}
                  for number, since in ((1, 20), (2, 10))]
         agents = [{"agent": str(number), "name": "", "state": state, "since": 0} for number, state in enumerate(("null", "null", "ready"))]
-        state = State({"last": 0, "stations": [], "agents": agents, "calls": calls,
+        state = State({"last": 0, "moment": 20, "stations": [], "agents": agents, "calls": calls,
                        "groups": [{"device": group, "name": f"G {group}", "ring": 0, "wrap": 0} for group in ("100", "110")]})
         found = {family.name: list(family.samples) for family in metrics.of_state(state, 100.5)}
         self.assertEqual(found, {

@@ -204,6 +204,14 @@ class RouteTest(DoorTest):
             self.assertEqual(self.ask("ana", None, "GET", "/mine")[0], 429)
         self.assertEqual(self.gate.held.count, {})
 
+    def test_whose_requester_is_the_rules(self):
+        """That of a login of this role, or of rules that ask the desk itself."""
+        self.roles.write_text(ROLES + "night rules\n")
+        self.assertEqual([self.gate.is_rules(requester) for requester in ("night-100-closed-1", "rules-100-long-2", "night", "pbx-1", "rules", "clock-x", "nights-1")],
+                         [True, True, True, False, False, False, False])
+        self.roles.write_text(ROLES + "rules supervisor\n")
+        self.assertFalse(self.gate.is_rules("rules-100-long-2"))
+
     def test_forged_fields(self):
         self.assertEqual(self.auth(basic("ana"), **{"X-Login": "pbx", "X-Why": "429"}), self.RIGHT)
         self.assertEqual(self.auth(None, **{"X-Login": "pbx"}), self.WRONG)

@@ -1,10 +1,10 @@
-// Who does what, and how each group does.
-import {order, turn} from './state.js';
-import {abandonment, level, occupancy} from './day.js';
+// What a view shows of the chosen groups, agents and calls, by the settings and the time.
+import {order} from './desk.js';
+import {abandonment, level, occupancy} from './figures.js';
 import {chosenOf, limitsOf, settings} from './settings.js';
 
 // so many percent below its goal a service level is bad
-const FAR = 15, RANK = {queued: 0, alerting: 1, hold: 2, fail: 3, connected: 4, initiated: 5};
+const FAR = 15, STATES = ['queued', 'alerting', 'hold', 'fail', 'connected', 'initiated', 'none'];
 
 export const noCounts = () => ({ready: 0, ringing: 0, busy: 0, hold: 0, own: 0, workingAfterCall: 0, notReady: 0, null: 0});
 
@@ -22,22 +22,11 @@ function shares(sum, {goal, lost: most} = limitsOf()) {
 /** @param {Looked} looked @returns {GroupLine[]} */
 export function groupLines({state, day, now}) {
   const chosen = chosenOf(), groups = [...state.groups.values()].filter(({id}) => chosen(id)).sort((one, other) => order(one.id, other.id));
-  const staff = new Map(groups.map(group => [group.id, {group, counts: noCounts(), next: /** @type {Agent|null} */ (null)}]));
-  for (const agent of state.agents.values()) {
-    const does = agent.does = state.doing(agent).doing, eligible = does === 'ready' && state.isEligible(agent);
-    for (const id of agent.groups) {
-      const those = staff.get(id);
-      if (!those) continue;
-      those.counts[does]++;
-      if (eligible && !(those.next && turn(those.next, agent) < 0)) those.next = agent;
-    }
-  }
-  return [...staff.values()].map(({group: {id, name, priority, waiting, ringing}, counts, next}) => {
-    const queued = Math.min(...Array.from(waiting, ({queued}) => queued)), wait = waiting.size ? Math.max(0, now - queued) : null;
-    const limits = limitsOf(id), {sum} = day.line(id);
+  return groups.map(({id, name, priority, waiting, ringing, queued, counts: has, next}) => {
+    const wait = waiting ? Math.max(0, now - queued) : null, limits = limitsOf(id), {sum} = day.line(id), counts = {...noCounts(), ...has};
     return {
-      id, name: name || id, priority, waiting: waiting.size, ringing: ringing.size, queued, wait, severity: severity(wait, limits), limits,
-      counts, loggedOn: Object.values(counts).reduce((all, one) => all + one), next, ...sum, ...shares(sum, limits),
+      rule: state.rules.get(id), id, name: name || id, priority, waiting, ringing, queued, wait, severity: severity(wait, limits), limits,
+      counts, loggedOn: Object.values(counts).reduce((all, one) => all + one), next: next ? state.agent(next) : null, ...sum, ...shares(sum, limits),
     };
   });
 }
@@ -53,7 +42,7 @@ export function chosenAgents({state, day}) {
 /** @param {Looked} looked @param {GroupLine[]} lines */
 export function totals(looked, lines) {
   const {day, now} = looked, counts = noCounts(), agents = chosenAgents(looked), {sum} = day.all;
-  for (const {does} of agents) counts[does]++;
+  for (const {doing} of agents) counts[doing]++;
   const waits = lines.flatMap(({wait}) => wait ?? []);
   const worst = /** @type {Severity[]} */ (['bad', 'long', 'calm']).find(one => lines.some(line => line.severity === one));
   return {
@@ -65,15 +54,8 @@ export function totals(looked, lines) {
 // The live calls: those that wait first, the longest first.
 /** @param {Looked} looked */
 export function callLines({state}) {
-  const chosen = chosenOf(), found = [...state.calls.values()].map(({number, since, caller, queued, connections}) => {
-    /** @type {CallLine} */ let line = {number, state: 'none', since, group: null, device: '', caller, begun: since, rank: 9};
-    for (const {device, state: is, group, since} of connections.values()) {
-      const rank = RANK[is];
-      if (rank < line.rank && !state.isOutside({caller}, device)) line = {...line, rank, state: is, since: is === 'queued' ? queued : since, group, device};
-    }
-    return line;
-  });
-  return found.filter(line => !settings.groups || chosen(line.group ?? '')).sort((one, other) => one.rank - other.rank || one.since - other.since || one.number - other.number);
+  const chosen = chosenOf(), rank = (/** @type {Call} */ call) => STATES.indexOf(call.state);
+  return [...state.calls.values()].filter(({group}) => !settings.groups || chosen(group ?? '')).sort((one, other) => rank(one) - rank(other) || one.since - other.since || one.number - other.number);
 }
 
 // The line whose number is looked for, or else all that have it in their texts.

@@ -1,0 +1,373 @@
+"""What boards are told: the desk as it is, once for all of them, and the figures of the days that they count. Unproved.
+
+A day is read from the desk once, a page at a time, and goes on with each new report. Boards that count the same day
+with the same limits share its lines."""
+import asyncio
+import math
+import re
+from array import array
+from collections.abc import Awaitable, Callable, Coroutine, Iterable, Mapping, Set
+from itertools import count
+from typing import NamedTuple
+
+from acd_service.command import report
+from acd_service.events import event_of
+from acd_service.figures import STEP, Figures
+from acd_service.gate import lines
+from acd_service.gate.days import beginning
+from acd_service.gate.desk import Away
+from acd_service.gate.ruled import OVERFLOWS, Ruled, is_of_group
+from acd_service.gate.state import State, Text
+from acd_service.gate.tables import Recent, Table, Tables
+
+# events that a board is shown; days that are counted, and what boards may want to see, at a time
+RECENT, MOST_DAYS, MOST_VIEWS = 4000, 32, 64
+# seconds of a limit, where a board names none, and until the desk is asked again where it doesn't answer
+LIMIT, AGAIN = 20.0, 1
+Read = Callable[[str], Awaitable[list[Text]]]
+
+
+class Sight(NamedTuple):
+    """What a board wants to see besides the desk as it is. Its day counts from `begin`; `limits` are those of groups,
+    and of "" for all others; `groups` are the chosen ones, none for all. `parts` may be `day`, the day by quarters of
+    an hour, and `events`; `past` are other days, from a moment to another."""
+    begin: int
+    limits: tuple[tuple[str, float], ...] = ()
+    groups: frozenset[str] = frozenset()
+    parts: frozenset[str] = frozenset()
+    past: tuple[tuple[int, int], ...] = ()
+
+    @property
+    def reach(self) -> float:
+        """The greatest limit: since when calls wait has to be known of so many seconds before the day."""
+        return max((limit for _, limit in self.limits), default=LIMIT)
+
+
+# a limit as a board's address has it, a day in seconds since 1970, and other days
+LIMITS = r"[0-9]{1,5}(\.[0-9]{1,15})?"
+SAID = {"begin": "[0-9]{1,12}", "groups": "([0-9]{1,15}(,[0-9]{1,15})*)?", "show": "((day|events)(,(day|events))*)?",
+        "past": "([0-9]{1,12}-[0-9]{1,12}(,[0-9]{1,12}-[0-9]{1,12})?)?"}
+
+
+def sight_of(said: Mapping[str, str]) -> Sight:
+    """What a board asks for by the members of its query; ValueError where one can't be read."""
+    for name, form in SAID.items():
+        if not re.fullmatch(form, said.get(name, "0" if name == "begin" else "")):
+            raise ValueError(name)
+    limits = {name.removeprefix("limit").removeprefix("."): value for name, value in said.items()
+              if re.fullmatch(r"limit(\.[0-9]{1,15})?", name)}
+    if not all(re.fullmatch(LIMITS, value) for value in limits.values()):
+        raise ValueError("limit")
+    past = [span.split("-") for span in said.get("past", "").split(",") if span]
+    return Sight(int(said.get("begin", "0")), tuple(sorted((group, float(value)) for group, value in limits.items())),
+                 frozenset(filter(None, said.get("groups", "").split(","))),
+                 frozenset(filter(None, said.get("show", "").split(","))),
+                 tuple((int(begin), int(end)) for begin, end in past))
+
+
+class TooMany(Exception):
+    """There is no room for one more stream, view or day."""
+
+
+class Day(Figures):
+    """The figures of a day, and the course of who waits. `last` is the number of the last report that it took, None
+    before the first; `whole` says whether it has all up to the present, or to its end, and `is_known` is False where
+    its beginning is in another file."""
+
+    def __init__(self, begin: int, end: float, reach: float) -> None:
+        super().__init__(begin)
+        self.end, self.reach = end, reach
+        self.last: int | None = None
+        self.first = 0
+        self.reading: asyncio.Task[None] | None = None
+        self.whole, self.is_known = False, True
+        # calls that ended at their group, where callers who give up do not end it: group, quarter, and wait
+        self.suspects: dict[int, tuple[str, int, int]] = {}
+        # when a call was moved at its group last
+        self.moved = 0
+        self.numbers: dict[str, int] = {}
+        # of each change the quarter of an hour, and the number of the group, less than nothing where one waits less
+        self.quarters_of_course, self.course = array("I"), array("i")
+
+    def change(self, moment: int, group: str, by: int) -> None:
+        super().change(moment, group, by)
+        self.quarters_of_course.append(moment // STEP)
+        self.course.append(by * self.numbers.setdefault(group, len(self.numbers) + 1))
+
+    def lose(self, call: int, group: str, moment: int, wait: int) -> None:
+        super().lose(call, group, moment, wait)
+        if self.cleared and self.cleared[0] == group:
+            self.suspects[call] = group, moment // STEP, wait
+
+    def judge(self, suspects: Iterable[int], ended: Set[int]) -> None:
+        """Of these calls rules ended some: nobody gave up."""
+        for call in suspects:
+            group, number, wait = self.suspects.pop(call, ("", 0, 0))
+            if group and call in ended:
+                quarter = self.quarter(group, number * STEP)
+                quarter.losses.remove(wait)
+                quarter.closed += 1
+
+    def take_report(self, told: Text) -> None:
+        self.last = told["number"]
+        if told["moment"] < self.end:
+            self.take(event_of(told))
+        if is_of_group(told):
+            self.moved = told["moment"]
+
+    async def read(self, events: Read, last: Callable[[], int]) -> None:
+        """Reads what the desk had before, up to the present; reports that come later are given to it. It goes on where
+        it was broken off."""
+        if self.last is None:
+            begin = self.begin - self.reach - 1
+            self.first, self.is_known = await beginning(lambda after: events(f"/events?after={after}"), last(), begin)
+            self.last = self.first
+        while self.last < last():
+            page = await events(f"/history?after={self.last}")
+            for told in page:
+                if told["number"] <= last():
+                    self.take_report(told)
+            if not page or page[-1]["moment"] >= self.end:
+                break
+            await asyncio.sleep(0)
+        self.whole = True
+
+    def share(self, last: int) -> float:
+        """How much of it has been read; 1 once it is whole."""
+        if self.whole:
+            return 1
+        read = 0 if self.last is None else 100 * (self.last - self.first) // max(1, last - self.first)
+        return min(99, read) / 100
+
+
+class Peaks:
+    """How many waited at once in the chosen groups, by quarters of an hour: more than before the first report, at most
+    and in the end."""
+
+    def __init__(self, day: Day, groups: frozenset[str]) -> None:
+        self.day, self.groups = day, groups
+        self.place = self.balance = 0
+        self.found: dict[int, list[int]] = {}
+
+    def catch_up(self) -> set[int]:
+        """The quarters that changed."""
+        names, changed = {number: group for group, number in self.day.numbers.items()}, set()
+        for place in range(self.place, len(self.day.course)):
+            one, number = self.day.course[place], self.day.quarters_of_course[place]
+            if self.groups and names[abs(one)] not in self.groups:
+                continue
+            quarter = self.found.setdefault(number, [self.balance, self.balance])
+            self.balance += 1 if one > 0 else -1
+            quarter[:] = max(quarter[0], self.balance), self.balance
+            changed.add(number)
+        self.place = len(self.day.course)
+        return changed
+
+
+class View:
+    """The tables of one sight. `serial` is no other view's; `seen` is when somebody last looked, by a clock that is
+    never set back."""
+    serials = count(1)
+
+    def __init__(self, sight: Sight, day: Day, past: Mapping[tuple[int, int], Day], common: Tables,
+                 number: int) -> None:
+        self.sight, self.day, self.past, self.serial = sight, day, past, next(self.serials)
+        self.limits, self.seen = dict(sight.limits), 0.0
+        self.known: dict[str, dict[int, list[int]]] = {}
+        self.peaks = Peaks(day, sight.groups) if "day" in sight.parts else None
+        self.own = {name: Table(number) for name in ("day", "sums", "spent")}
+        if self.peaks is not None:
+            self.own |= {name: Table(number) for name in ("quarters", "peaks", "past")}
+        wanted = [name for name in common if name != "events" or "events" in sight.parts]
+        self.tables: Tables = {name: common[name] for name in wanted} | self.own
+        if day.whole:
+            every = ((group, each) for group, quarters in day.groups.items() for each in quarters)
+            self.put_figures(every, day.agents, number)
+
+    def limit_of(self, group: str) -> float:
+        return self.limits.get(group, self.limits.get("", LIMIT))
+
+    def put_figures(self, quarters: Iterable[tuple[str, int]], agents: Iterable[str], number: int) -> None:
+        """Writes down what changed of the day."""
+        groups: set[str] = set()
+        for group, each in quarters:
+            groups.add(group)
+            quarter = self.day.groups[group][each]
+            known = self.known.setdefault(group, {})[each] = lines.figures_of(quarter, self.limit_of(group))
+            if "quarters" in self.own:
+                self.own["quarters"].put(f"{group} {each}", lines.as_text([*known, quarter.top, quarter.end]), number)
+        for group in groups:
+            line = [*lines.sum_of(self.known[group].values()), self.day.balance[group]]
+            self.own["sums"].put(group, lines.as_text(line), number)
+        for agent in agents:
+            self.own["spent"].put(agent, lines.agent_figures_line(self.day.agents[agent]), number)
+        for each in self.peaks.catch_up() if self.peaks is not None else ():
+            self.own["peaks"].put(str(each), lines.as_text(self.peaks.found[each] if self.peaks else []), number)
+
+    def put_day(self, last: int, number: int) -> None:
+        self.own["day"].put("share", lines.as_text(self.day.share(last)), number)
+        self.own["day"].put("moment", str(self.day.moment), number)
+        for (begin, _), day in self.past.items() if "past" in self.own else ():
+            if day.whole and day.is_known and str(begin) not in self.own["past"].lines:
+                self.own["past"].put(str(begin), self.past_line(day), number)
+
+    def past_line(self, day: Day) -> str:
+        return lines.as_text({group: {str(each): lines.figures_of(quarter, self.limit_of(group))
+                                      for each, quarter in quarters.items()}
+                              for group, quarters in day.groups.items()})
+
+
+class Boards:
+    """All of it, as long as boards are looked at. `events` asks the desk for a page of events."""
+
+    def __init__(self, events: Read, state: State, number: int, ruled: Ruled) -> None:
+        self.events, self.state, self.ruled = events, state, ruled
+        self.common: dict[str, Table] = {name: Table(number, found) for name, found in lines.all_of(state).items()}
+        self.common["desk"], self.common["rules"] = Table(number), Table(number, ruled.lines())
+        self.common["events"] = Recent(number, RECENT)
+        self.days: dict[tuple[int, float, float], Day] = {}
+        self.views: dict[Sight, View] = {}
+        self.tasks: set[asyncio.Task[None]] = set()
+        self.judging: asyncio.Task[None] | None = None
+        self.touched: set[str] = set()
+        self.dirty: set[str] = set()
+        self.moved: set[int] = set()
+        # reports that boards of the part `events` haven't been told; and whether those of before are among them
+        self.fresh: list[Text] | None = None
+        self.has_events = False
+        self.put_desk(number)
+
+    # what happens
+
+    def take(self, told: Text) -> None:
+        """The next report."""
+        for day in self.days.values():
+            if day.whole and day.last == told["number"] - 1:
+                day.take_report(told)
+        if self.fresh is not None:
+            self.fresh.append(told)
+
+    def mark(self, state: State) -> None:
+        """Takes over what changed of the desk."""
+        self.state = state
+        self.touched |= state.touched
+        self.dirty |= state.dirty
+        self.moved |= state.moved
+
+    def renew(self, state: State, found: Mapping[str, Mapping[str, str]], number: int) -> bool:
+        """Takes over the lines of a new snapshot; whether that changes anything."""
+        self.state = state
+        return any([self.common[name].renew(lines_of, number) for name, lines_of in found.items()])
+
+    # what boards see
+
+    def view(self, sight: Sight, number: int) -> View:
+        """The view of a sight; TooMany where there is no room for one more."""
+        found = self.views.get(sight)
+        if found is None:
+            if len(self.views) >= MOST_VIEWS:
+                raise TooMany
+            past = {span: self.day(*span, sight.reach) for span in sight.past}
+            found = View(sight, self.day(sight.begin, math.inf, sight.reach), past, self.common, number)
+            if "events" in sight.parts and self.fresh is None:
+                self.fresh = []
+                self.start(self.read_events)
+            found.put_day(self.state.last, number)
+            self.views[sight] = found
+        return found
+
+    def day(self, begin: int, end: float, reach: float) -> Day:
+        key = begin, end, reach
+        if key not in self.days:
+            if len(self.days) >= MOST_DAYS:
+                raise TooMany
+            day = self.days[key] = Day(*key)
+            day.reading = self.start(lambda: day.read(self.events, lambda: self.state.last))
+        return self.days[key]
+
+    def start(self, work: Callable[[], Coroutine[None, None, None]]) -> asyncio.Task[None]:
+        """Does this beside all else, again and again until the desk has answered."""
+        async def until_it_is_done() -> None:
+            while True:
+                try:
+                    return await work()
+                except Away:
+                    await asyncio.sleep(AGAIN)
+                except Exception as fault:  # what nobody foresaw
+                    return report(f"what boards are told isn't read: {fault!r}")
+        task = asyncio.get_running_loop().create_task(until_it_is_done())
+        self.tasks.add(task)
+        task.add_done_callback(self.tasks.discard)
+        return task
+
+    def judge(self) -> None:
+        """Asks who moved or ended calls at their groups, where some were."""
+        days, now = [day for day in self.days.values() if day.whole], int(self.ruled.clock())
+        is_new = any(day.moved > max(self.ruled.until, now - OVERFLOWS) or day.suspects for day in days)
+        if is_new and (self.judging is None or self.judging.done()):
+            self.judging = self.start(lambda: self.judged(days, now))
+
+    async def judged(self, days: list[Day], now: int) -> None:
+        suspects = [(day, list(day.suspects)) for day in days]
+        until = max((day.moved for day in days), default=0)
+        begins = [number * STEP for day in days for _, number, _ in day.suspects.values()]
+        await self.ruled.read(min([now - OVERFLOWS, *begins]))
+        self.ruled.until = until
+        for day, calls in suspects:
+            day.judge(calls, self.ruled.ended)
+
+    async def read_events(self) -> None:
+        """The last events before those that come."""
+        last, found = self.state.last, list[Text]()
+        after = max(0, last - RECENT)
+        while after < last and (page := await self.events(f"/history?after={after}")):
+            found += [told for told in page if told["number"] <= last]
+            after = page[-1]["number"]
+        self.fresh = found + [told for told in self.fresh or [] if told["number"] > last]
+        self.has_events = True
+
+    def forget(self, is_seen: Callable[[View], bool]) -> None:
+        """Drops views that nobody looks at any more, and days that no view has."""
+        self.views = {sight: view for sight, view in self.views.items() if is_seen(view)}
+        wanted = {id(day) for view in self.views.values() for day in [view.day, *view.past.values()]}
+        for key, day in list(self.days.items()):
+            if id(day) not in wanted:
+                if day.reading is not None:
+                    day.reading.cancel()
+                del self.days[key]
+
+    def close(self) -> None:
+        for task in self.tasks:
+            task.cancel()
+
+    # the turn
+
+    def turn(self, number: int) -> None:
+        """Writes down what changed since the last turn, under a number that nobody was told yet."""
+        state, common = self.state, self.common
+        for name, keys, found in (("agents", self.touched, lines.agents_of(state, self.touched)),
+                                  ("groups", self.dirty, lines.groups_of(state, self.dirty)),
+                                  ("calls", set(map(str, self.moved)), lines.calls_of(state, self.moved))):
+            for key, line in found.items():
+                common[name].put(key, line, number)
+            for key in keys - found.keys():
+                common[name].drop(key, number)
+        self.touched, self.dirty, self.moved = set(), set(), set()
+        self.put_desk(number)
+        self.judge()
+        common["rules"].renew(self.ruled.lines(), number)
+        if self.fresh and self.has_events:
+            for told in self.fresh:
+                common["events"].put(str(told["number"]), lines.as_text(told), number)
+            self.fresh = []
+        for view in self.views.values():
+            if view.day.whole:
+                view.put_figures(view.day.changed, view.day.touched, number)
+            view.put_day(state.last, number)
+        for day in self.days.values():
+            if day.whole:
+                day.changed, day.touched = set(), set()
+
+    def put_desk(self, number: int) -> None:
+        self.common["desk"].put("last", str(self.state.last), number)
+        self.common["desk"].put("moment", str(self.state.moment), number)

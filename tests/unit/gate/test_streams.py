@@ -1,0 +1,378 @@
+#!/usr/bin/python3
+"""Tests of the streams by which pages are told what changes.   usage: tests/unit/gate/test_streams.py
+
+Needs python3-aiohttp, python3-passlib and python3-bcrypt (Debian packages)."""
+import asyncio
+import contextlib
+import http.client
+import io
+import json
+import threading
+import time
+import unittest
+from unittest import mock
+
+from standing import BAD_GATEWAY, FORBIDDEN, PATIENCE, ROLES, SECRET, USERS, DoorTest, Named
+
+from acd_service.gate import boards, following, server, streams
+from acd_service.gate.boards import Sight
+from acd_service.gate.desk import Place
+from acd_service.gate.streams import Stream
+from in_memory import InMemory, event, logged_on
+from trial import bytes_back, until
+
+
+def read(text):
+    """Kind, number and members of an event."""
+    kind, *lines = text.decode().rstrip("\n").split("\n")
+    told = dict(line.split(": ", 1) for line in lines)
+    return kind.removeprefix("event: "), told.get("id"), json.loads(told["data"])
+
+
+class Page:
+    """What a page is told."""
+
+    def __init__(self):
+        self.told, self.is_closed = [], False
+
+    def write(self, data):
+        self.told.append(read(data))
+
+    def is_gone(self):
+        return self.is_closed
+
+    def of(self, *kinds):
+        return [members for kind, _, members in self.told if kind in kinds]
+
+    @property
+    def number(self):
+        return [number for _, number, _ in self.told if number][-1]
+
+
+class StreamsTest(Named, unittest.IsolatedAsyncioTestCase):
+    """Turns are taken by hand, by a clock of its own."""
+
+    async def asyncSetUp(self):
+        self.desk = InMemory()
+        self.following = following.Following(self.desk.ask, lambda: 5000.0)
+        self.streams, self.now = self.following.streams, 0.0
+        self.streams.clock = lambda: self.now
+        self.enterContext(mock.patch.object(self.streams, "run", lambda: asyncio.sleep(0)))
+        await self.following.catch_up()
+
+    async def page(self, login="sup", after="", may=lambda: True, **sees):
+        page = Page()
+        page.stream = Stream(login, may, **(sees or {"sight": Sight(0)}))
+        page.task = asyncio.create_task(self.streams.hold(page.stream, page, after))
+        await asyncio.sleep(0)
+        return page
+
+    async def turn(self, seconds=1.0):
+        await self.following.catch_up()
+        for task in list(self.streams.boards.tasks if self.streams.boards else ()):
+            await task
+        self.now += seconds
+        self.streams.take_turn(self.now)
+        await asyncio.sleep(0)
+
+    async def test_a_board(self):
+        """A picture, and then what changes, once a second at most."""
+        page = await self.page()
+        (kind, _, picture), = page.told
+        self.assertEqual((kind, picture["live"], picture["agents"]["7"], picture["groups"]), ("picture", True, {"doing": "null", "name": "Ana"}, {"100": {"name": "Billing", "ring": 20, "wrap": 30}}))
+        await self.turn()
+        page.told.clear()
+        self.desk.events.append(logged_on(1))
+        await self.turn(0.3)
+        self.assertEqual(page.told, [])
+        await self.turn(0.8)
+        change, = page.of("change")
+        self.assertEqual(change["agents"], {"7": {"doing": "notReady", "groups": ["100"], "name": "Ana", "since": 1001, "station": "201"}})
+        self.assertEqual((change["groups"]["100"]["counts"], change["desk"]), ({"notReady": 1}, {"last": 1, "moment": 1001}))
+        page.told.clear()
+        await self.turn(1.1)
+        self.assertEqual(page.told, [])
+
+    async def test_an_agent(self):
+        """Own state and calls at once, queues once a second, callers of others shortened."""
+        self.desk.events.append(logged_on(1))
+        await self.following.catch_up()
+        page = await self.page("ana", agent="7")
+        (kind, _, picture), = page.told
+        self.assertEqual((kind, picture["agent"]["device"], picture["calls"], picture["queues"], picture["groups"]["100"]["loggedOn"], picture["names"]["stations"], "live" in picture),
+                         ("picture", "201", [], ["100"], 1, ["201", "202"], True))
+        page.told.clear()
+        self.desk.texts["/calls/5"] = {"caller": "0301234", "called": "100"}
+        self.desk.events.append(event(2, event="queued", call=5, device="100", cause="newCall"))
+        await self.turn(0.3)
+        self.assertEqual(page.told, [])
+        await self.turn(0.8)
+        self.assertEqual([change["groups"] for change in page.of("change")], [{"100": {"calls": [{"call": 5, "caller": "...234", "queued": 1002}], "device": "100", "loggedOn": 1, "name": "Billing", "ready": 0, "ring": 20, "wrap": 30}}])
+        page.told.clear()
+        self.desk.events += [event(3, event="diverted", call=5, device="100", to="201", group="100", cause="distributed"), event(4, event="delivered", call=5, device="201", group="100", cause="distributed")]
+        await self.following.catch_up()
+        change, = page.of("change")
+        self.assertEqual((change["calls"][0]["caller"], change["calls"][0]["connections"][0]["state"], "groups" in change), ("0301234", "alerting", False))
+
+    async def test_an_agent_who_logs_on_elsewhere(self):
+        """The page is told the new queues, and which of them are its own."""
+        self.desk.plan["groups"].append({"device": "110", "name": "Orders", "ring": 0, "wrap": 0})
+        self.following.renewed = -following.RENEW
+        await self.following.catch_up()
+        page = await self.page("ana", agent="7", groups=frozenset({"100"}))
+        self.assertEqual((page.told[0][2]["queues"], list(page.told[0][2]["groups"])), (["100"], ["100"]))
+        page.told.clear()
+        self.desk.events.append(logged_on(1, group="110"))
+        await self.following.catch_up()
+        change, = page.of("change")
+        self.assertEqual((change["queues"], list(change["groups"]), change["agent"]["groups"]), (["110"], ["110"], ["110"]))
+
+    async def test_names_come_again_where_they_changed(self):
+        page = await self.page("ana", agent="7")
+        names = page.told[0][2]["names"]
+        page.told.clear()
+        again = await self.page("ana", after=self.streams.name(page.stream), agent="7")
+        self.assertEqual((again.told[0][0], "names" in again.told[0][2]), ("picture", False))
+        self.following.renewed, self.following.named = -following.RENEW, -100.0
+        self.desk.plan["agents"][0]["name"] = "Anna"
+        await self.turn()
+        changes = page.of("change", "picture")
+        self.assertEqual(([each["names"]["agents"][0] for each in changes if "names" in each], names), ([["7", "Anna"]], {"agents": [["7", "Ana"], ["8", "Ben"]], "groups": [["100", "Billing"]], "stations": ["201", "202"]}))
+
+    async def test_a_board_goes_on(self):
+        """From its number; and begins anew from another epoch, another sight, a number that isn't kept or was never given."""
+        page = await self.page()
+        await self.turn()
+        number = page.number
+        self.desk.events.append(logged_on(1))
+        await self.turn()
+        again = await self.page(after=number)
+        self.assertEqual((again.told[0][0], list(again.told[0][2]["agents"])), ("change", ["7"]))
+        self.assertEqual((await self.page(after=page.number)).told[0][0], "change")
+        epoch, serial, at = page.number.split("-")
+        for other in (f"{int(epoch, 16) + 1:x}-{serial}-{at}", f"{epoch}-{int(serial) + 1}-{at}", f"{epoch}-{serial}-{int(at) + 10 ** 6}", f"{epoch}-{serial}-", f"{epoch}-{serial}-{'9' * 20}", "x", ""):
+            self.assertEqual((await self.page(after=other)).told[0][0], "picture", other)
+        self.assertEqual((await self.page(after=page.number, sight=Sight(7))).told[0][0], "picture")
+        page.stream.view.tables["calls"].floor = self.following.number + 1
+        self.assertEqual((await self.page(after=page.number)).told[0][0], "picture")
+
+    async def test_another_desk(self):
+        """Who looks gets a new picture, in another epoch."""
+        self.desk.events.append(logged_on(1))
+        await self.following.catch_up()
+        board, agent = await self.page(), await self.page("ana", agent="7")
+        before = board.number.split("-")[0]
+        for page in (board, agent):
+            page.told.clear()
+        self.desk.events = []
+        with self.assertRaises(following.Away):
+            await self.following.catch_up()
+        await self.turn()
+        await self.turn()
+        self.assertEqual((board.of("picture")[0]["agents"]["7"]["doing"], agent.of("picture")[0]["agent"]["state"], board.number.split("-")[0] == before), ("null", "null", False))
+
+    async def test_signs_of_life(self):
+        """Each five seconds, and at once where the desk goes or comes back."""
+        page = await self.page()
+        await self.turn()
+        page.told.clear()
+        for _ in range(4):
+            await self.turn(1.2)
+        self.assertEqual([kind for kind, _, _ in page.told], ["beat"])
+        page.told.clear()
+        self.following.heard -= following.AWAY
+        self.streams.take_turn(self.now)
+        await self.turn(0.0)
+        self.assertEqual([members["live"] for members in page.of("beat")], [False, True])
+
+    async def test_who_may_not_look_any_more(self):
+        may = mock.Mock(side_effect=[True, False])
+        page = await self.page(may=may)
+        for _ in range(3):
+            await self.turn(1.0)
+        self.assertEqual((page.task.done(), may.call_count), (False, 1))
+        await self.turn(1.0)
+        await page.task
+        self.assertEqual((page.told[-1], self.streams.all), (("end", None, {"why": "rights"}), {}))
+
+    async def test_a_page_that_has_left(self):
+        page, other = await self.page("ana", agent="7"), await self.page("ana", agent="7")
+        page.is_closed = True
+        await self.turn()
+        await page.task
+        self.assertEqual((list(self.streams.all), self.streams.of_agent), ([other.stream], {"7": {other.stream}}))
+
+    async def test_streams_of_a_login(self):
+        """A ninth ends the oldest; others have their own."""
+        pages = [await self.page() for _ in range(streams.MOST_OF_LOGIN)]
+        other = await self.page("wall")
+        ninth = await self.page()
+        self.assertEqual([page.told[-1][0] for page in (*pages, other, ninth)], ["end"] + ["picture"] * 9)
+        self.assertEqual((pages[0].told[-1][2], len(self.streams.all)), ({"why": "streams"}, 9))
+
+    async def test_pictures_are_made_once(self):
+        with mock.patch.object(streams, "picture", side_effect=streams.picture) as made:
+            pages = [await self.page(f"sup-{number}") for number in range(5)]
+            self.assertEqual((made.call_count, len({json.dumps(page.told[0][2]["agents"]) for page in pages})), (1, 1))
+
+    async def test_a_view_without_room(self):
+        """The stream ends, and says why."""
+        await self.page()
+        with mock.patch.object(boards, "MOST_VIEWS", 1):
+            page = await self.page(sight=Sight(1))
+        await page.task
+        self.assertEqual(page.told, [("end", None, {"why": "views"})])
+
+    async def test_views_are_dropped_once_nobody_looks(self):
+        page = await self.page()
+        page.stream.end("left")
+        await page.task
+        for _ in range(2):
+            await self.turn(streams.KEPT / 2 + 1)
+        self.assertEqual(self.streams.boards.views, {})
+
+    async def test_what_nobody_foresaw(self):
+        """All begin anew, and the journal is told."""
+        page = await self.page()
+        mock.patch.stopall()
+        with mock.patch.object(self.streams, "take_turn", side_effect=KeyError("x")), contextlib.redirect_stderr(io.StringIO()) as printed:
+            await asyncio.wait_for(type(self.streams).run(self.streams), PATIENCE)
+        self.assertEqual((page.told[-1][2], printed.getvalue()), ({"why": "fault"}, "acd-gate: streams begin anew: KeyError('x')\n"))
+
+    async def test_who_looks_keeps_the_gate_following(self):
+        """And nobody does a minute after the last."""
+        page = await self.page()
+        self.following.wanted = time.monotonic() - following.WANTED - 1
+        self.assertFalse(await self.following.ends())
+        page.stream.end("left")
+        await page.task
+        self.assertTrue(await self.following.ends())
+        self.assertEqual((self.following.state, self.streams.boards), (None, None))
+
+
+SNAPSHOT = {"/snapshot": {"last": 0, "moment": 5, "groups": [], "stations": [], "calls": [], "agents": [{"agent": "7", "name": "Ana", "state": "null", "since": 0, "stamp": 1}]},
+            "/history": {"events": [], "last": 0}, "/events": {"events": [], "last": 0}}
+
+
+class RouteTest(DoorTest):
+    def setUp(self):
+        super().setUp()
+        self.desk.known = SNAPSHOT
+
+    def opened(self, login, query="", **fields):
+        """A stream that is open, and a connection to it."""
+        connection = http.client.HTTPConnection("127.0.0.1", self.port, timeout=PATIENCE)
+        self.addCleanup(connection.close)
+        connection.request("GET", f"/stream{query}", headers={"X-Login": login, **{name.replace("_", "-"): value for name, value in fields.items()}})
+        return connection.getresponse()
+
+    @staticmethod
+    def next(reply):
+        """The next event; None at the end."""
+        text = b""
+        while not text.endswith(b"\n\n"):
+            line = reply.readline()
+            if not line:
+                return None
+            text += line
+        return read(text)
+
+    def until_end(self, reply):
+        while told := self.next(reply):
+            last = told
+        return last
+
+    def test_who_sees_what(self):
+        for login, query, wanted in (("sup", "", "agents"), ("pbx", "?begin=5&limit=20", "sums"), ("pbx", "?agent=7", "agent"), ("ana", "", "agent"), ("cleo", "?agent=7", "agent")):
+            reply = self.opened(login, query)
+            kind, number, members = self.next(reply)
+            self.assertEqual((reply.status, reply.headers["content-type"], reply.headers["cache-control"], reply.headers["x-accel-buffering"], kind, wanted in members, bool(number)),
+                             (200, "text/event-stream", "no-store", "no", "picture", True, True), (login, query))
+        for login, query in (("ana", "?agent=8"), ("ben", "?agent=7"), ("lea", ""), ("blind", ""), ("Copy.2", ""), ("nobody", ""), ("nobody", "?agent=7"), ("", "")):
+            self.assertEqual(self.ask(login, None, "GET", f"/stream{query}"), FORBIDDEN, (login, query))
+        for query in ("?agent=x", "?begin=x", "?limit.100=", "?show=all"):
+            self.assertEqual(self.ask("sup", None, "GET", f"/stream{query}")[0], 400, query)
+        self.assertEqual(self.ask("sup", None, "HEAD", "/stream")[0], 501)
+
+    def test_it_goes_on(self):
+        _, number, _ = self.next(self.opened("sup"))
+        for reply in (self.opened("sup", f"?after={number}"), self.opened("sup", "?after=x", Last_Event_ID=number)):
+            self.assertEqual(self.next(reply)[0], "change")
+
+    def test_http_of_before(self):
+        """Without chunks, up to the end of the connection."""
+        self.begins(b"GET /stream HTTP/1.0\r\nX-Login: nobody\r\n\r\n", rb"\AHTTP/1.0 403 ")
+        with mock.patch.object(streams, "MOST_OF_LOGIN", 1):
+            # the second one ends it
+            first = self.meanwhile_bytes(b"GET /stream HTTP/1.0\r\nX-Login: sup\r\n\r\n")
+            self.assertTrue(until(lambda: self.gate.following.streams.all, PATIENCE))
+            self.opened("sup")
+            self.assertTrue(until(lambda: first, PATIENCE))
+        self.assertRegex(first[0], rb'(?s)\r\n\r\nevent: picture\nid: .*\n\nevent: end\ndata: \{"why":"streams"\}\n\n\Z')
+        self.assertNotIn(b"chunked", first[0])
+
+    def meanwhile_bytes(self, sent):
+        got = []
+        threading.Thread(target=lambda: got.append(bytes_back(self.port, sent, seconds=PATIENCE)), daemon=True).start()
+        return got
+
+    def ends(self, change, login="ana", **fields):
+        """How long it takes until a stream ends, after a change, by a page's clock."""
+        reply = self.opened(login, **fields)
+        self.next(reply)
+        began = time.monotonic()
+        change()
+        self.assertEqual(self.until_end(reply)[2], {"why": "rights"})
+        return time.monotonic() - began
+
+    def test_it_is_open_as_long_as_it_may_be(self):
+        """Another password, another role, the log-off and the session's end by time end it within five seconds."""
+        changes = [lambda: self.users.write_text(USERS.replace(f"ana:{SECRET}", "ana:{SHA}W6ph5Mm5Pz8GgiULbPgzG37mj9g=")), lambda: self.roles.write_text(ROLES.replace("ana agent 7 ", "ana agent 9 "))]
+        for change in changes:
+            self.assertLess(self.ends(change), 5)
+            self.roles.write_text(ROLES)
+            self.users.write_text(USERS)
+        cookie = self.log_in("ana")[1]["set-cookie"].partition(";")[0]
+        self.assertLess(self.ends(lambda: self.exchange("POST", "/logout", None, {"Cookie": cookie}), Cookie=cookie), 5)
+        cookie = self.log_in("ana")[1]["set-cookie"].partition(";")[0]
+        self.assertLess(self.ends(lambda: setattr(self.gate.sessions, "clock", lambda: time.time() + 13 * 3600), Cookie=cookie), 5)
+
+    def test_without_a_desk(self):
+        self.gate.desk.where = Place(1)
+        with mock.patch.object(following, "AWAY", 0.1):
+            self.assertEqual(self.ask("sup", None, "GET", "/stream"), BAD_GATEWAY)
+
+    def test_there_is_room_for_so_many(self):
+        with mock.patch.object(streams, "MOST", 1):
+            first = self.opened("ana")
+            self.next(first)
+            self.assertEqual([self.ask(login, None, "GET", "/stream")[0] for login in ("sup", "ana")], [429, 429])
+        with mock.patch.object(boards, "MOST_VIEWS", 0):
+            self.assertEqual(self.ask("sup", None, "GET", "/stream")[0], 429)
+
+    def test_a_page_that_does_not_read(self):
+        """It loses its stream, and nobody else waits."""
+        with mock.patch.object(server, "MOST_UNREAD", 1000):
+            reply, other = self.opened("sup"), self.opened("ana")
+            self.next(other)
+            stream = next(one for one in self.gate.following.streams.all if one.login == "sup")
+
+            async def write():
+                for _ in range(400):
+                    stream.write("change", '"x":"' + "x" * 50000 + '"')
+
+            self.standing.do(write())
+            self.assertTrue(stream.pipe.is_gone())
+            self.assertTrue(until(lambda: stream not in self.gate.following.streams.all, PATIENCE))
+        self.assertEqual([one.login for one in self.gate.following.streams.all], ["ana"])
+        reply.close()
+
+    def test_who_leaves(self):
+        reply = self.opened("sup")
+        self.next(reply)
+        reply.close()
+        self.assertTrue(until(lambda: not self.gate.following.streams.all and self.standing.server.open == 0, PATIENCE))
+
+
+if __name__ == "__main__":
+    unittest.main()

@@ -1,0 +1,111 @@
+"""Of figures of groups and agents: over an office's day those of an independent program, which goes through it call by call; and a story that was reckoned by hand."""
+import csv
+import io
+import subprocess
+import sys
+import unittest
+
+import service_ground as ground
+from acd_service.events import Event, event_of
+from acd_service.figures import EVER, STEP, Figures, level
+
+sys.path.append(str(ground.TOP / "tests/trials"))
+from board import figures as independent  # noqa: E402
+from records import story  # noqa: E402
+
+NUMBERS = ("number", "moment", "call", "waited")
+
+
+def events_of(file):
+    """The event reports of a file."""
+    text = subprocess.run([ground.ACD, "export", "--file", file], capture_output=True, text=True, check=True, timeout=60).stdout
+    return [{name: int(value) if name in NUMBERS else value for name, value in row.items() if value} for row in csv.DictReader(io.StringIO(text))]
+
+
+def counted(events, begin):
+    figures = Figures(begin)
+    for report in events:
+        figures.take(event_of(report))
+    return figures
+
+
+def sums(quarters, limit):
+    """A group's figures, as the independent program names them."""
+    found = {"entered": sum(one.entered for one in quarters), "moved": sum(one.moved for one in quarters), "handled": sum(one.handled for one in quarters), "handling": sum(one.handling for one in quarters)}
+    answers, losses = [wait for one in quarters for wait in one.answers], sum(len(one.losses) for one in quarters)
+    found |= {"answered": len(answers), "waited": sum(answers), "longest": max(answers, default=0), "abandoned": losses,
+              "within": sum(one.in_time(limit) for one in quarters), "late": sum(one.late(limit) for one in quarters)}
+    return {name: value for name, value in found.items() if value}
+
+
+class OfADay(ground.Case):
+    def test_an_offices_day(self):
+        lines = subprocess.run([sys.executable, "-B", ground.TOP / "tests/office.py", "given"], capture_output=True, text=True, check=True, timeout=60).stdout
+        self.desk(lines)
+        events = events_of(self.file)
+        first, last = events[0]["moment"], events[-1]["moment"]
+        for begin, limit in ((0, 20), (0, 1), ((first + last) // 2, 20), (first + (last - first) // 3, 45)):
+            with self.subTest(begin=begin - first, limit=limit):
+                wanted, figures = independent.reckoned(events, begin, last + 1, {}, limit, set()), counted(events, begin)
+                nonzero = {group: {name: value for name, value in line.items() if value} for group, line in wanted["groups"].items()}
+                found = {group: sums(quarters.values(), limit) for group, quarters in figures.groups.items()}
+                self.assertEqual({group: line for group, line in found.items() if line}, {group: line for group, line in nonzero.items() if line and group != "all"})
+                steps = {f"{group} {number * STEP}": sums([one], limit) for group, quarters in figures.groups.items() for number, one in quarters.items()}
+                wanted_steps = {key: {name: value for name, value in line.items() if value} for key, line in wanted["quarters"].items() if not key.startswith("all ")}
+                self.assertEqual({key: line for key, line in steps.items() if line}, {key: line for key, line in wanted_steps.items() if line})
+                self.agents(figures, wanted["agents"], last + 1)
+
+    def agents(self, figures, wanted, end):
+        found = {}
+        for number, agent in figures.agents.items():
+            spent = dict(agent.spent)
+            if agent.does:
+                spent[agent.does] = spent.get(agent.does, 0) + end - agent.since
+            line = {"calls": agent.calls, "missed": agent.missed, "talk": spent.get("talk"), "work": spent.get("afterCall"), "ready": spent.get("ready"), "notReady": spent.get("notReady")}
+            found[number] = {name: value for name, value in line.items() if value}
+        self.assertEqual(found, {number: {name: value for name, value in line.items() if value} for number, line in wanted.items()})
+
+    def test_a_story(self):
+        """The quarters of an hour of the story's table; and what changed since it was asked last."""
+        self.desk(story.LINES)
+        figures = counted(events_of(self.file), 0)
+        rows = list(csv.DictReader(io.StringIO(story.GROUPS)))
+        steps = [step for _, step, _ in figures.steps("100", 0, 0, 86580 // STEP)]
+        self.assertEqual([[step.entered, len(step.answers), len(step.losses), step.moved, sum(step.answers), step.handled, step.handling] for step in steps],
+                         [[int(row[name]) for name in ("entered", "answered", "abandoned", "moved", "waited", "handled", "handling")] for row in rows])
+        self.assertEqual([most for _, _, most in figures.steps("100", 0, 0, 86580 // STEP)], [int(row["most_waiting"]) for row in rows])
+        self.assertEqual(figures.touched, {"7", "8"})
+        self.assertEqual(figures.changed, {("100", 86320 // STEP), ("100", 86400 // STEP)})
+
+
+class OfOneEvent(unittest.TestCase):
+    def test_who_waits_through_a_quarter(self):
+        """Two waited before the first event, one of whom leaves an hour later; in each quarter between two wait, afterwards one, and none after the last."""
+        figures = Figures()
+        figures.take(Event(3 * STEP, "diverted", "100", 1, group="100", to="201", cause="distributed"))
+        figures.take(Event(5 * STEP, "diverted", "100", 2, group="100", to="202", cause="distributed"))
+        self.assertEqual([(number, most) for number, _, most in figures.steps("100", 2, 1, 7)], [(1, 2), (2, 2), (3, 2), (4, 1), (5, 1)])
+        self.assertEqual([(number, most) for number, _, most in figures.steps("110", 1, 1, 2)], [(1, 1), (2, 1)])
+
+    def test_who_came_before_all_events(self):
+        figures = Figures()
+        figures.take(Event(10, "callCleared", None, 1, group="100"))
+        self.assertEqual((list(figures.groups["100"][0].losses), figures.groups["100"][0].late(86400)), ([EVER], 1))
+
+    def test_a_call_that_goes_on_over_the_begin(self):
+        """The wait of a call that entered before the begin is whole; talk that began before isn't handled then."""
+        figures = Figures(100)
+        for event in (Event(40, "queued", "100", 1, cause="newCall"), Event(50, "queued", "100", 2, cause="newCall"), Event(60, "established", "201", 2, group="100", waited=10),
+                      Event(60, "agentBusy", "201", agent="7"), Event(100, "callCleared", None, 1, group="100"), Event(110, "agentReady", "201", agent="7")):
+            figures.take(event)
+        quarter = figures.groups["100"][0]
+        self.assertEqual((quarter.entered, len(quarter.answers), list(quarter.losses), quarter.handled), (0, 0, [60], 0))
+        self.assertEqual((figures.agents["7"].calls, figures.agents["7"].does, figures.agents["7"].since), (0, "ready", 110))
+
+    def test_the_service_level(self):
+        """The first as the page's Math.round has it, of the same number."""
+        self.assertEqual([level(57, 150, 50), level(2, 3, 0), level(0, 0, 4), level(0, 0, 0)], [28, 67, 0, None])
+
+
+if __name__ == "__main__":
+    unittest.main()
