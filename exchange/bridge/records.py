@@ -71,7 +71,7 @@ class Agent(Row):
 @dataclass
 class Request(Row):
     """A request to the desk that has no reply yet; its key is its invoke. `then` names the function for the reply, and
-    `since` is the moment from which on it waits; a file of before 1.16 doesn't say."""
+    `since` is the moment from which on it waits; a file of before 1.17 doesn't say."""
     body: dict[str, Any]
     then: str
     leg: str

@@ -6,7 +6,7 @@ Beside a file F that was pruned is F.archive, the note of its archive, which has
     last 81234
     digest 5e88...
 
-The archive's name, in F's folder; its last stamp; and its SHA-256. Notes of before 1.16 have a line more, `was`: then
+The archive's name, in F's folder; its last stamp; and its SHA-256. Notes of before 1.17 have a line more, `was`: then
 the old F became the archive, and this is its inode, with the moment when that was made. An archive may have such a note
 too, so archives are a chain. A folder of copies has each archive once, in the folder `archives`, with its note and its
 digest at the time of the copy."""
@@ -27,7 +27,7 @@ from acd_service.command import Fault
 NOTE, DIGEST = ".archive", ".sha256"
 # beside a copy that isn't wholly sound: which request was sent again after a cut
 AGAIN = ".again"
-# the folder beside a file in which acd-carry made, before 1.16, the file that replaced it
+# the folder beside a file in which acd-carry made, before 1.17, the file that replaced it
 BESIDE = ".carry"
 FOLDER = "archives"
 # the columns of meta that are limits
@@ -98,7 +98,7 @@ def chain(file: Path, folders: Sequence[Path] = ()) -> list[Note]:
 
 
 def unfinished(file: Path) -> str | None:
-    """How to end a carry-over of before 1.16 that was broken off once the new file was in place; None if there is
+    """How to end a carry-over of before 1.17 that was broken off once the new file was in place; None if there is
     none."""
     folder = Path(f"{file}{BESIDE}")
     note = read_note(folder / file.name)
@@ -107,7 +107,7 @@ def unfinished(file: Path) -> str | None:
     steps = [f"mv {note_of(folder / file.name)} {note_of(file)}", f"rm -r {folder}"]
     if (folder / file.name).exists():
         steps[:0] = [f"mv {folder / file.name} {file.parent / note.name}"]
-    return f"a carry-over of {file} was broken off before 1.16; this ends it: {' && '.join(steps)}"
+    return f"a carry-over of {file} was broken off before 1.17; this ends it: {' && '.join(steps)}"
 
 
 # The archive

@@ -47,7 +47,7 @@ COMMANDS = {
     "tick": Command("tick", "send the desk its ticks"),
     "trail": Command("trail", "print who asked the desk for what, when, and with which result"),
 }
-# commands of before 1.16, which go with the old names: no page has them, nor --help
+# commands of before 1.17, which go with the old names: no page has them, nor --help
 FORMER = {"carry": Former("prune", "acdctl prune")}
 # commands of before 1.15
 OLD = {f"acd-{name}": name for name in ("calls", "carry", "certificate", "copy", "export", "follow", "forget", "gate",

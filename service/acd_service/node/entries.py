@@ -2,7 +2,7 @@
 machines alike.
 
 A value is the byte MARK and, each after an LF, 1 to MOST entries, in LONGEST_VALUE bytes. Or it is one entry alone, as
-versions before 1.16 put it: no entry begins with MARK."""
+versions before 1.17 put it: no entry begins with MARK."""
 import re
 from typing import NamedTuple
 

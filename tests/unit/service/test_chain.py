@@ -77,7 +77,7 @@ class Notes(ground.Case):
         self.assertIsNone(chain.unfinished(self.file))
         chain.put_note(beside / "desk.db", Note("a", 1, "", "131 1.5"))
         said, _, steps = chain.unfinished(self.file).partition("; this ends it: ")
-        self.assertEqual(said, f"a carry-over of {self.file} was broken off before 1.16")
+        self.assertEqual(said, f"a carry-over of {self.file} was broken off before 1.17")
         (beside / "desk.db").write_bytes(b"old")
         both = chain.unfinished(self.file).partition("; this ends it: ")[2]
         self.assertEqual(both, f"mv {beside}/desk.db {self.home}/a && {steps}")
