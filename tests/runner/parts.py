@@ -51,6 +51,7 @@ MARKS = {
 OF_THE_PROGRAM = {
     "sizes": Part("try-sizes", (), ("try-sizes",)),
     "serving": Part("try-serving", (), ("try-serving",)),
+    "runs": Part("try-runs", (), ("try-runs",)),
     "statuses": Part("try-statuses", (), ("try-statuses",)),
     "untouched": Part("try-untouched", (), ("try-untouched",)),
     "logs": Part("try-logs", (), ("try-logs",)),

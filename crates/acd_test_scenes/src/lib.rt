@@ -1,8 +1,7 @@
 //! Scenes from request to reply, played over a desk, its book and a switch, with ample memory; and tests of the book in
-//! SQLite and of the program by their public calls, for what no contract says of them: the modules `sqlbook` and
-//! `program` are named as their crates. They are in a separate crate, so that no other crate is proved a second time
-//! for them, and in one, since each program of tests is linked with all that it reaches, which takes longer than many
-//! of its functions.
+//! SQLite by its public calls, for what no contract says of it: the module `sqlbook` is named as its crate. They are in
+//! a separate crate, so that no other crate is proved a second time for them, and in one, since each program of tests is
+//! linked with all that it reaches, which takes longer than many of its functions. The program is tried as a process.
 #![tactic(auto)]
 
 #[cfg(test)]
@@ -27,8 +26,6 @@ mod many_events;
 mod many_requests;
 #[cfg(test)]
 mod player;
-#[cfg(test)]
-mod program;
 #[cfg(test)]
 mod reads;
 #[cfg(test)]

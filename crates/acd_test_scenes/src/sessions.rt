@@ -25,13 +25,20 @@ impl Scene {
     }
 }
 
-// The lines that begin with this sign, without it.
+// The lines that begin with this sign, without it, at the end of the lines.
 fn add_lines(rt: &impl Abort, lines: &mut String, text: &str, sign: &str) {
     for line in text.lines() {
         if let Some(line) = line.strip_prefix(sign) {
             push(rt, lines, &[line, "\n"]);
         }
     }
+}
+
+/// The text's lines that begin with this sign, without it.
+pub fn marked(rt: &impl Abort, alloc: Global, text: &str, sign: &str) -> String {
+    let mut lines = String::new(alloc);
+    add_lines(rt, &mut lines, text, sign);
+    lines
 }
 
 /// The requests of the transcripts.

@@ -2,15 +2,13 @@
 //! next opening finds them.
 
 use super::adopted::old_tables;
-use super::expect_numbers;
 use super::migrated::left;
+use super::{created, expect_numbers};
 use crate::altered::database;
 use crate::files::expect_sound;
-use crate::program::scripts::marked;
+use crate::sessions::{Scene, answers_so, marked};
 use crate::shelf::{book_in, changed};
 use crate::texts::part_of;
-use acd_lines::Requests;
-use acd_program::lines_over_connection;
 use sqlite::{Alter, Connection};
 use std::alloc::Global;
 use std::process::Abort;
@@ -24,43 +22,13 @@ pub fn after_session<S: Alter + Drop>(
     conn: Connection<S>,
     session: &str,
 ) -> Connection<S> {
-    let lines = marked(alloc, session, '>').expect(rt, "memory");
-    let answers = marked(alloc, session, '<').expect(rt, "memory");
-    let rows = marked(alloc, session, '=').expect(rt, "memory");
-    let (written, conn) = written(rt, alloc, conn, lines.as_str());
-    assert!(rt;
-        written.as_slice() == answers.as_str().as_bytes(),
-        "{session}"
-    );
-    let mut conn = conn;
+    let scene = Scene::new(rt, alloc, &[session]);
+    let (input, output) = (scene.input.as_str(), scene.output.as_str());
+    let book = answers_so(rt, alloc, book_in(rt, alloc, conn, None), input, output);
+    let rows = marked(rt, alloc, session, "= ");
+    let mut conn = book.into_connection();
     expect_numbers(rt, &mut conn, rows.as_str());
     conn
-}
-
-// The output for these lines.
-fn written<S: Alter + Drop>(
-    rt: &impl Abort,
-    alloc: Global,
-    conn: Connection<S>,
-    lines: &str,
-) -> (Vec<u8>, Connection<S>) {
-    if !conn.is_autocommit() {
-        panic!(rt; "a transaction");
-    }
-    let mut reader = lines.as_bytes();
-    let mut written = Vec::new(alloc);
-    let mut requests = Requests::new(alloc);
-    let (done, conn) = lines_over_connection(
-        alloc,
-        &mut requests,
-        conn,
-        true,
-        false,
-        &mut reader,
-        &mut written,
-    );
-    assert!(rt; done.is_ok(), "{lines}");
-    (written, conn)
 }
 
 // Sessions, each with its requests, their answers and the rows after it.
@@ -155,7 +123,7 @@ after_a_migration: A second group and its priority, and an agent who logs on in 
 #[test]
 fn rows_of_further_groups_and_priorities(rt: HostRuntime) {
     let alloc = rt.alloc();
-    let mut conn = database(&rt, alloc);
+    let mut conn = created(&rt, alloc, database(&rt, alloc)).into_connection();
     for name in [
         "three_groups",
         "no_request",
