@@ -138,6 +138,10 @@ class Following:
                 self.forget()
                 self.is_other = True
                 raise Away from None
+            except Away:
+                # meanwhile its file may have taken what no report tells
+                self.renewed = -RENEW
+                raise
             self.answered, self.heard = self.clock(), time.monotonic()
             self.settle(True)
             return state

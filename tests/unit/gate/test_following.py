@@ -204,6 +204,16 @@ class FollowingTest(Named, unittest.IsolatedAsyncioTestCase):
             with mock.patch.object(self.following, "ask", mock.AsyncMock(return_value=broken)), self.assertRaises(following.Away):
                 await self.following.catch_up()
 
+    async def test_a_desk_that_comes_back(self):
+        """Meanwhile its file may have taken what no report tells."""
+        await self.following.catch_up()
+        self.desk.plan["groups"][0]["priority"], self.desk.answers = 5, False
+        with self.assertRaises(following.Away):
+            await self.following.catch_up()
+        self.desk.answers = True
+        await self.following.catch_up()
+        self.assertEqual(self.following.state.groups["100"].priority, 5)
+
     async def test_a_page_is_held_until_there_is_news(self):
         first = await self.mine()
         self.assertEqual((first["live"], first["names"]["agents"]), (True, [{"agent": "7", "name": "Ana"}, {"agent": "8", "name": "Ben"}]))
