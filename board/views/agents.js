@@ -66,10 +66,10 @@ function tile({state, now, settings, lead}, {id, doing, group, since}) {
   const groupName = (id = '') => named(state.nameOf(id)), agent = state.agent(id), {name, station, groups, pending} = agent, who = named(name || word('agents.one', {id})), {sign, words} = DOING[doing];
   const isOff = doing === 'null', isLong = !isOff && doing !== 'ready' && now - since > settings[doing], calls = agent.calls.map(String);
   const place = station ? [word('agents.at', {id, station}), ...groups.map(id => groupName(id))] : [id];
-  return make('li', {'data-key': id, 'data-doing': doing, 'data-long': isLong}, make('strong', who), make('span.sign', {'aria-hidden': 'true'}, sign),
+  return make('li', {'data-key': id, 'data-doing': doing, 'data-long': isLong, 'data-several': groups.length > 1}, make('strong', who), make('span.sign', {'aria-hidden': 'true'}, sign),
     make('span.words', words + (group && groups.length > 1 ? `: ${groupName(group)}` : '')), make('time', !isOff && `${isLong ? '! ' : ''}${clock(now - since)}`),
-    make('small', place.join(', ') + (pending ? `; ${word(`pending.${pending}`)}` : '')),
-    make('span.calls', ...calls.map(call => make('button.link', {'data-press': 'calls', 'data-call': call}, word('agents.call', {call})))),
+    make('small', place.join(', ')),
+    make('span.calls', pending !== null && make('span', word(`pending.${pending}`)), ...calls.map(call => make('button.link', {'data-press': 'calls', 'data-call': call}, word('agents.call', {call})))),
     make('button', {'data-press': 'state', hidden: !lead.leads(agent), 'aria-label': word('act.state', {who})}, '⋯'));
 }
 

@@ -42,7 +42,7 @@ export async function numbers(see, browser, desk, folks, moments, {groups = [], 
     }
     await browser.run(`location.hash = 'agents'; document.querySelector('#agents-details').open = true`);
     await sleep(400);
-    const told = await browser.run(`return [...document.querySelectorAll('#agents-list li:not([hidden])')].map(tile => ['strong', '.words', 'small', '.calls'].map(part => tile.querySelector(part).textContent))`);
+    const told = await browser.run(`return [...document.querySelectorAll('#agents-list li:not([hidden])')].map(tile => ['strong', '.words', 'small', '.calls'].map(part => [...tile.querySelectorAll(part === '.calls' ? '.calls button' : part)].map(one => one.textContent).join('')))`);
     const wrong = [...wrongTiles(await desk.get('/snapshot'), told, groups), ...await wrongDays(desk, await browser.run(SHOWN, '#agents-table'), groups)];
     see(`moment ${moment}: the agents`, wrong.length === 0 && told.length > 0, wrong.slice(0, 3).join('; '));
     folks.goOn();
@@ -108,7 +108,7 @@ function wrongTiles({agents, calls, groups}, tiles, own) {
     const words = given ? {alerting: 'ringing', hold: 'call on hold', connected: 'on a call'}[given.state] : free ? 'own call' : ALONE[state];
     return [name, words, [`${agent} at ${device}`, ...(several ?? [group]).map(one => names.get(one))].join(', '), here.map(one => `call ${one.call}`).join('')].join(' | ');
   });
-  const shown = tiles.map(([name, words, place, calls]) => [name, words.replace(/: .*/, ''), place.replace(/; .*/, ''), calls].join(' | '));
+  const shown = tiles.map(([name, words, place, calls]) => [name, words.replace(/: .*/, ''), place, calls].join(' | '));
   return [...shown.filter(tile => !wanted.includes(tile)).map(tile => `+${tile}`), ...wanted.filter(tile => !shown.includes(tile)).map(tile => `-${tile}`)];
 }
 
@@ -125,10 +125,10 @@ export async function ownEvents(see, browser, desk, address, own) {
   see('events are those of the own groups', shown.length > 50 && !strange.length && !missing.length, `${shown.length} ${JSON.stringify(strange[0])} ${JSON.stringify(missing[0])}`);
 }
 
-/** That nothing moves while the figures change, but for the wall, which is sorted anew. */
+/** That nothing moves while the figures change, but for the wall, which is sorted anew. The limits are such that no alarm comes, which has its line above all else. */
 export async function still(see, browser, address, seconds) {
   for (const view of ['queues', 'agents']) {
-    await browser.open(`${address}#${view}`);
+    await browser.open(`${address}?goal=1&lost=100&long=86400&bad=86400#${view}`);
     await live(browser);
     await sleep(1000);
     await browser.run(`window.moved = []; new PerformanceObserver(list => {
@@ -268,7 +268,7 @@ export async function clockAhead(see, browser, desk, early, address) {
     await browser.open(`${address}?since=${seconds}#wall`);
     await live(browser);
     await sleep(1500);
-    see(`a desk's time that is ${what} ahead`, told.test(await shown()), await shown());
+    see(`a desk's time that is ${what} ahead`, Boolean(await until(async () => told.test(await shown()), 5)), await shown());
     await early.stop();
   }
   await desk.serve();
