@@ -294,10 +294,11 @@ class Streams:
         if view is None:
             return self.begin_board(stream, sight, state)
         view.seen = now
-        if stream.number < self.following.number:
+        if stream.number < self.following.number and now - stream.told >= QUEUES_EVERY:
             found = changes(view.tables, stream.number)
             stream.number = self.following.number
             if found:
+                stream.told = now
                 stream.write("change", f"{self.head(stream)},{found}", self.name(stream))
 
     def turn_agent(self, stream: Stream, state: State, now: float) -> None:

@@ -109,10 +109,11 @@ class StandInDesk(ThreadingHTTPServer):
 
 
 class Named(unittest.TestCase):
-    """What is told bears the gate's name, whichever command ran in this process before."""
+    """What is told bears the gate's name, whichever command ran in this process before, and a loop on a busy machine doesn't tell that it is slow."""
 
     def setUp(self):
         self.enterContext(mock.patch.multiple(command, name="acd-gate", is_old=True))
+        self.enterContext(mock.patch.object(asyncio.log.logger, "warning"))
 
 
 class Standing:

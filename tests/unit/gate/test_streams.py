@@ -93,6 +93,17 @@ class StreamsTest(Named, unittest.IsolatedAsyncioTestCase):
         await self.turn(1.1)
         self.assertEqual(page.told, [])
 
+    async def test_a_board_and_a_new_snapshot(self):
+        """What that shows comes between two turns, and is told a second after the last change."""
+        page, agents = await self.page(), self.desk.plan["agents"]
+        for name, times in (("Bernd", (1.1,)), ("Benno", (0.3, 0.3, 0.5))):
+            agents[1]["name"], self.following.renewed = name, -following.RENEW
+            page.told.clear()
+            for seconds in times:
+                self.assertEqual(page.of("change"), [])
+                await self.turn(seconds)
+            self.assertEqual([change["agents"]["8"]["name"] for change in page.of("change")], [name])
+
     async def test_an_agent(self):
         """Own state and calls at once, queues once a second, callers of others shortened."""
         self.desk.events.append(logged_on(1))
@@ -364,6 +375,7 @@ class RouteTest(DoorTest):
             self.standing.do(write())
             self.assertTrue(stream.pipe.is_gone())
             self.assertTrue(until(lambda: stream not in self.gate.following.streams.all, PATIENCE))
+            self.assertEqual(self.next(other)[0], "beat")
         self.assertEqual([one.login for one in self.gate.following.streams.all], ["ana"])
         reply.close()
 
