@@ -2,7 +2,7 @@
 import {base, pause, sleep} from './net.js';
 
 // milliseconds: without a line it is lost; between two beats, unless the machine slept; until a page asks again, and one that had to give way to others
-const SILENT = 9000, SLEPT = 5000, AGAIN = 200, GAVE_WAY = 60000;
+const SILENT = 8000, SLEPT = 5000, AGAIN = 200, GAVE_WAY = 60000;
 let path = '', number = '', losses = 0, heard = 0, beaten = Date.now(), giving = new AbortController();
 // the server's clock less this one's, in milliseconds, by the last few events: each came later than it was sent
 let clocks = [0];

@@ -2,6 +2,7 @@
 import {lostReply, otherLogOn, olderPage, tooOld} from './kept.mjs';
 import {sleep, until} from './browser.mjs';
 import {layout, owners, words} from './plain.mjs';
+import {hangs} from './page.mjs';
 import {session} from './session.mjs';
 import {AGENT, button, Hands, refused, requested, shift, STATION} from './shift.mjs';
 
@@ -248,4 +249,5 @@ async function lost(hands) {
   see('and all is grey', Boolean(await until(() => browser.run('return document.body.hasAttribute("data-old")'), 8)));
   desk.child.kill('SIGCONT');
   see('it goes on by itself', Boolean(await until(async () => await hands.text('#status-text') === 'Live' && !await browser.run('return document.body.hasAttribute("data-old")'), 10)), await hands.text('#status-text'));
+  await hangs(see, browser, hands.front, clock);
 }

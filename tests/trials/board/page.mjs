@@ -258,6 +258,22 @@ export async function alarm(see, browser, desk, address) {
   see('and none behind a tick', Boolean(await until(async () => await shown() === '', 5)), await shown());
 }
 
+/** Gate and nginx hang, one after the other: the page that is open says so within ten seconds, and its clocks stand. */
+export async function hangs(see, browser, front, clock) {
+  const status = () => browser.text('#status-text'), worker = Number(await run('pgrep', ['-P', front.children[1].pid]));
+  for (const [what, hung] of [['the gate', front.children[0].pid], ['nginx', worker]]) {
+    process.kill(hung, 'SIGSTOP');
+    const begin = Date.now(), told = await until(async () => /^What you see is old/.test(await status()), 15), seconds = (Date.now() - begin) / 1000;
+    see(`${what} that hangs is told within 10 s`, told && seconds < 10.5, `${seconds} s: ${await status()}`);
+    await sleep(1500);
+    const stood = await clock();
+    await sleep(2500);
+    see(`no clock goes on without ${what}`, /\d:\d\d/.test(stood) && stood === await clock(), `${stood} ${await clock()}`);
+    process.kill(hung, 'SIGCONT');
+    see(`the page goes on by itself after ${what}`, Boolean(await until(async () => await status() === 'Live', 15)), await status());
+  }
+}
+
 /** In the place of the desk another one, which took a request while the clock was ahead. */
 export async function clockAhead(see, browser, desk, early, address) {
   const shown = () => browser.run('return document.querySelector("#alarm").hidden ? "" : document.querySelector("#alarm").textContent');

@@ -27,8 +27,8 @@ try {
   await until(() => asked.length === 2);
   const [first, lost] = told;
   deepEqual([first.kind, first.told.agents, first.path, lost], ['picture', {7: {name: 'Änne'}}, '/stream?agent=7', {kind: 'lost', status: 0, text: 'silent'}]);
-  ok(Math.abs(first.ahead - 60000) < 1000, String(first.ahead));
-  ok(asked[1][1] - asked[0][1] < 13000, 'it asks again soon after nothing came for nine seconds');
+  ok(Math.abs(first.ahead - 60000) < 10000, String(first.ahead));
+  ok(asked[1][1] - asked[0][1] < 12000, 'it asks again soon after nothing came for eight seconds');
   await until(() => asked.length === 4);
   deepEqual(told.slice(2).filter(({kind}) => kind !== 'lost').slice(0, 2).map(({kind, told: {calls}}) => [kind, calls]), [['change', {5: null}], ['change', undefined]]);
   deepEqual(told.filter(({kind}) => kind === 'lost').map(({status, text}) => [status, text]), [[0, 'silent'], [401, 'no']]);

@@ -14,7 +14,7 @@ import {alarms, nothing, troubles} from './alarms.mjs';
 import {days, overMidnight, zones} from './days.mjs';
 import {lead, office, session} from './lead.mjs';
 import {lines} from './lines.mjs';
-import {alarm, clockAhead, looks, losses, numbers, ownEvents, people, settings, still, ways} from './page.mjs';
+import {alarm, clockAhead, hangs, live, looks, losses, numbers, ownEvents, people, settings, still, ways} from './page.mjs';
 import {shape} from './shape.mjs';
 import {callers, sheets} from './sheets.mjs';
 import {words} from './words.mjs';
@@ -146,6 +146,9 @@ class Trial {
     const desk = await this.desk('alarms.db', troubles(Math.floor(Date.now() / 1000))), front = await this.front(desk);
     const browser = await this.browser();
     await alarms(this.see, browser, desk, front.page('sup', '/board/'));
+    await browser.fresh(front.page('sup', '/board/?since=0#queues'));
+    await live(browser);
+    await hangs(this.see, browser, front, () => browser.text('#queues-table [data-key="101"] td:nth-child(4)'));
     await nothing(this.see, browser, await this.front(await this.desk('nothing.db', PLAN.slice(3, 4))), await this.front(await this.desk('nobody.db', PLAN)));
   }
 
