@@ -172,7 +172,10 @@ class Metrics:
         return [
             one("acd_gate_passwords_waiting", "gauge", "Passwords that wait to be checked.",
                 gate.passwords.turns.count),
-            one("acd_gate_questions_held", "gauge", "Agents' pages that wait for news.", gate.held.count.total()),
+            one("acd_gate_questions_held", "gauge", "Questions for an agent's news that wait.",
+                gate.held.count.total()),
+            one("acd_gate_streams", "gauge", "Open streams of boards and agents' pages.",
+                len(self.following.streams.all)),
             one("acd_gate_log_ins", "counter", "Sessions that began.", gate.traces.log_ins),
             one("acd_gate_refusals", "counter", "Passwords that were refused.", gate.traces.refusals),
             Family("acd_follow_request", "gauge", "The request from which on a follower last asked.",

@@ -3,6 +3,7 @@
 
 Needs python3-aiohttp, python3-passlib and python3-bcrypt (Debian packages)."""
 import contextlib
+import http.client
 import io
 import json
 import time
@@ -10,7 +11,7 @@ import unittest
 from pathlib import Path
 from unittest import mock
 
-from standing import PAGE, ROLES, DoorTest
+from standing import PAGE, PATIENCE, ROLES, DoorTest
 from test_routes import SNAPSHOT
 
 from acd_service.gate import following, metrics
@@ -129,8 +130,12 @@ class MetricsTest(DoorTest):
             self.log_in("ana")
             self.log_in("ana", "guess")
             self.log_in("nobody")
+        page = http.client.HTTPConnection("127.0.0.1", self.port, timeout=PATIENCE)
+        self.addCleanup(page.close)
+        page.request("GET", "/stream", headers={"X-Login": "sup"})
+        page.getresponse().readline()
         found = self.told()
-        self.assertEqual([found[f"acd_gate_{name}"] for name in ("log_ins_total", "refusals_total", "passwords_waiting", "questions_held")], [1, 2, 0, 0])
+        self.assertEqual([found[f"acd_gate_{name}"] for name in ("log_ins_total", "refusals_total", "passwords_waiting", "questions_held", "streams")], [1, 2, 0, 0, 1])
 
     def test_of_the_desk(self):
         found = self.told()
