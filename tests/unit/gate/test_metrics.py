@@ -164,9 +164,11 @@ class MetricsTest(DoorTest):
         self.assertFalse([name for name in self.told() if "follow" in name])
 
     def test_the_desk_is_asked_once_for_all(self):
+        """At most twice a second, however long that takes."""
+        began = time.monotonic()
         for _ in range(20):
             self.exchange("GET", "/metrics", None, {})
-        self.assertLessEqual(len(self.desk.got), 2 * (1 + int(time.monotonic() - self.gate.metrics.made)))
+        self.assertLessEqual(len(self.desk.got), 2 * (1 + int(time.monotonic() - began)))
 
 
 if __name__ == "__main__":
