@@ -79,7 +79,7 @@ BY_HAND = {
     "files": Part("try-files", (), ("try-files",)),
     "flood": Part("try-flood", ("--seconds", "8", "--floods", "4"), ("flood/doors.py",), (*NGINX, "apache2-utils", "python3-h2"), ("root",)),
     "follow whole": Part("try-follow", (), ("follow/cases.py", "follow/kills.py", "follow/runs.py"), SPACES, ("root",)),
-    "gate whole": Part("try-gate", (), ("try-gate", "gate/followed.py", "gate/older.py", "gate/alike.py", "gate/waits.py", "gate/monitor.py", "gate/many.py"), (*NGINX, "python3-h2", "python3-prometheus-client")),
+    "gate whole": Part("try-gate", (), ("try-gate", "gate/followed.py", "gate/older.py", "gate/alike.py", "gate/waits.py", "gate/pushed.py", "gate/monitor.py", "gate/many.py"), (*NGINX, "python3-h2", "python3-prometheus-client")),
     "http": Part("try-http", (), ("try-http",), (*NGINX, "apache2-utils", "curl", "sqlite3")),
     "node": Part("try-node", (), ("node/carried.py", "node/day.py", "node/hostile.py", "node/values.py"), (), ("etcd",)),
     "office": Part("try-office", (), tuple(f"office/{name}.py" for name in ("starting", "damage", "clock", "copies", "pruned", "plans", "program", "byhand", "clone")), (), ("booted",), False),

@@ -39,8 +39,8 @@ class Many(Place):
         self.expect("answers other than 200", {status: count for status, count in all_of_them["statuses"].items() if status != 200}, {})
         told, answers = sorted(all_of_them["told"]), sum(all_of_them["statuses"].values()) / self.options.seconds
         self.see("pages are told of their own news", len(told) > 20, len(told))
-        print(f"    {len(self.agents)} pages, {all_of_them['services']:.1f} services and {answers:.0f} answers a second, {len(told)} of own news; with one page {one['services']:.1f} services")
-        print(f"    the gate takes {1000 * all_of_them['gate'] / max(1, answers):.2f} ms of a processor for an answer")
+        print(f"    {len(self.agents)} pages, {all_of_them['services']:.1f} services and {answers:.0f} events a second, {len(told)} of own news; with one page {one['services']:.1f} services")
+        print(f"    the gate takes {1000 * all_of_them['gate'] / max(1, answers):.2f} ms of a processor for an event")
         self.figure("share of a processor: the gate", all_of_them["gate"], 0.5)
         self.figure("the desk (1.2 times what it takes with one page)", all_of_them["desk"], 1.2 * one["desk"] + 0.005)
         self.figure("from a request for a service to the page's news, 95 % in seconds", told[int(0.95 * len(told))] if told else 99, 0.25)
@@ -101,7 +101,7 @@ def ask_until_told(port, agents, told):
 
 
 async def page(port, agent, answers):
-    """An agent's page. It connects again where its connection is closed, which is an answer without a status."""
+    """An agent's page. It connects again where its stream ends, which is an answer without a status."""
     await asyncio.sleep(random.uniform(0, 5))
     while True:
         with contextlib.suppress(OSError, EOFError):
@@ -111,23 +111,23 @@ async def page(port, agent, answers):
 
 
 async def page_of_connection(port, agent, answers):
-    """Over one connection that stays open; an answer with another state of the agent than before is own news."""
+    """Its stream: an event with another state of the agent than before is own news."""
     reader, writer = await asyncio.open_connection("127.0.0.1", port, ssl=ANY, limit=1 << 20)
-    after, names, state = 0, 0, None
-    head = f"Host: desk\r\nAuthorization: Basic {b64encode(f'a{agent}:secret'.encode()).decode()}\r\n\r\n"
-    while True:
-        writer.write(f"GET /mine?after={after}&names={names}&hold=4 HTTP/1.1\r\n{head}".encode())
-        fields = (await reader.readuntil(b"\r\n\r\n")).decode("latin-1").lower()
-        body = await reader.readexactly(int(fields.partition("content-length: ")[2].partition("\r")[0]))
-        moment, status = time.monotonic(), int(fields.split(" ")[1])
-        if status != 200:
-            answers.append((agent, None, moment, status))
-            await asyncio.sleep(1)
-            continue
-        told = json.loads(body)
-        after, names = told["number"], told.get("names", {}).get("number", names)
-        answers.append((agent, told["agent"]["state"] if told["agent"]["state"] != state else None, moment, status))
-        state = told["agent"]["state"]
+    writer.write(f"GET /stream HTTP/1.1\r\nHost: desk\r\nAuthorization: Basic {b64encode(f'a{agent}:secret'.encode()).decode()}\r\n\r\n".encode())
+    status, state, text = int((await reader.readuntil(b"\r\n\r\n")).split()[1]), None, b""
+    if status != 200:
+        return answers.append((agent, None, time.monotonic(), status))
+    while part := await chunk_of(reader):
+        *events, text = (text + part).split(b"\n\n")
+        for event in events:
+            before, state = state, json.loads(event.partition(b"data: ")[2]).get("agent", {}).get("state", state)
+            answers.append((agent, state if state != before else None, time.monotonic(), status))
+
+
+async def chunk_of(reader):
+    """The next part of an answer that goes on; nothing at its end."""
+    size = int((await reader.readuntil(b"\r\n"))[:-2], 16)
+    return (await reader.readexactly(size + 2))[:-2]
 
 
 class Office:

@@ -38,7 +38,7 @@ class Place(Trial):
         super().setUpClass()
         cls.desk_port, cls.gate_port, cls.port = free_ports(3)
         cls.requests = Requests()
-        planned = cls.acd("lines", "--file", cls.folder / "desk.db", given=lines(cls.planned())).output
+        planned = cls.acd("lines", "--file", cls.folder / "desk.db", given=cls.given()).output
         cls.see("the plan is taken", all(line.startswith("200 ") for line in planned.splitlines()), planned[:300])
         (cls.folder / "roles").write_text("".join(f"{login} {role}\n" for login, role in cls.ROLES.items() if role))
         cls.write_users()
@@ -46,6 +46,11 @@ class Place(Trial):
         cls.start_desk()
         cls.start_gate()
         cls.start_nginx()
+
+    @classmethod
+    def given(cls):
+        """The lines that the desk has taken before it serves."""
+        return lines(cls.planned())
 
     @classmethod
     def planned(cls):
