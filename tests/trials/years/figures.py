@@ -1,8 +1,9 @@
-"""What a prune and an opening cost, in seconds of processor time and in memory: of files that are pruned each night, and at the first time of a million.
-What it has to keep to is meant for a machine that has nothing else to do."""
+"""What a prune and an opening cost, in seconds of processor time, in memory and in room of the log: of files that are pruned each night, and at the first time of a million. With
+--beside also what acd-carry of another tree, of before 1.16, takes for the same files. What it has to keep to is meant for a machine that has nothing else to do."""
 import json
 import shutil
 import subprocess
+from collections import namedtuple
 
 from cuts import LAID, lay_history
 from ground import DAY, PYTHON, Ground
@@ -20,32 +21,44 @@ def requests(count, days, begin=DAY):
         yield f"{begin + number * days * DAY // count} " + json.dumps({"requester": "office", "invoke": number + 1, **service})
 
 
-# a process has its parent's greatest memory as it begins, so it is begun by a small one
-MEASURE = """import os, subprocess, sys
-child = subprocess.Popen(sys.argv[1:], stdout=subprocess.PIPE)
+# a process has its parent's greatest memory as it begins, so it is begun by a small one, which also looks how long a file gets meanwhile
+MEASURE = """import os, subprocess, sys, time
+child, greatest, ended = subprocess.Popen(sys.argv[2:], stdout=subprocess.PIPE), 0, 0
+while not ended:
+    ended, status, used = os.wait4(child.pid, os.WNOHANG)
+    greatest = max(greatest, os.stat(sys.argv[1]).st_size if os.path.exists(sys.argv[1]) else 0)
+    time.sleep(0.002)
 *_, last = [b"", *child.stdout]
-_, status, used = os.wait4(child.pid, 0)
-print(used.ru_utime + used.ru_stime, used.ru_maxrss * 1024, os.waitstatus_to_exitcode(status), last.decode().strip(), flush=True)
+print(used.ru_utime + used.ru_stime, used.ru_maxrss * 1024, greatest, os.waitstatus_to_exitcode(status), last.decode().strip(), flush=True)
 os._exit(0)"""
+# of it and of what it began: seconds of processor time, and the most memory in bytes; how many bytes the log had at most; the status, and the last line
+Measured = namedtuple("Measured", "seconds memory log status said")
 
 
-def measured(words):
-    """Seconds of processor time and the most memory in bytes, of it and of what it began, the status, and the last line."""
-    seconds, memory, status, said = subprocess.run([PYTHON, "-c", MEASURE, *map(str, words)], capture_output=True, text=True).stdout.rstrip("\n").split(" ", 3)
-    return float(seconds), int(memory), int(status), said
+def measured(words, log=""):
+    done = subprocess.run([PYTHON, "-c", MEASURE, *map(str, (log, *words))], capture_output=True, text=True)
+    seconds, memory, length, status, said = done.stdout.rstrip("\n").split(" ", 4)
+    return Measured(float(seconds), int(memory), int(length), int(status), said)
 
 
 class Figures:
     def __init__(self, ground, folder):
-        self.ground, self.folder = ground, folder
+        self.ground, self.folder, self.other = ground, folder, ground.options.beside
 
     def opened(self, what, file):
         # what else runs makes it slower, and never quicker
-        seconds, memory, status, _ = min(measured([self.ground.program, "report", "--file", file]) for _ in range(3))
-        self.ground.expect(f"{what}: opened", status, 0)
-        most = OPENINGS.get(what, (seconds + 1, memory + 1))
-        self.ground.expect(f"{what}: opened in {seconds} s with {memory} bytes", seconds < most[0] and memory < most[1])
-        print(f"{what}: opened in {seconds:.2f} s, {memory / 1e6:.0f} MB", flush=True)
+        found = min(measured([self.ground.program, "report", "--file", file]) for _ in range(3))
+        self.ground.expect(f"{what}: opened", found.status, 0)
+        most = OPENINGS.get(what, (found.seconds + 1, found.memory + 1))
+        self.ground.expect(f"{what}: opened in {found.seconds} s with {found.memory} bytes", found.seconds < most[0] and found.memory < most[1])
+        print(f"{what}: opened in {found.seconds:.2f} s, {found.memory / 1e6:.0f} MB", flush=True)
+
+    def taken(self, what, left, file, *words):
+        """A prune of the file and, with another tree, a carry-over: and what an opening of the file that is left takes, which has the same name."""
+        self.opened(what, file)
+        self.opened(left, self.pruned(what, file, *words))
+        if self.other:
+            self.opened(f"{left}, carried over", self.carried(what, file, *words))
 
     def pruned(self, what, file, *words):
         """A copy of the file, by the program alone."""
@@ -53,34 +66,39 @@ class Figures:
         for part in (made, archive):
             log_of(part).unlink(missing_ok=True)
             shutil.copyfile(file, part)
-        rounds, most, spent, said = 0, 0, 0.0, ", more to go"
-        while said.endswith(", more to go"):
-            seconds, memory, status, said = measured([self.ground.program, "prune", "--file", made, "--archive", archive, *(words or ("--days", 2))])
-            self.ground.expect(f"{what}: {said}", (status, said.startswith("pruned up to request ")), (0, True))
-            rounds, most, spent = rounds + 1, max(most, memory), spent + seconds
-        print(f"{what}: pruned in {spent:.2f} s, {most / 1e6:.0f} MB at most, in {rounds} steps; the file keeps its {made.stat().st_size / 1e6:.1f} MB", flush=True)
+        steps = []
+        while not steps or steps[-1].said.endswith(", more to go"):
+            found = measured([self.ground.program, "prune", "--file", made, "--archive", archive, *(words or ("--days", 2))], log_of(made))
+            self.ground.expect(f"{what}: {found.said}", (found.status, found.said.startswith("pruned up to request ")), (0, True))
+            steps.append(found)
+        print(f"{what}: pruned in {sum(step.seconds for step in steps):.2f} s, {max(step.memory for step in steps) / 1e6:.0f} MB at most, with {max(step.log for step in steps) / 1e6:.1f} MB of log "
+              f"at most, in {len(steps)} steps; the file keeps its {made.stat().st_size / 1e6:.1f} MB", flush=True)
         return made
 
-    def nights(self):
-        small, great = self.folder / "small.db", self.folder / "great.db"
-        for file, count in ((small, 24000), (great, 232500)):
-            self.ground.feed(file, [*PLAN, *requests(count, 3)])
-        self.opened("two days of 2,000 calls", self.pruned("three days of 2,000 calls", small))
-        self.opened("three days of 20,000 calls", great)
-        self.opened("two days of 20,000 calls", self.pruned("three days of 20,000 calls", great))
-        self.opened("the last 40,000", self.pruned("three days of 20,000 calls", great, "--keep", 40000))
-
-    def first_one(self):
-        file = self.folder / "million.db"
-        lay_history(self.ground, file, LAID, DAY)
-        self.ground.feed(file, [*PLAN, *requests(24000, 3)])
-        self.opened("a million", file)
-        self.opened("two days of 2,000 calls", self.pruned("a million", file))
+    def carried(self, what, file, *words):
+        """By the other tree's commands."""
+        new = self.folder / "new.db"
+        for part in (new, log_of(new)):
+            part.unlink(missing_ok=True)
+        found = measured([PYTHON, self.other / "service/acdctl", "carry", "--from", file, "--to", new, "--desk", self.ground.program, *words])
+        self.ground.expect(f"{what}: carried over", found.status, 0)
+        print(f"{what}: carried over in {found.seconds:.2f} s, {found.memory / 1e6:.0f} MB at most; the new file has {new.stat().st_size / 1e6:.1f} MB", flush=True)
+        return new
 
 
 class OfFigures(Ground):
-    def try_figures(self):
+    def try_nights(self):
         with self.scratch() as folder:
-            figures = Figures(self, folder)
-            figures.nights()
-            figures.first_one()
+            figures, small, great = Figures(self, folder), folder / "small.db", folder / "great.db"
+            for file, count in ((small, 24000), (great, 232500)):
+                self.feed(file, [*PLAN, *requests(count, 3)])
+            figures.taken("three days of 2,000 calls", "two days of 2,000 calls", small)
+            figures.taken("three days of 20,000 calls", "two days of 20,000 calls", great)
+            figures.taken("three days of 20,000 calls", "the last 40,000", great, "--keep", 40000)
+
+    def try_first_one(self):
+        with self.scratch() as folder:
+            file = folder / "million.db"
+            lay_history(self, file, LAID, DAY)
+            self.feed(file, [*PLAN, *requests(24000, 3)])
+            Figures(self, folder).taken("a million", "two days of 2,000 calls", file)

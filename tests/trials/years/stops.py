@@ -1,5 +1,6 @@
 """How long nobody is answered while acd-prune.service prunes a desk's file, by the clock: each night, and at the first time. Beside it stands what the openings of file and archive
-and their audit take alone."""
+and their audit take alone; with --beside also how long nobody is answered while acd-carry.service of another tree carries such files over, by the trial of that tree."""
+import os
 import shutil
 import subprocess
 import threading
@@ -90,6 +91,14 @@ def measure_all(ground, folder):
         stops.desk.stop()
 
 
+def measure_beside(ground, tree):
+    """In name spaces of its own."""
+    others = {name: value for name, value in os.environ.items() if name != "TRIAL_ALONE"}
+    done = subprocess.run([tree / "tests/trials/try-years", ground.program, "--only", "service.stops"], stdout=subprocess.PIPE, text=True, env=others)
+    ground.expect(f"the other tree: {done.stdout}", done.returncode, 0)
+    print("".join(f"the other tree: {line}\n" for line in done.stdout.splitlines() if "nobody is answered" in line), end="", flush=True)
+
+
 class OfService(Ground):
     def try_service(self):
         with self.scratch() as folder:
@@ -102,5 +111,7 @@ class OfService(Ground):
                 if self.case in (None, "stops"):
                     (folder / "stops").mkdir()
                     measure_all(self, folder / "stops")
+                if self.case == "stops" and self.options.beside:
+                    measure_beside(self, self.options.beside)
             finally:
                 subprocess.run(["umount", "--lazy", "/run"], check=True)
