@@ -1,6 +1,5 @@
 """Feeds this machine's desk from the log, and finds the answers to what was asked here."""
 import hashlib
-import http.client
 import subprocess
 import threading
 import time
@@ -138,7 +137,7 @@ class Bridge:
     def has_entries(self) -> bool:
         try:
             self.log.begin(self.reached.place, self.folder.state.seen)
-        except (Forgotten, OSError, http.client.HTTPException):
+        except (Forgotten, OSError):
             return False
         return True
 

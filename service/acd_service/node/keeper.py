@@ -1,6 +1,5 @@
 """What a machine does for the log besides feeding its desk: it publishes its place and its digests, compares digests,
 lets the log forget entries that all machines have, and watches the room in etcd."""
-import http.client
 import time
 from collections.abc import Callable
 
@@ -39,7 +38,7 @@ class Keeper:
                 self.look_after()
             self.publish_digests()
             self.compare()
-        except (OSError, http.client.HTTPException) as fault:
+        except OSError as fault:
             self.journal.report(f"etcd isn't looked after: {fault}", "keeper", HOUR)
 
     def measure(self) -> None:

@@ -1,6 +1,5 @@
 """The log: one key of etcd, put again and again, over etcd's HTTP gateway. Its revisions are the entries."""
 import base64
-import http.client
 import itertools
 import json
 import random
@@ -11,6 +10,7 @@ import time
 from collections.abc import Iterator
 from typing import Any, NamedTuple
 
+from acd_service.node.gateway import Connection
 from acd_service.node.journal import Journal
 
 End = tuple[str, str]                                      # the host and the port of a member of etcd
@@ -49,10 +49,6 @@ class Compacted(OSError):
     def __init__(self, revision: int) -> None:
         super().__init__(f"it was compacted up to {revision} just now")
         self.revision = revision
-
-
-def fields_of(token: str | None) -> dict[str, str]:
-    return {"Authorization": token} if token else {}
 
 
 class Refused(OSError):
@@ -133,20 +129,18 @@ class Log:
         self.ends: list[End] = [(host, port) for host, _, port in (end.rpartition(":") for end in ends)]
         self.line, self.context, self.journal = line, context, journal
         self.patience, self.silence = patience, silence    # seconds: for an answer, and for a silent watch
-        self.idle: list[http.client.HTTPConnection] = []
+        self.idle: list[Connection] = []
         self.token: str | None = None
         self.at, self.lock = random.randrange(len(self.ends)), threading.Lock()
         self.user, self.renewing = user, threading.Lock()
 
     # One call
 
-    def connect(self, end: End, wait: float) -> http.client.HTTPConnection:
+    def connect(self, end: End, wait: float) -> Connection:
         host, port = end
-        if self.context:
-            return http.client.HTTPSConnection(host, int(port), timeout=wait, context=self.context)
-        return http.client.HTTPConnection(host, int(port), timeout=wait)
+        return Connection(host, int(port), wait, self.context)
 
-    def taken(self) -> tuple[End, http.client.HTTPConnection]:
+    def taken(self) -> tuple[End, Connection]:
         """A kept connection, or a new one to the member whose turn it is."""
         with self.lock:
             end = self.ends[self.at % len(self.ends)]
@@ -170,7 +164,7 @@ class Log:
             connection.close()
         self.idle.clear()
 
-    def keep(self, end: End, connection: http.client.HTTPConnection) -> None:
+    def keep(self, end: End, connection: Connection) -> None:
         with self.lock:
             if self.ends[self.at % len(self.ends)] == end and len(self.idle) < 16:
                 return self.idle.append(connection)
@@ -183,7 +177,7 @@ class Log:
             end, connection = self.taken()
             try:
                 found = self.exchange(connection, path, body)
-            except (OSError, http.client.HTTPException) as error:
+            except OSError as error:
                 connection.close()
                 if isinstance(error, Refused) and error.code in (NO_SUCH_REVISION, PERMISSION_DENIED):
                     raise
@@ -202,7 +196,7 @@ class Log:
         finally:
             connection.close()
 
-    def exchange(self, connection: http.client.HTTPConnection, path: str, body: Record) -> Record:
+    def exchange(self, connection: Connection, path: str, body: Record) -> Record:
         """One POST; and once more with a new token where the member wants one."""
         token = self.token
         try:
@@ -212,12 +206,11 @@ class Log:
                 raise
         return self.post(connection, path, body, self.renewed(connection, token))
 
-    def post(self, connection: http.client.HTTPConnection, path: str, body: Record, token: str | None) -> Record:
-        connection.request("POST", path, json.dumps(body), fields_of(token))
-        answer = connection.getresponse()
-        return said(answer.status, answer.read())
+    def post(self, connection: Connection, path: str, body: Record, token: str | None) -> Record:
+        answer = connection.ask("POST", path, json.dumps(body).encode(), token)
+        return said(answer.status, answer.body.read())
 
-    def renewed(self, connection: http.client.HTTPConnection, stale: str | None) -> str | None:
+    def renewed(self, connection: Connection, stale: str | None) -> str | None:
         """A token in place of this one; another thread may have asked for it meanwhile. The password is read each time,
         so that a new one needs no start."""
         with self.renewing:
@@ -299,11 +292,10 @@ class Log:
         request = {"key": text(self.line), "range_end": text(self.line + b"0"), "start_revision": str(start),
                    "fragment": True}
         try:
-            connection.request("POST", "/v3/watch", json.dumps({"create_request": request}), fields_of(token))
-            answer = connection.getresponse()
+            answer = connection.ask("POST", "/v3/watch", json.dumps({"create_request": request}).encode(), token)
             if answer.status != 200:
-                said(answer.status, answer.read())
-            while line := answer.readline():
+                said(answer.status, answer.body.read())
+            while line := answer.body.readline():
                 for revision, version, entry in events(line, self.line, place, version):
                     place = place if entry is None else revision
                     yield revision, entry
@@ -326,7 +318,7 @@ class Log:
                     yield revision, entry
             except TimeoutError:                           # nothing came
                 pass
-            except (OSError, http.client.HTTPException) as fault:
+            except OSError as fault:
                 self.journal.report(f"the log is away: {fault}", "follow", 60)
             time.sleep(0.1)                                # the next member, from here
 
@@ -394,7 +386,7 @@ class Log:
         """The state of a member; None if it doesn't answer."""
         try:
             status, metrics = self.ask(end, "/v3/maintenance/status", {}), self.metrics(end)
-        except (OSError, http.client.HTTPException):
+        except OSError:
             return None
         quota = re.search(rb"^etcd_server_quota_backend_bytes ([0-9.e+]+)$", metrics, re.MULTILINE)
         return Member(end, int(status.get("dbSize", 0)), int(status.get("dbSizeInUse", 0)),
@@ -404,8 +396,7 @@ class Log:
     def metrics(self, end: End) -> bytes:
         connection = self.connect(end, self.patience)
         try:
-            connection.request("GET", "/metrics")
-            return connection.getresponse().read()
+            return connection.ask("GET", "/metrics").body.read()
         finally:
             connection.close()
 

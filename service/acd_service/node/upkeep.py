@@ -1,6 +1,5 @@
 """What a timer does for etcd: it gives back the free bytes of its files, one member after another, and lets a full etcd
 take entries again."""
-import http.client
 import time
 
 from acd_service.node.journal import Journal
@@ -27,7 +26,7 @@ def tidy(log: Log, journal: Journal, member: Member) -> bool:
     """Whether a member could be defragmented."""
     try:
         log.defragment(member.end)
-    except (OSError, http.client.HTTPException) as fault:
+    except OSError as fault:
         journal.report(f"etcd at {':'.join(member.end)} isn't defragmented: {fault}")
         return False
     journal.report(
@@ -58,7 +57,7 @@ def once(log: Log, machines: Sequence[str], journal: Journal) -> int:
     """Looks after all members once. Returns the status of the process: 1 if it couldn't do something that is needed."""
     try:
         return 0 if look_after(log, machines, journal) else 1
-    except (OSError, http.client.HTTPException) as fault:
+    except OSError as fault:
         journal.report(f"etcd isn't looked after: {fault}")
         return 1
 
