@@ -1,8 +1,8 @@
 """Who asks here and waits: the requests go into the log together, and each gets the answer to its own entry."""
 import asyncio
+import os
 import queue
 import time
-import uuid
 
 from acd_service.node.entries import entry_of, fitting, value_of
 from acd_service.node.journal import Journal
@@ -33,15 +33,15 @@ class Waiting:
 
     async def answer(self, request: bytes) -> bytes:
         """The answer line to a request; empty if it doesn't come in time, or nobody acknowledged its entry."""
-        token, waiter = uuid.uuid4().hex.encode(), asyncio.get_running_loop().create_future()
+        loop, token = asyncio.get_running_loop(), os.urandom(16).hex().encode()
+        waiter: Waiter = loop.create_future()
         self.waiters[token] = waiter
         self.unput.put((token, entry_of(token, moment(), request)))
+        end = loop.call_later(self.patience, settle, waiter, b"")
         try:
-            async with asyncio.timeout(self.patience):
-                return bytes(await waiter)
-        except TimeoutError:
-            return b""
+            return await waiter
         finally:
+            end.cancel()
             del self.waiters[token]
 
     def tell(self, token: bytes, answer: bytes) -> None:
