@@ -11,7 +11,7 @@ from pathlib import Path
 
 sys.path.insert(0, str(Path(__file__).resolve().parent))
 
-from bench import HERE, LINE, Bench, token  # noqa: E402
+from bench import HERE, LINE, PATIENCE, Bench, token  # noqa: E402
 from acd_service.node.bridge import PERIOD, Bridge  # noqa: E402
 from acd_service.node.folder import NOTHING, UNCHECKED, Checked, Folder, Reached, State  # noqa: E402
 
@@ -29,7 +29,7 @@ class Bridging(Bench):
     def bridge(self, folder=None, feeds=True, **times):
         folder = folder or self.folder
         folder.mkdir(exist_ok=True)
-        found = Bridge(str(folder), DESK, self.log(**times), self.journal)
+        found = Bridge(str(folder), DESK, self.log(**times), self.journal, PATIENCE)
         if feeds:
             self.begin(found)
         self.addCleanup(self.end, found)
@@ -49,6 +49,16 @@ class Bridging(Bench):
         """The answers to requests that come at once."""
         async def all_of_them():
             return await asyncio.gather(*map(bridge.answer, requests))
+        return asyncio.run(all_of_them())
+
+    def answers_together(self, bridge, *requests):
+        """The answers to requests that all wait before the first one is put."""
+        async def all_of_them():
+            waiting = asyncio.gather(*map(bridge.answer, requests))
+            while bridge.waiting.unput.qsize() < len(requests):
+                await asyncio.sleep(0)
+            self.begin(bridge)
+            return await waiting
         return asyncio.run(all_of_them())
 
     def answer(self, bridge, request):
@@ -229,19 +239,22 @@ class Feeding(Bridging):
         self.until(lambda: len(self.fed()) == 6)
 
     def test_many_at_once_are_few_puts_and_each_gets_its_answer(self):
-        self.member(late=0.05)
-        bridge, requests = self.bridge(), [b"mine %d" % number for number in range(350)]
-        self.assertEqual(self.answers(bridge, *requests), [b"200 " + request + b"\n" for request in requests])
+        self.member()
+        bridge, requests = self.bridge(feeds=False, patience=PATIENCE), [b"mine %d" % number for number in range(350)]
+        self.assertEqual(self.answers_together(bridge, *requests), [b"200 " + request + b"\n" for request in requests])
         values = [change["value"] for change in self.store.changes]
-        self.assertEqual([value.count(b"\n") for value in values][-3:-1], [100, 100])
-        self.assertTrue(len(values) <= 5 and all(value.startswith(b"*\n") for value in values), len(values))
+        self.assertEqual([value.split(b"\n")[0] for value in values], [b"*"] * 4)
+        self.assertEqual([value.count(b"\n") for value in values], [100, 100, 100, 50])
         self.assertEqual([line.partition(" ")[2].encode() for line in self.fed()], requests)
 
     def test_no_value_is_too_long(self):
-        self.member(late=0.05)
-        bridge, requests = self.bridge(), [b"%d" % number + b"x" * 4000 for number in range(80)]
-        self.assertEqual(self.answers(bridge, *requests), [b"200 " + request + b"\n" for request in requests])
-        self.assertLessEqual(max(len(change["value"]) for change in self.store.changes), 262144)
+        self.member()
+        bridge, requests = self.bridge(feeds=False, patience=PATIENCE), [b"%d" % number + b"x" * 4000 for number in range(80)]
+        self.assertEqual(self.answers_together(bridge, *requests), [b"200 " + request + b"\n" for request in requests])
+        # an entry has 44 bytes before its request and the LF before it, and a value one byte before the first entry
+        sizes = [45 + len(request) for request in requests]
+        many = next(many for many in range(80) if 1 + sum(sizes[:many + 1]) > 262144)
+        self.assertEqual([len(change["value"]) for change in self.store.changes], [1 + sum(sizes[:many]), 1 + sum(sizes[many:])])
 
     def test_all_of_a_put_that_nobody_acknowledges_are_sent_again(self):
         member = self.member()
@@ -258,7 +271,7 @@ class Feeding(Bridging):
         bridge = self.bridge(feeds=False)
         bridge.waiting.patience = 0.1
         self.assertEqual(self.answers(bridge, b"x", b"y"), [b"", b""])
-        bridge.waiting.patience = 30
+        bridge.waiting.patience = PATIENCE
         self.begin(bridge)
         self.assertEqual((self.answer(bridge, b"z"), self.fed()[0].partition(" ")[2], len(self.store.changes)), (b"200 z\n", "z", 1))
 
