@@ -199,7 +199,7 @@ class Machines:
             time.sleep(1)
             self.start_etcd(n)
         elif kind == "desk":
-            self.see("a desk is killed", self.kill_desk(n))
+            self.see("a desk is killed", wait_until(lambda: self.kill_desk(n), step=0.1))   # a node that has just started has none yet
         else:
             self.kill_node(n)
             time.sleep(1)
