@@ -4,7 +4,9 @@ export const STEP = 900;
 
 // of an agent's figures the place of the groups
 const GROUPS = 8;
-const FIGURES = /** @type {const} */ (['entered', 'answered', 'abandoned', 'moved', 'waited', 'within', 'late', 'longest', 'handled', 'handling', 'closed']);
+const FIGURES = /** @type {const} */ (['entered', 'answered', 'abandoned', 'moved', 'waited', 'within', 'late', 'longest', 'handled', 'handling', 'closed',
+  // by the last stay in a queue
+  'answeredStay', 'abandonedStay', 'withinStay', 'lateStay']);
 
 const noSums = () => /** @type {Sums} */ (Object.fromEntries(FIGURES.map(name => [name, 0])));
 
@@ -107,6 +109,9 @@ const share = (part = 0, whole = 0) => whole ? part / whole : null;
 
 // The service level: answered in time, of the answered and those abandoned later, or of the answered alone.
 export const level = ({within, answered, late} = noSums(), alone = false) => share(within, alone ? answered : answered + late);
+
+// The same by the last stay in a queue.
+export const levelByStay = ({withinStay, answeredStay, lateStay} = noSums(), alone = false) => share(withinStay, alone ? answeredStay : answeredStay + lateStay);
 
 export const abandonment = ({abandoned, answered} = noSums()) => share(abandoned, answered + abandoned);
 export const averageWait = ({waited, answered} = noSums()) => share(waited, answered);

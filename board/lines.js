@@ -1,6 +1,6 @@
 // What a view shows of the chosen groups, agents and calls, by the settings and the time.
 import {order} from './desk.js';
-import {abandonment, level, occupancy} from './figures.js';
+import {abandonment, level, levelByStay, occupancy} from './figures.js';
 import {chosenOf, limitsOf, settings} from './settings.js';
 
 // so many percent below its goal a service level is bad
@@ -16,14 +16,14 @@ function shares(sum, {goal, lost: most} = limitsOf()) {
   const reached = level(sum, settings.level === 'answered'), lost = abandonment(sum);
   /** @type {Judge} */
   const judged = (share, missed, far) => share === null ? 'none' : missed <= 0 ? 'calm' : missed > far ? 'bad' : 'long';
-  return {level: reached, levelSeverity: judged(reached, goal - 100 * (reached ?? 0), FAR), lost, lostSeverity: judged(lost, 100 * (lost ?? 0) - most, most)};
+  return {byStay: levelByStay(sum, settings.level === 'answered'), level: reached, levelSeverity: judged(reached, goal - 100 * (reached ?? 0), FAR), lost, lostSeverity: judged(lost, 100 * (lost ?? 0) - most, most)};
 }
 
 /** @param {Looked} looked @returns {GroupLine[]} */
 export function groupLines({state, day, now}) {
   const chosen = chosenOf(), groups = [...state.groups.values()].filter(({id}) => chosen(id)).sort((one, other) => order(one.id, other.id));
   return groups.map(({id, name, priority, waiting, ringing, queued, counts: has, next}) => {
-    const wait = waiting ? Math.max(0, now - queued) : null, limits = limitsOf(id), {sum} = day.line(id), counts = {...noCounts(), ...has};
+    const wait = waiting || ringing ? Math.max(0, now - queued) : null, limits = limitsOf(id), {sum} = day.line(id), counts = {...noCounts(), ...has};
     return {
       rule: state.rules.get(id), id, name: name || id, priority, waiting, ringing, queued, wait, severity: severity(wait, limits), limits,
       counts, loggedOn: Object.values(counts).reduce((all, one) => all + one), next: next ? state.agent(next) : null, ...sum, ...shares(sum, limits),

@@ -24,7 +24,7 @@ export type Report = CallReport | AgentReport;
 
 // the state
 
-/** queued: since when the first of those waits that wait longest; next: the agent who gets the next call */
+/** queued: since when the caller waits who waits longest, in the queue or while it rings; next: the agent who gets the next call */
 export type Group = {id: string, name: string, ring: number, wrap: number, priority: number, waiting: number, ringing: number, queued: number, counts: Partial<Record<Doing, number>>, next: string};
 /** whether a group is closed by its hours, and where rules moved its callers lately */
 export type Rule = {closed?: boolean, to?: string};
@@ -34,8 +34,9 @@ export type Agent = {id: string, name: string, doing: Doing, since: number, grou
 export type Call = {number: number, caller: string, begun: number, state: ConnectionState | 'none', since: number, group: string | null, at: string};
 
 // the day
-/** within: answered in time; late: abandoned later than that; longest: wait of an answered call; handled, handling: calls that agents are done with, and seconds for them; closed: calls that a rule ended */
-export type Sums = Figures & {within: number, late: number, longest: number, handled: number, handling: number, closed: number};
+/** within: answered in time; late: abandoned later than that; longest: wait of an answered call; handled, handling: calls that agents are done with, and seconds for them; closed: calls that a rule ended; the last four are of stays in a queue alone */
+export type Sums = Figures & {within: number, late: number, longest: number, handled: number, handling: number, closed: number,
+  answeredStay: number, abandonedStay: number, withinStay: number, lateStay: number};
 /** top and end: how many more wait than at the day's begin, at most and in the end */
 export type Step = Sums & {top: number, end: number};
 /** a step where it is shown; beside: the same one of another day */
@@ -47,8 +48,8 @@ export type Line = {steps: Map<number, Step>, sum: Sums, balance: number};
 export type Doing = 'ready' | 'ringing' | 'busy' | 'hold' | 'own' | 'workingAfterCall' | 'notReady' | 'null';
 export type Severity = 'none' | 'calm' | 'long' | 'bad';
 export type Limits = {limit: number, goal: number, lost: number, long: number, bad: number};
-export type Share = {level: number | null, levelSeverity: Severity, lost: number | null, lostSeverity: Severity};
-/** wait: of the call that waits longest, since `queued`; next: the agent who gets the next call; level: the share answered in time; lost: the share that gave up */
+export type Share = {byStay: number | null, level: number | null, levelSeverity: Severity, lost: number | null, lostSeverity: Severity};
+/** wait: of the call that waits longest, since `queued`; next: the agent who gets the next call; level: the share answered in time, byStay: the same by the last stay in a queue; lost: the share that gave up */
 export type GroupLine = Sums & Share & {rule: Rule | undefined, id: string, name: string, priority: number, waiting: number, ringing: number, queued: number, wait: number | null, severity: Severity,
   counts: Record<Doing, number>, loggedOn: number, next: Agent | null, limits: Limits};
 /** since: if the figures show it, else 0 */

@@ -151,6 +151,7 @@ next: Next
 afterCall: After-call work
 notReady: Not ready
 inTime: In time
+byStay: In time by stay
 entered: Entered
 answered: Answered
 abandoned: Abandoned
@@ -201,6 +202,12 @@ none: No calls.
 table: As a table
 today: Today
 until: {day} until {time}
+[counted]
+title: How it is counted
+wait: A caller waits from the first entrance into a queue, through all moves, until an agent answers or the caller goes. Who is passed on after a talk waits anew. It counts in the group that the caller entered last.
+level: In time: answered within the limit, of all answered and those who gave up later than the limit.
+lost: Lost: gave up, of all answered and all who gave up. Speed of answer: the average wait of the answered.
+stay: By stay: the same of the last stay in a queue alone, where the wait ended there.
 [chart]
 calls: Calls in a quarter of an hour
 level: In time, {limit}, in percent of {what}

@@ -1,6 +1,6 @@
 // The day by quarters of an hour, as tables and charts; yesterday and the same weekday beside it.
 import {byId, make, put, table} from '../draw.js';
-import {abandonment, averageHandling, averageWait, level, STEP, sumOf} from '../figures.js';
+import {abandonment, averageHandling, averageWait, level, levelByStay, STEP, sumOf} from '../figures.js';
 import {shown} from '../settings.js';
 import {dayOf, number, timeOfDay, word} from '../words.js';
 import {levelOf} from './groups.js';
@@ -15,7 +15,7 @@ const inTime = sum => level(sum, answered);
 const longest = sum => sum.answered ? sum.longest : null;
 /** @type {(Column|string)[]} */
 const FIGURES = [
-  'entered', 'answered', 'abandoned', {head: 'lost', share: abandonment}, 'moved wide', {head: 'inTime', share: inTime},
+  'entered', 'answered', 'abandoned', {head: 'lost', share: abandonment}, 'moved wide', {head: 'inTime', share: inTime}, {head: 'byStay wide', share: sum => levelByStay(sum, answered)},
   {head: 'average wide', seconds: averageWait}, {head: 'longestWait wide', seconds: longest}, {head: 'handling wide', seconds: averageHandling},
   'closed wide',
 ];

@@ -32,6 +32,7 @@ const rows = table('queues-table', [
   {head: 'afterCall wide', text: line => line.counts.workingAfterCall},
   {head: 'notReady wide', text: line => line.counts.notReady},
   judged('inTime least', 'level'),
+  {head: 'byStay wide', share: line => line.byStay},
   'entered wide day', 'answered wide day', 'abandoned wide day',
   judged('lost wide', 'lost'),
   'moved wide day',

@@ -45,7 +45,7 @@ export default {
   filter: {hold: 'Anhalten', states: 'Zustände'},
   head: {
     group: 'Gruppe', state: 'Zustand', waiting: 'Warten', longest: 'Längste', ringing: 'Klingeln', ready: 'Bereit', loggedOn: 'Angemeldet', next: 'Nächster',
-    afterCall: 'Nacharbeit', notReady: 'Nicht bereit', inTime: 'Rechtzeitig', entered: 'Gekommen', answered: 'Angenommen', abandoned: 'Aufgegeben', lost: 'Verlust, %', moved: 'Verlegt',
+    afterCall: 'Nacharbeit', notReady: 'Nicht bereit', inTime: 'Rechtzeitig', byStay: 'Rechtzeitig je Halt', entered: 'Gekommen', answered: 'Angenommen', abandoned: 'Aufgegeben', lost: 'Verlust, %', moved: 'Verlegt',
     average: 'Wartezeit Ø', handling: 'Bearbeitung Ø', priority: 'Vorrang', closed: 'Geschlossen', act: 'Tun', onCalls: 'Im Gespräch', call: 'Anruf', for: 'Seit', at: 'Bei', caller: 'Anrufer',
     whole: 'Insgesamt', time: 'Zeit', number: 'Nummer', event: 'Ereignis', longestWait: 'Längstes Warten', peak: 'Höchstens wartend', day: 'Tag', calls: 'Anrufe', agent: 'Agent', talk: 'Gespräch', missed: 'Verpasst',
   },
@@ -59,6 +59,13 @@ export default {
   },
   calls: {rest: 'und {n} weitere', none: 'Keine Anrufe.'},
   day: {table: 'Als Tabelle', today: 'Heute', until: '{day} bis {time}'},
+  counted: {
+    title: 'Wie gezählt wird',
+    wait: 'Ein Anrufer wartet vom ersten Eintritt in eine Gruppe an, durch alle Verlegungen, bis ein Agent annimmt oder der Anrufer geht. Wer nach einem Gespräch weitergegeben wird, wartet von neuem. Es zählt in der Gruppe, in die der Anrufer zuletzt kam.',
+    level: 'Rechtzeitig: innerhalb der Grenze angenommen, von allen angenommenen und denen, die später als die Grenze aufgaben.',
+    lost: 'Verlust: aufgegeben, von allen angenommenen und allen, die aufgaben. Annahme: die mittlere Wartezeit der angenommenen.',
+    stay: 'Je Halt: dasselbe vom letzten Halt in einer Gruppe allein, wenn das Warten dort endete.',
+  },
   chart: {
     calls: 'Anrufe in einer Viertelstunde',
     level: 'Rechtzeitig, {limit}, in Prozent: {what}',

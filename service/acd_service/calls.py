@@ -13,7 +13,7 @@ from typing import Any, NoReturn, TextIO
 from acd_service import archives, chain, command, sheets
 from acd_service.book import Book, opened
 from acd_service.command import Fault, report
-from acd_service.figures import STEP, Figures, level
+from acd_service.figures import STEP, Figures, Reached
 from acd_service.leaving.records import Call, Records
 from acd_service.office import FILE, Office, counting
 from acd_service.record_days import KINDS, Days, Writer, wanted_from
@@ -25,7 +25,8 @@ LEGS = ["call", "leg", "device", "agent", "group", "begun", "answered_at", "ende
 AGENTS = ["day", "agent", "name", "logged_on", "ready", "talking", "wrap_up", "rings_not_answered", "rings_refused",
           "rings_hung_up", "rings", "calls", "own_calls", "not_ready", "first_on", "last_on", "groups"]
 GROUPS = ["begin", "group", "entered", "answered", "abandoned", "moved", "limit", "in_time", "abandoned_late",
-          "service_level", "waited", "longest", "most_waiting", "handled", "handling"]
+          "service_level", "waited", "longest", "most_waiting", "handled", "handling", "answered_by_stay",
+          "abandoned_by_stay", "in_time_by_stay", "late_by_stay", "service_level_by_stay"]
 # the columns that --names adds for those that have numbers, and of what these are
 NAMES = {"groups": ("group_names", "groups"), "group": ("group_name", "groups"), "agent": ("agent_names", "agents"),
          "rung": ("rung_names", "agents")}
@@ -85,13 +86,17 @@ def group_rows(figures: Figures, waited: Mapping[str, int], begin: int, end: int
     found = [(number, group, has, most) for group in figures.groups.keys() | waited.keys()
              for number, has, most in figures.steps(group, waited.get(group, 0), begin // STEP, end // STEP)]
     for number, group, has, most in sorted(found, key=lambda one: (one[0], int("1" + one[1]))):
-        answered, abandoned, limit = len(has.answers), len(has.losses), limit_of(group)
-        if has.entered or answered or abandoned or has.moved or most or has.handled:
-            in_time, late = has.in_time(limit), has.late(limit)
-            share = level(in_time, answered, late)
-            yield number * STEP, [when(number * STEP), group, has.entered, answered, abandoned, has.moved,
-                                  f"{limit:g}", in_time, late, "" if share is None else share, sum(has.answers),
-                                  max(has.answers, default=""), most, has.handled, has.handling]
+        limit, counts = limit_of(group), (has.entered, len(has.answers), len(has.losses), has.moved)
+        if any(counts) or most or has.handled:
+            by_stay = len(has.stays_answered), len(has.stays_lost)
+            yield number * STEP, [when(number * STEP), group, *counts, f"{limit:g}",
+                                  *shown(has.reached(limit)), sum(has.answers),
+                                  max(has.answers, default=""), most, has.handled, has.handling, *by_stay,
+                                  *shown(has.reached_by_stay(limit))]
+
+
+def shown(found: Reached) -> Row:
+    return [found.within, found.late, "" if found.level is None else found.level]
 
 
 class Form:
@@ -184,6 +189,11 @@ def follow(book: Book, records: Records | None, figures: Figures | None, write_c
     return end
 
 
+def figures_of(book: Book) -> Figures:
+    """Of the events of a book, which are still to come."""
+    return Figures(at=None if book.begins() is None else book.logged_on_before())
+
+
 def group_rows_of(book: Book, figures: Figures, end: int, limit_of: Callable[[str], float]) -> Iterator[
         tuple[int, Row]]:
     """The rows of a book's groups, up to a moment."""
@@ -216,7 +226,7 @@ class Printed:
             sys.stdout.write(sheets.MARK)
         self.writer.writerow(self.form.head(columns))
         if self.options.table == "groups":
-            figures = Figures()
+            figures = figures_of(book)
             end = follow(book, None, figures, lambda call: None)
             for begin, row in group_rows_of(book, figures, end, self.office.limit_of):
                 self.put(columns, begin, row)
@@ -257,7 +267,7 @@ def book_of(file: Path, options: argparse.Namespace, folder: Path, since: dateti
 def write_days(folder: Path, book: Book, office: Office, form: Form, names: Names, made: int) -> bool:
     """The files of the days that are over. Returns whether none is missing."""
     heads = {kind: form.head(columns) for kind, columns in zip(KINDS, (CALLS, AGENTS, GROUPS))}
-    records, figures = Records(book), Figures()
+    records, figures = Records(book), figures_of(book)
     end, begins = made or book.last_moment(), book.begins()
     # an older archive has the beginning of the first request's day
     first = datetime.date.min if begins is None else datetime.date.fromtimestamp(begins) + datetime.timedelta(days=1)

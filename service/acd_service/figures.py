@@ -7,17 +7,31 @@ from __future__ import annotations
 import math
 from array import array
 from collections import defaultdict
-from collections.abc import Iterator
+from collections.abc import Iterator, Mapping
 from dataclasses import dataclass, field
+from typing import NamedTuple
 
 from acd_service.events import Event
+from acd_service.waits import End, Ended, Waits
 
 STEP = 900
-# the wait of a call that entered before the first event that was counted: longer than any limit
-EVER = (1 << 32) - 1
 # what an agent does from each event on, for the agent's figures
 DOES = {"agentBusy": "talk", "agentWorkingAfterCall": "afterCall", "agentReady": "ready", "agentNotReady": "notReady",
         "agentLoggedOn": "notReady"}
+
+
+class Reached(NamedTuple):
+    """How many were answered within a limit, how many gave up later than that, and the service level: in whole
+    percent, of those that were answered, or gave up later, so many were answered within it."""
+    within: int
+    late: int
+    level: int | None
+
+
+def reached(answers: array[int], losses: array[int], limit: float) -> Reached:
+    within, late = sum(wait <= limit for wait in answers), sum(wait > limit for wait in losses)
+    counted = len(answers) + late
+    return Reached(within, late, math.floor(100 * (within / counted) + 0.5) if counted else None)
 
 
 def no_waits() -> array[int]:
@@ -27,8 +41,9 @@ def no_waits() -> array[int]:
 @dataclass(eq=False)
 class Quarter:
     """`answers` are the waits of those that were answered, `losses` of those who gave up, without those of whom
-    somebody says that they were `closed`; `top` and `end` how many more wait than before the first event, at most and
-    in the end."""
+    somebody says that they were `closed`; `stays_answered` and `stays_lost` those of their last stay in the queue,
+    where the wait ended there; `top` and `end` how many more wait than before the first event, at most and in the
+    end."""
     entered: int = 0
     moved: int = 0
     closed: int = 0
@@ -38,21 +53,28 @@ class Quarter:
     end: int = 0
     answers: array[int] = field(default_factory=no_waits)
     losses: array[int] = field(default_factory=no_waits)
+    stays_answered: array[int] = field(default_factory=no_waits)
+    stays_lost: array[int] = field(default_factory=no_waits)
 
-    def in_time(self, limit: float) -> int:
-        """How many were answered within the limit."""
-        return sum(wait <= limit for wait in self.answers)
+    def add(self, ended: Ended) -> None:
+        """A wait that was answered, or lost."""
+        is_answer = ended.how is End.ANSWERED
+        (self.answers if is_answer else self.losses).append(ended.seconds)
+        if ended.of_stay is not None:
+            (self.stays_answered if is_answer else self.stays_lost).append(ended.of_stay)
 
-    def late(self, limit: float) -> int:
-        """How many gave up later than that."""
-        return sum(wait > limit for wait in self.losses)
+    def close(self, ended: Ended) -> None:
+        """Of a wait that counts as lost a rule ended the call."""
+        self.losses.remove(ended.seconds)
+        if ended.of_stay is not None:
+            self.stays_lost.remove(ended.of_stay)
+        self.closed += 1
 
+    def reached(self, limit: float) -> Reached:
+        return reached(self.answers, self.losses, limit)
 
-def level(in_time: int, answered: int, late: int) -> int | None:
-    """The service level in whole percent: of those that were answered, or gave up later than the limit, so many were
-    answered within it."""
-    counted = answered + late
-    return math.floor(100 * (in_time / counted) + 0.5) if counted else None
+    def reached_by_stay(self, limit: float) -> Reached:
+        return reached(self.stays_answered, self.stays_lost, limit)
 
 
 @dataclass(eq=False)
@@ -71,20 +93,20 @@ class AgentFigures:
 
 
 class Figures:
-    """What is of `begin` or later. A call is counted in the group where it waits, is answered, moved or given up, and
-    handled where its talk and the after-call work right after it end. `changed` are group and number of the quarters
-    that changed, `touched` the agents whose figures did."""
+    """What is of `begin` or later. A wait is counted in the group where it ends, as a whole; a stay in a queue where
+    the call enters it, or is moved; and a call is handled where its talk and the after-call work right after it end.
+    `changed` are group and number of the quarters that changed, `touched` the agents whose figures did; `at` says who
+    was logged on at a station before the first event."""
 
-    def __init__(self, begin: float = -math.inf) -> None:
+    def __init__(self, begin: float = -math.inf, at: Mapping[str, str] | None = None) -> None:
         self.begin = begin
+        self.waits = Waits(at)
         self.moment = 0
         self.groups: defaultdict[str, dict[int, Quarter]] = defaultdict(dict)
         self.agents: dict[str, AgentFigures] = {}
         self.balance: defaultdict[str, int] = defaultdict(int)
         self.changed: set[tuple[str, int]] = set()
         self.touched: set[str] = set()
-        # since when calls wait
-        self.queued: dict[int, int] = {}
         # stations whose agent's next event follows an answered call of a group, or an offer without an answer
         self.answered: dict[str, str] = {}
         self.missed: set[str] = set()
@@ -94,17 +116,17 @@ class Figures:
     def take(self, event: Event) -> None:
         """The next event."""
         self.moment = event.moment
-        if event.moment >= self.begin:
-            if event.agent is not None:
-                self.take_agent(event, event.agent)
-            else:
-                self.take_call(event)
-        if event.call is None:
+        ended = self.waits.take(event)
+        if event.moment < self.begin:
             return
-        if event.kind == "queued" and event.cause != "noAnswer":
-            self.queued[event.call] = event.moment
-        elif event.kind == "callCleared":
-            self.queued.pop(event.call, None)
+        if event.agent is not None:
+            self.take_agent(event, event.agent)
+        else:
+            self.take_call(event)
+        if ended is not None and ended.how is not End.LEFT:
+            self.end(event, ended)
+        if event.kind == "callCleared":
+            self.cleared.clear()
 
     def quarter(self, group: str, moment: int) -> Quarter:
         """The quarter of an hour of this moment, which is about to change."""
@@ -122,7 +144,7 @@ class Figures:
         quarter.top = max(quarter.top, quarter.end)
 
     def take_call(self, event: Event) -> None:
-        moment, kind, device, _, _, group, _, cause, waited = event
+        moment, kind, device, _, _, group, _, cause, _ = event
         if kind == "queued":
             if cause != "noAnswer":
                 self.quarter(device or "", moment).entered += 1
@@ -131,11 +153,10 @@ class Figures:
             self.take_diversion(moment, device or "", group, cause)
         elif kind == "established" and group is not None:
             self.answered[device or ""] = group
-            self.quarter(group, moment).answers.append(waited or 0)
         elif kind == "connectionCleared":
             self.cleared.append(device or "")
-        elif kind == "callCleared":
-            self.take_clearing(event)
+        elif kind == "callCleared" and group is not None and group in self.cleared:
+            self.change(moment, group, -1)
 
     def take_diversion(self, moment: int, device: str, group: str | None, cause: str | None) -> None:
         if group == device:
@@ -145,18 +166,9 @@ class Figures:
         if cause == "noAnswer":
             self.missed.add(device)
 
-    def take_clearing(self, event: Event) -> None:
-        moment, group = event.moment, event.group
-        if group is not None:
-            since = self.queued.get(event.call or 0)
-            self.lose(event.call or 0, group, moment, EVER if since is None else moment - since)
-            if group in self.cleared:
-                self.change(moment, group, -1)
-        self.cleared.clear()
-
-    def lose(self, call: int, group: str, moment: int, wait: int) -> None:
-        """A call ends that waited."""
-        self.quarter(group, moment).losses.append(wait)
+    def end(self, event: Event, ended: Ended) -> None:
+        """A wait ends."""
+        self.quarter(ended.group, event.moment).add(ended)
 
     def take_agent(self, event: Event, number: str) -> None:
         moment, kind, device = event.moment, event.kind, event.device or ""

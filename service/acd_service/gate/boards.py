@@ -11,7 +11,7 @@ from itertools import count
 from typing import NamedTuple
 
 from acd_service.command import report
-from acd_service.events import event_of
+from acd_service.events import Event, event_of
 from acd_service.figures import STEP, Figures
 from acd_service.gate import lines
 from acd_service.gate.days import beginning
@@ -19,11 +19,13 @@ from acd_service.gate.desk import Away
 from acd_service.gate.ruled import OVERFLOWS, Ruled, is_of_group
 from acd_service.gate.state import State, Text
 from acd_service.gate.tables import Recent, Table, Tables
+from acd_service.waits import Ended
 
 # events that a board is shown; days that are counted, and what boards may want to see, at a time
 RECENT, MOST_DAYS, MOST_VIEWS = 4000, 32, 64
-# seconds of a limit, where a board names none, and until the desk is asked again where it doesn't answer
-LIMIT, AGAIN = 20.0, 1
+# seconds of a limit, where a board names none, and until the desk is asked again where it doesn't answer; and so many
+# seconds of events before a day say since when its first callers wait
+LIMIT, AGAIN, EARLIER = 20.0, 1, 4 * 3600.0
 Read = Callable[[str], Awaitable[list[Text]]]
 
 
@@ -39,8 +41,8 @@ class Sight(NamedTuple):
 
     @property
     def reach(self) -> float:
-        """The greatest limit: since when calls wait has to be known of so many seconds before the day."""
-        return max((limit for _, limit in self.limits), default=LIMIT)
+        """Since when calls wait is known of so many seconds before the day: those of each limit at least."""
+        return max(EARLIER, *(limit for _, limit in self.limits), LIMIT)
 
 
 # a limit as a board's address has it, a day in seconds since 1970, and other days
@@ -74,15 +76,15 @@ class Day(Figures):
     before the first; `whole` says whether it has all up to the present, or to its end, and `is_known` is False where
     its beginning is in another file."""
 
-    def __init__(self, begin: int, end: float, reach: float) -> None:
-        super().__init__(begin)
-        self.end, self.reach = end, reach
+    def __init__(self, begin: int, until: float, reach: float, at: Mapping[str, str] | None = None) -> None:
+        super().__init__(begin, at)
+        self.until, self.reach = until, reach
         self.last: int | None = None
         self.first = 0
         self.reading: asyncio.Task[None] | None = None
         self.whole, self.is_known = False, True
-        # calls that ended at their group, where callers who give up do not end it: group, quarter, and wait
-        self.suspects: dict[int, tuple[str, int, int]] = {}
+        # calls that ended at their group, where callers who give up do not end it: the moment, and the wait
+        self.suspects: dict[int, tuple[int, Ended]] = {}
         # when a call was moved at its group last
         self.moved = 0
         self.numbers: dict[str, int] = {}
@@ -94,23 +96,22 @@ class Day(Figures):
         self.quarters_of_course.append(moment // STEP)
         self.course.append(by * self.numbers.setdefault(group, len(self.numbers) + 1))
 
-    def lose(self, call: int, group: str, moment: int, wait: int) -> None:
-        super().lose(call, group, moment, wait)
-        if self.cleared and self.cleared[0] == group:
-            self.suspects[call] = group, moment // STEP, wait
+    def end(self, event: Event, ended: Ended) -> None:
+        super().end(event, ended)
+        if event.call is not None and self.cleared and self.cleared[0] == ended.group:
+            self.suspects[event.call] = event.moment, ended
 
     def judge(self, suspects: Iterable[int], ended: Set[int]) -> None:
         """Of these calls rules ended some: nobody gave up."""
         for call in suspects:
-            group, number, wait = self.suspects.pop(call, ("", 0, 0))
-            if group and call in ended:
-                quarter = self.quarter(group, number * STEP)
-                quarter.losses.remove(wait)
-                quarter.closed += 1
+            found = self.suspects.pop(call, None)
+            if found is not None and call in ended:
+                moment, wait = found
+                self.quarter(wait.group, moment).close(wait)
 
     def take_report(self, told: Text) -> None:
         self.last = told["number"]
-        if told["moment"] < self.end:
+        if told["moment"] < self.until:
             self.take(event_of(told))
         if is_of_group(told):
             self.moved = told["moment"]
@@ -120,17 +121,25 @@ class Day(Figures):
         it was broken off."""
         if self.last is None:
             begin = self.begin - self.reach - 1
-            self.first, self.is_known = await beginning(lambda after: events(f"/events?after={after}"), last(), begin)
+            self.first, is_whole = await beginning(lambda after: events(f"/events?after={after}"), last(), begin)
             self.last = self.first
+            self.is_known = is_whole or await self.has_earlier(events)
+            if not self.first or self.until < math.inf:
+                self.waits.at.clear()   # nobody was logged on yet; of another day, nobody at its midnight is the guess
         while self.last < last():
             page = await events(f"/history?after={self.last}")
             for told in page:
                 if told["number"] <= last():
                     self.take_report(told)
-            if not page or page[-1]["moment"] >= self.end:
+            if not page or page[-1]["moment"] >= self.until:
                 break
             await asyncio.sleep(0)
         self.whole = True
+
+    async def has_earlier(self, events: Read) -> bool:
+        """Whether the file has events of before the day, where it begins later than its reach."""
+        page = await events(f"/events?after={self.first}")
+        return bool(page) and page[0]["moment"] < self.begin
 
     def share(self, last: int) -> float:
         """How much of it has been read; 1 once it is whole."""
@@ -281,7 +290,7 @@ class Boards:
         if key not in self.days:
             if len(self.days) >= MOST_DAYS:
                 raise TooMany
-            day = self.days[key] = Day(*key)
+            day = self.days[key] = Day(*key, self.state.logged_on())
             day.reading = self.start(lambda: day.read(self.events, lambda: self.state.last))
         return self.days[key]
 
@@ -310,7 +319,7 @@ class Boards:
     async def judged(self, days: list[Day], now: int) -> None:
         suspects = [(day, list(day.suspects)) for day in days]
         until = max((day.moved for day in days), default=0)
-        begins = [number * STEP for day in days for _, number, _ in day.suspects.values()]
+        begins = [moment for day in days for moment, _ in day.suspects.values()]
         await self.ruled.read(min([now - OVERFLOWS, *begins]))
         self.ruled.until = until
         for day, calls in suspects:

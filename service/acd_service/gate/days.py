@@ -7,8 +7,10 @@ from collections import deque
 from collections.abc import Awaitable, Callable
 from dataclasses import dataclass, field
 
+from acd_service.events import event_of
 from acd_service.gate.state import State, Text
 from acd_service.gate.texts import without_nothing
+from acd_service.waits import Waits
 
 # reports of before midnight say who is logged on where, and who talks
 EARLIER = 4 * 3600
@@ -45,6 +47,7 @@ class Days:
         self.at: dict[str, str | None] = {}
         self.offers: dict[str, tuple[int, int]] = {}
         self.talks: dict[int, dict[str, tuple[int, str | None]]] = {}
+        self.waits = Waits()
         self.begins, self.ends = midnight(moment), midnight(moment, 1)
 
     def roll(self, moment: float) -> bool:
@@ -67,6 +70,7 @@ class Days:
         """The next report; state is the desk before it, or a later one, and says who calls, and who is where as long as
         no report did."""
         self.last = report["number"]
+        self.waits.take(event_of(report))
         self.roll(report["moment"])
         if "agent" in report:
             self.take_agent(report, report["moment"])

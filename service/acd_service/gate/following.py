@@ -220,10 +220,13 @@ class Following:
             if days.last is None:
                 days.last, _ = await beginning(lambda after: self.events(f"/events?after={after}"), state.last,
                                                days.begins - EARLIER)
+                days.waits.at = state.logged_on()
             for report in await self.events(f"/history?after={days.last}") if days.last < state.last else []:
                 days.take(report, state)
             is_new = days.last >= state.last and not days.whole
             days.whole |= is_new
+            if is_new:
+                state.learn_waits(days.waits)
             if days.roll(self.clock()) or is_new:
                 self.change_all(names=False)
 

@@ -28,12 +28,13 @@ def waits_since(call: Call) -> int:
 
 
 def group_line(state: State, group: Group) -> str:
-    """`queued` is since when the first of those waits that wait longest, `next` the agent who gets the next call."""
+    """`queued` is since when the caller waits who waits longest, in the queue or while it rings; `next` the agent who
+    gets the next call."""
     agents = [state.agents[number] for number in group.agents]
     eligible = [agent for agent in agents if state.is_eligible(agent.id)]
     following = min(eligible, key=lambda agent: (agent.rank, len(agent.id), agent.id), default=None)
     counts = Counter(state.doing(agent).doing for agent in agents)
-    queued = min((waits_since(call) for call in group.waiting), default=None)
+    queued = min((waits_since(call) for call in group.waiting | group.ringing), default=None)
     return as_text(without_zeros(name=group.name, ring=group.ring, wrap=group.wrap, priority=group.priority,
                                  waiting=len(group.waiting), ringing=len(group.ringing), counts=counts,
                                  next=following and following.id) | without_nothing(queued=queued))
@@ -96,10 +97,13 @@ def names_text(state: State) -> str:
 
 def figures_of(quarter: Quarter, limit: float) -> list[int]:
     """Entered, answered, abandoned, moved, waited, answered within the limit, abandoned later, the longest wait of an
-    answered call, calls that agents are done with, seconds for them, and calls that a rule ended."""
-    return [quarter.entered, len(quarter.answers), len(quarter.losses), quarter.moved, sum(quarter.answers),
-            quarter.in_time(limit), quarter.late(limit), max(quarter.answers, default=0), quarter.handled,
-            quarter.handling, quarter.closed]
+    answered call, calls that agents are done with, seconds for them, and calls that a rule ended; then by the last stay
+    in a queue answered, abandoned, answered within the limit, and abandoned later."""
+    within, late, _ = quarter.reached(limit)
+    within_stay, late_stay, _ = quarter.reached_by_stay(limit)
+    return [quarter.entered, len(quarter.answers), len(quarter.losses), quarter.moved, sum(quarter.answers), within,
+            late, max(quarter.answers, default=0), quarter.handled, quarter.handling, quarter.closed,
+            len(quarter.stays_answered), len(quarter.stays_lost), within_stay, late_stay]
 
 
 def sum_of(quarters: Iterable[list[int]]) -> list[int]:

@@ -2,8 +2,11 @@
 from __future__ import annotations
 
 from collections.abc import Callable, Iterable
-from dataclasses import dataclass, field
+from dataclasses import dataclass, field, replace
 from typing import Any, NamedTuple, TypeVar
+
+from acd_service.events import event_of
+from acd_service.waits import Waits
 
 # a snapshot ranks by stamps, of at most 1000000000; less EARLIER they come before all numbers of events, which rank
 # later things
@@ -76,7 +79,8 @@ class Doing(NamedTuple):
 
 @dataclass(eq=False)
 class Call:
-    """`ended` is the number of the report that began to clear it."""
+    """`queued` is since when the caller waits, or waited before somebody answered; `ended` the number of the report
+    that began to clear it."""
     number: int
     since: int
     caller: str | None = None
@@ -121,6 +125,7 @@ class State:
         self.renamed = False
         self.unknown: set[str] = set()
         self.leaving: dict[str, int] = {}
+        self.waits: Waits = before.waits if before else Waits()
         if snapshot is not None:
             self.begin(snapshot, before)
 
@@ -140,6 +145,7 @@ class State:
             self.assign_groups(agent, text)
         for text in snapshot["calls"]:
             self.begin_call(text, before)
+        self.waits.at = self.logged_on()
         self.touched, self.dirty, self.moved = set(), set(), set()
 
     def log_on_of(self, agent: Agent, before: State | None) -> int | None:
@@ -155,12 +161,17 @@ class State:
         known = before.calls.get(call.number) if before else None
         if known is not None:
             call.queued = known.queued
+        if call.caller in self.stations:
+            self.waits.made.add(call.number)
         for one in text["connections"]:
             device, state = one["device"], one["state"]
             call.rank = one["place"] - EARLIER if "place" in one else call.rank
-            call.queued = one.get("queued", call.queued)
+            call.queued = one.get("queued") if call.queued is None else call.queued
             since = one.get("offered") or self.since_when(call, device, state, known)
-            self.put(call, device, state, device if state == "queued" else one.get("group"), since)
+            group = device if state == "queued" else one.get("group")
+            self.put(call, device, state, group, since)
+            if group is not None and known is None:
+                self.waits.meet(call.number, group, one.get("queued"))
 
     def since_when(self, call: Call, device: str, state: str, known: Call | None) -> int:
         """Since when a connection is as a snapshot shows it, which doesn't say so."""
@@ -197,6 +208,7 @@ class State:
         if report["number"] <= self.last:
             return
         self.last, self.moment = report["number"], report["moment"]
+        self.waits.take(event_of(report))
         if "agent" in report:
             self.change_agent(report)
         else:
@@ -262,7 +274,7 @@ class State:
 
     def enqueue(self, call: Call, report: Text) -> None:
         if report["cause"] != "noAnswer":
-            call.rank, call.queued = report["number"], report["moment"]
+            call.rank, call.queued = report["number"], self.waits.since(call.number)
         self.put(call, report["device"], "queued", report["device"], report["moment"])
 
     def put(self, call: Call, device: str, state: str, group: str | None, since: int) -> None:
@@ -312,6 +324,18 @@ class State:
             self.assign_groups(agent, text)
             self.touched.add(agent.id)
 
+    def learn_waits(self, waits: Waits) -> None:
+        """Takes over since when callers wait, which a snapshot doesn't say of who was moved before."""
+        for number, wait in waits.calls.items():
+            call = self.calls.get(number)
+            if call is None or wait.since is None:
+                continue
+            self.waits.calls[number] = replace(wait)
+            if not wait.over and call.queued != wait.since:
+                call.queued = wait.since
+                self.mark(call)
+        self.waits.made |= waits.made & self.calls.keys()
+
     def callers_unknown(self) -> list[int]:
         """The calls whose caller no report named."""
         return [call.number for call in self.calls.values() if call.caller is None or call.called is None]
@@ -321,6 +345,10 @@ class State:
         station = self.stations.get(agent.station) if agent.station else None
         calls = [self.calls[call] for call in sorted(station.calls) if call in self.calls] if station else []
         return [call.connections[agent.station] for call in calls if agent.station in call.connections]
+
+    def logged_on(self) -> dict[str, str]:
+        """The agents by their stations."""
+        return {station.id: station.agent for station in self.stations.values() if station.agent is not None}
 
     def is_eligible(self, number: str) -> bool:
         """Whether the desk may offer a call to the agent."""

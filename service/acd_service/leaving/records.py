@@ -5,6 +5,7 @@ from collections import defaultdict
 from dataclasses import dataclass, field
 
 from acd_service.book import Fault
+from acd_service.waits import Waits
 
 # what a call's event makes of the connection at its device
 STATES = {"serviceInitiated": "initiated", "originated": "connected", "queued": "queued", "delivered": "alerting", "established": "connected", "held": "hold",
@@ -82,7 +83,6 @@ class Call:
         legs = self.at.values()
         states = [leg.state for leg in legs]
         are_talking = states == ["connected", "connected"]
-        self.waited += seconds * ("queued" in states or "offered" in states)
         self.talked += seconds * are_talking
         self.held += seconds * ("hold" in states)
         for leg in legs:
@@ -145,13 +145,17 @@ class Records:
         if book.begins() is not None:
             self.at = book.logged_on_before()
             self.first = self.meet() or math.inf
+        self.waits = Waits(self.at)
 
     def take(self, event):
         moment, kind, device, call, agent, group, to, cause, _ = event
+        ended = self.waits.take(event)
         if agent is not None:
             self.take_agent(moment, kind, device, agent)
         elif call >= self.first:
             self.take_call(moment, kind, device, self.known(call), group, to, cause)
+            if ended is not None:
+                self.calls[call].waited += ended.seconds
 
     def known(self, number):
         """The call of a number; those that came before its first event are known then."""
@@ -254,6 +258,7 @@ class Records:
         for call in self.calls.values():
             if call.ended_at is None:
                 call.pass_to(moment)
+                call.waited += self.waits.so_far(call.number, moment)
         for number, agent in self.agents.items():
             self.pass_to(moment, number, agent)
 

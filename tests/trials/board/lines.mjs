@@ -1,7 +1,7 @@
 // What the pages make of the lines that a gate tells, without a browser: figures beside those of another program, calls and names beside the desk's.
 import {reckoned} from './page.mjs';
 
-const FIGURES = ['entered', 'answered', 'abandoned', 'moved', 'waited', 'within', 'late', 'longest', 'handled', 'handling'];
+const FIGURES = ['entered', 'answered', 'abandoned', 'moved', 'waited', 'within', 'late', 'longest', 'handled', 'handling', 'answeredStay', 'abandonedStay', 'withinStay', 'lateStay'];
 const OF_AGENT = {calls: 'calls', missed: 'missed', talk: 'talk', afterCall: 'work', ready: 'ready', notReady: 'notReady'};
 
 /** Takes the events of a stream, the picture first, until it has what is wanted. */

@@ -62,13 +62,13 @@ async function wrongNumbers(desk, view, {tiles, rows, moment}, {groups, limits})
   const stations = new Map(snapshot.stations.map(station => [station.device, station])), serves = agent => !groups.length || (agent.groups ?? [agent.group]).some(group => groups.includes(group));
   const staff = snapshot.agents.filter(agent => agent.state !== 'null' && serves(agent)), ready = staff.filter(agent => agent.state === 'ready' && !stations.get(agent.device).connections.some(one => one.state !== 'fail'));
   const names = new Map(snapshot.groups.map(group => [view === 'wall' ? group.name : `${group.name} (${group.device})`, group.device])), sum = place => report.reduce((all, line) => all + Number(line[place]), 0);
-  const longest = text => text === '-' ? null : Number(text), tile = name => (tiles.find(one => one[0].startsWith(name)) ?? ['', '', '']).map(plain), all = {...NONE, ...day.groups.all};
+  const longest = group => group in day.waiting ? moment - day.waiting[group] : null, most = of => of.reduce((found, one) => one === null ? found : Math.max(found ?? 0, one), null), tile = name => (tiles.find(one => one[0].startsWith(name)) ?? ['', '', '']).map(plain), all = {...NONE, ...day.groups.all};
   see('Waiting', tile('Waiting').slice(1), [sum(1), sum(2) ? `and ${sum(2)} ringing` : '']);
-  near('Longest wait', seconds(tile('Longest wait')[1]), report.map(line => longest(line[8])).reduce((most, one) => one === null ? most : Math.max(most ?? 0, one), null));
+  near('Longest wait', seconds(tile('Longest wait')[1]), most(report.map(([group]) => longest(group))));
   see('Agents ready', tile('Agents ready').slice(1), [ready.length, `of ${staff.length} logged on`]);
   see('In time', tile('In time')[1], level(all));
-  see('Abandoned', tile('Abandoned').slice(1), [sum(5), `${lost(all)} goal 5%`]);
-  see('Answered', tile('Answered')[1], sum(4));
+  see('Abandoned', tile('Abandoned').slice(1), [all.abandoned, `${lost(all)} goal 5%`]);
+  see('Answered', tile('Answered')[1], all.answered);
   see('the averages', [tile('Speed')[1], tile('Handling')[1]].map(seconds), [average(all.waited, all.answered), average(all.handling, all.handled)]);
   const spent = Object.entries(day.agents).filter(([id]) => staff.some(({agent}) => agent === id) || !groups.length).map(([, of]) => [(of.talk ?? 0) + (of.work ?? 0), of.ready ?? 0]).reduce(([busy, free], [more, other]) => [busy + more, free + other], [0, 0]);
   if (!groups.length) near('Occupancy', Number(tile('Occupancy')[1].replace('%', '')), 100 * spent[0] / (spent[0] + spent[1]), 1);
@@ -76,13 +76,16 @@ async function wrongNumbers(desk, view, {tiles, rows, moment}, {groups, limits})
   for (const row of rows) {
     const group = names.get(row[0]), line = report.find(one => one[0] === group) ?? [], of = {...NONE, ...day.groups[group]}, here = agent => (agent.groups ?? [agent.group]).includes(group), free = `${ready.filter(here).length} / ${staff.filter(here).length}`;
     see(`${row[0]}: waiting`, row[2], line[1]);
-    near(`${row[0]}: longest`, seconds(row[3]), longest(line[8]));
+    near(`${row[0]}: longest`, seconds(row[3]), longest(group));
     if (view === 'wall') { see(`${row[0]}: ready, in time`, [row[4], plain(row[6])], [free, level(of)]); continue; }
     const next = (await desk.get(`/queues/${group}`)).ready[0], named = snapshot.agents.find(agent => agent.agent === next)?.name ?? '–';
     see(`${row[0]}: ringing, ready, next, in time`, [row[4], row[5], row[7], plain(row[11])], [line[2], free, named, level(of)]);
-    see(`${row[0]}: entered, answered, abandoned, moved`, [12, 13, 14, 16].map(place => plain(row[place])), line.slice(3, 7));
-    see(`${row[0]}: abandoned, in percent`, plain(row[15]), lost(of));
-    see(`${row[0]}: average, handling`, [seconds(row[17]), seconds(row[18])], [line[7] === '-' ? null : Number(line[7]), average(of.handling, of.handled)]);
+    see(`${row[0]}: in time by stay`, plain(row[12]), percent(of.withinStay ?? 0, (of.answeredStay ?? 0) + (of.lateStay ?? 0)));
+    see(`${row[0]}: entered, answered, abandoned, moved`, [13, 14, 15, 17].map(place => plain(row[place])), [of.entered, of.answered, of.abandoned, of.moved]);
+    // the desk's own report counts stays in queues
+    see(`${row[0]}: the report`, [of.entered, of.answeredStay ?? 0, of.abandonedStay ?? 0, of.moved], line.slice(3, 7));
+    see(`${row[0]}: abandoned, in percent`, plain(row[16]), lost(of));
+    see(`${row[0]}: average, handling`, [seconds(row[18]), seconds(row[19])], [average(of.waited, of.answered), average(of.handling, of.handled)]);
   }
   return wrong;
 }

@@ -89,14 +89,14 @@ def shape_of_snapshot(snapshot):
     for call in snapshot["calls"]:
         for side in call["connections"]:
             if side["state"] == "queued":
-                queues[side["device"]].append((side["place"], call["call"], side["queued"]))
+                queues[side["device"]].append((side["place"], call["call"]))
     return {
         "agents": {one["agent"]: (one["state"], one["since"], one["device"], one.get("groups") or [one["group"]]) for one in snapshot["agents"] if "device" in one},
         "stations": {one["device"]: one["agent"] for one in snapshot["stations"] if "agent" in one},
         "calls": {call["call"]: sorted((side["device"], side["state"], side.get("group")) for side in call["connections"] if side["device"] in planned) for call in snapshot["calls"]},
         "callers": {call["call"]: (call["caller"], call["called"]) for call in snapshot["calls"]},
         "offers": {(call["call"], side["device"]): side["offered"] for call in snapshot["calls"] for side in call["connections"] if "offered" in side},
-        "queues": {group: [(call, queued) for _, call, queued in sorted(found)] for group, found in queues.items() if found},
+        "queues": {group: [call for _, call in sorted(found)] for group, found in queues.items() if found},
     }
 
 
@@ -109,7 +109,7 @@ def shape_of_state(state):
         "calls": {number: sorted((side.device, side.state, side.group if side.state != "queued" else None) for call, side in sides if call.number == number) for number in state.calls},
         "callers": {call.number: (call.caller, call.called) for call in state.calls.values()},
         "offers": {(call.number, side.device): side.since for call, side in sides if side.state == "alerting" and side.group},
-        "queues": {group.id: [(call.number, call.queued) for call in sorted(group.waiting, key=lambda call: call.rank)] for group in state.groups.values() if group.waiting},
+        "queues": {group.id: [call.number for call in sorted(group.waiting, key=lambda call: call.rank)] for group in state.groups.values() if group.waiting},
     }
 
 

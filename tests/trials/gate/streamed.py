@@ -13,7 +13,7 @@ from acd_service.gate.boards import RECENT, Sight
 from acd_service.gate.streams import Stream
 
 LIMIT, EACH, LOSSES, PAGES = 7, 50, 1000, 12
-FIGURES = ("entered", "answered", "abandoned", "moved", "waited", "within", "late", "longest", "handled", "handling", "closed")
+FIGURES = ("entered", "answered", "abandoned", "moved", "waited", "within", "late", "longest", "handled", "handling", "closed", "answeredStay", "abandonedStay", "withinStay", "lateStay")
 ALONE = ("ready", "workingAfterCall", "notReady", "busy")
 MEMBERS = ("answered", "clock", "live")
 
@@ -74,7 +74,7 @@ class Streamed(Trial):
     async def beside_the_desk(self, lines, begun, groups):
         """Begun at some request, and carried on to the end of the day without a new snapshot; its day counts from a quarter of an hour after the first, and another one from the first."""
         desk = self.enterContext(Asked(self.program))
-        follower, events, compared, begin = following.Following(desk.ask), [], 0, int(lines[0].split()[0]) + 900
+        follower, events, compared, begin = following.Following(desk.ask, clock=lambda: float(desk.moment)), [], 0, int(lines[0].split()[0]) + 900
         sights = [Sight(begin, (("", float(LIMIT)),), groups, frozenset({"day"})), Sight(0)]
         for number, line in enumerate(lines, 1):
             desk.say(line)
@@ -82,6 +82,9 @@ class Streamed(Trial):
                 continue
             follower.renewed = float("inf") if events else 0
             state = await follower.catch_up()
+            while not follower.days.whole:
+                await follower.read_day()
+            follower.settle(True)
             events += self.new_events(desk, events[-1]["number"] if events else 0)
             views = [follower.streams.see(sight, state) for sight in sights]
             while follower.streams.boards.tasks:
@@ -89,15 +92,16 @@ class Streamed(Trial):
             follower.number += 1
             follower.streams.boards.turn(follower.number)
             day, whole = ({name: json.loads(table.whole()) for name, table in view.tables.items()} for view in views)
-            compared += self.compare_state(f"behind request {number}", desk, day, named=len(events) == len(self.new_events(desk, 0)) and number == max(begun, EACH))
+            compared += self.compare_state(f"behind request {number}", desk, day, events, named=len(events) == len(self.new_events(desk, 0)) and number == max(begun, EACH))
             compared += self.compare_report(f"behind request {number}", desk, whole["sums"])
         compared += self.compare_figures(events, day, begin)
         self.expect(f"who waited at once, of {sorted(groups) or 'all'}", peaks_of(day["peaks"], day["sums"], day["groups"], groups, begin, events), walked(events, groups, begin))
         self.see("much was compared", compared > 4000, compared)
         print(f"    {compared} lines compared with the desk's reads and other figures, begun at request {begun}")
 
-    def compare_state(self, when, desk, tables, named):
-        """Groups, agents and calls as the desk's reads have them; names where they can't have changed since."""
+    def compare_state(self, when, desk, tables, events, named):
+        """Groups, agents and calls as the desk's reads have them; since when callers wait by the events; names where they can't have changed since."""
+        longest = figures.waiting(events)
         snapshot = json.loads(desk.told("/snapshot")[1])
         sides = [(call["call"], side) for call in snapshot["calls"] for side in call["connections"]]
         doings = {agent["agent"]: doing_of(agent, [side for _, side in sides if side["device"] == agent.get("device")]) for agent in snapshot["agents"]}
@@ -107,7 +111,7 @@ class Streamed(Trial):
             counts = Counter(doings[agent["agent"]][0] for agent in snapshot["agents"] if number in groups_of(agent))
             ringing = {call for call, side in sides if side["state"] == "alerting" and side.get("group") == number}
             self.expect(f"{when}, group {number}", (line.get("waiting", 0), line.get("queued"), line.get("next"), line.get("ringing", 0), line.get("counts", {})),
-                        (len(queue["calls"]), min((call["since"] for call in queue["calls"]), default=None), next(iter(queue["ready"]), None), len(ringing), counts))
+                        (len(queue["calls"]), longest.get(number), next(iter(queue["ready"]), None), len(ringing), counts))
         for agent in snapshot["agents"]:
             line, calls = tables["agents"][agent["agent"]], sorted(call for call, side in sides if side["device"] == agent.get("device"))
             self.expect(f"{when}, agent {agent['agent']}", (line["doing"], line.get("group"), line.get("station"), line.get("groups", []), line.get("calls", [])),
@@ -122,11 +126,11 @@ class Streamed(Trial):
         return len(snapshot["groups"]) + len(snapshot["agents"]) + len(snapshot["calls"])
 
     def compare_report(self, when, desk, sums):
-        """The desk's own report, which counts from the beginning of the file."""
+        """The desk's own report, which counts stays in queues, from the beginning of the file."""
         rows = [line.split() for line in desk.told("/reports/queues")[1].decode().splitlines()[1:]]
-        for group, _, _, entered, answered, abandoned, moved, average, *_ in rows:
-            has = dict(zip(FIGURES, sums.get(group, [0] * 11)))
-            self.expect(f"{when}, the report of {group}", [str(has[name]) for name in FIGURES[:4]] + [str(has["waited"] // has["answered"]) if has["answered"] else "-"], [entered, answered, abandoned, moved, average])
+        for group, _, _, entered, answered, abandoned, moved, *_ in rows:
+            has = dict(zip(FIGURES, sums.get(group, [0] * len(FIGURES))))
+            self.expect(f"{when}, the report of {group}", [str(has[name]) for name in ("entered", "answeredStay", "abandonedStay", "moved")], [entered, answered, abandoned, moved])
         return len(rows)
 
     def compare_figures(self, events, tables, begin):
@@ -134,7 +138,7 @@ class Streamed(Trial):
         end = events[-1]["moment"] + 1
         wanted = figures.reckoned(events, begin, end, {}, LIMIT, set())
         for name, found, others in (("sums", tables["sums"], wanted["groups"]), ("quarters", {f"{key.split()[0]} {int(key.split()[1]) * 900}": line for key, line in tables["quarters"].items()}, wanted["quarters"])):
-            self.expect(name, {key: dict(zip(FIGURES, line)) for key, line in found.items() if any(line[:11])},
+            self.expect(name, {key: dict(zip(FIGURES, line)) for key, line in found.items() if any(line[:len(FIGURES)])},
                         {key: {figure: line.get(figure, 0) for figure in FIGURES} for key, line in others.items() if key.partition(" ")[0] != "all" and any(line.values())})
         agents = {}
         for number, (calls, missed, *spent, since, does, _) in tables["spent"].items():
@@ -253,7 +257,7 @@ def walked(events, groups, begin):
 def peaks_of(peaks, sums, lines, groups, begin, events):
     """The same by what a board was told."""
     chosen = [group for group in sums if not groups or group in groups]
-    before = sum(lines[group].get("waiting", 0) - sums[group][11] for group in chosen) + sum(line.get("waiting", 0) for group, line in lines.items() if group not in sums and (not groups or group in groups))
+    before = sum(lines[group].get("waiting", 0) - sums[group][len(FIGURES)] for group in chosen) + sum(line.get("waiting", 0) for group, line in lines.items() if group not in sums and (not groups or group in groups))
     found, waiting = {}, before
     for quarter in range(begin // 900, events[-1]["moment"] // 900 + 1):
         top, end = peaks.get(str(quarter), (None, None))

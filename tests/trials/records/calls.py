@@ -1,5 +1,6 @@
 """What is tried of acd-calls: its tables against days that were reckoned apart, and against the desk's own report;
 what is chosen of them, how they are written, and the files of a day each."""
+import array
 import contextlib
 import csv
 import datetime
@@ -22,6 +23,7 @@ from unittest import mock
 
 from trial import TOP, Desk, Plan, Requests, ran
 
+import moved
 import office
 import story
 from ground import Records
@@ -95,6 +97,13 @@ class Calls(Records):
 
     # the tables
 
+    def try_moved(self):
+        """Callers who are moved, and who are passed on to an agent."""
+        file = self.folder / "moved.db"
+        self.feed(file, moved.LINES)
+        self.expect("their groups", self.script("--file", file, "--groups"), (0, moved.GROUPS, ""))
+        self.expect("their waits", [int(row["waited"]) for row in self.rows(file, "UTC")], moved.WAITED)
+
     def try_story(self):
         for name, (words, wanted, _) in TABLES.items():
             self.expect(f"the story's {name}", self.script("--file", self.story, *words), (0, wanted, ""))
@@ -143,10 +152,11 @@ class Calls(Records):
             file = self.written(json.dumps({"limits": {"limit": limit}}))
             lines = self.script("--file", self.story, "--office", file, "--groups")[1].splitlines()[1:]
             self.expect(f"the limit {limit}", [list(map(int, line.split(",")[7:10])) for line in lines], [first, second])
-        level_of = self.module(self.scripts["acd-calls"].parents[1] / "acd_service/figures.py").level
+        reached = self.module(self.scripts["acd-calls"].parents[1] / "acd_service/figures.py").reached
         # the fourth as the page's Math.round has it, of the same number
         for in_time, answered, late, level in ((2, 3, 0, 67), (1, 8, 0, 13), (1, 3, 0, 33), (57, 150, 50, 28), (0, 0, 4, 0), (0, 0, 0, None)):
-            self.expect(f"{in_time} of {answered} and {late}", level_of(in_time, answered, late), level)
+            waits = array.array("I", [20] * in_time + [21] * (answered - in_time)), array.array("I", [20, *[21] * late])
+            self.expect(f"{in_time} of {answered} and {late}", reached(*waits, 20), (in_time, late, level))
 
     @staticmethod
     def module(file):
@@ -156,7 +166,7 @@ class Calls(Records):
             for each in [each for each in sys.modules if each.partition(".")[0] == "acd_service"]:
                 del sys.modules[each]
             spec = importlib.util.spec_from_file_location(file.stem, file)
-            module = importlib.util.module_from_spec(spec)
+            module = sys.modules[file.stem] = importlib.util.module_from_spec(spec)
             spec.loader.exec_module(module)
             return module
 
@@ -440,8 +450,8 @@ class Calls(Records):
                 self.expect_lines(f"{what} without its archives: {status} {fault}", said.splitlines()[1:], wanted)
             else:
                 self.expect_lines(f"{what} without its archives, the legs: {status} {fault}", self.without(said.splitlines()[1:], 4), self.without(wanted, 4))
-        # of the quarter in which it begins a part lies elsewhere, and so does what was begun before
-        rows = [[{**row, "handled": "", "handling": ""} for row in csv.DictReader(lines) if self.moment(row["begin"]) > begin]
+        # of the quarter in which it begins a part lies elsewhere, and so does what was begun before: since when those who were moved wait, too
+        rows = [[{**row, **dict.fromkeys(("handled", "handling", "waited", "longest", "in_time", "service_level"), "")} for row in csv.DictReader(lines) if self.moment(row["begin"]) > begin]
                 for lines in (tables["groups"], self.script("--file", file, "--groups", zone="UTC")[1].splitlines())] if zone == "UTC" else [[], []]
         self.expect(f"{what} without its archives, the quarters", [row for row in rows[1] if row not in rows[0]], [])
         status, said, fault = self.script("--file", file, "--agents", zone=zone)
@@ -548,17 +558,21 @@ class Calls(Records):
     # the report
 
     def try_sums(self):
-        """The legs of who called from outside make the call; the quarters make the desk's own report."""
+        """The legs of who called from outside make the call; the quarters make the desk's own report, which counts stays in queues."""
         for file, zone, tables, _ in self.days:
             calls, legs, groups = (self.rows(file, zone, *TABLES[name][0]) for name in ("calls", "legs", "groups"))
-            self.expect_sums(f"{file.name}: the groups' waits", calls, legs, "waited", lambda leg: int(leg["waited"]) + int(leg["rang"]) if leg["group"] else 0)
+            # who was sent to a station waits there too
+            sent, waited = set(), set()
+            for leg in legs:
+                (sent if leg["call"] in waited and not leg["group"] else waited if leg["group"] else set()).add(leg["call"])
+            self.expect_sums(f"{file.name}: the groups' waits", [call for call in calls if call["number"] not in sent], legs, "waited", lambda leg: int(leg["waited"]) + int(leg["rang"]) if leg["group"] else 0)
             for column in ("talked", "held", "wrapped_up"):
                 outside = [call for call in calls if len(call["caller"]) == 9]
                 self.expect_sums(f"{file.name}: {column}", outside, legs, column, lambda leg: int(leg[column]))
             report = [line.split() for line in self.ran([self.program, "report", "--file", file])[1].splitlines()[1:]]
             has = {group: [0] * 4 for group, *_ in report}
             for row in groups:
-                has[row["group"]] = [one + int(row[name]) for one, name in zip(has[row["group"]], ("entered", "answered", "abandoned", "moved"))]
+                has[row["group"]] = [one + int(row[name]) for one, name in zip(has[row["group"]], ("entered", "answered_by_stay", "abandoned_by_stay", "moved"))]
             self.expect(f"{file.name}: the report", has, {group: list(map(int, figures[2:6])) for group, *figures in report})
 
     def expect_sums(self, what, calls, legs, column, part):

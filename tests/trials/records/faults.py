@@ -31,7 +31,7 @@ BOOK = [
     ("a log that began anew is taken", 'if before and before == head(folder / "book-wal") == head(log):', "if True:"),
 ]
 RECORDS = [
-    ("the ring isn't waited", 'self.waited += seconds * ("queued" in states or "offered" in states)', 'self.waited += seconds * ("queued" in states)'),
+    ("who still waits hasn't waited", "call.waited += self.waits.so_far(call.number, moment)", "pass"),
     ("held is talked", 'are_talking = states == ["connected", "connected"]', 'are_talking = states == ["connected", "connected"] or "hold" in states'),
     ("held where both hold", 'self.held += seconds * ("hold" in states)', 'self.held += seconds * (states == ["hold", "hold"])'),
     ("who is held holds", 'leg.held += seconds * (leg.state == "hold")', 'leg.held += seconds * ("hold" in states)'),
@@ -53,7 +53,7 @@ RECORDS = [
     ("every diversion isn't answered", 'elif cause == "noAnswer":', 'elif kind == "diverted" and device in self.at:'),
     ("a rejected ring isn't answered", "is_refused = not self.by_ticks[moment, call, device]", "is_refused = False"),
     ("a reject of a tick's second isn't answered", "        self.by_ticks[moment, call, device] = 0\n", ""),
-    ("what goes on isn't counted", "            if call.ended_at is None:\n                call.pass_to(moment)", "            pass"),
+    ("what goes on isn't counted", "            if call.ended_at is None:\n                call.pass_to(moment)\n", "            if call.ended_at is None:\n"),
     ("agents who are logged on aren't counted", "        for number, agent in self.agents.items():\n            self.pass_to(moment, number, agent)\n", ""),
     ("own calls that are answered aren't counted", ' or (kind == "established" and before != "offered")', ""),
     ("a hang-up while it rings isn't counted", '                if call.at[device].state == "offered":', "                if False:"),
@@ -62,15 +62,24 @@ RECORDS = [
 ]
 FIGURES = [
     ("a return enters anew", '            if cause != "noAnswer":\n                self.quarter', "            if True:\n                self.quarter"),
-    ("the limit itself isn't in time", "sum(wait <= limit for wait in self.answers)", "sum(wait < limit for wait in self.answers)"),
-    ("who gives up at once counts", "sum(wait > limit for wait in self.losses)", "len(self.losses)"),
+    ("the limit itself isn't in time", "sum(wait <= limit for wait in answers)", "sum(wait < limit for wait in answers)"),
+    ("who gives up at once counts", "sum(wait > limit for wait in losses)", "len(losses)"),
     ("who waits through a quarter isn't there", "in range(number, at) if waiting else ():", "in ():"),
     ("moved where it is distributed", 'if group is not None and cause == "deflected":', "if group is not None:"),
-    ("who gave up waits on", "            if group in self.cleared:\n                self.change(moment, group, -1)\n", ""),
-    ("half a percent is cut off", "(in_time / counted) + 0.5)", "(in_time / counted))"),
+    ("who gave up waits on", "group is not None and group in self.cleared:", "False:"),
+    ("half a percent is cut off", "(within / counted) + 0.5)", "(within / counted))"),
     ("after-call work isn't handling", 'agent.kind == "agentBusy" and kind == "agentWorkingAfterCall"', "False"),
-    ("the level of the answered alone", "counted = answered + late", "counted = answered"),
+    ("the level of the answered alone", "counted = len(answers) + late", "counted = len(answers)"),
     ("who waited before isn't there", "before + counted[at].top", "counted[at].top"),
+]
+WAITS = [
+    ("who is moved waits anew", "        if wait is None or wait.over:\n            self.calls[number] = Wait(group", "        if True:\n            self.calls[number] = Wait(group"),
+    ("who is passed on waits since the first entrance", "            wait = self.calls[number] = Wait(wait.group, event.moment, None)", "            wait.over = False"),
+    ("nobody is somebody", "is_nobody = event.device not in self.at or number in self.made", "is_nobody = False"),
+    ("who logged off is there", "            self.at.pop(station, None)", "            pass"),
+    ("a stay is since the first entrance", "wait.stay = wait.stay if entered is None else entered", "pass"),
+    ("who is sent to nobody and comes back waits anew", "            wait.group, wait.until = group, None", "            wait.group, wait.since, wait.until = group, wait.since if wait.until is None else event.moment, None"),
+    ("who gives up at an agent isn't lost", "        return Ended(wait.group, End.LOST, EVER if wait.since is None else event.moment - wait.since)", "        return None"),
 ]
 SHEETS = [
     ("a name may seem a date", "LIKE_NUMBER.match(field) if is_name", "None if is_name"),
@@ -130,5 +139,5 @@ REACH = [
 
 # of which script, in which file
 COMMAND = [("a fault's second line isn't told", "for line in fault.args:", "for line in fault.args[:1]:")]
-ALL = [("calls", "calls.py", CALLS), ("calls", "book.py", BOOK), ("calls", "leaving/records.py", RECORDS), ("calls", "figures.py", FIGURES), ("calls", "record_days.py", DAYS),
+ALL = [("calls", "calls.py", CALLS), ("calls", "book.py", BOOK), ("calls", "leaving/records.py", RECORDS), ("calls", "figures.py", FIGURES), ("calls", "waits.py", WAITS), ("calls", "record_days.py", DAYS),
        ("calls", "sheets.py", SHEETS), ("calls", "office.py", OFFICE), ("plan", "plan.py", PLAN), ("plan", "reach.py", REACH), ("plan", "command.py", COMMAND)]

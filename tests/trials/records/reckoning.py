@@ -31,6 +31,11 @@ def joined(values):
                     for text in (" ".join(value) if isinstance(value, list) else str(value) for value in values))
 
 
+def level_of(in_time, answered, late):
+    counted = answered + late
+    return math.floor(100 * (in_time / counted) + 0.5) if counted else ""
+
+
 class Connections(dict):
     """A call's connections, which tell what comes and goes in them; it goes by pop where the call is distributed, and by del else."""
 
@@ -75,12 +80,17 @@ class Reckoning:
         self.handles = {}
         self.days = defaultdict(lambda: {**dict.fromkeys(COUNTS, 0), "first": None, "last": None, "groups": set()})
         self.quarters, self.waiting, self.limits = defaultdict(Counter), Counter(), limits or {}
+        self.waits = defaultdict(lambda: {"group": None, "since": None, "until": None})
         moments = [int(line.partition(" ")[0]) for line in lines]
         self.first, last = min(moments), max(moments)
         self.dates = [time.strftime("%Y-%m-%d", time.localtime(second)) for second in range(self.first, last + 1)]
         self.changes = [self.first + place for place in range(1, len(self.dates)) if self.dates[place] != self.dates[place - 1]]
         self.switch.moment = self.first
         self.answers = [self.take(line) for line in lines]
+        for number in self.switch.calls:
+            wait = self.waits[number]
+            if wait["since"] is not None:
+                self.calls[number]["waited"] += (self.switch.moment if wait["until"] is None else wait["until"]) - wait["since"]
 
     def date(self, second):
         return self.dates[second - self.first]
@@ -100,6 +110,7 @@ class Reckoning:
         if self.switch.stamp > stamp:
             self.pass_to(begin, calls, agents, legs)
             self.change_calls(request, calls, legs)
+            self.change_waits(request, calls)
             self.change_agents(request, calls, agents)
             self.pass_quarters(begin, waiting)
             self.change_quarters(figures, queued)
@@ -157,7 +168,6 @@ class Reckoning:
         seconds = self.switch.moment - begin
         for number, ends in calls.items():
             states, row = [state for state, _, _ in ends.values()], self.calls[number]
-            row["waited"] += seconds * any(place is not None for _, _, place in ends.values())
             row["talked"] += seconds * (states == ["connected"] * 2)
             row["held"] += seconds * ("hold" in states)
             for device, leg in legs[number].items():
@@ -238,6 +248,43 @@ class Reckoning:
             begun, group = self.handles.pop(agent)
             self.quarters[self.switch.moment // STEP, group].update({"handled": 1, "handling": self.switch.moment - begun})
 
+    # who waits, from the first entrance on
+
+    def change_waits(self, request, calls):
+        for number in calls.keys() - self.switch.calls.keys():
+            self.end_wait(number, "abandoned" if any(place is not None for _, _, place in calls[number].values()) or self.waits[number]["until"] is None else "left")
+        for number, call in self.switch.calls.items():
+            wait, before = self.waits[number], calls.get(number, {})
+            placed = next((it for it in call.connections.values() if it.place is not None), None)
+            rings = next((device for device, it in call.connections.items() if it.state == "alerting" and it.place is None), None)
+            if placed:
+                wait.update(group=placed.group, until=None, since=self.switch.moment if wait["since"] is None else wait["since"])
+            elif rings and wait["group"] and rings not in before:
+                is_person = self.switch.agent_at(rings) and call.caller not in self.switch.stations
+                wait["since"] = self.switch.moment if wait["since"] is None else wait["since"]
+                wait["until"] = None if is_person else self.switch.moment if wait["until"] is None else wait["until"]
+            elif not rings and wait["since"] is not None and request["service"] == "answerCall" and request["call"] == number:
+                self.change_answer(number, before[request["device"]][2] is not None, self.switch.agent_at(request["device"]), call.caller in self.switch.stations)
+
+    def change_answer(self, number, is_offer, agent, is_inside):
+        """Where nobody is logged on nobody talks to the caller; one who sits at a station is followed in queues alone."""
+        if is_offer or agent or self.waits[number]["until"] is None:
+            self.end_wait(number, "answered" if is_offer or not is_inside else "left")
+
+    def end_wait(self, number, how):
+        wait = self.waits[number]
+        if wait["since"] is None:
+            return
+        seconds = (wait["until"] if how == "left" else self.switch.moment) - wait["since"]
+        self.calls[number]["waited"] += seconds
+        quarter = self.quarters[self.switch.moment // STEP, wait["group"]]
+        if how == "answered":
+            quarter["longest"] = max(quarter["longest"], seconds)
+            quarter.update(answered=1, waited=seconds, in_time=int(seconds <= self.limit(wait["group"])))
+        elif how == "abandoned":
+            quarter.update(abandoned=1, late=int(seconds > self.limit(wait["group"])))
+        wait.update(since=None, until=None)
+
     # quarters of an hour
 
     def limit(self, group):
@@ -260,12 +307,11 @@ class Reckoning:
             if not any(more.values()):
                 continue
             quarter = self.quarters[moment // STEP, device]
-            quarter.update(more)
+            quarter.update(entered=more["entered"], moved=more["moved"], answered_by_stay=more["answered"], abandoned_by_stay=more["abandoned"])
             if more["answered"]:
-                quarter["longest"] = max(quarter["longest"], more["waited"])
-                quarter["in_time"] += more["waited"] <= self.limit(device)
+                quarter["in_time_by_stay"] += more["waited"] <= self.limit(device)
             if more["abandoned"]:
-                quarter["late"] += moment - queued[number] > self.limit(device)
+                quarter["late_by_stay"] += moment - queued[number] > self.limit(device)
 
     # the lines
 
@@ -290,11 +336,12 @@ class Reckoning:
             yield joined([date, agent, self.switch.agents[agent].name, *(day[name] for name in COUNTS), when(day["first"]), when(day["last"]), sorted(day["groups"], key=order)])
 
     def quarter_lines(self):
-        yield "begin,group,entered,answered,abandoned,moved,limit,in_time,abandoned_late,service_level,waited,longest,most_waiting,handled,handling"
+        yield "begin,group,entered,answered,abandoned,moved,limit,in_time,abandoned_late,service_level,waited,longest,most_waiting,handled,handling,answered_by_stay,abandoned_by_stay," \
+              "in_time_by_stay,late_by_stay,service_level_by_stay"
         for number, group in sorted(self.quarters, key=lambda key: (key[0], order(key[1]))):
             has = self.quarters[number, group]
-            counted = has["answered"] + has["late"]
-            level = math.floor(100 * (has["in_time"] / counted) + 0.5) if counted else ""
+            by_stay = [has[f"{name}_by_stay"] for name in ("answered", "abandoned", "in_time", "late")]
             if any(has[name] for name in ("entered", "answered", "abandoned", "moved", "most", "handled")):
                 yield joined([when(number * STEP), group, has["entered"], has["answered"], has["abandoned"], has["moved"], self.limit(group), has["in_time"], has["late"],
-                              level, has["waited"], has["longest"] if has["answered"] else "", has["most"], has["handled"], has["handling"]])
+                              level_of(has["in_time"], has["answered"], has["late"]), has["waited"], has["longest"] if has["answered"] else "", has["most"], has["handled"],
+                              has["handling"], *by_stay, level_of(by_stay[2], by_stay[0], by_stay[3])])

@@ -43,7 +43,7 @@ def desk_state():
 class LinesTest(unittest.TestCase):
     def test_a_group(self):
         state = desk_state()
-        self.assertEqual(told(lines.group_line(state, state.groups["100"])), {"name": "Billing", "ring": 20, "wrap": 30, "priority": 5, "waiting": 1, "ringing": 1, "queued": 23, "next": "9",
+        self.assertEqual(told(lines.group_line(state, state.groups["100"])), {"name": "Billing", "ring": 20, "wrap": 30, "priority": 5, "waiting": 1, "ringing": 1, "queued": 21, "next": "9",
                                                                               "counts": {"ringing": 1, "own": 1, "ready": 2}})
         self.assertEqual(told(lines.group_line(state, state.groups["110"])), {"name": "Orders"})
 
@@ -145,17 +145,29 @@ class BoardsTest(unittest.IsolatedAsyncioTestCase):
     async def test_a_day_is_read_and_goes_on(self):
         asked = Asked(a_day())
         found, (view, other, chosen) = await self.begun(asked, Sight(0), Sight(0, (("", 2.0),)), Sight(0, (), frozenset({"110"}), frozenset({"day"})))
-        self.assertEqual(self.table(view, "sums"), {"100": [2, 1, 1, 0, 3, 1, 0, 3, 0, 0, 0, 0]})
-        self.assertEqual(self.table(other, "sums"), {"100": [2, 1, 1, 0, 3, 0, 1, 3, 0, 0, 0, 0]})
-        self.assertEqual((self.table(chosen, "quarters"), self.table(chosen, "peaks")), ({f"100 {1001 // STEP}": [2, 1, 1, 0, 3, 1, 0, 3, 0, 0, 0, 2, 0]}, {}))
+        self.assertEqual(self.table(view, "sums"), {"100": [2, 1, 1, 0, 3, 1, 0, 3, 0, 0, 0, 1, 1, 1, 0, 0]})
+        self.assertEqual(self.table(other, "sums"), {"100": [2, 1, 1, 0, 3, 0, 1, 3, 0, 0, 0, 1, 1, 0, 1, 0]})
+        self.assertEqual((self.table(chosen, "quarters"), self.table(chosen, "peaks")), ({f"100 {1001 // STEP}": [2, 1, 1, 0, 3, 1, 0, 3, 0, 0, 0, 1, 1, 1, 0, 2, 0]}, {}))
         self.assertEqual((self.table(view, "day"), self.table(view, "spent")), ({"share": 1, "moment": 1007}, {"7": [1, 0, 0, 0, 0, 0, 1005, "talk", ["100"]]}))
-        # days of the same begin and reach are read once
-        self.assertEqual(len(found.days), 2)
+        # days of the same begin are read once, whatever their limits are
+        self.assertEqual(len(found.days), 1)
         for report in (event(8, event="queued", call=3, device="110", cause="newCall"), event(9, event="agentReady", agent="7", device="200")):
             found.take(report)
         found.turn(102)
         self.assertEqual((self.table(view, "spent"), self.table(chosen, "peaks")), ({"7": [1, 0, 4, 0, 0, 0, 1009, "ready", ["100"]]}, {"1": [1, 1]}))
-        self.assertEqual(self.table(view, "sums")["100"], [2, 1, 1, 0, 3, 1, 0, 3, 1, 4, 0, 0])
+        self.assertEqual(self.table(view, "sums")["100"], [2, 1, 1, 0, 3, 1, 0, 3, 1, 4, 0, 1, 1, 1, 0, 0])
+
+    async def test_a_caller_who_is_moved(self):
+        """Waits from the first entrance on, in the group that answers or loses the call; a day that begins meanwhile knows it too."""
+        reports = [{**event(1, event="queued", call=1, device="100", cause="newCall"), "moment": 400}, {**event(2, event="queued", call=2, device="100", cause="newCall"), "moment": 410},
+                   event(3, event="diverted", call=1, device="100", to="110", group="100", cause="deflected"), event(4, event="queued", call=1, device="110", cause="deflected"),
+                   event(5, event="diverted", call=2, device="100", to="110", group="100", cause="deflected"), event(6, event="queued", call=2, device="110", cause="deflected"),
+                   event(7, event="diverted", call=1, device="110", to="200", group="110", cause="distributed"), event(8, event="established", call=1, device="200", group="110", waited=4),
+                   event(9, event="connectionCleared", call=2, device="0302"), event(10, event="connectionCleared", call=2, device="110"), event(11, event="callCleared", call=2, group="110")]
+        _, views = await self.begun(Asked(reports), Sight(0), Sight(1000), last=11)
+        # answered at 1008, and lost at 1011: after 608 and 601 seconds, of which four and five in 110
+        for view, entered in zip(views, (2, 0)):
+            self.assertEqual(self.table(view, "sums"), {"100": [entered, 0, 0, 2, *[0] * 11, entered - 2], "110": [2, 1, 1, 0, 608, 0, 1, 608, 0, 0, 0, 1, 1, 1, 0, 0]})
 
     async def test_who_waited_at_once(self):
         """In the chosen groups together, which isn't the sum of what waited at most in each."""
@@ -196,9 +208,19 @@ class BoardsTest(unittest.IsolatedAsyncioTestCase):
         """It ends, and isn't there where its beginning is in an archive."""
         sight = Sight(2000, parts=frozenset({"day"}), past=((1001, 1004), (900, 1002)))
         _, (view,) = await self.begun(Asked(a_day()), sight)
-        self.assertEqual(self.table(view, "past"), {"1001": {"100": {"1": [2, 0, 0, 0, 0, 0, 0, 0, 0, 0, 0]}}, "900": {"100": {"1": [1, 0, 0, 0, 0, 0, 0, 0, 0, 0, 0]}}})
-        _, (view,) = await self.begun(Asked(a_day(), first=2), Sight(2000, parts=frozenset({"day"}), past=((900, 1004),)))
-        self.assertEqual(self.table(view, "past"), {})
+        self.assertEqual(self.table(view, "past"), {"1001": {"100": {"1": [2, *[0] * 14]}}, "900": {"100": {"1": [1, *[0] * 14]}}})
+        for begin, known in ((900, []), (1002, []), (1003, ["1003"])):
+            _, (view,) = await self.begun(Asked(a_day(), first=2), Sight(2000, parts=frozenset({"day"}), past=((begin, 1004),)))
+            self.assertEqual(list(self.table(view, "past")), known)
+
+    async def test_who_was_logged_on(self):
+        """An agent who is there now wasn't yet as the file began: who was sent to the empty station has left, and who comes after the log-on is answered there."""
+        reports = [event(1, event="queued", call=1, device="100", cause="newCall"), event(2, event="diverted", call=1, device="100", to="202", group="100", cause="deflected"),
+                   event(3, event="delivered", call=1, device="202", cause="deflected"), event(4, event="callCleared", call=1), event(5, event="agentLoggedOn", agent="9", device="202", group="100"),
+                   event(6, event="queued", call=2, device="100", cause="newCall"), event(7, event="diverted", call=2, device="100", to="202", group="100", cause="deflected"),
+                   event(8, event="delivered", call=2, device="202", cause="deflected"), event(9, event="established", call=2, device="202")]
+        _, (view,) = await self.begun(Asked(reports), Sight(0), last=9)
+        self.assertEqual(self.table(view, "sums"), {"100": [2, 1, 0, 2, 3, 1, 0, 3, *[0] * 7, 0]})
 
     async def test_events(self):
         """The last ones, for who wants them; and then each new one."""
@@ -229,7 +251,7 @@ class BoardsTest(unittest.IsolatedAsyncioTestCase):
         found, (view,) = await self.begun(Asked(a_day()), Sight(0))
         await asyncio.gather(*found.tasks)
         found.turn(102)
-        self.assertEqual(self.table(view, "sums"), {"100": [2, 1, 0, 0, 3, 1, 0, 3, 0, 0, 1, 0]})
+        self.assertEqual(self.table(view, "sums"), {"100": [2, 1, 0, 0, 3, 1, 0, 3, 0, 0, 1, 1, 0, 1, 0, 0]})
         for report in (event(8, event="queued", call=3, device="100", cause="newCall"), event(9, event="connectionCleared", call=3, device="100"), event(10, event="callCleared", call=3, group="100"),
                        event(11, event="queued", call=4, device="100", cause="newCall"), event(12, event="connectionCleared", call=4, device="0304"), event(13, event="connectionCleared", call=4, device="100"),
                        event(14, event="callCleared", call=4, group="100")):

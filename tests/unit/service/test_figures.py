@@ -4,14 +4,16 @@ import io
 import subprocess
 import sys
 import unittest
+from array import array
 
 import service_ground as ground
 from acd_service.events import Event, event_of
-from acd_service.figures import EVER, STEP, Figures, level
+from acd_service.figures import STEP, Figures, reached
+from acd_service.waits import EVER
 
 sys.path.append(str(ground.TOP / "tests/trials"))
 from board import figures as independent  # noqa: E402
-from records import story  # noqa: E402
+from records import moved, story  # noqa: E402
 
 NUMBERS = ("number", "moment", "call", "waited")
 
@@ -33,8 +35,10 @@ def sums(quarters, limit):
     """A group's figures, as the independent program names them."""
     found = {"entered": sum(one.entered for one in quarters), "moved": sum(one.moved for one in quarters), "handled": sum(one.handled for one in quarters), "handling": sum(one.handling for one in quarters)}
     answers, losses = [wait for one in quarters for wait in one.answers], sum(len(one.losses) for one in quarters)
-    found |= {"answered": len(answers), "waited": sum(answers), "longest": max(answers, default=0), "abandoned": losses,
-              "within": sum(one.in_time(limit) for one in quarters), "late": sum(one.late(limit) for one in quarters)}
+    whole, by_stay = [one.reached(limit) for one in quarters], [one.reached_by_stay(limit) for one in quarters]
+    found |= {"answered": len(answers), "waited": sum(answers), "longest": max(answers, default=0), "abandoned": losses, "within": sum(one.within for one in whole),
+              "late": sum(one.late for one in whole), "answeredStay": sum(len(one.stays_answered) for one in quarters), "abandonedStay": sum(len(one.stays_lost) for one in quarters),
+              "withinStay": sum(one.within for one in by_stay), "lateStay": sum(one.late for one in by_stay)}
     return {name: value for name, value in found.items() if value}
 
 
@@ -78,6 +82,19 @@ class OfADay(ground.Case):
         self.assertEqual(figures.changed, {("100", 86320 // STEP), ("100", 86400 // STEP)})
 
 
+class OfMovedCallers(ground.Case):
+    def test_the_whole_wait(self):
+        """Of six waits of four callers three were answered in time, whatever queues they went through; by the last stay all three that ended in a queue."""
+        self.desk(moved.LINES)
+        found = ground.said("calls", "--file", self.file, "--groups")
+        self.assertEqual((found.status, found.out.splitlines()), (0, moved.GROUPS.splitlines()))
+        rows = list(csv.DictReader(io.StringIO(found.out)))
+        of = {name: sum(int(row[name]) for row in rows) for name in ("in_time", "answered", "abandoned_late", "in_time_by_stay", "answered_by_stay", "late_by_stay")}
+        self.assertEqual((100 * of["in_time"] / (of["answered"] + of["abandoned_late"]), 100 * of["in_time_by_stay"] / (of["answered_by_stay"] + of["late_by_stay"])), (50, 100))
+        calls = ground.said("calls", "--file", self.file)
+        self.assertEqual([int(row["waited"]) for row in csv.DictReader(io.StringIO(calls.out))], moved.WAITED)
+
+
 class OfOneEvent(unittest.TestCase):
     def test_who_waits_through_a_quarter(self):
         """Two waited before the first event, one of whom leaves an hour later; in each quarter between two wait, afterwards one, and none after the last."""
@@ -90,7 +107,7 @@ class OfOneEvent(unittest.TestCase):
     def test_who_came_before_all_events(self):
         figures = Figures()
         figures.take(Event(10, "callCleared", None, 1, group="100"))
-        self.assertEqual((list(figures.groups["100"][0].losses), figures.groups["100"][0].late(86400)), ([EVER], 1))
+        self.assertEqual((list(figures.groups["100"][0].losses), figures.groups["100"][0].reached(86400).late), ([EVER], 1))
 
     def test_a_call_that_goes_on_over_the_begin(self):
         """The wait of a call that entered before the begin is whole; talk that began before isn't handled then."""
@@ -104,7 +121,8 @@ class OfOneEvent(unittest.TestCase):
 
     def test_the_service_level(self):
         """The first as the page's Math.round has it, of the same number."""
-        self.assertEqual([level(57, 150, 50), level(2, 3, 0), level(0, 0, 4), level(0, 0, 0)], [28, 67, 0, None])
+        for within, later, late, level in ((57, 93, 50, 28), (2, 1, 0, 67), (0, 0, 4, 0), (0, 0, 0, None)):
+            self.assertEqual(reached(array("I", [20] * within + [21] * later), array("I", [20, *[21] * late]), 20), (within, late, level))
 
 
 if __name__ == "__main__":
