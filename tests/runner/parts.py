@@ -64,6 +64,7 @@ OF_THE_SERVICE = {
     **{f"trail {part}": Part("try-trail", ("--only", part), (f"try-trail:{case}",), packages)
        for part, case, packages in (("story", "Story", ()), ("archives", "Archives", ()), ("faults", "Bad", ()), ("pages", "OfPages", ()), ("served", "Served", NGINX))},
     "rules": Part("try-rules", ("--only", "days"), ("rules/drawn_days.py",)),
+    "figures": Part("try-figures", ("--days", "4"), ("try-figures",)),
     "certificates": Part("try-certificates", (), ("try-certificates",), ("openssl",)),
     "follow cases": Part("try-follow", ("--only", "cases"), ("follow/cases.py",), SPACES, ("alone",)),
     "copies": Part("try-copies", ("--some", "--only", "copies,again"), ("copies/copying.py", "copies/again.py"), ("strace", "util-linux"), ("alone",)),
@@ -76,6 +77,7 @@ BY_HAND = {
     "cuts": Part("try-cuts", (), ("cuts/commands.py",), ("strace", "util-linux"), ("alone", "loop devices")),
     "edges": Part("try-edges", (), ("machine/sockets.py", "machine/watched.py", "machine/upgraded.py", "machine/users.py", "machine/units.py", "machine/second.py"), (), ("booted", "browser"), False),
     "exchange": Part("try-exchange", (), ("try-exchange",), NGINX, ("sip",)),
+    "figures whole": Part("try-figures", ("--days", "1000"), ("try-figures",)),
     "files": Part("try-files", (), ("try-files",)),
     "flood": Part("try-flood", ("--seconds", "8", "--floods", "4"), ("flood/doors.py",), (*NGINX, "apache2-utils", "python3-h2"), ("root",)),
     "follow whole": Part("try-follow", (), ("follow/cases.py", "follow/kills.py", "follow/runs.py"), SPACES, ("root",)),
