@@ -16,7 +16,7 @@ from acd_service.command import Fault, report
 from acd_service.figures import STEP, Figures, Reached
 from acd_service.leaving.records import Call, Records
 from acd_service.office import FILE, Office, counting
-from acd_service.record_days import KINDS, Days, Writer, wanted_from
+from acd_service.record_days import APART, KINDS, Days, Writer, wanted_from
 
 CALLS = ["number", "caller", "called", "entered", "groups", "rings", "agent", "station", "waited", "talked", "held",
          "wrapped_up", "ended", "rung", "answered_at", "ended_at"]
@@ -290,6 +290,8 @@ def write_days(folder: Path, book: Book, office: Office, form: Form, names: Name
             days.write("agents", day, form.row(AGENTS, row))
         for begin, row in group_rows_of(book, figures, end, office.limit_of):
             days.write("groups", datetime.date.fromtimestamp(begin), form.row(GROUPS, row))
+    if days.set_apart:
+        report(f"{days.set_apart} files by other formulas are in {folder / APART} now: their events aren't there")
     print(f"{days.written} files written")
     return not lacks
 

@@ -1,6 +1,10 @@
 """Files of records, a day each: the days that are over, in FOLDER/records, FOLDER/agents and FOLDER/groups. Tested, not
-proved."""
+proved.
+
+Each says in its last column by which formulas it was counted. Those of other formulas are written anew where their
+events are there; the others are in FOLDER/by-stay, so that nobody adds them up with these."""
 import contextlib
+import csv
 import datetime
 import os
 from collections.abc import Callable, Iterable, Mapping, Sequence
@@ -14,6 +18,24 @@ KINDS = ("records", "agents", "groups")
 # that ended so many days ago at most are written anew where they differ: a call that went on is over by now, say. Older
 # ones stay as they are, also removed: callers' numbers are in them, and somebody may have to remove them in time
 AGAIN = 7
+# the last column of a file: by which formulas it was counted. Files without it are by the first ones, which count each
+# stay in a queue as a wait
+COLUMN, FORMULAS = "formulas", "2"
+APART = "by-stay"
+
+
+def formulas_of(file: Path) -> str:
+    """By which formulas a file was counted."""
+    with file.open(encoding="utf-8-sig", newline="", errors="replace") as stream:
+        rows = csv.reader(stream)
+        head: list[str] = next(rows, [])
+        first: list[str] = next(rows, [])
+    return first[-1] if head[-1:] == [COLUMN] and first else "1"
+
+
+def others_of(folder: Path, kind: str) -> set[str]:
+    """The days whose files are by other formulas."""
+    return {file.stem for file in (folder / kind).glob("*.csv") if formulas_of(file) != FORMULAS}
 
 
 def newest_of(folder: Path, kind: str) -> str:
@@ -22,11 +44,13 @@ def newest_of(folder: Path, kind: str) -> str:
 
 
 def wanted_from(folder: Path) -> datetime.date | None:
-    """The first day that hasn't its files yet; None where that may be any."""
+    """The first day that hasn't its files yet, or has them by other formulas; None where that may be any."""
     try:
-        return min(datetime.date.fromisoformat(newest_of(folder, kind)) for kind in KINDS) + datetime.timedelta(days=1)
+        newest = min(datetime.date.fromisoformat(newest_of(folder, kind)) for kind in KINDS)
+        others = [datetime.date.fromisoformat(day) for kind in KINDS for day in others_of(folder, kind)]
     except ValueError:
         return None
+    return min([newest + datetime.timedelta(days=1), *others])
 
 
 class Writer(Protocol):
@@ -44,20 +68,23 @@ class Begun(NamedTuple):
 
 class Days:
     """The files below a folder. `first` is the first day that is there as a whole, and `today` the first that isn't
-    over; `writer_of` makes a writer of rows of a stream."""
+    over; `writer_of` makes a writer of rows of a stream. `others` are the days whose files are by other formulas, also
+    those that are apart."""
 
     def __init__(self, folder: Path, first: datetime.date, today: datetime.date, heads: Mapping[str, Sequence[str]],
                  writer_of: Callable[[TextIO], Writer]) -> None:
         self.folder, self.first, self.today, self.heads, self.writer_of = folder, first, today, heads, writer_of
         self.open: dict[str, Begun] = {}
         self.newest: dict[str, str] = {}
-        self.written = 0
+        self.others: dict[str, set[str]] = {}
+        self.written = self.set_apart = 0
         for kind in KINDS:
             (folder / kind).mkdir(mode=0o750, exist_ok=True)
             # the remains of a run that was killed
             for left in (folder / kind).glob(".*.new"):
                 left.unlink()
             self.newest[kind] = newest_of(folder, kind)
+            self.others[kind] = others_of(folder, kind) | {file.stem for file in self.apart(kind).glob("*.csv")}
 
     def lacks(self) -> bool:
         """Whether days before the first one would be the next, after those that are written."""
@@ -67,8 +94,13 @@ class Days:
     def place(self, kind: str, day: datetime.date) -> Path:
         return self.folder / kind / f"{day}.csv"
 
+    def apart(self, kind: str) -> Path:
+        """Where files of other formulas are."""
+        return self.folder / APART / kind
+
     def wants(self, kind: str, day: datetime.date) -> bool:
-        return self.first <= day < self.today and ((self.today - day).days <= AGAIN or str(day) > self.newest[kind])
+        return self.first <= day < self.today and ((self.today - day).days <= AGAIN or str(day) > self.newest[kind]
+                                                   or str(day) in self.others[kind])
 
     def write(self, kind: str, day: datetime.date, row: Iterable[object]) -> None:
         """Rows come day by day; those of a day that needs no file are dropped."""
@@ -77,14 +109,14 @@ class Days:
             self.begin(kind, day)
         writer = self.open[kind].writer
         if writer:
-            writer.writerow(row)
+            writer.writerow([*row, FORMULAS])
 
     def begin(self, kind: str, day: datetime.date) -> None:
         stream = writer = None
         if self.wants(kind, day):
             stream = put.opened(self.place(kind, day), 0o640)
             writer = self.writer_of(stream)
-            writer.writerow(self.heads[kind])
+            writer.writerow([*self.heads[kind], COLUMN])
         self.open[kind] = Begun(day, stream, writer)
 
     def end(self, kind: str) -> None:
@@ -97,8 +129,28 @@ class Days:
             stream.flush()
             if place.exists() and place.read_bytes() == Path(stream.name).read_bytes():
                 return os.unlink(stream.name)
+            if place.stem in self.others[kind]:
+                self.replace_other(kind, place, Path(stream.name))
             put.settle(stream, place)
         self.written += 1
+
+    def replace_other(self, kind: str, place: Path, new: Path) -> None:
+        """A file of other formulas goes; the new one is as old, since somebody may remove files by their age."""
+        apart = self.apart(kind) / place.name
+        found = (place if place.exists() else apart).stat()
+        os.utime(new, (found.st_atime, found.st_mtime))
+        apart.unlink(missing_ok=True)
+        self.others[kind].discard(place.stem)
+
+    def put_apart(self) -> None:
+        """Files of other formulas that weren't written anew."""
+        for kind in KINDS:
+            for day in others_of(self.folder, kind):
+                for folder in (self.folder / APART, self.apart(kind)):
+                    folder.mkdir(mode=0o750, exist_ok=True)
+                place = self.folder / kind / f"{day}.csv"
+                place.rename(self.apart(kind) / place.name)
+                self.set_apart += 1
 
     def __enter__(self) -> Self:
         return self
@@ -110,6 +162,8 @@ class Days:
                 self.end(each)
             else:
                 self.drop(each)
+        if kind is None:
+            self.put_apart()
 
     def drop(self, kind: str) -> None:
         stream = self.open.pop(kind).stream

@@ -7,7 +7,9 @@ from pathlib import Path
 from typing import Literal
 
 KINDS = ("records", "agents", "groups")
-NAME = r"(records|agents|groups)/([0-9]{4}-[0-9]{2}-[0-9]{2})\.csv"
+# and of days that were counted by other formulas
+APART = tuple(f"by-stay/{kind}" for kind in KINDS)
+NAME = r"(?:by-stay/)?(?:records|agents|groups)/[0-9]{4}-[0-9]{2}-[0-9]{2}\.csv"
 
 
 def days_of(folder: Path | str, kind: str) -> list[str]:
@@ -15,8 +17,8 @@ def days_of(folder: Path | str, kind: str) -> list[str]:
 
 
 def days(folder: Path | str) -> dict[str, list[str]]:
-    """The days of which there is a file, by kind."""
-    return {kind: days_of(folder, kind) for kind in KINDS}
+    """The days of which there is a file, by kind; those of other formulas apart, where there are some."""
+    return {kind: found for kind in (*KINDS, *APART) if (found := days_of(folder, kind)) or kind in KINDS}
 
 
 def content(folder: Path | str, name: str, groups: frozenset[str] | None) -> bytes | Literal[False] | None:

@@ -233,7 +233,8 @@ class Calls(Records):
             for line in said_of[1:]:
                 date = next(csv.reader([line]))[column][:10]
                 if date < today:
-                    wanted[f"{kind}/{date}.csv"] = wanted.get(f"{kind}/{date}.csv", said_of[0]) + line
+                    # each says by which formulas it is
+                    wanted[f"{kind}/{date}.csv"] = wanted.get(f"{kind}/{date}.csv", said_of[0].replace("\n", ",formulas\n")) + line.replace("\n", ",2\n")
         has = self.files(folder)
         self.expect("which days", (status, fault, sorted(has)), (0, "", sorted(wanted)))
         self.expect("more than one day", len({name for name in wanted if name.startswith("agents/")}) > 1, True)
@@ -246,13 +247,13 @@ class Calls(Records):
     def again(self, folder, copies, zone, has, moment):
         """A file of the last days is mended, and one of before isn't; what a run that was killed left is gone."""
         first = sorted(name for name in has if name.startswith("records/"))[0]
-        (folder / first).write_text("number\n")
+        (folder / first).write_text("number,formulas\n,2\n")
         (folder / "records/.2026-01-01.new").write_text("half")
         self.expect("a file of the last days", (self.write(folder, copies, zone)[1], self.files(folder) == has), ("1 files written\n", True))
-        (folder / first).write_text("number\n")
+        (folder / first).write_text("number,formulas\n,2\n")
         self.named(copies, moment).rename(self.named(copies, moment + 60 * 86400))
         self.write(folder, copies, zone)
-        self.expect("a file of long ago", (folder / first).read_text(), "number\n")
+        self.expect("a file of long ago", (folder / first).read_text(), "number,formulas\n,2\n")
         (folder / first).unlink()
         self.write(folder, copies, zone)
         self.expect("one that was removed long behind its day", (folder / first).exists(), False)

@@ -17,6 +17,10 @@ class Files(ground.Case):
         for name in ("records/2026-11-28.csv", "records/2026-11-27.csv", "groups/2026-11-27.csv", "records/x.csv", "agents/2026-11-27.csv.new", "other/2026-11-27.csv"):
             self.put(name, "")
         self.assertEqual(files.days(self.folder), {"records": ["2026-11-27", "2026-11-28"], "agents": [], "groups": ["2026-11-27"]})
+        (self.folder / "by-stay").mkdir()
+        self.put("by-stay/groups/2026-10-27.csv", CALLS)
+        self.assertEqual(files.days(self.folder), {"records": ["2026-11-27", "2026-11-28"], "agents": [], "groups": ["2026-11-27"], "by-stay/groups": ["2026-10-27"]})
+        self.assertEqual(files.content(self.folder, "by-stay/groups/2026-10-27.csv", None), CALLS.encode())
 
     def test_a_whole_file(self):
         self.put("records/2026-11-28.csv", CALLS)

@@ -19,6 +19,7 @@ sys.path.append(str(ground.TOP / "tests/trials"))
 from records import story  # noqa: E402
 
 # the story's first request is of 23:58:20, and its last one of 00:03 of the next day
+SIXTY_DAYS = 1700000000
 FIRST, SECOND = "1970-01-01", "1970-01-02"
 
 
@@ -185,10 +186,54 @@ class Files(Copies):
         self.run_it()
         (self.copies / "1970-01-03T000500Z").rename(self.copies / "1970-01-10T000500Z")
         (self.days / "records" / f"{FIRST}.csv").unlink()
-        (self.days / "groups" / f"{FIRST}.csv").write_text("x")
+        (self.days / "groups" / f"{FIRST}.csv").write_text("x,formulas\n,2\n")
         self.run_it()
         self.assertFalse((self.days / "records" / f"{FIRST}.csv").exists())
-        self.assertEqual((self.days / "groups" / f"{FIRST}.csv").read_text(), "x")
+        self.assertEqual((self.days / "groups" / f"{FIRST}.csv").read_text(), "x,formulas\n,2\n")
+
+    def old(self, kind, day):
+        """A file as programs of before wrote it, sixty days ago."""
+        place = self.days / kind / f"{day}.csv"
+        lines = [line.rpartition(",")[0] for line in place.read_text().splitlines()]
+        place.write_text("".join(f"{line}\n" for line in lines))
+        os.utime(place, (SIXTY_DAYS, SIXTY_DAYS))
+        return place
+
+    def test_other_formulas(self):
+        """A file says by which formulas it was counted. One of before is written anew where its events are there, however old it is, and keeps its age; else it is put apart."""
+        self.run_it()
+        self.assertEqual({(row[-1], rows[0][-1]) for kind in record_days.KINDS for rows in [self.read(kind, FIRST)] for row in rows[1:]}, {("2", "formulas")})
+        (self.copies / "1970-01-03T000500Z").rename(self.copies / "1970-03-03T000500Z")
+        self.run_it()
+        before = {kind: (self.days / kind / f"{FIRST}.csv").read_bytes() for kind in record_days.KINDS}
+        for kind in record_days.KINDS:
+            self.old(kind, FIRST)
+        self.assertEqual(self.run_it(), "3 files written\n")
+        self.assertEqual({kind: (self.days / kind / f"{FIRST}.csv").read_bytes() for kind in record_days.KINDS}, before)
+        self.assertEqual({(self.days / kind / f"{FIRST}.csv").stat().st_mtime for kind in record_days.KINDS}, {SIXTY_DAYS})
+        self.assertEqual(self.run_it(), "0 files written\n")
+
+    def test_other_formulas_without_events(self):
+        """They are apart from then on, as old as they were, until an archive is named that has them."""
+        self.run_it()
+        (self.copies / "1970-01-03T000500Z").rename(self.copies / "1970-03-03T000500Z")
+        self.run_it()
+        file = self.copies / "1970-03-03T000500Z/desk.db"
+        archive = shutil.copy(file, self.folder / "archive.db")
+        wanted = {kind: (self.days / kind / f"{FIRST}.csv").read_bytes() for kind in record_days.KINDS}
+        last = ground.rows(file, "SELECT max(stamp) FROM kept WHERE moment < 86400")[0][0]
+        event = ground.rows(file, "SELECT max(number) FROM events WHERE moment < 86400")[0][0]
+        ground.changed(file, f"DELETE FROM kept WHERE stamp <= {last}", f"DELETE FROM events WHERE number <= {event}")
+        old = {kind: self.old(kind, FIRST).read_bytes() for kind in record_days.KINDS}
+        apart = self.days / record_days.APART
+        self.assertEqual(self.run_it(0, f"acdctl records: 3 files by other formulas are in {apart} now: their events aren't there\n")[1:], " files written\n")
+        self.assertEqual({kind: (apart / kind / f"{FIRST}.csv").read_bytes() for kind in record_days.KINDS}, old)
+        self.assertEqual({place.stat().st_mtime for place in apart.rglob("*.csv")}, {SIXTY_DAYS})
+        self.assertEqual([place for kind in record_days.KINDS for place in (self.days / kind).glob(f"{FIRST}*")], [])
+        self.assertEqual(self.run_it(), "0 files written\n")
+        self.run_it(0, "", "--archive", archive)
+        self.assertEqual({kind: (self.days / kind / f"{FIRST}.csv").read_bytes() for kind in record_days.KINDS}, wanted)
+        self.assertEqual(list(apart.rglob("*.csv")), [])
 
     def test_a_day_that_is_not_over(self):
         (self.copies / "1970-01-03T000500Z").rename(self.copies / "1970-01-02T000500Z")
@@ -403,8 +448,11 @@ class Refusals(ground.Case):
         for kind, days in zip(record_days.KINDS, (("2026-11-27", "2026-11-26"), ("2026-11-28",), ("2026-11-28", "2026-11-25"))):
             (self.folder / kind).mkdir()
             for day in days:
-                Path(self.folder / kind / f"{day}.csv").touch()
+                Path(self.folder / kind / f"{day}.csv").write_text("a,formulas\n1,2\n")
         self.assertEqual(record_days.wanted_from(self.folder), datetime.date(2026, 11, 28))
+        for text in ("a,formulas\n1,1\n", "a\n1\n", ""):
+            Path(self.folder / "groups/2026-11-25.csv").write_text(text)
+            self.assertEqual(record_days.wanted_from(self.folder), datetime.date(2026, 11, 25))
 
 
 if __name__ == "__main__":
