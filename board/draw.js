@@ -8,6 +8,8 @@ const GREY = 10000, SVG = 'http://www.w3.org/2000/svg', ISOLATED = new RegExp(`(
 export const AS_IT_IS = Symbol('as it is');
 // an element's attributes and its text, since to remember is quicker than to ask
 const GIVEN = Symbol('given'), SAYS = Symbol('says');
+// of an element that put() made, the names of its attributes
+const MADE = Symbol('made');
 
 /** @param {any} place @returns {any} */
 export const byId = place => typeof place === 'string' ? document.getElementById(place) : place;
@@ -27,12 +29,15 @@ export const set = (place, attributes) => {
     if (name in given && given[name] === value) continue;
     given[name] = value;
     if (typeof value === 'function') element[name] = value;
-    else if (value === false || value === undefined) element.removeAttribute(name);
+    else if (value === false || value === undefined) {
+      element.removeAttribute(name);
+      if (name.startsWith('on')) element[name] = null;
+    }
     else element.setAttribute(name, value === true ? '' : value);
   }
 };
 
-// Writes what is in an element; what is false or nothing is left out.
+// Writes what is in an element; what is false or nothing is left out. An element that was there keeps nothing of what it was.
 /** @type {Puts} */
 export const put = (place, ...parts) => {
   const element = byId(place), one = parts.length === 1 ? parts[0] : undefined;
@@ -47,6 +52,8 @@ export const put = (place, ...parts) => {
     const node = !isText && old.get(part.attributes['data-key']) || (fits ? there : isText ? new Text() : document.createElementNS(part.tag === 'svg' ? SVG : element.namespaceURI, part.tag));
     if (node === there) there = there.nextSibling; else element.insertBefore(node, there);
     if (!isText) {
+      for (const name of node[MADE] ?? []) if (!(name in part.attributes)) set(node, {[name]: undefined});
+      node[MADE] = Object.keys(part.attributes);
       set(node, part.attributes);
       put(node, ...part.parts);
     } else if (node.data !== part) node.data = part;

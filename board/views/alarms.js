@@ -71,7 +71,8 @@ export function draw(drawn, serverClock = 0, onWall = false) {
   set('alarms-seen', {hidden: unseen.length < 2, onclick: see(Object.values(known))});
   set('alarms-mute', {hidden: !settings.tone || isHeard()});
   set('alarms', {hidden: !found.length});
-  if (unknown.length) put('alarm-told', unknown.map(wordsOf).join('. '));
+  // several at once, as where a page begins, are not read out one by one
+  if (unknown.length) put('alarm-told', unknown.length > 1 ? word('title.alarms', {n: unknown.length}) : wordsOf(unknown[0]));
   if (settings.notify) for (const alarm of unknown) notify(byId('title').textContent, {body: plain(wordsOf(alarm)), tag: alarm.key});
   if (settings.tone && unseen.length && (unknown.length || moment - sounded > AGAIN)) {
     sounded = moment;

@@ -34,7 +34,10 @@ export async function alarms(see, browser, desk, address) {
   await browser.open(`${address}?since=0&tone=1&notify=1#queues`);
   await live(browser);
   await until(async () => (await browser.run('return document.title')).startsWith('■ 5 alarms'), 10);
+  const told = await browser.text('#alarm-told');
+  see('a screen reader is told how many there are', /^[2-5] alarms$/.test(told), told);
   await onPaper(see, browser);
+  await anew(see, browser);
   await browser.click('#alarms-rest');
   await sleep(300);
   const found = await list(browser), keys = found.map(([key]) => key);
@@ -48,6 +51,19 @@ export async function alarms(see, browser, desk, address) {
   await seen(see, browser, address);
   await limits(see, browser, address);
   await browser.command('Page.removeScriptToEvaluateOnNewDocument', {identifier});
+}
+
+/** An element that is used again keeps nothing of what it was, but what others gave it. */
+async function anew(see, browser) {
+  const kept = await browser.run(`return import(new URL('draw.js', location.href)).then(({make, put, set}) => {
+    const place = document.createElement('div');
+    put(place, make('p.one', {title: 'one', hidden: true, onclick() {}}, 'one'));
+    const first = place.firstChild;
+    set(first, {lang: 'en'});
+    put(place, make('p', 'two'));
+    return [place.innerHTML, first === place.firstChild, first.onclick === null];
+  })`);
+  see('an element that is used again', String(kept) === '<p lang="en">two</p>,true,true', String(kept));
 }
 
 /** What has no room on the screen is printed. */
