@@ -197,6 +197,8 @@ def of_nginx(folder: Path, env: Path) -> Iterator[str]:
             yield f"{file} is of before 1.15: nginx asks the gate for every stranger"
         elif PROXY not in text:
             yield f"{WARNING}{file} is of before 1.16: nginx asks the gate twice for each request"
+        elif re.search(rf"{PROXY}\s+\$acd_session_secret\b", text):
+            yield f"{WARNING}{file} is of 1.16: nginx tells the gate the secret that signs sessions"
         yield from of_certificates(file, text)
 
 

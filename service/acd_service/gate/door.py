@@ -13,7 +13,7 @@ from acd_service.gate.exchanges import Answer, Question, Refused, error
 from acd_service.gate.limits import Rates
 from acd_service.gate.passwords import RIGHT, TOO_MANY, WRONG, Passwords, text
 from acd_service.gate.roles import NOTHING, Role, Watched
-from acd_service.gate.sessions import Sessions, cookie_of
+from acd_service.gate.sessions import Secrets, Sessions, cookie_of
 from acd_service.gate.traces import Traces
 
 # the field of the proxy's secret; that by which one of 1.15 says that it has looked at the signature of a session's
@@ -77,12 +77,14 @@ def verdict(question: Question, shut: Shut) -> Answer:
 
 
 class Door:
-    """`secret` is what the gate and the proxy know."""
+    """`secrets` are what the gate and the proxy know."""
 
     def __init__(self, roles: Watched[Role], passwords: Passwords, sessions: Sessions, rates: Rates, traces: Traces,
-                 secret: str) -> None:
+                 secrets: Secrets) -> None:
         self.roles, self.passwords, self.sessions, self.rates = roles, passwords, sessions, rates
-        self.traces, self.secret, self.told = traces, secret.encode(), set[str]()
+        self.traces, self.told = traces, set[str]()
+        # an nginx.conf of 1.16 sends the secret of sessions in the place of its own
+        self.secrets = [secret.encode() for secret in secrets if secret]
 
     async def admitted(self, question: Question) -> Question:
         """The question with its login; Refused where nobody asks who may."""
@@ -118,7 +120,7 @@ class Door:
     def is_proxys(self, question: Question) -> bool:
         """Whether nginx has sent it on unasked: no client knows the secret, and what nginx sends is in place of what a
         client wrote."""
-        return bool(self.secret) and hmac.compare_digest(question.raw(PROXY), self.secret)
+        return any(hmac.compare_digest(question.raw(PROXY), secret) for secret in self.secrets)
 
     async def enter(self, question: Question) -> tuple[str, Role]:
         """The login and its role."""

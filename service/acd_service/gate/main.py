@@ -37,7 +37,7 @@ def parser() -> command.Parser:
     found.add_argument("--records", default="/var/lib/acd-records", metavar="FOLDER",
                        help="the files of records; /var/lib/acd-records unless given")
     found.add_argument("--secret", default="/etc/acd/nginx-secret.conf", metavar="FILE",
-                       help="nginx's file of the secret; /etc/acd/nginx-secret.conf unless given")
+                       help="nginx's file of the secrets; /etc/acd/nginx-secret.conf unless given")
     found.add_argument("--copy", default=last_copy.FILE, metavar="FILE",
                        help=f"the line that the last copy left; {last_copy.FILE} unless given")
     return found
@@ -47,13 +47,13 @@ async def serve(options: argparse.Namespace) -> None:
     # only here: who asks for the words of each command needs no more than Python has
     from acd_service.gate.routes import Gate
     from acd_service.gate.server import Server, listening_at
-    from acd_service.gate.sessions import secret_of
+    from acd_service.gate.sessions import secrets_of
     try:
         listening = listening_at(Place(options.port) if options.port else Place(path=options.socket))
     except (OSError, OverflowError):
         raise Fault(f"cannot listen on {settings.place(options.port, options.socket)}") from None
     desk = Desk(options.desk or Place(path=options.desk_socket))
-    gate = Gate(desk, options.roles, options.users, options.sessions, options.records, secret_of(options.secret),
+    gate = Gate(desk, options.roles, options.users, options.sessions, options.records, secrets_of(options.secret),
                 options.copy)
     acd_notify.ready()
     await Server(gate.answer).listen(listening)

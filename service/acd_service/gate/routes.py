@@ -27,7 +27,7 @@ from acd_service.gate.metrics import KIND, Metrics
 from acd_service.gate.passwords import RIGHT, TOO_MANY, Passwords, network
 from acd_service.gate.roles import MEMBERS, NO_KEYS, NOTHING, Role, Watched, has_keys, hashes_of, roles_of
 from acd_service.gate.ruled import DIRECT, FILE as RULES
-from acd_service.gate.sessions import Session, Sessions, cookie_field
+from acd_service.gate.sessions import Secrets, Session, Sessions, cookie_field
 from acd_service.gate.streams import Stream
 from acd_service.gate.traces import Traces
 
@@ -68,20 +68,19 @@ def form_of(body: bytes) -> tuple[str, str, str]:
 
 
 class Gate:
-    """The roles and users are files, and so are the sessions, if their file is named; `secret` is what the gate and the
-    proxy know: it signs sessions, and says that a request is the proxy's."""
+    """The roles and users are files, and so are the sessions, if their file is named."""
 
     def __init__(self, desk: Desk, roles: Path | str, users: Path | str, sessions: Path | str | None = None,
-                 records: Path | str = "/var/lib/acd-records", secret: str = "",
+                 records: Path | str = "/var/lib/acd-records", secrets: Secrets = Secrets(),
                  copy: Path | str = last_copy.FILE, rules: Path | str = RULES) -> None:
         self.desk, self.records = desk, records
         self.roles, self.users = Watched(Path(roles), roles_of, keeps=True), Watched(Path(users), hashes_of)
-        self.passwords, self.sessions = Passwords(self.users), Sessions(sessions, self.users, secret=secret)
+        self.passwords, self.sessions = Passwords(self.users), Sessions(sessions, self.users, secret=secrets.session)
         self.rates, self.replies, self.held = Rates(), Replies(), Held()
         self.following = Following(desk.ask_soon, is_rules=self.is_rules, rules=rules)
         self.reading = asyncio.Semaphore(READ_AT_ONCE)
         self.traces = Traces()
-        self.door = Door(self.roles, self.passwords, self.sessions, self.rates, self.traces, secret)
+        self.door = Door(self.roles, self.passwords, self.sessions, self.rates, self.traces, secrets)
         self.metrics = Metrics(self, self.following, desk, copy)
         self.gets: dict[str, Place] = {
             "/auth": self.door.judge, "/auth/any": self.door.judge, "/auth/reads": self.door.judge_reads,

@@ -10,7 +10,7 @@ import time
 from collections.abc import Callable, Iterable
 from dataclasses import dataclass
 from pathlib import Path
-from typing import Any
+from typing import Any, NamedTuple
 
 from acd_service import put
 from acd_service.command import report
@@ -44,20 +44,27 @@ def digest(text: str) -> str:
     return hashlib.sha256(text.encode()).hexdigest()
 
 
-def secret_of(file: Path | str) -> str:
-    """What the gate and nginx know: nginx reads it as a part of its configuration. Without it one that nginx can't
-    have."""
+class Secrets(NamedTuple):
+    """What the gate and nginx know: `session` signs the cookies of sessions, `proxy` says that a request is nginx's."""
+    session: str = ""
+    proxy: str = ""
+
+
+def secrets_of(file: Path | str) -> Secrets:
+    """nginx reads the file as a part of its configuration. One of before 1.17 has one secret, which is both. Without
+    that they are some that nginx can't have."""
+    text, why = "", NO_SECRET
     try:
-        found = re.search(r'"([0-9a-f]{64})"', Path(file).read_text())
-        why = NO_SECRET
+        text = Path(file).read_text()
     except OSError as fault:
-        found, why = None, fault.strerror or NO_SECRET
+        why = fault.strerror or NO_SECRET
     except ValueError:
-        found, why = None, NO_SECRET
-    if found:
-        return found[1]
-    report(f"{file} has no secret, so that nginx takes no session for ours: {why}")
-    return secrets.token_hex(32)
+        pass
+    found = dict(re.findall(r'\$acd_(session|proxy)_secret\b[^"]*"([0-9a-f]{64})"', text))
+    if "session" not in found:
+        report(f"{file} has no secret, so that nginx takes no session for ours: {why}")
+        found = {"session": secrets.token_hex(32)}
+    return Secrets(**{"proxy": found["session"], **found})
 
 
 def signed(drawn: str, secret: str) -> str:

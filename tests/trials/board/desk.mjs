@@ -96,7 +96,7 @@ export class Front {
     await cp(join(TOP, 'board'), join(file, 'share/board'), {recursive: true});
     execFileSync('openssl', ['req', '-x509', '-newkey', 'rsa:2048', '-nodes', '-subj', '/CN=desk', '-days', '2', '-keyout', `${file}/desk.key`, '-out', `${file}/desk.crt`], {stdio: 'ignore'});
     await writeFile(`${file}/roles`, roles.map(([login, ...role]) => `${login} ${role.join(' ')}\n`).join(''));
-    await writeFile(`${file}/nginx-secret.conf`, `map "" $acd_session_secret { default "${randomBytes(32).toString('hex')}"; }\n`);
+    await writeFile(`${file}/nginx-secret.conf`, ['session', 'proxy'].map(name => `map "" $acd_${name}_secret { default "${randomBytes(32).toString('hex')}"; }\n`).join(''));
     await writeFile(`${file}/users`, roles.map(([login]) => `${login}:{SHA}5en6G6MezRroT3XKqkdPOmY/BfQ=\n`).join(''));
     const places = {'unix:/run/acd/desk.sock': `127.0.0.1:${desk.port}`, 'unix:/run/acd-gate/gate.sock': `127.0.0.1:${gate}`, 8443: `127.0.0.1:${site}`, '/etc/acd': file, '/usr/share/acd': `${file}/share`};
     const conf = (await readFile(join(TOP, 'service/nginx/nginx.conf'), 'utf8')).replace(new RegExp(Object.keys(places).join('|'), 'g'), named => places[named]);

@@ -32,7 +32,7 @@ class Alike(Place):
         cls.persons = {"nobody": {}, "another way": {"Authorization": "Bearer x"}, "a made-up cookie": {"Cookie": f"__Host-acd={'A' * 43}.{'B' * 22}"},
                        "no session's cookie": {"Cookie": f"a=b; __Host-acd={signed('A' * 43)}"}, "two cookies": {"Cookie": f"__Host-acd={signed('A' * 43)}; __Host-acd={signed('B' * 43)}"},
                        "two fields of cookies": {"Cookie": f"a=b\r\nCookie: __Host-acd={signed('A' * 43)}"}, "two passwords": {"Authorization": "{Authorization}\r\nAuthorization: {Authorization}".format(**basic("ana"))},
-                       "a forged login": {"X-Login": "sup", "X-Proxy": cls.secret[:-1]}, **{login: basic(login) for login in cls.ROLES if login != "tried"}}
+                       "a forged login": {"X-Login": "sup", "X-Proxy": cls.proxys[:-1]}, **{login: basic(login) for login in cls.ROLES if login != "tried"}}
 
     def got(self, port, method, path, fields, body):
         """What comes back, line by line: nginx and the gate put their fields in another order. Neither the date is compared nor numbers that are new each time."""

@@ -6,12 +6,42 @@ from executed import Executed
 from leads import Leads
 from place import CLICK, PAGE, Place, token_of
 from sessions import UNAUTHORIZED, Sessions, strangers
+from trial import free_port
 
 OF_1_14 = Path(__file__).with_name("nginx-1.14.conf")
 
 
 class Older(Place):
     NGINX = OF_1_14
+
+
+class OneSecret(Place):
+    """An office of 1.16: its nginx.conf tells the gate the secret that signs sessions, the only one that there is."""
+
+    ROLES, SECRETS = {"ana": "agent agent=7 reads=all"}, ("session",)
+
+    @classmethod
+    def start_nginx(cls):
+        cls.NGINX = cls.folder / "1.16.conf"
+        cls.NGINX.write_text(Place.NGINX.read_text().replace("acd_proxy_secret", "acd_session_secret"))
+        super().start_nginx()
+
+    def try_upgrade(self):
+        """A session goes on as a second secret is drawn, and as nginx.conf says that one."""
+        token = token_of(self.log_in("ana")[1])
+        self.goes_on("before", token)
+        with self.without_gate():
+            type(self).SECRETS = Place.SECRETS
+            self.write_secret()
+        self.goes_on("behind nginx of before", token)
+        type(self).port = free_port()
+        self.run_nginx(Place.NGINX, self.port)
+        self.goes_on("behind nginx of now", token)
+        self.expect("the gate says nothing", (self.folder / "gate-errors").read_text().count("nginx"), 0)
+
+    def goes_on(self, what, token):
+        told = [(self.ask("GET", path, cookie=token).status, self.ask("GET", path, login="ana").status, self.ask("GET", path, X_Login="ana").status) for path in ("/who", "/snapshot")]
+        self.expect(f"{what}: a session, a password, and nobody", told, [(200, 200, 401)] * 2)
 
 
 class OlderSessions(Older, Sessions):

@@ -29,7 +29,9 @@ def plan_of(stations=("201", "202", "203", "204"), agents=("7", "8", "9")):
 class Place(Trial):
     """A class says of which plan it is, and the role of each login; all have the same password."""
 
-    PLAN, ROLES, missed, secret = plan_of(), {}, 0, secrets.token_hex(32)
+    PLAN, ROLES, missed, secret, proxys = plan_of(), {}, 0, secrets.token_hex(32), secrets.token_hex(32)
+    # which secrets gate and nginx read
+    SECRETS = "session", "proxy"
     # of nginx: its configuration, its workers, and the kind of its key
     NGINX, WORKERS, KEY = TOP / "service/nginx/nginx.conf", 1, ("rsa:2048",)
 
@@ -62,8 +64,9 @@ class Place(Trial):
 
     @classmethod
     def write_secret(cls):
-        """That of the signature of sessions, which gate and nginx read."""
-        (cls.folder / "nginx-secret.conf").write_text(f'map "" $acd_session_secret {{ default "{cls.secret}"; }}\n')
+        """That of the signature of sessions, and the proxy's: gate and nginx read both."""
+        drawn = {"session": cls.secret, "proxy": cls.proxys}
+        (cls.folder / "nginx-secret.conf").write_text("".join(f'map "" $acd_{name}_secret {{ default "{drawn[name]}"; }}\n' for name in cls.SECRETS))
 
     @classmethod
     def start_desk(cls):

@@ -22,6 +22,7 @@ from acd_service.gate.desk import Desk, Place  # noqa: E402
 from acd_service.gate.roles import Watched, hashes_of, roles_of  # noqa: E402
 from acd_service.gate.routes import Gate  # noqa: E402
 from acd_service.gate.server import Server, listening_at  # noqa: E402
+from acd_service.gate.sessions import Secrets  # noqa: E402
 from trial import Connection, bytes_back, until  # noqa: E402
 
 ROLES = """# who may what
@@ -43,7 +44,7 @@ PATIENCE = 120
 # of "secret" by SHA-1, as `htpasswd -s` makes it
 SECRET = "{SHA}5en6G6MezRroT3XKqkdPOmY/BfQ="
 # what the gate and nginx know
-PROXYS = "0f" * 32
+PROXYS, SESSIONS = "0f" * 32, "1e" * 32
 USERS = "".join(f"{login}:{SECRET}\n" for login in ("pbx", "planner", "sup", "ana", "ana-b", "nobody", "Jürgen", "Copy.2"))
 FORBIDDEN = (403, b'{"error":{"code":41,"name":"forbidden"}}')
 BAD_GATEWAY = (502, b'{"error":{"code":44,"name":"badGateway"}}')
@@ -155,7 +156,7 @@ class GateTest(Named):
         self.desk = self.enterContext(StandInDesk())
         threading.Thread(target=self.desk.serve_forever, args=(0.02,), daemon=True).start()
         self.addCleanup(self.desk.shutdown)
-        self.gate = Gate(Desk(Place(self.desk.server_port)), self.roles, self.users, records=self.records, secret=PROXYS)
+        self.gate = Gate(Desk(Place(self.desk.server_port)), self.roles, self.users, records=self.records, secrets=Secrets(SESSIONS, PROXYS))
         self.standing = self.enterContext(Standing(self.gate))
         self.port = self.standing.port
 

@@ -7,7 +7,7 @@ import io
 import json
 import unittest
 
-from standing import FORBIDDEN, PAGE, PATIENCE, PROXYS, REPLY, DoorTest, basic
+from standing import FORBIDDEN, PAGE, PATIENCE, PROXYS, REPLY, SESSIONS, DoorTest, basic
 
 from acd_service.gate.exchanges import Left, Question
 from trial import Connection
@@ -115,8 +115,15 @@ class OneQuestionTest(DoorTest):
                 self.assertEqual(self.once("GET", "/who", basic("ana"), X_Proxy="0" * 64)[0], FORBIDDEN)
         self.assertRegex(printed.getvalue(), r"\Aacd-gate: nginx has another secret than this gate.*\n\Z")
 
+    def test_the_proxy_of_before(self):
+        """nginx's configuration of 1.16 says the secret that signs sessions."""
+        with contextlib.redirect_stderr(io.StringIO()) as printed:
+            self.assertEqual(self.once("GET", "/who", basic("ana"), X_Login="pbx", X_Proxy=SESSIONS)[0][0], 200)
+            self.assertEqual(self.once("GET", "/who", X_Login="pbx", X_Proxy=SESSIONS)[0], UNAUTHORIZED)
+        self.assertEqual(printed.getvalue(), "")
+
     def test_no_secret_is_nobodys(self):
-        self.gate.door.secret = b""
+        self.gate.door.secrets = []
         self.assertEqual(self.once("GET", "/who", basic("pbx"), X_Login="ana", X_Proxy="")[0][0], 200)
         self.assertEqual(self.ask("", None, "GET", "/who", X_Proxy="", Authorization=basic("pbx")), FORBIDDEN)
 

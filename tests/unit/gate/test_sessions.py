@@ -69,15 +69,17 @@ class SessionTest(Named, unittest.IsolatedAsyncioTestCase):
         self.assertEqual(sessions.signed("a" * 43, "0" * 64), "a" * 43 + ".ZTV86CqdRNk6yC3k0EfNzA")
         self.assertRegex(await self.sessions.begin("ana"), rf"\A{sessions.TOKEN}\Z")
 
-    def test_the_secret(self):
-        file = self.file.with_name("secret")
-        file.write_text('# drawn\nmap "" $acd_session_secret { default "' + "0f" * 32 + '"; }\n')
-        self.assertEqual(sessions.secret_of(file), "0f" * 32)
-        for text in ("", 'map "" $acd_session_secret { default "short"; }', None):
+    def test_the_secrets(self):
+        file, one, other = self.file.with_name("secret"), "0f" * 32, "1e" * 32
+        of_session, of_proxy = f'map "" $acd_session_secret {{ default "{one}"; }}\n', f'map "" $acd_proxy_secret {{ default "{other}"; }}\n'
+        for text, wanted in ((f"# drawn\n{of_session}", (one, one)), (of_session + of_proxy, (one, other)), (of_proxy + of_session.replace("{ ", "{\n"), (one, other))):
+            file.write_text(text)
+            self.assertEqual(sessions.secrets_of(file), wanted)
+        for text in ("", 'map "" $acd_session_secret { default "short"; }\n' + of_proxy, None):
             file.write_text(text) if text is not None else file.unlink()
             with contextlib.redirect_stderr(io.StringIO()) as printed:
-                drawn = [sessions.secret_of(file) for _ in range(2)]
-            self.assertNotEqual(*drawn)
+                drawn = [sessions.secrets_of(file) for _ in range(2)]
+            self.assertFalse({one, other} & {found.session for found in drawn} or drawn[0].session == drawn[1].session)
             self.assertEqual(printed.getvalue().count(f"acd-gate: {file} has no secret"), 2)
 
     async def test_a_session_outlives_the_users_file_being_written(self):

@@ -214,6 +214,10 @@ class Proxy(Office):
         self.put("nginx/conf.d/desk.conf", self.proxy.replace("X-Proxy", "X-Signed"))
         self.assertEqual(self.said(), (0, [f"warning: {self.nginx}/conf.d/desk.conf is of before 1.16: nginx asks the gate twice for each request", NOTHING]))
 
+    def test_of_the_secret_of_sessions(self):
+        self.put("nginx/conf.d/desk.conf", self.proxy.replace("acd_proxy_secret", "acd_session_secret"))
+        self.assertEqual(self.said(), (0, [f"warning: {self.nginx}/conf.d/desk.conf is of 1.16: nginx tells the gate the secret that signs sessions", NOTHING]))
+
     def test_certificates(self):
         for old, new, wanted in ((".crt", ".crte", f"{self.keys}/desk.crte can't be read: No such file or directory"), (".key", ".keys", f"{self.keys}/desk.keys can't be read: No such file or directory"),
                                  ("desk.key", "other.key", f"{self.keys}/other.key is not the key of {self.keys}/desk.crt"),
