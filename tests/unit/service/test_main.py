@@ -41,7 +41,8 @@ class CommandsTest(unittest.TestCase):
 
     def test_the_version_is_that_of_the_changelog(self):
         heading, = re.findall(r"\A# acd (\S+) ", (TOP / "CHANGELOG.md").read_text())
-        self.assertEqual((VERSION, said(SERVICE / "bin/acdctl", "--version")), (heading, (0, f"acdctl {heading}\n", "")))
+        described, = re.findall(r"(?m)^  version: '(\S+)'$", (TOP / "docs/openapi.yaml").read_text())
+        self.assertEqual((VERSION, described, said(SERVICE / "bin/acdctl", "--version")), (heading, heading, (0, f"acdctl {heading}\n", "")))
 
     def test_a_word_that_is_no_command(self):
         for words in ([], ["none"], ["-copy"], ["acd-copy"], ["--version", "x"]):
