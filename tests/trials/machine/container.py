@@ -7,6 +7,8 @@ import subprocess
 import time
 from pathlib import Path
 
+# seconds for what comes at once, unless the machine is busy
+PATIENCE = 600
 # a unit's IPAddressDeny is a program of bpf, and its tables are nftables'
 MAY = ("--capability=all", "--system-call-filter=bpf")
 PATH = "PATH=/usr/local/sbin:/usr/local/bin:/usr/sbin:/usr/bin:/sbin:/bin"
@@ -25,11 +27,11 @@ class Container:
             self.process = subprocess.Popen(words, stdin=subprocess.DEVNULL, stdout=log, stderr=log, env={**os.environ, "UNIFIED_CGROUP_HIERARCHY": "1"})
         self.leader = None
         self.leader = self.found(self.its_systemd, "a systemd in the container")
-        self.found(lambda: self.run("systemctl", "is-system-running")[1] in ("running\n", "degraded\n"), "the end of its start", 60)
+        self.found(lambda: self.run("systemctl", "is-system-running")[1] in ("running\n", "degraded\n"), "the end of its start")
 
-    def found(self, look, what, seconds=20):
+    def found(self, look, what):
         """What looking tells, as soon as it tells something."""
-        end = time.monotonic() + seconds
+        end = time.monotonic() + PATIENCE
         while time.monotonic() < end and self.process.poll() is None:
             seen = look()
             if seen:
@@ -52,7 +54,7 @@ class Container:
         entered = ["nsenter", "--target", str(self.leader), "--all", "env", "-i", PATH, "LC_ALL=C.UTF-8", "HOME=/root", "DEBIAN_FRONTEND=noninteractive"]
         return [*entered, *(("runuser", "-u", user, "--") if user else ()), *map(str, words)]
 
-    def run(self, *words, user=None, wait=120):
+    def run(self, *words, user=None, wait=PATIENCE):
         """The status, and all that was printed."""
         done = subprocess.run(self.words(words, user), stdin=subprocess.DEVNULL, stdout=subprocess.PIPE, stderr=subprocess.STDOUT, text=True, timeout=wait)
         return done.returncode, done.stdout
