@@ -75,9 +75,9 @@ class Following:
                  is_rules: Callable[[str], bool] = lambda requester: False, rules: Path | str = RULES) -> None:
         self.ask, self.clock, self.asking = ask, clock, asyncio.Lock()
         self.is_rules, self.rules = is_rules, rules
-        # `answered` is by the clock; `renewed`, `heard`, when all was caught up, and `spoke`, when the desk last
-        # answered a question, are by one that is never set back
-        self.answered, self.renewed, self.heard, self.live = 0.0, 0.0, 0.0, False
+        # `answered` is by the clock; `renewed`, `began` and `heard`, when it began to catch up and had caught up last,
+        # and `spoke`, when the desk last answered a question, are by one that is never set back
+        self.answered, self.renewed, self.began, self.heard, self.live = 0.0, 0.0, 0.0, 0.0, False
         self.spoke = 0.0
         self.state: State | None = None
         # the last report; and whether the desk that answered last is another one, which is there and is read at once
@@ -127,8 +127,13 @@ class Following:
         return Ruled(lambda after: self.page(f"/requests?after={after}"), self.is_rules, self.rules, self.clock)
 
     async def catch_up(self) -> State:
-        """The desk with all that it has executed by now; Away where it doesn't answer."""
+        """The desk with all that it has executed by now; Away where it doesn't answer. Those who come while the desk is
+        asked share the next question."""
+        came = time.monotonic()
         async with self.asking:
+            if self.state is not None and self.began > came:
+                return self.state
+            began = time.monotonic()
             try:
                 state = await self.renewed_state()
                 while await self.take_page(state):
@@ -142,7 +147,7 @@ class Following:
                 # meanwhile its file may have taken what no report tells
                 self.renewed = -RENEW
                 raise
-            self.answered, self.heard = self.clock(), time.monotonic()
+            self.began, self.answered, self.heard = began, self.clock(), time.monotonic()
             self.settle(True)
             return state
 

@@ -1,6 +1,6 @@
 """Follows a desk by its event reports, and asks it to move the calls of which a rule holds. Tested, not proved."""
 import time
-from collections.abc import Callable, Iterator
+from collections.abc import Callable, Iterator, Sequence
 from itertools import islice
 from typing import Any, NoReturn, Protocol
 
@@ -15,7 +15,7 @@ from acd_service.watch import MINUTE, Journal
 # seconds: between two looks, until the next one where there was no answer or the login may not ask, between two looks
 # at the plan, of which no event tells, and of one attempt
 LOOK, PAUSE, DENIED, RENEW, PATIENCE = 0.25, 1, 10, 60, 5
-# so many are moved before it looks anew, since meanwhile others may have left
+# so many are moved together before it looks anew, since meanwhile others may have left
 AT_ONCE = 10
 # the look without an answer at which that is told
 TOLD = 3
@@ -23,14 +23,18 @@ TOLD = 3
 FEW = 100
 
 
-class Desk(Protocol):
-    """What is asked of a desk: acd_client.Client does it over HTTP."""
+class Source(Protocol):
+    """Where a desk's state is read: acd_client.Client does it over HTTP."""
 
     def attempt(self, method: str, path: str) -> Answer: ...
 
+
+class Desk(Source, Protocol):
+    """What is asked of a desk: sending.Several does it over HTTP."""
+
     def page(self, after: int, known: Event | None = None) -> Page: ...
 
-    def send(self, request: Request) -> Answer: ...
+    def send_all(self, requests: Sequence[Request]) -> list[Answer | Unanswered]: ...
 
 
 class Denied(Unanswered):
@@ -41,7 +45,7 @@ class Denied(Unanswered):
         super().__init__(f"{what} is answered {answer.status} {answer.error}".rstrip() + why)
 
 
-def read(desk: Desk, path: str) -> dict[str, Any]:
+def read(desk: Source, path: str) -> dict[str, Any]:
     answer = desk.attempt("GET", path)
     if answer.status != 200:
         raise Denied(path, answer)
@@ -50,7 +54,7 @@ def read(desk: Desk, path: str) -> dict[str, Any]:
 
 # The beginning
 
-def begin(desk: Desk, rules: Rules, clock: float) -> tuple[Picture, Event | None]:
+def begin(desk: Source, rules: Rules, clock: float) -> tuple[Picture, Event | None]:
     """The picture of the present state, and its last event where there is one."""
     snapshot = read(desk, "/snapshot")
     if not {"agents", "calls", "groups", "last", "moment", "stations"} <= snapshot.keys():
@@ -62,7 +66,7 @@ def begin(desk: Desk, rules: Rules, clock: float) -> tuple[Picture, Event | None
     return Picture.of(snapshot, events), known
 
 
-def history(desk: Desk, since: int, last: int) -> Iterator[Event]:
+def history(desk: Source, since: int, last: int) -> Iterator[Event]:
     """The events from a moment on, up to the one of this number, and not many earlier ones. Of a file that was pruned
     those that it still has."""
     low, high = 0, last
@@ -102,8 +106,7 @@ class Following:
         try:
             picture = self.catch_up()
             moves = list(islice(judged(self.rules, picture, self.tried, self.now(picture)), AT_ONCE))
-            for move in moves:
-                self.send(move, self.now(picture))
+            self.send(moves, self.now(picture))
         except AnotherHistory as fault:
             self.picture = None
             # what was pruned has the same keys; an older copy hasn't
@@ -192,9 +195,21 @@ class Following:
 
     # what is asked
 
-    def send(self, move: Move, now: int) -> None:
-        """Sends a try; one without an answer is sent again at the next look, if the rule still holds."""
-        answer = self.desk.send(move.request(self.login))
+    def send(self, moves: list[Move], now: int) -> None:
+        """Sends tries, each of another call, together. One without an answer is sent again at the next look, if the
+        rule still holds."""
+        answers = self.desk.send_all([move.request(self.login) for move in moves]) if moves else []
+        faults = []
+        for move, answer in zip(moves, answers):
+            if isinstance(answer, Unanswered):
+                faults.append(answer)
+            elif not self.takes(move, answer, now):
+                faults.append(Denied(move.request(self.login)["service"], answer))
+        for fault in sorted(faults, key=lambda fault: not isinstance(fault, Denied)):
+            raise fault
+
+    def takes(self, move: Move, answer: Answer, now: int) -> bool:
+        """Notes what became of a try; whether it was one."""
         tried = self.tried.setdefault((move.rule.name, move.call), Tried())
         said = f"call {move.call} in {move.rule.group}, {move.rule.name}"
         if answer.status == 200:
@@ -207,5 +222,4 @@ class Following:
             tried.is_over = True
             report(f"{said}: another instance, with other rules, has used the key {move.requester(self.login)}; "
                    "nobody is moved by it")
-        else:
-            raise Denied(move.request(self.login)["service"], answer)
+        return answer.status in (200, 409, 422)

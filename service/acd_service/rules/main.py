@@ -15,6 +15,7 @@ from acd_service.command import Fault, report, say
 from acd_service.rules import following, replay
 from acd_service.rules.judging import unfit
 from acd_service.rules.reading import Place, Read, line_of, read
+from acd_service.rules.sending import Several
 
 FILE = settings.FILE.parent / "rules.toml"
 # what requesters begin with where no login is named, as on the desk's own machine
@@ -141,7 +142,7 @@ def do(options: argparse.Namespace) -> int:
         signal.signal(one, signal.SIG_DFL)
     desk = reach.desk_at(options)
     desk.wait = following.PATIENCE
-    following.Following(desk, found.rules, reach.owner(options.login, REQUESTER)).run()
+    following.Following(Several(desk), found.rules, reach.owner(options.login, REQUESTER)).run()
 
 
 def main(words: list[str]) -> NoReturn:

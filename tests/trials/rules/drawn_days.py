@@ -44,6 +44,12 @@ class Watched(Played):
         self.burn(True)
         return answer
 
+    def send_all(self, requests):
+        """They are under way together, so the desk gets them in any order."""
+        order = self.day.draw.sample(range(len(requests)), len(requests))
+        answers = dict(zip(order, super().send_all([requests[place] for place in order])))
+        return [answers[place] for place in range(len(requests))]
+
     def act(self, service, **members):
         answer = self.ask(service, **members)
         self.day.look()

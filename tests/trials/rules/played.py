@@ -2,6 +2,7 @@
 import json
 
 from acd_client import Answer, Client
+from acd_service.rules.sending import attempted
 from trial import Lines, Requests, compact
 
 
@@ -23,6 +24,9 @@ class Played:
         answer = self.say(compact(request))
         self.sent.append((self.moment, request, answer.status))
         return answer
+
+    def send_all(self, requests):
+        return [attempted(self.send, one) for one in requests]
 
     def ask(self, service, **members):
         """A request of somebody else; its answer."""

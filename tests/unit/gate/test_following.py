@@ -163,6 +163,28 @@ class FollowingTest(Named, unittest.IsolatedAsyncioTestCase):
         self.assertEqual((state.last, state.agents["7"].state, state.agents["7"].since), (11, "ready", 1011))
         self.assertEqual(self.desk.asked.count("/snapshot"), 1)
 
+    async def test_those_who_come_meanwhile_share_a_question(self):
+        """The next one: the desk may have answered that which is out before they came."""
+        await self.following.catch_up()
+        real, goes_on = self.desk.ask, asyncio.Event()
+
+        async def slow(method, path):
+            answer = await real(method, path)
+            await goes_on.wait()
+            return answer
+
+        with mock.patch.object(self.following, "ask", slow):
+            before = len(self.desk.asked)
+            tasks = [asyncio.create_task(self.following.catch_up())]
+            while len(self.desk.asked) == before:
+                await asyncio.sleep(0)
+            self.desk.events.append(logged_on(1))
+            tasks += [asyncio.create_task(self.following.catch_up()) for _ in range(3)]
+            await asyncio.sleep(0)
+            goes_on.set()
+            first, *rest = [state.last for state in await asyncio.wait_for(asyncio.gather(*tasks), PATIENCE)]
+        self.assertEqual((rest, self.desk.asked[before:]), ([1, 1, 1], ["/history?after=0", "/history?after=0"]))
+
     async def test_what_no_report_names_is_asked_for(self):
         self.desk.events += [event(1, event="agentLoggedOn", agent="7", device="201"), event(2, event="delivered", call=5, device="201", group="100")]
         self.desk.texts = {"/agents/7": {"agent": "7", "device": "201", "groups": ["100", "110"]}, "/calls/5": {"caller": "0301", "called": "100"}}
