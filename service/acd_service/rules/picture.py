@@ -11,13 +11,16 @@ EARLIER = 2_000_000_000
 # what occupies a station, and what leaves a device
 OCCUPIES = ("serviceInitiated", "originated", "delivered", "established", "held", "retrieved")
 LEAVES = ("diverted", "transferred", "connectionCleared")
+# the states in a snapshot of who was answered
+TALKS = ("connected", "hold")
 QUEUED, FAILED, BUSY = "queued", "fail", "busy"
 
 
 @dataclass
 class Call:
-    """`entered` is the moment at which it first entered a group, None where it never did; `groups` are those in which
-    it has waited; `rank` its place among those who wait where it does."""
+    """`entered` is the moment at which its wait began: it first entered a group then, or again after somebody had
+    talked to the caller. It is None where the call didn't wait since. `groups` are those in which it has waited ever;
+    `rank` is its place among those who wait where it does."""
     number: int
     entered: int | None = None
     groups: set[str] = field(default_factory=set)
@@ -71,28 +74,43 @@ class Picture:
             if group:
                 call.groups.add(group)
                 call.rank = one.get("place", EARLIER) - EARLIER
+            if group and one["state"] not in TALKS:
                 # where no event says more
                 call.entered = text["since"] if text["called"] in self.groups else one.get("queued", text["since"])
-        if call.entered is not None and text["called"] in self.groups:
+        if call.groups and text["called"] in self.groups:
             call.groups.add(text["called"])
 
     def look_back(self, history: Iterable[Mapping[str, Any]]) -> None:
-        """What the events before the snapshot add: when each call first entered a group and in which it has waited,
-        and until when a group may have had somebody."""
-        entered: set[int] = set()
+        """What the events before the snapshot add: since when each call waits and in which groups it has waited, and
+        until when a group may have had somebody."""
+        events, entered = list(history), set[int]()
         of_agents: dict[str, list[str]] = {}
-        for event in history:
+        staffed = self.staffed_before(events)
+        for event in events:
             kind, call = event["event"], self.calls.get(event.get("call", 0))
             if kind == "queued" and call:
                 call.groups.add(event["device"])
                 if call.number not in entered:
                     entered.add(call.number)
                     call.entered = event["moment"]
+            elif kind == "established" and call and ("group" in event or event["device"] in staffed):
+                entered.discard(call.number)
+                call.entered = None
             elif kind == "agentLoggedOn":
+                staffed.add(event["device"])
                 of_agents[event["agent"]] = [event["group"]] if "group" in event else list(self.groups)
             elif kind == "agentLoggedOff":
+                staffed.discard(event["device"])
                 for group in of_agents.pop(event["agent"], self.groups):
                     self.groups[group].empty_since = event["moment"]
+
+    def staffed_before(self, events: Iterable[Mapping[str, Any]]) -> set[str]:
+        """The stations at which somebody was logged on before these events, which lead to the present."""
+        first: dict[str, bool] = {}
+        for event in events:
+            if event["event"] in ("agentLoggedOn", "agentLoggedOff"):
+                first.setdefault(event["device"], event["event"] == "agentLoggedOff")
+        return {station for station, agent in self.stations.items() if first.get(station, agent is not None)}
 
     # agents
 
@@ -144,6 +162,8 @@ class Picture:
             call.connections[device] = FAILED
         elif kind in OCCUPIES:
             call.connections[device] = BUSY
+            if kind == "established" and ("group" in event or self.stations.get(device) is not None):
+                call.entered = None
         elif kind == "queued":
             call.connections[device] = QUEUED
             call.groups.add(device)

@@ -138,7 +138,7 @@ class Day:
 
     def step(self):
         agent, draw = self.draw.choice(AGENTS), self.draw
-        does = draw.choice(("arrive", "arrive", "arrive", "log on", "ready", "ready", "log off", "answer", "clear", "reject", "reject", "reject", "lead", "box", "restart", "tick"))
+        does = draw.choice(("arrive", "arrive", "arrive", "log on", "ready", "ready", "log off", "answer", "answer", "answer", "clear", "reject", "reject", "reject", "lead", "box", "pass on", "pass on", "restart", "tick"))
         if does == "arrive":
             self.desk.act("arriveCall", caller=f"030{draw.randrange(10 ** 6)}", called=draw.choice(GROUPS))
         elif does == "log on":
@@ -161,13 +161,15 @@ class Day:
             self.begin_instance()
 
     def change_call(self, does):
-        found = {"answer": self.calls("alerting"), "reject": self.calls("alerting"), "lead": self.calls("queued"),
+        found = {"answer": self.calls("alerting"), "reject": self.calls("alerting"), "lead": self.calls("queued"), "pass on": [one for one in self.calls("connected") if one[1] in (*STATIONS, *BOXES)],
                  "box": [one for one in self.calls("alerting", "connected") if one[1] in BOXES]}.get(does, self.calls("queued", "connected", "alerting"))
         if not found:
             return
         call, device = self.draw.choice(found)
         if does == "lead":
             self.desk.act("deflectCall", call=call, device=device, to=self.draw.choice([*GROUPS, *STATIONS]))
+        elif does == "pass on":
+            self.desk.act("singleStepTransfer", call=call, device=device, to=self.draw.choice(GROUPS))
         elif does == "box" and self.draw.random() < 0.5:
             self.desk.act("deflectCall", call=call, device=device, to=self.draw.choice(GROUPS))
         else:

@@ -73,16 +73,23 @@ class Reckoning:
 
     def __init__(self, office):
         self.office, self.known = office, {}
-        self.entered, self.groups, self.empty, self.logged_off, self.shown = {}, {}, dict.fromkeys(GROUPS, 0), 0, None
+        self.entered, self.groups, self.talks, self.empty, self.logged_off, self.shown = {}, {}, {}, dict.fromkeys(GROUPS, 0), 0, None
 
     def see(self, snapshot):
         moment = snapshot["moment"]
+        staffed = {one["device"] for one in snapshot["stations"] if "agent" in one}
         for call in snapshot["calls"]:
+            number, talks = call["call"], {one["device"] for one in call["connections"] if one["state"] in ("connected", "hold")}
+            # who is answered where an agent is logged on has waited
+            if staffed & (talks - self.talks.get(number, set())):
+                self.entered.pop(number, None)
+            self.talks[number] = talks
             for one in call["connections"]:
                 group = one["device"] if one["state"] == "queued" else one.get("group")
                 if group:
-                    self.entered.setdefault(call["call"], moment)
-                    self.groups.setdefault(call["call"], set()).add(group)
+                    self.groups.setdefault(number, set()).add(group)
+                if group and one["device"] not in talks:
+                    self.entered.setdefault(number, moment)
         there = {group for agent in snapshot["agents"] for group in agent.get("groups", [agent["group"]] if "group" in agent else [])}
         for group in GROUPS:
             if group in there:

@@ -70,15 +70,41 @@ class When(ground.Case):
         self.desk.ask("deflectCall", call=call, device="100", to="110")
         self.assertEqual(self.turns(one, NOON + 201), [("rules-110-long-1", "clearConnection", call, 200)])
 
-    def test_too_long_in_all_with_talk_in_between(self):
-        one = self.following(text=of_group("110", 'when = "long", seconds = 120, end = true'))
+    def test_a_talk_ends_a_wait(self):
+        """Who is passed on afterwards waits anew: also as an instance sees it that began meanwhile, and where an agent was reached by name."""
+        text = of_group("110", 'when = "long", seconds = 120, end = true')
         self.desk.logs_on("7", "201", "100")
-        call = self.desk.arrives()
+        for moment, talks in ((NOON, lambda call: self.desk.ask("answerCall", call=call, device="201")), (NOON + 1000, self.is_reached_by_name)):
+            self.desk.moment = moment
+            one, call = self.following(text=text), self.desk.arrives()
+            talks(call)
+            self.assertEqual(self.turns(one, moment + 100), [])
+            again = self.following(text=text)
+            self.assertEqual(self.turns(again), [])
+            self.desk.ask("singleStepTransfer", call=call, device="201", to="110")
+            for each in (one, again, self.following(text=text)):
+                self.assertEqual(self.turns(each, moment + 219), [])
+            for each, status in ((one, [200]), (self.following(text=text), [])):
+                self.assertEqual([sent[3] for sent in self.turns(each, moment + 220)], status)
+            self.assertEqual(self.waiting("110"), [])
+            self.desk.ask("setAgentState", agent="7", requested="ready")
+
+    def is_reached_by_name(self, call):
+        self.desk.ask("setAgentState", agent="7", requested="notReady")
+        self.desk.ask("rejectCall", call=call, device="201")
+        self.desk.ask("deflectCall", call=call, device="100", to="201")
         self.desk.ask("answerCall", call=call, device="201")
-        self.assertEqual(self.turns(one, NOON + 100), [])
-        self.desk.ask("singleStepTransfer", call=call, device="201", to="110")
-        self.assertEqual(self.turns(one, NOON + 119), [])
-        self.assertEqual(self.turns(one, NOON + 120), [("rules-110-long-1", "clearConnection", call, 200)])
+
+    def test_an_announcement_is_no_talk(self):
+        text = of_group("110", 'when = "long", seconds = 120, end = true')
+        one, call = self.following(text=text), self.desk.arrives()
+        self.desk.ask("deflectCall", call=call, device="100", to="299")
+        self.desk.ask("answerCall", call=call, device="299")
+        self.assertEqual(self.turns(one, NOON + 50), [])
+        self.desk.ask("singleStepTransfer", call=call, device="299", to="110")
+        for each in (one, self.following(text=text)):
+            self.assertEqual(self.turns(each, NOON + 119), [])
+        self.assertEqual(self.turns(self.following(text=text), NOON + 120), [("rules-110-long-1", "clearConnection", call, 200)])
 
     def test_a_call_of_a_station(self):
         """It enters its group as it is made; a rule doesn't send it to the station that made it."""
