@@ -74,10 +74,10 @@ class Whole(Case):
         self.assertEqual((faults, found.rules["100"].hours, found.rules["100"].is_closed(0)), ([], None, False))
 
     def test_the_example_and_that_of_the_page(self):
-        page = (ground.TOP / "docs/OPERATING.md").read_text().partition("1. Write `/etc/acd/rules.toml`, which everybody may read (0644):\n")[2].partition("2. ")[0]
+        page = (ground.TOP / "docs/OPERATING.md").read_text().partition("1. Write `/etc/acd/rules.toml`, which everybody may read (0644):\n")[2].partition("\n   **")[0]
         for text, names in (((ground.SERVICE / "settings/rules.toml").read_text(), ["100-closed", "100-nobody", "100-full", "100-long"]), (textwrap.dedent(page), ["100-closed", "100-long"])):
             found, faults = self.read(text)
-            self.assertEqual((faults, [rule.name for rule in found.rules["100"].rules]), ([], names))
+            self.assertEqual((faults, [rule.name for has in found.rules.values() for rule in has.rules]), ([], [*names, "110-closed"]))
             # 24 December 2026, a Thursday: at 11:59 and at 12:00 in Berlin; and 25 December 2028, a Monday, at 11:00
             self.assertEqual([found.rules["100"].is_closed(moment) for moment in (1798109940, 1798110000, 1861351200)], [False, True, True])
 
