@@ -44,28 +44,32 @@ class Result(unittest.TestResult):
 
 
 class Count(Result):
-    """How many checks there were, and how many went otherwise, of which `most` are printed. Where a fault is planted the first of these ends its case. A case passes if none of its
-    checks went otherwise; each is told as it ends."""
+    """How many checks there were, and how many went otherwise, of which `most` are printed. Where a fault is planted the first of these ends its case. A case passes if it came to its
+    end, and none of its checks went otherwise; each is told as it ends. One that a signal ended before anything went otherwise is told as not run, and counts as neither."""
 
     def __init__(self, most=None):
         super().__init__()
         self.tried, self.wrong, self.most, self.is_planted, self.begun = 0, 0, most, False, time.monotonic()
         self.passed, self.failed, self.told = 0, 0, 0   # cases; and what went wrong in those that were told, or was told apart
+        self.is_through = False     # the case
 
     def startTest(self, test):
         super().startTest(test)
         self.tell_apart()
+        self.is_through = False
+
+    def addSuccess(self, test):
+        super().addSuccess(test)
+        self.is_through = True
 
     def stopTest(self, test):
         super().stopTest(test)
         name = ".".join(test.id().rsplit(".", 2)[-2:])
-        self.tell("failed" if self.wrong > self.told else "passed", name)
+        self.tell("failed" if self.wrong > self.told else "passed" if self.is_through else "not run", name)
 
     def tell(self, became, name):
-        if became == "failed":
-            self.failed += 1
-        else:
-            self.passed += 1
+        self.failed += became == "failed"
+        self.passed += became == "passed"
         self.told = self.wrong
         print(f"{self.seconds:6.1f} s  {became}  {name}", flush=True)
 

@@ -1,6 +1,7 @@
 """What ./test counts of files of tests that are written here, by pytest and by unittest, and of a trial's last line."""
 from __future__ import annotations
 
+import re
 import tempfile
 import unittest
 from pathlib import Path
@@ -86,6 +87,16 @@ main([It], command(__doc__).parse_args())
             with self.subTest(cases=cases, words=words):
                 count, output = self.counted(cases, *words)
                 self.assertEqual((count.passed, count.failed), (passed, failed), output)
+
+    def test_a_case_that_a_signal_ends(self) -> None:
+        """It isn't told as one that passed, unless something had gone wrong before in it; those before it are."""
+        good, wrong = "    def try_good(self):\n        self.expect('it', 1, 1)\n", "        self.expect('it', 1, 2)\n"
+        head, ends = "    def try_ended(self):\n        import os, signal\n", "        os.kill(os.getpid(), signal.SIGTERM)\n        self.expect('it', 1, 1)\n"
+        for before, told in (("", "not run"), (wrong, "failed")):
+            with self.subTest(told):
+                count, output = self.counted(good + head + before + ends)
+                self.assertEqual((count.passed, count.failed), (0, ("its process ended with status 143",)), output)
+                self.assertEqual(re.findall(r"^ *[\d.]+ s  (\w[\w ]*?)  It.try_(\w+)$", output, re.MULTILINE), [("passed", "good"), (told, "ended")], output)
 
 
 if __name__ == "__main__":
