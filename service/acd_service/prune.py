@@ -8,9 +8,11 @@ long as there is more to go. Whenever this is broken off, the file is as it was 
 that its note names.
 
 Over the service, acd-prune.service runs four commands: --prepare beside the desk, --stop by root, --prepared, and
---start by root, whatever the result."""
+--start by root, whatever the result. Since nobody is answered meanwhile, --prepared takes no more steps than it has
+time for, and later nights do the rest, by the same archive as long as that has a whole step."""
 import argparse
 import contextlib
+import math
 import os
 import re
 import shutil
@@ -18,6 +20,7 @@ import sqlite3
 import subprocess
 import sys
 import tempfile
+import time
 from collections.abc import Iterator, Sequence
 from pathlib import Path
 from typing import NoReturn
@@ -33,6 +36,9 @@ ABOUT = "Takes the desk's old requests out of its file, once an archive has them
 LEAST, DAYS = 1000, command.whole_number(1, 36500)
 NOTHING = "nothing to prune"
 PRUNED = re.compile(r"pruned up to request (\d+)(, more to go)?")
+# so many seconds the steps of --prepared take together, unless the first one takes longer; and what is said then
+LONGEST = 10.0
+REST = "more to go: the next run goes on, since nobody is answered meanwhile"
 # by these systemd tells, of --prepare, a night on which nothing is to be pruned from one on which something has to be
 # mended; and what the command ended with where it had nothing to do, while it was called carry
 PASS_OVER, MEND, DID_NOTHING = 1, 255, 3
@@ -56,18 +62,32 @@ def run(program: Sequence[str], file: Path, archive: Path, much: Sequence[str]) 
     return said
 
 
-def prune(file: Path, archive: Path, much: Sequence[str], program: str) -> str:
-    """Prunes a file that no program has open, step by step; what was said last."""
+def last_gone(said: str) -> int:
+    """The request up to which it pruned; 0 where it pruned nothing."""
+    found = PRUNED.fullmatch(said)
+    return int(found[1]) if found else 0
+
+
+def has_more(said: str) -> bool:
+    found = PRUNED.fullmatch(said)
+    return bool(found and found[2])
+
+
+def prune(file: Path, archive: Path, much: Sequence[str], program: str, longest: float = math.inf) -> str:
+    """Prunes a file that no program has open, step by step, as long as one more that takes as long as the last one is
+    over within so many seconds; what was said last."""
     restoring.refuse_beside(file)
-    last, goes_on = 0, True
+    begun, said, goes_on = time.monotonic(), NOTHING, True
     while goes_on:
+        before, last = time.monotonic(), last_gone(said)
         said = run([program], file, archive, much)
         say(said)
-        found = PRUNED.fullmatch(said)
-        goes_on = bool(found and found[2])
-        if found and int(found[1]) <= last:
+        if 0 < last_gone(said) <= last:
             raise Fault(f"{program} doesn't get on with {file}: it pruned up to request {last} before")
-        last = int(found[1]) if found else last
+        now = time.monotonic()
+        goes_on = has_more(said) and now - begun + now - before <= longest
+    if has_more(said):
+        say(REST)
     return said
 
 
@@ -133,18 +153,28 @@ def archived(file: Path, made: Path, last: int, moment: int) -> Path:
 def is_pruned(file: Path, said: str) -> bool:
     """Whether nothing goes up to the request that was said, since the file begins after it. Of a file that a desk
     writes just now nobody can tell."""
-    found = PRUNED.fullmatch(said)
     try:
         with contextlib.closing(sqlite3.connect(chain.immutable(file), uri=True)) as book:
             first, = book.execute("SELECT min(stamp) FROM kept").fetchone()
     except sqlite3.Error:
-        return not found
-    return not found or first is not None and int(found[1]) < first
+        first = None
+    return said == NOTHING or first is not None and last_gone(said) < first
 
 
-def prepare(file: Path, copies: Path, much: Sequence[str], program: str) -> Path | None:
-    """The archive by which a file can be pruned, whose note names it; None where nothing is to be pruned. A desk may
-    serve meanwhile."""
+def tried(file: Path, made: Path, archive: Path, much: Sequence[str], program: str) -> str:
+    """What `acd prune` says of a second copy: of the first step that the file itself still wants, where it was pruned
+    after the first copy."""
+    second = Path(tempfile.mkdtemp(dir=made.parent)) / file.name
+    shutil.copyfile(made, second)
+    said = run(audit.quietly(program), second, archive, much)
+    while has_more(said) and is_pruned(file, said):
+        said = run(audit.quietly(program), second, archive, much)
+    return said
+
+
+def prepare(file: Path, copies: Path, much: Sequence[str], program: str, for_a_step: bool) -> Path | None:
+    """The archive by which a file can be pruned, or at least take a step of that, whose note names it; None where
+    nothing is to be pruned. A desk may serve meanwhile."""
     with scratch_of(file) as scratch:
         made, note = copied(file, copies, scratch, program), chain.read_note(file)
         last, moment = end_of(made)
@@ -153,10 +183,11 @@ def prepare(file: Path, copies: Path, much: Sequence[str], program: str) -> Path
                         "nothing was changed")
         # what the file's own archive has isn't copied again
         own = chain.place(note, file.parent) if note and note.last == last else None
-        tried = Path(tempfile.mkdtemp(dir=scratch)) / file.name
-        shutil.copyfile(made, tried)
-        if is_pruned(file, run(audit.quietly(program), tried, own or made, much)):
+        said = tried(file, made, own or made, much, program)
+        if is_pruned(file, said):
             return None
+        if for_a_step and note and has_more(said) and last_gone(said) <= note.last:
+            own = chain.place(note, file.parent)
         return own or archived(file, made, last, moment)
 
 
@@ -283,14 +314,16 @@ def do(options: argparse.Namespace) -> int:
     refuse(file)
     (refuse_service if options.prepare else restoring.refuse_beside)(file)
     with restoring.alone_in(file.parent, f"{file} {AT_ONCE} just now; nothing was changed"):
-        archive = noted(file) if options.prepared else prepare(file, options.folder, options.much, program)
+        archive = noted(file) if options.prepared else (
+            prepare(file, options.folder, options.much, program, options.prepare))
         if not archive:
             say(NOTHING)
             return DID_NOTHING
         if options.prepare:
             say(f"{archive} has all that is to be pruned")
             return 0
-        return DID_NOTHING if prune(file, archive, options.much, program) == NOTHING else 0
+        said = prune(file, archive, options.much, program, LONGEST if options.prepared else math.inf)
+        return DID_NOTHING if said == NOTHING else 0
 
 
 def main(words: list[str]) -> NoReturn:

@@ -298,6 +298,80 @@ class OverTheService(Pruning):
         self.serves()
         self.assertEqual(said(*self.prepare), (1, "nothing to prune\n", ""))
 
+    def prepared(self):
+        """What a night's steps say."""
+        return said(*self.words, "--prepared", "--days", "2")
+
+    def test_a_night_takes_the_steps_that_it_has_time_for(self):
+        """The first one, and each other one of which it can be thought that ten seconds aren't over by its end, as it takes as long as the one before; by hand all."""
+        self.desk(DAYS)
+        said(*self.prepare)
+        whole, has, now, stepped = self.file.read_bytes(), {}, [0.0], prune.run
+
+        def run(*words):
+            now[0] += next(has["seconds"])
+            return stepped(*words)
+
+        self.has(PRUNE_STEP=1)
+        self.enterContext(mock.patch.object(prune, "run", run))
+        self.enterContext(mock.patch.object(prune, "time", mock.Mock(monotonic=lambda: now[0])))
+        for seconds, steps in (((11, 1), 1), ((5.5, 1), 1), ((5, 5, 1), 2), ((4, 4, 1), 2), ((4, 2, 3, 1), 3), ((1, 6, 1), 2), ((2, 2, 2, 3, 1), 4), ((1, 1, 1, 1, 1), 5)):
+            with self.subTest(seconds):
+                self.file.write_bytes(whole)
+                has["seconds"] = iter(seconds)
+                up_to = [f"pruned up to request {number}{', more to go' if number < 5 else ''}\n" for number in range(1, steps + 1)]
+                rest = "more to go: the next run goes on, since nobody is answered meanwhile\n" if steps < 5 else ""
+                self.assertEqual((self.prepared().out, stamps(self.file)), ("".join(up_to) + rest, list(range(steps + 1, 11))))
+                self.assertEqual(self.audited(self.home / "desk.db-1970-01-08-10"), "sound\n")
+        self.file.write_bytes(whole)
+        has["seconds"] = iter((0, 20, 20, 20, 20, 20))
+        self.assertEqual((said(*self.words).out.count("more to go"), stamps(self.file)), (4, [6, 7, 8, 9, 10]))
+
+    def test_the_rest_of_a_night(self):
+        """The next ones go on by the archive that there is, as long as it has a whole step; by a new one then."""
+        self.desk(DAYS)
+        self.copied()
+        self.has(PRUNE_STEP=2, PRUNE_UP_TO=7)
+        self.enterContext(mock.patch.object(prune, "LONGEST", 0.0))
+        for day, up_to, archive in ((8, "2, more to go", self.archive), (9, "4, more to go", self.archive), (10, "6, more to go", self.archive),
+                                    (11, "7", self.home / "desk.db-1970-01-11-13")):
+            desk, _ = self.serves()
+            self.assertEqual(said(*self.prepare), (0, f"{archive} has all that is to be pruned\n", ""))
+            desk.kill()
+            desk.wait()
+            self.assertEqual(self.prepared().out.splitlines()[0], f"pruned up to request {up_to}")
+            self.assertEqual(self.audited(archive), "sound\n")
+            lines(self.file, ground.arrives(day, f"03013{day}", day * DAY))
+            self.assertEqual(said("copy", "--file", self.file).status, 0)
+        self.assertEqual([note.name for note in chain.chain(self.file)], ["desk.db-1970-01-11-13", self.archive.name])
+
+    def test_a_second_run_before_the_next_copy(self):
+        """It does the next step, and the third one the last."""
+        self.desk(DAYS)
+        self.copied()
+        self.has(PRUNE_STEP=2)
+        self.enterContext(mock.patch.object(prune, "LONGEST", 0.0))
+        for up_to in ("2, more to go", "4, more to go", "5"):
+            desk, _ = self.serves()
+            self.assertEqual(said(*self.prepare), (0, f"{self.archive} has all that is to be pruned\n", ""))
+            desk.kill()
+            desk.wait()
+            self.assertEqual(self.prepared().out.splitlines()[0], f"pruned up to request {up_to}")
+        self.serves()
+        self.assertEqual(said(*self.prepare), (1, "nothing to prune\n", ""))
+
+    def test_by_hand_after_a_night_that_left_some(self):
+        """All goes, by an archive that has all."""
+        self.desk(DAYS)
+        said(*self.prepare)
+        self.has(PRUNE_STEP=2, PRUNE_UP_TO=11)
+        with mock.patch.object(prune, "LONGEST", 0.0):
+            self.prepared()
+        lines(self.file, ground.arrives(8, "030128", 8 * DAY) + ground.arrives(9, "030129", 9 * DAY))
+        done = said(*self.words)
+        self.assertEqual((done.status, done.out.splitlines()[-1], stamps(self.file)), (0, "pruned up to request 11", [12]))
+        self.assertEqual(chain.read_note(self.file).name, "desk.db-1970-01-10-12")
+
     def test_a_copy_of_another_history(self):
         """Of before a restore, which gave the file another inode; and one that is older than the file's archive."""
         self.desk(DAYS)
