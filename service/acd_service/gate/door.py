@@ -23,6 +23,9 @@ OLD_PROXY = ("nginx asks for everybody, strangers too: its configuration is of b
              "/usr/share/doc/acd/examples/nginx.conf, or add its lines to yours: the include of nginx-secret.conf and "
              "its maps, secure_link, if ($stranger), X-Proxy and @heavy")
 OTHER_SECRET = "nginx has another secret than this gate: restart the gate, and reload nginx"
+# where a proxy that asks first has pages ask for streams: the question that it sends on has no cookie. Of so many the
+# gate knows by which session it let them in
+STREAMS, MOST_LET_IN = "/mine?stream", 4000
 REFUSALS = {WRONG: "wrong password", TOO_MANY: "too many passwords"}
 BY_PASSWORD = (("WWW-Authenticate", 'Basic realm="desk", charset="UTF-8"'),)
 
@@ -85,6 +88,8 @@ class Door:
         self.traces, self.told = traces, set[str]()
         # an nginx.conf of 1.16 sends the secret of sessions in the place of its own
         self.secrets = [secret.encode() for secret in secrets if secret]
+        # by login and address
+        self.let_in: dict[int, str | None] = {}
 
     async def admitted(self, question: Question) -> Question:
         """The question with its login; Refused where nobody asks who may."""
@@ -115,7 +120,19 @@ class Door:
                 raise Shut(403)
         except Shut as shut:
             raise Refused(verdict(question, shut)) from None
+        if question.field("x-path").startswith(STREAMS):
+            self.keep(hash((login, question.field("x-path"))), token_of(question))
         return Answer(204, fields=(("X-Login", login),))
+
+    def keep(self, asked: int, token: str | None) -> None:
+        self.let_in.pop(asked, None)
+        self.let_in[asked] = token
+        if len(self.let_in) > MOST_LET_IN:
+            del self.let_in[next(iter(self.let_in))]
+
+    def token_behind(self, question: Question) -> str | None:
+        """That of the session by which somebody asks, if there is one; a proxy that asks first has shown it then."""
+        return token_of(question) or self.let_in.get(hash((question.login, f"{question.path}?{question.query}")))
 
     def is_proxys(self, question: Question) -> bool:
         """Whether nginx has sent it on unasked: no client knows the secret, and what nginx sends is in place of what a

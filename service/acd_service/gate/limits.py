@@ -13,7 +13,7 @@ from acd_service.gate.roles import Role
 EACH_SECOND, AT_ONCE = {"exchange": 1000}, 10_000
 OF_OTHERS = 500
 # reads that cost the desk most, or the gate, and as how many requests they count
-HEAVY, WEIGHT = r"/(snapshot|history|calls|stream)([/?].*)?", 20
+HEAVY, WEIGHT = r"/(snapshot|history|calls|stream)([/?].*)?|/mine\?stream(&.*)?", 20
 # sessions that begin: of a login and of an address, a second, and how many either may have saved up
 LOG_INS = {"login": (1 / 3, 20), "address": (20, 1000)}
 MOST_RATES = 100_000

@@ -2,8 +2,9 @@
 
 The door finds out who asks. POST /csta goes to the desk byte for byte, as its reply does to the client, where it is let
 through, and is 403 else; GET /who and /session say who it is; POST /login, /logout and /session begin, end and use a
-session; GET /mine is an agent's own state, calls and queues; GET /records/ files of records for office and lead;
-GET /requests the desk's own page for office and follow. GET /auth/any and /auth/reads are the proxy's own questions.
+session; GET /mine is an agent's own state, calls and queues; GET /stream tells what changes, as /mine?stream does for
+who has an nginx.conf that knows no other route; GET /records/ files of records for office and lead; GET /requests the
+desk's own page for office and follow. GET /auth/any and /auth/reads are the proxy's own questions.
 docs/USING.md says what they answer. The proxy's own address is in X-Site: a page of another site may ask for nothing
 (Origin, Sec-Fetch-Site)."""
 import asyncio
@@ -199,6 +200,8 @@ class Gate:
 
     async def mine(self, question: Question) -> Answer:
         """What an agent's page shows, held until there is news."""
+        if question.query.partition("&")[0] == "stream":
+            return await self.stream(question)
         login = question.login
         role, asked = self.role_of(login), dict(urllib.parse.parse_qsl(question.query))
         numbers = [asked.get("after", "0"), asked.get("names", "0"), asked.get("hold", "20")]
@@ -231,7 +234,8 @@ class Gate:
             raise Refused(error(400)) from None
         if question.method != "GET":
             raise Refused(error(501))
-        stream = Stream(login, self.stays(login, role, token_of(question)), sight, agent or "", groups or frozenset())
+        stream = Stream(login, self.stays(login, role, self.door.token_behind(question)), sight, agent or "",
+                        groups or frozenset())
         state = await self.following.known()
         question.stay()
         if state is None:

@@ -7,8 +7,8 @@ from older import OF_1_14
 from place import ELSEWHERE, Place, signed, token_of
 from trial import ANY, bytes_back, free_port
 
-# where that of 1.14 has no line, it isn't asked
-PATHS = (*(path for path in GETS if path != "/stream"), "/csta", "/login", "/board/login/", "/board/board.css", "/", "/auth/any", "/auth/known", "/requests/", "/agents/7")
+# where that of 1.14 has no line, it isn't asked, and what is pushed has no end
+PATHS = (*(path for path in GETS if "stream" not in path), "/mine?stream&agent=x", "/csta", "/login", "/board/login/", "/board/board.css", "/", "/auth/any", "/auth/known", "/requests/", "/agents/7")
 TICK = b'{"requester":"pbx","invoke":1,"service":"tick"}'
 # what is sent behind the head, and the fields that say so
 BODIES = {"nothing": ("Content-Length: 0", b""), "a request": (f"Content-Length: {len(TICK)}", TICK), "too much": ("Content-Length: 4097", b" " * 4097), "no length": (None, b""),

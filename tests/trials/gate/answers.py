@@ -9,7 +9,7 @@ from place import CLICK, ELSEWHERE, PAGE, PATIENCE, Place, signed, token_of
 from trial import ANY, Connection, bytes_back
 
 # a route of each kind: of the gate, of the desk by way of nginx, and files
-GETS = ("/who", "/session", "/mine", "/stream", "/requests", "/records/", "/records/calls/2026-11-27.csv", "/basic?/board/?since=0", "/snapshot", "/events?after=0", "/calls/1", "/none", "/board/",
+GETS = ("/who", "/session", "/mine", "/stream", "/mine?stream", "/requests", "/records/", "/records/calls/2026-11-27.csv", "/basic?/board/?since=0", "/snapshot", "/events?after=0", "/calls/1", "/none", "/board/",
         "/board/?since=0&limit=30", "/board/agent/", "/board/board.json")
 POSTS = ("/csta", "/session")
 HOWS = {"a program": {}, "a script": PAGE, "a click": CLICK}
@@ -34,6 +34,8 @@ def refusal(status, more="", before=""):
 
 
 class Answers(Place):
+    # where pages are pushed what changes: the address, and what comes packed by gzip
+    STREAM, PACKED = "/stream", "gzip"
     # `ana` reads own, `blind` nothing, `follow` /requests alone; `lineless` and `odd` have no line that can be read
     ROLES = {"sup": "supervisor", "ana": "agent agent=7", "blind": "office reads=none", "copy": "follow", "pbx": "exchange", "lineless": None, "odd": "office agent=7", "tried": "supervisor"}
 
@@ -106,8 +108,8 @@ class Answers(Place):
         """Who has a password, and no line that gives a right; and who may not what is asked for."""
         for login in ("lineless", "odd"):
             self.everywhere(login, self.password(login), lambda *_: refusal(403))
-        for login, paths in (("ana", ("/requests", "/records/", "/snapshot", "/events?after=0", "/calls/1", "/none", "/mine?agent=8", "/stream?agent=8")),
-                             ("copy", ("/mine", "/stream", "/records/", "/snapshot", "/calls/1")), ("blind", ("/mine?agent=7", "/stream", "/requests", "/records/", "/snapshot")), ("sup", ("/mine", "/requests", "/records/")), ("pbx", ("/requests", "/records/"))):
+        for login, paths in (("ana", ("/requests", "/records/", "/snapshot", "/events?after=0", "/calls/1", "/none", "/mine?agent=8", "/stream?agent=8", "/mine?stream&agent=8")),
+                             ("copy", ("/mine", "/stream", "/mine?stream", "/records/", "/snapshot", "/calls/1")), ("blind", ("/mine?agent=7", "/stream", "/mine?stream", "/requests", "/records/", "/snapshot")), ("sup", ("/mine", "/requests", "/records/")), ("pbx", ("/requests", "/records/"))):
             for path in paths:
                 for how, named in HOWS.items():
                     self.expect(f"{login}, {how}, {path}", self.said("GET", path, {**named, **self.password(login)}), refusal(403))
@@ -121,14 +123,14 @@ class Answers(Place):
 
     def try_pushed(self):
         """A picture at once, in few bytes for who takes that, then signs of life; and an end soon after the session's."""
-        for login, member, packed in (("sup", "sums", "gzip"), ("ana", "doing", "identity")):
-            with Pushed(self.port, {**self.password(login), "Accept-Encoding": packed}) as pushed:
-                self.expect(f"{login}, {packed}", (pushed.status, pushed.kind, pushed.packed), (200, "text/event-stream", packed))
+        for login, member, packed, wanted in (("sup", "sums", "gzip", self.PACKED), ("ana", "doing", "identity", "identity")):
+            with Pushed(self.port, self.STREAM, {**self.password(login), "Accept-Encoding": packed}) as pushed:
+                self.expect(f"{login}, {packed}", (pushed.status, pushed.kind, pushed.packed), (200, "text/event-stream", wanted))
                 told = pushed.until("\nevent: beat\n")
                 self.see(f"{login} has a picture", told.startswith("event: picture\n") and f'"{member}":' in told, told)
                 self.see(f"{login} hears that it lives", "\nevent: beat\n" in told, told)
         token = token_of(self.log_in("sup")[1])
-        with Pushed(self.port, {**PAGE, "Cookie": f"__Host-acd={token}"}) as pushed:
+        with Pushed(self.port, self.STREAM, {**PAGE, "Cookie": f"__Host-acd={token}"}) as pushed:
             self.see("a session's", pushed.until("\n\n").startswith("event: picture\n"), pushed.status)
             self.expect("log-off", self.ask("POST", "/logout", cookie=token).status, 204)
             began = time.monotonic()
@@ -142,9 +144,9 @@ class Answers(Place):
 class Pushed(Connection):
     """A stream of events as a page gets it."""
 
-    def __init__(self, port, fields):
+    def __init__(self, port, path, fields):
         super().__init__(port, ANY, PATIENCE)
-        self.connection.request("GET", "/stream", headers=fields)
+        self.connection.request("GET", path, headers=fields)
         self.reply = self.connection.getresponse()
         self.status, self.kind, self.packed = self.reply.status, self.reply.getheader("Content-Type"), self.reply.getheader("Content-Encoding", "identity")
         self.unpacked = zlib.decompressobj(zlib.MAX_WBITS | 16).decompress if self.packed == "gzip" else bytes

@@ -72,13 +72,16 @@ class OlderSessions(Older, Sessions):
 
 
 class OlderAnswers(Older, Answers):
+    STREAM, PACKED = "/mine?stream", "identity"
+
     def stranger(self, path, how):
         """The gate's verdict too."""
         return self.nobody(path, how, refusal(401, before=ASKS))
 
     def try_pushed(self):
-        """It has no line for that: the desk is asked, which knows no such read."""
+        """At another address: it has no line for that of now, so that the desk is asked, which knows no such read."""
         self.expect("nothing is pushed", [self.ask("GET", "/stream", login=login).status for login in ("sup", "ana")], [404, 403])
+        super().try_pushed()
 
 
 class OlderExecuted(Older, Executed):

@@ -34,10 +34,10 @@ class LimitTest(unittest.TestCase):
         self.assertEqual(taken("ben", 1), 1)
         now[0] += 1
         self.assertEqual(taken("ana", 2000), 500)
-        for path in ("/snapshot", "/snapshot?x", "/history?after=1", "/calls/7", "/calls"):
+        for path in ("/snapshot", "/snapshot?x", "/history?after=1", "/calls/7", "/calls", "/stream?begin=0", "/mine?stream", "/mine?stream&begin=0"):
             now[0] += 1
             self.assertEqual((path, taken("ana", 100, path), taken("ana", 1)), (path, 25, 0))
-        for path in ("/callsx", "/agents/7", "/events", "/board/snapshot"):
+        for path in ("/callsx", "/agents/7", "/events", "/board/snapshot", "/mine", "/mine?streams"):
             now[0] += 1
             self.assertEqual((path, taken("ana", 600, path)), (path, 500))
         self.assertEqual(sum(rates.takes_request("pbx", Role("exchange"), "/snapshot") for _ in range(600)), 500)

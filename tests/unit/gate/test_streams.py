@@ -12,9 +12,9 @@ import time
 import unittest
 from unittest import mock
 
-from standing import BAD_GATEWAY, FORBIDDEN, PATIENCE, ROLES, SECRET, USERS, DoorTest, Named
+from standing import BAD_GATEWAY, FORBIDDEN, PATIENCE, ROLES, SECRET, USERS, DoorTest, Named, basic
 
-from acd_service.gate import boards, following, server, streams
+from acd_service.gate import boards, door, following, server, streams
 from acd_service.gate.boards import Sight
 from acd_service.gate.desk import Place
 from acd_service.gate.streams import Stream
@@ -270,11 +270,11 @@ class RouteTest(DoorTest):
         super().setUp()
         self.desk.known = SNAPSHOT
 
-    def opened(self, login, query="", **fields):
+    def opened(self, login, query="", route="/stream", **fields):
         """A stream that is open, and a connection to it."""
         connection = http.client.HTTPConnection("127.0.0.1", self.port, timeout=PATIENCE)
         self.addCleanup(connection.close)
-        connection.request("GET", f"/stream{query}", headers={"X-Login": login, **{name.replace("_", "-"): value for name, value in fields.items()}})
+        connection.request("GET", f"{route}{query}", headers={"X-Login": login, **{name.replace("_", "-"): value for name, value in fields.items()}})
         return connection.getresponse()
 
     @staticmethod
@@ -305,6 +305,17 @@ class RouteTest(DoorTest):
             self.assertEqual(self.ask("sup", None, "GET", f"/stream{query}")[0], 400, query)
         self.assertEqual(self.ask("sup", None, "HEAD", "/stream")[0], 501)
 
+    def test_at_the_route_of_before(self):
+        """Who has an nginx.conf without the new one."""
+        for login, query, wanted in (("sup", "", "agents"), ("pbx", "&begin=5&limit=20", "sums"), ("ana", "", "agent"), ("cleo", "&agent=7", "agent")):
+            reply = self.opened(login, query, "/mine?stream")
+            self.assertEqual((reply.status, reply.headers["content-type"], wanted in self.next(reply)[2]), (200, "text/event-stream", True), (login, query))
+        for login, query, wanted in (("ana", "&agent=8", 403), ("blind", "", 403), ("nobody", "", 403), ("sup", "&begin=x", 400)):
+            self.assertEqual(self.ask(login, None, "GET", f"/mine?stream{query}")[0], wanted, (login, query))
+        self.assertEqual(self.ask("sup", None, "HEAD", "/mine?stream")[0], 501)
+        for query in ("?streams", "?agent=7&stream"):
+            self.assertIn(b'"number":', self.ask("ana", None, "GET", f"/mine{query}")[1])
+
     def test_it_goes_on(self):
         _, number, _ = self.next(self.opened("sup"))
         for reply in (self.opened("sup", f"?after={number}"), self.opened("sup", "?after=x", Last_Event_ID=number)):
@@ -329,7 +340,9 @@ class RouteTest(DoorTest):
 
     def ends(self, change, login="ana", **fields):
         """How long it takes until a stream ends, after a change, by a page's clock."""
-        reply = self.opened(login, **fields)
+        return self.ends_of(self.opened(login, **fields), change)
+
+    def ends_of(self, reply, change):
         self.next(reply)
         began = time.monotonic()
         change()
@@ -347,6 +360,25 @@ class RouteTest(DoorTest):
         self.assertLess(self.ends(lambda: self.exchange("POST", "/logout", None, {"Cookie": cookie}), Cookie=cookie), 5)
         cookie = self.log_in("ana")[1]["set-cookie"].partition(";")[0]
         self.assertLess(self.ends(lambda: setattr(self.gate.sessions, "clock", lambda: time.time() + 13 * 3600), Cookie=cookie), 5)
+
+    def test_the_session_that_an_older_proxy_has_shown(self):
+        """It asks first, by the cookie, and sends on the question without it."""
+        cookies = [self.log_in("ana")[1]["set-cookie"].partition(";")[0] for _ in range(2)]
+        for cookie, place in ((cookies[0], "/mine?stream&after=x"), (cookies[1], "/mine?stream")):
+            self.assertEqual(self.exchange("GET", "/auth/any", None, {"X-Signed": "yes", "Cookie": cookie, "X-Path": place})[:2][0], 204)
+        first, second = (self.opened("ana", route=place) for place in ("/mine?stream&after=x", "/mine?stream"))
+        self.next(second)
+        self.assertLess(self.ends_of(first, lambda: self.exchange("POST", "/logout", None, {"Cookie": cookies[0]})), 5)
+        self.assertEqual([one.login for one in self.gate.following.streams.all], ["ana"])
+        self.assertLess(self.ends_of(second, lambda: self.exchange("POST", "/logout", None, {"Cookie": cookies[1]})), 5)
+
+    def test_who_gave_a_password_has_no_session(self):
+        """Neither has who asked at an address that the gate has forgotten."""
+        with mock.patch.object(door, "MOST_LET_IN", 2):
+            for number in range(3):
+                self.assertEqual(self.exchange("GET", "/auth/any", None, {"X-Signed": "yes", "Authorization": basic("ana"), "X-Path": f"/mine?stream&after={number}"})[0], 204)
+            self.assertEqual((len(self.gate.door.let_in), set(self.gate.door.let_in.values())), (2, {None}))
+        self.assertEqual(self.next(self.opened("ana", route="/mine?stream&after=0"))[0], "picture")
 
     def test_without_a_desk(self):
         self.gate.desk.where = Place(1)
