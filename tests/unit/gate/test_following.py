@@ -316,7 +316,10 @@ class FollowingTest(Named, unittest.IsolatedAsyncioTestCase):
             told = await self.mine(after=first["number"], names=first["number"])
             self.assertEqual((told["live"], told["agent"]), (False, first["agent"]))
             self.desk.answers = True
-            self.assertTrue((await self.mine(after=told["number"], names=told["number"]))["live"])
+            # on a busy machine it may be away once more meanwhile
+            async with asyncio.timeout(PATIENCE):
+                while not told["live"]:
+                    told = await self.mine(after=told["number"], names=told["number"])
         await self.ends()
 
     async def test_what_nobody_foresaw(self):
