@@ -9,6 +9,9 @@ declare global {
   type News = types.News;
   type Lost = types.Lost;
   type Heard = types.Heard;
+  type Page = types.Page;
+  type Port = types.Port;
+  type Listen = types.Listen;
   type Step = types.Step;
   type Values = types.Values;
   type Attributes = types.Attributes;

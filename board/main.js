@@ -4,6 +4,7 @@ import {save} from './csv.js';
 import {State} from './desk.js';
 import {byId, drawStatus, make, put, set, withNumber} from './draw.js';
 import {Day} from './figures.js';
+import {listen} from './hear.js';
 import {callLines, groupLines, totals} from './lines.js';
 import {logIn, logOut, openSession} from './session.js';
 import {chosenOf, dayBegin, FIELDS, FILTERS, limitsSaid, searchOf, settings, settingsOf, valueOf} from './settings.js';
@@ -33,9 +34,7 @@ const serverClock = () => (Date.now() + ahead) / 1000;
 // The desk's clock; it stops if the connection is lost: no wait grows that may have ended.
 const now = () => Math.max(state.moment, course.kind === 'lost' && answered ? Math.min(serverClock(), (answered + OLD + ahead) / 1000) : serverClock());
 
-const worker = new Worker(new URL('stream.js', import.meta.url), {type: 'module'});
-/** @param {{data: Heard}} heard */
-worker.onmessage = ({data}) => hear(data);
+const ask = listen(hear);
 
 // Other days as the gate is to count them, each to its end; none where this one begins at a moment.
 const pastDays = () => settings.since.includes(':') && shows.has('day') ? [1, WEEK].map(back => `${dayBegin(now(), back)}-${dayBegin(now(), back - 1)}`) : [];
@@ -44,10 +43,10 @@ const pastDays = () => settings.since.includes(':') && shows.has('day') ? [1, WE
 function follow() {
   const begin = dayBegin(now()), asked = new URLSearchParams({begin: `${begin}`, ...limitsSaid(), groups: settings.groups, show: [...shows].sort().join(','), past: pastDays().join(',')});
   for (const [name, value] of [...asked]) if (!value) asked.delete(name);
-  const path = `/stream?${asked}`.replaceAll('%2C', ',');
-  if (path === followed) return false;
-  followed = path;
-  worker.postMessage(path);
+  const what = `${asked}`.replaceAll('%2C', ',');
+  if (what === followed) return false;
+  followed = what;
+  ask(what);
   return true;
 }
 
@@ -58,14 +57,14 @@ const count = () => { if (follow()) counted = false; };
 function hear(heard) {
   if (heard.kind === 'lost') {
     if (heard.status === 401) logIn();   // a session that has ended
-    lose(heard.status ? refusal(heard.status, heard.text) : word(`lost.${heard.text}`), heard.status);
+    lose(heard.status ? refusal(heard.status, heard.text) : word(`lost.${heard.text}`), heard.status, heard.text === 'hidden');
   }
   // one of other settings may be on its way
-  if ((heard.kind === 'picture' || heard.kind === 'change') && heard.path === followed) take(heard);
+  if ((heard.kind === 'picture' || heard.kind === 'change') && heard.asked === followed) take(heard);
 }
 
-function lose(why = '', status = 0) {
-  course = {kind: 'lost', status, why};
+function lose(why = '', status = 0, gaveWay = false) {
+  course = {kind: 'lost', status, why, gaveWay};
   drawTop();
   schedule();
 }
@@ -75,7 +74,7 @@ function take({told, kind, ahead: clock, received}) {
   const isWhole = kind === 'picture';
   ahead = clock;
   state.take(told, isWhole);
-  if (isWhole) counting = new Day(Number(new URLSearchParams(followed.split('?')[1]).get('begin')), chosenOf());
+  if (isWhole) counting = new Day(Number(new URLSearchParams(followed).get('begin')), chosenOf());
   counting.take(told, isWhole);
   if (counting.share === 1 && !counted) performance.mark('counted');
   counted = counting.share === 1;
@@ -119,7 +118,7 @@ function drawTop() {
   const lost = course.kind === 'lost', late = course.kind === 'live' && Date.now() - answered > OLD;
   const said = drawStatus(late ? 'late' : course.kind, answered, 'why' in course ? course.why : '', serverClock(), counted ? '' : `${Math.floor(100 * counting.share)} %`);
   put('band', lost && `■ ${said}`);
-  document.title = `${lost ? `■ ${word('title.lost')} – ` : unseen ? `■ ${word('title.alarms', {n: unseen})} – ` : ''}${title()}: ${word(`view.${view}`)}`;
+  document.title = `${'gaveWay' in course && course.gaveWay ? `▲ ${word('status.late')} – ` : lost ? `■ ${word('title.lost')} – ` : unseen ? `■ ${word('title.alarms', {n: unseen})} – ` : ''}${title()}: ${word(`view.${view}`)}`;
 }
 
 function show() {

@@ -8,11 +8,16 @@ export type Figures = {entered: number, answered: number, abandoned: number, mov
 
 /** tables of lines by their keys, null for what is gone; whether the desk answers, when it last did, and the server's clock, in seconds */
 export type Told = {live: boolean, answered: number, clock: number, [table: string]: any};
-/** path: what was asked for; ahead: the server's clock less this one's, in milliseconds */
-export type News = {kind: 'picture' | 'change', told: Told, path: string, ahead: number, received: number};
+/** asked: what was asked for; ahead: the server's clock less this one's, in milliseconds */
+export type News = {kind: 'picture' | 'change', told: Told, asked: string, ahead: number, received: number};
 /** what the worker hears: why nothing came, and each second that it is alive */
 export type Lost = {kind: 'lost', status: number, text: string};
 export type Heard = News | Lost | {kind: 'beat'};
+/** what a page says to the worker. asked: of the gate, nothing where the page leaves; isOwn: the page of an agent who works with it; isNarrow: over HTTP/1.1; lock: which it holds as long as it is there; said: how many said something before */
+export type Page = {asked: string, isOwn: boolean, isShown: boolean, isNarrow: boolean, lock: string | false, said: number};
+export type Port = {onmessage: ((event: MessageEvent) => void) | null, postMessage: (one: Heard) => void};
+/** gives what asks for something else */
+export type Listen = (hear: (heard: Heard) => void, isOwn?: boolean) => (asked: string) => void;
 
 /** what is left out of an event of a call: `callCleared` has no device */
 export type CallReport = {number: number, moment: number, call: number, device: string, group?: string, waited?: number,
@@ -66,8 +71,8 @@ export type Column = {head: string, kind?: string, day?: boolean, text?: Cell, s
 /** look: first, second or third, by which the style distinguishes them, with colour and without; a bar, or a line */
 export type Series = {name: string, look: string, value: Figure, isLine?: boolean};
 
-/** whether the desk is known */
-export type Course = {kind: 'begins' | 'live'} | {kind: 'lost', why: string, status: number};
+/** whether the desk is known; gaveWay: to other pages of this browser */
+export type Course = {kind: 'begins' | 'live'} | {kind: 'lost', why: string, status: number, gaveWay: boolean};
 
 // what a page is made of
 

@@ -64,6 +64,7 @@ server: the server cannot be reached
 silent: no answer
 status: the answer was {status}
 streams: more than eight pages of this name are open
+hidden: other pages of this browser come first
 [error]
 # what the desk, its gate or its proxy means by the name of an error
 unknownDevice: no such number is planned

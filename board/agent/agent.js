@@ -1,6 +1,7 @@
 // An agent's page.
 import {order} from '../desk.js';
 import {byId, drawStatus, make, put, set, table, withNumber} from '../draw.js';
+import {listen as listenTo} from '../hear.js';
 import {logIn, logOut, openSession} from '../session.js';
 import {isHeard, soundWhere, tone} from '../sound.js';
 import {clock, DOING, named, office, plain, query, refusal, timeOfDay, translate, word} from '../words.js';
@@ -276,9 +277,7 @@ async function begin() {
   if (!id) return notice('nobody', say('noNumber', {login}), [], make('a', {href: '../'}, say('board')));
   if (!acts) notice('looks', say('looks', {login, number: id}));
   requests = new Requests(id, who.login, {isLive, logOn: () => mine?.agent.logOn ?? null, show, ask: askAbout});
-  const worker = new Worker(new URL('../stream.js', import.meta.url), {type: 'module'});
-  worker.onmessage = ({data}) => hear(data);
-  worker.postMessage(`/stream?agent=${id}`);
+  listenTo(hear, acts)(`agent=${id}`);
 }
 begin();
 Object.assign(window, {agent: {mine: () => mine, requests: () => requests}});

@@ -17,7 +17,7 @@ export default {
     begins: 'Die Zentrale wird gelesen', anew: 'Eine andere Zentrale ist da: sie wird gelesen', live: 'Live', counting: 'Live, der Tag wird gelesen', late: 'Spät',
     old: 'Was hier steht, ist alt: {why}', none: 'Keine Zentrale: {why}', age: '{clock} alt',
   },
-  lost: {server: 'der Server ist nicht erreichbar', silent: 'keine Antwort', status: 'die Antwort war {status}', streams: 'von diesem Namen sind mehr als acht Seiten offen'},
+  lost: {server: 'der Server ist nicht erreichbar', silent: 'keine Antwort', status: 'die Antwort war {status}', streams: 'von diesem Namen sind mehr als acht Seiten offen', hidden: 'andere Seiten dieses Browsers gehen vor'},
   error: {
     unknownDevice: 'diese Nummer ist nicht geplant', unknownCall: 'der Anruf ist zu Ende', unknownConnection: 'der Anruf ist nicht mehr hier',
     wrongConnectionState: 'der Anruf ist inzwischen in einem anderen Zustand', wrongAgentState: 'der Agent ist inzwischen in einem anderen Zustand',

@@ -87,9 +87,9 @@ export class Desk {
   }
 }
 
-/** A gate and nginx before a desk, by the configuration of service/nginx/nginx.conf on other ports, and on the loopback address alone. */
+/** A gate and nginx before a desk, by the configuration of service/nginx/nginx.conf or another one on other ports, and on the loopback address alone; without HTTP/2 where that isn't wanted. */
 export class Front {
-  static async start(folder, desk, roles, port) {
+  static async start(folder, desk, roles, {port, conf = join(TOP, 'service/nginx/nginx.conf'), http2 = true} = {}) {
     const front = new Front(), [gate, site] = [await freePort(), port ?? await freePort()], file = join(folder, `front${site}`);
     await mkdir(join(file, 'share'), {recursive: true});
     // files of its own, so that a trial may put some beside them
@@ -98,10 +98,10 @@ export class Front {
     await writeFile(`${file}/roles`, roles.map(([login, ...role]) => `${login} ${role.join(' ')}\n`).join(''));
     await writeFile(`${file}/nginx-secret.conf`, ['session', 'proxy'].map(name => `map "" $acd_${name}_secret { default "${randomBytes(32).toString('hex')}"; }\n`).join(''));
     await writeFile(`${file}/users`, roles.map(([login]) => `${login}:{SHA}5en6G6MezRroT3XKqkdPOmY/BfQ=\n`).join(''));
-    const places = {'unix:/run/acd/desk.sock': `127.0.0.1:${desk.port}`, 'unix:/run/acd-gate/gate.sock': `127.0.0.1:${gate}`, 8443: `127.0.0.1:${site}`, '/etc/acd': file, '/usr/share/acd': `${file}/share`};
-    const conf = (await readFile(join(TOP, 'service/nginx/nginx.conf'), 'utf8')).replace(new RegExp(Object.keys(places).join('|'), 'g'), named => places[named]);
+    const places = {'unix:/run/acd/desk.sock': `127.0.0.1:${desk.port}`, 'unix:/run/acd-gate/gate.sock': `127.0.0.1:${gate}`, '127.0.0.1:8080': `127.0.0.1:${desk.port}`, '127.0.0.1:8081': `127.0.0.1:${gate}`, 8443: `127.0.0.1:${site}`, '/etc/acd': file, '/usr/share/acd': `${file}/share`};
+    const text = (await readFile(conf, 'utf8')).replace(new RegExp(Object.keys(places).join('|'), 'g'), named => places[named]).replace(/(listen .* ssl) http2;/, http2 ? '$&' : '$1;');
     await writeFile(`${file}/nginx.conf`, `daemon off; user root; pid ${file}/pid; error_log ${file}/errors; worker_processes 1; events {}
-http { include /etc/nginx/mime.types; access_log off; ${['client_body', 'proxy', 'fastcgi', 'uwsgi', 'scgi'].map(kind => `${kind}_temp_path ${file};`).join(' ')} ${conf} }\n`);
+http { include /etc/nginx/mime.types; access_log off; ${['client_body', 'proxy', 'fastcgi', 'uwsgi', 'scgi'].map(kind => `${kind}_temp_path ${file};`).join(' ')} ${text} }\n`);
     const told = [];
     Object.assign(front, {file, gate, address: `https://127.0.0.1:${site}`, children: [
       spawn('/usr/bin/python3', ['-B', join(TOP, 'service/bin/acd-gate'), '--port', gate, '--desk', desk.port, '--roles', `${file}/roles`, '--users', `${file}/users`, '--secret', `${file}/nginx-secret.conf`].map(String), {stdio: ['ignore', 'ignore', 'inherit']}),

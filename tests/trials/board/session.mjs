@@ -4,7 +4,7 @@ import {AGENT, Hands, requested, STATION} from './shift.mjs';
 
 const where = browser => browser.run('return location.pathname + location.search');
 
-async function logIn(hands, login, page) {
+export async function logIn(hands, login, page) {
   const {browser, front} = hands;
   await browser.open(`${front.address}${page}`);
   await until(async () => (await where(browser)).startsWith('/board/login/'), 10);

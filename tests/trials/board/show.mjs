@@ -42,7 +42,7 @@ export async function main(words) {
     await desk.feed(await aDay(3, '--groups', 12, '--agents', 60));
     ends.push(() => desk.stop());
     await desk.serve();
-    const front = await Front.start(folder, desk, [['sup', 'supervisor'], ['ana', 'agent', '1'], ['ben', 'agent', '2']], port);
+    const front = await Front.start(folder, desk, [['sup', 'supervisor'], ['ana', 'agent', '1'], ['ben', 'agent', '2']], {port});
     ends.push(() => front.stop());
     const folks = people(desk, 12);
     ends.push(() => folks.end());

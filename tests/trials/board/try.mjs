@@ -17,13 +17,16 @@ import {lines} from './lines.mjs';
 import {alarm, clockAhead, hangs, live, looks, losses, numbers, ownEvents, people, settings, still, ways} from './page.mjs';
 import {shape} from './shape.mjs';
 import {callers, sheets} from './sheets.mjs';
+import {olderConf, tenTabs} from './tabs.mjs';
 import {words} from './words.mjs';
 import {agentsPage} from './agent.mjs';
 import {PLAN} from './shift.mjs';
 
 const NEEDED = {chromedriver: 'chromium-driver', chromium: 'chromium', nginx: 'nginx-light', tsc: 'node-typescript', openssl: 'openssl', curl: 'curl', python3: 'python3'};
-const PARTS = ['files', 'gate', 'show', 'lines', 'buttons', 'board', 'alarms', 'words', 'shape', 'days', 'lead', 'agent', 'full'], MOST_BYTES = 150000, MOST_CALLS = 2000, ROUNDS = 50;
+const PARTS = ['files', 'gate', 'show', 'lines', 'buttons', 'board', 'alarms', 'words', 'shape', 'days', 'lead', 'agent', 'tabs', 'full'], MOST_BYTES = 150000, MOST_CALLS = 2000, ROUNDS = 50;
 const ROLES = [['pbx', 'exchange'], ['planner', 'office'], ['sup', 'supervisor'], ['ana', 'agent', '7'], ['lea', 'lead', 'groups=101,102']];
+// an agent who may look at boards too, so that one session does for both
+const READS_ALL = [['ana', 'agent', 'agent=7', 'reads=all']];
 
 class Trial {
   constructor(program, folder, pictures) { Object.assign(this, {program, folder, pictures, tried: 0, wrong: 0, missed: 0, ends: []}); }
@@ -58,7 +61,7 @@ class Trial {
     return this.keep(desk, () => desk.stop());
   }
 
-  async front(desk) { return this.keep(await Front.start(this.folder, desk, ROLES), front => front.stop()); }
+  async front(desk, roles = ROLES, more) { return this.keep(await Front.start(this.folder, desk, roles, more), front => front.stop()); }
   async browser() { return this.keep(await Browser.start(1920, 1080), browser => browser.end()); }
 
   /** The types, and how much a browser loads at most. */
@@ -71,7 +74,7 @@ class Trial {
 
   async gate() {
     const unit = readdirSync(join(TOP, 'tests/unit/gate')).filter(name => /^test_.*\.py$/.test(name)).map(name => `tests/unit/gate/${name}`);
-    for (const test of [...unit, 'tests/trials/board/login_again.mjs', 'tests/trials/board/stream_again.mjs']) {
+    for (const test of [...unit, 'tests/trials/board/login_again.mjs', 'tests/trials/board/stream_again.mjs', 'tests/trials/board/stream_shared.mjs', 'tests/trials/board/hear.mjs']) {
       const program = test.endsWith('.mjs') ? process.execPath : '/usr/bin/python3';
       try { execFileSync(program, [join(TOP, test)], {stdio: 'pipe'}); } catch (error) { this.see(test, false, String(error.stderr).slice(-600)); }
     }
@@ -85,7 +88,7 @@ class Trial {
     const taken = asked(['--port', port]), named = asked(['--port', 'x']);
     this.see('show-board looks at its port first', taken.status === 1 && taken.stdout === '' && taken.stderr === `tests/trials/show-board: port ${port} is taken: take another one by --port P\n`, JSON.stringify(taken));
     this.see('and at its words', named.status === 1 && named.stderr === 'tests/trials/show-board: usage: tests/trials/show-board [PROGRAM] [--port P]\n', JSON.stringify(named));
-    const begin = Date.now(), said = await Front.start(this.folder, await this.desk('show.db', PLAN), ROLES, port).then(() => 'it starts', error => error.message);
+    const begin = Date.now(), said = await Front.start(this.folder, await this.desk('show.db', PLAN), ROLES, {port}).then(() => 'it starts', error => error.message);
     this.see("nginx's own line", said.startsWith("the gate or nginx doesn't start: nginx: [emerg] bind() to ") && said.includes(`:${port} failed`) && Date.now() - begin < 20000, said);
   }
 
@@ -177,6 +180,13 @@ class Trial {
   async agent() {
     const desk = await this.desk('shift.db', PLAN), front = await this.front(desk), browser = await this.browser();
     await agentsPage(this.see, browser, desk, front, this.pictures);
+  }
+
+  async tabs() {
+    const desk = await this.desk('tabs.db', PLAN);
+    await tenTabs(this.see, await this.browser(), desk, await this.front(desk, READS_ALL, {http2: false}));
+    const other = await this.desk('older.db', PLAN);
+    await olderConf(this.see, await this.browser(), other, await this.front(other, READS_ALL, {conf: join(TOP, 'tests/trials/gate/nginx-1.14.conf')}));
   }
 
   async full() {
