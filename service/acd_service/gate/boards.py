@@ -16,8 +16,9 @@ from acd_service.figures import STEP, Figures
 from acd_service.gate import lines
 from acd_service.gate.days import beginning
 from acd_service.gate.desk import Away
+from acd_service.gate.parts import Text
 from acd_service.gate.ruled import OVERFLOWS, Ruled, is_of_group
-from acd_service.gate.state import State, Text
+from acd_service.gate.state import State
 from acd_service.gate.tables import Recent, Table, Tables
 from acd_service.waits import Ended
 

@@ -8,7 +8,8 @@ from collections.abc import Awaitable, Callable
 from dataclasses import dataclass, field
 
 from acd_service.events import event_of
-from acd_service.gate.state import State, Text
+from acd_service.gate.parts import Text
+from acd_service.gate.state import State
 from acd_service.gate.texts import without_nothing
 from acd_service.waits import Waits
 

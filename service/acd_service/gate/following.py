@@ -15,8 +15,9 @@ from acd_service.gate import lines
 from acd_service.gate.days import EARLIER, Days, beginning
 from acd_service.gate.desk import Away
 from acd_service.gate.exchanges import Answer, Left
+from acd_service.gate.parts import Text
 from acd_service.gate.ruled import FILE as RULES, Ruled
-from acd_service.gate.state import State, Text
+from acd_service.gate.state import State
 from acd_service.gate.streams import Streams
 from acd_service.gate.texts import agent_text, groups_of, names_text, without_nothing
 

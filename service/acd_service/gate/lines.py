@@ -5,7 +5,8 @@ from collections.abc import Iterable
 from typing import Any
 
 from acd_service.figures import AgentFigures, Quarter
-from acd_service.gate.state import Agent, Call, Connection, Group, State, in_order
+from acd_service.gate.parts import Agent, Call, Connection, Group, in_order
+from acd_service.gate.state import State
 from acd_service.gate.texts import without_nothing
 
 # of the figures the place of the longest wait, the one that isn't summed up

@@ -11,7 +11,7 @@ from typing import Any
 from acd_service import settings
 from acd_service.command import Fault, report
 from acd_service.gate.lines import as_text
-from acd_service.gate.state import Text
+from acd_service.gate.parts import Text
 from acd_service.rules.reading import Rules, read
 
 FILE = settings.FILE.parent / "rules.toml"

@@ -3,7 +3,8 @@ Unproved."""
 from collections.abc import Iterable
 from typing import Any
 
-from acd_service.gate.state import Call, Connection, Group, State, Text, in_order
+from acd_service.gate.parts import Call, Connection, Group, Text, in_order
+from acd_service.gate.state import State
 
 
 def without_nothing(**members: Any) -> Text:
