@@ -1,9 +1,24 @@
 // A lead's requests for its groups, each after a question; gate and desk judge them.
 import {byId, make, put, withNumber} from './draw.js';
 import {post, requesterOf, sleep} from './net.js';
-import {named, refusal, word} from './words.js';
+import {DOING, named, refusal, word} from './words.js';
 
 const AGAIN = 1000, TRIES = 6, SHOWN = 8000;
+
+// Whether a lead moves the call: it waits in a queue, or rings at an agent whom no group gave it.
+/** @param {Call} call */
+export const isMoved = ({state, direct}) => state === 'queued' || state === 'alerting' && direct;
+
+/** @param {State} state */
+const placeName = (state, to = '') => withNumber({id: to, name: state.groups.get(to)?.name || state.agentAt(to)?.name || to});
+
+// Why nobody takes a call there soon: nobody is logged on for the group, or what the agent does who isn't ready.
+/** @param {State} state */
+function stands(state, to = '') {
+  const {counts} = state.group(to), agent = state.agentAt(to);
+  if (state.groups.has(to)) return Object.values(counts).some(count => count) ? '' : word('act.empty');
+  return agent?.doing === 'ready' ? '' : `${DOING[agent?.doing ?? 'null'].sign} ${DOING[agent?.doing ?? 'null'].words}`;
+}
 
 /** @type {LeadOf} */
 export const lead = {
@@ -25,16 +40,18 @@ export const lead = {
     if (requested) await this.send('setAgentState', {agent, requested}, word(`agent.${requested}`), who);
   },
 
-  async ofCall(state, {number: call, at: device, state: is}) {
-    const who = word('agents.call', {call: `${call}`});
-    if (is !== 'queued') {
-      if (await ask(word('act.end.sure', {who})) !== null) await this.send('clearConnection', {call, device}, word('act.end'), who);
-      return;
-    }
-    const groups = [...this.groups].flatMap(id => { const group = state.groups.get(id); return group && id !== device ? [[id, withNumber(group)]] : []; });
-    const stations = [...state.agents.values()].flatMap(agent => agent.station && this.leads(agent) ? [[agent.station, withNumber({id: agent.station, name: agent.name || agent.id})]] : []);
-    const to = await ask(word('act.move.sure', {who}), [...groups, ...stations]);
-    if (to) await this.send('deflectCall', {call, device, to}, word('act.move'), who, to);
+  async ofCall(state, line) {
+    const {number: call, at: device, caller, state: is} = line, who = caller ? named(caller) : word('agents.call', {call: `${call}`}), isInQueue = is === 'queued';
+    const end = async () => { if (await ask(word('act.end.sure', {who})) !== null) await this.send('clearConnection', {call, device}, word('act.end'), who); };
+    if (!isMoved(line)) return end();
+    const groups = [...this.groups].flatMap(id => state.groups.has(id) && id !== device ? id : []);
+    const stations = [...state.agents.values()].flatMap(agent => agent.station && agent.station !== device && this.leads(agent) ? agent.station : []);
+    const places = [...groups, ...stations].map(to => [to, [placeName(state, to), stands(state, to)].filter(Boolean).join(': ')]);
+    const to = await ask(word(isInQueue ? 'act.move.sure' : 'act.rings.sure', {who, at: placeName(state, device)}), isInQueue ? places : [...places, ['', word('act.end')]]);
+    if (to === '') return end();
+    if (to === null) return;
+    const why = stands(state, to);
+    if (!why || await ask(word('act.place.sure', {place: placeName(state, to), why})) !== null) await this.send('deflectCall', {call, device, to}, word('act.move'), who, placeName(state, to));
   },
 
   async ofGroup(state, device) {

@@ -13,7 +13,7 @@ const LINES = {
   groups: (line, id) => ({id, name: '', ring: 0, wrap: 0, priority: 0, waiting: 0, ringing: 0, queued: 0, counts: {}, next: '', ...line}),
   agents: (line, id) => ({id, name: '', since: 0, group: null, station: null, groups: [], pending: null, calls: [], ...line}),
   rules: line => line,
-  calls: (line, id) => ({number: Number(id), state: 'none', since: 0, begun: line.since ?? 0, group: null, at: '', caller: '', ...line}),
+  calls: (line, id) => ({number: Number(id), state: 'none', since: 0, begun: line.since ?? 0, group: null, at: '', caller: '', direct: false, queued: line.since ?? 0, ...line}),
 };
 
 export class State {

@@ -35,8 +35,8 @@ export type Group = {id: string, name: string, ring: number, wrap: number, prior
 export type Rule = {closed?: boolean, to?: string};
 /** what an agent does, since when, and for which group; calls: those at the agent's station */
 export type Agent = {id: string, name: string, doing: Doing, since: number, group: string | null, station: string | null, groups: string[], pending: string | null, calls: number[]};
-/** a call, by the connection that says most of it, which is `at` a device */
-export type Call = {number: number, caller: string, begun: number, state: ConnectionState | 'none', since: number, group: string | null, at: string};
+/** a call, by the connection that says most of it, which is `at` a device; direct: no group gave it to the agent there, and `group` is the one that the caller came from; queued: since when the caller waits */
+export type Call = {number: number, caller: string, begun: number, state: ConnectionState | 'none', since: number, group: string | null, at: string, direct: boolean, queued: number};
 
 // the day
 /** within: answered in time; late: abandoned later than that; longest: wait of an answered call; handled, handling: calls that agents are done with, and seconds for them; closed: calls that a rule ended; the last four are of stays in a queue alone */

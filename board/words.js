@@ -228,6 +228,7 @@ level: {group}: only {share} in time, the goal is {goal}
 lost: {group}: {share} gave up, the goal is {goal}
 nobody.one: {group}: {n} caller waits, and nobody is logged on
 nobody.other: {group}: {n} callers wait, and nobody is logged on
+sent: {group}: {who} doesn't answer a caller who was sent there
 clock: The desk's time is {clock} ahead of the clock
 ticks: Calls ring on without an end, or after-call work: call the administrator (nothing ticks)
 [detail]
@@ -263,6 +264,9 @@ no: Leave it
 state: Change the state of {who}?
 move: Move
 move.sure: Send {who}, which waits, somewhere else?
+rings.sure: Send {who}, who rings at {at}, somewhere else?
+empty: nobody is logged on
+place.sure: {place}: {why}. Send the caller there all the same?
 to: To
 end: End
 end.sure: End {who}? The caller is cut off.
@@ -293,6 +297,7 @@ makeCall: Call
 to: To: number or name
 answerCall: Answer
 rejectCall: Not now
+back: Back
 phoneOffHook: Pick up
 holdCall: Hold
 retrieveCall: Retrieve
@@ -311,6 +316,8 @@ nobody: {what}: nobody and nothing here is called {who}
 away: {what}: {who} is not logged on
 which: Which one?
 empty: Nobody is logged on at {station}.
+empty.group: Nobody is logged on for {group}.
+stands: {who}: {state}.
 allTheSame: {what} all the same
 no: No
 missed: You did not answer {who}, {group} (it rang {clock}, until {time}){so}.

@@ -2,6 +2,7 @@
 import {order} from '../desk.js';
 import {byId, drawStatus, make, put, set, table, withNumber} from '../draw.js';
 import {listen as listenTo} from '../hear.js';
+import * as net from '../net.js';
 import {logIn, logOut, openSession} from '../session.js';
 import {isHeard, soundWhere, tone} from '../sound.js';
 import {clock, DOING, named, office, plain, query, refusal, timeOfDay, translate, word} from '../words.js';
@@ -9,10 +10,10 @@ import {beat, drawCalls, joined, ring, say} from './calls.js';
 import {isFree, isOverdue, meant, placesOf, sideOf, STATES, states, taken, wrapLeft} from './mine.js';
 import {Requests} from './requests.js';
 
-// milliseconds until the page is late, a text fades, a refusal fades, a click is no second one
-const OLD = 8000, FLEETING = 5000, REFUSED = 30000, SECOND = 400, MOST_GROUPS = 8, form = byId('log-on');
+// milliseconds until the page is late, an answer of the gate isn't waited for, a text fades, a refusal fades, a click is no second one
+const OLD = 8000, PATIENCE = 2000, FLEETING = 5000, REFUSED = 30000, SECOND = 400, MOST_GROUPS = 8, form = byId('log-on');
 
-let id = query.get('agent') ?? '', acts = false, leaves = false, begun = false, isFilled = false, free = [''], offered = [''];
+let id = query.get('agent') ?? '', acts = false, leaves = false, wonders = false, begun = false, isFilled = false, free = [''], offered = [''];
 /** @type {Mine} */ let mine;
 /** @type {Lost|null} */ let lost = null;
 /** @type {Names} */ let names;
@@ -70,26 +71,49 @@ const send = (service, members, words, key) => {
 const ask = (requested = '', more) => send('setAgentState', {agent: id, requested, ...more}, more ? say('logOnAt', {station: `${more.device}`}) : say(requested), requested);
 
 /** @type {Act} */
-const act = (service, {call, key}, who, field) => {
+const act = (service, {call, key, back = ''}, who, field) => {
   const what = say(service), asked = `${service} ${call}`, members = {call, device: mine?.agent.device};
   // an agent who says no to an offer knows why the state changed
   if (service === 'rejectCall') localStorage[`acd-missed-${id}`] = key;
+  if (service === 'back') return send('deflectCall', {...members, to: back}, say('moved', {what, who, to: callerName(back)}), asked);
   if (!/Transfer|deflect/.test(service)) return send(service, members, say('button', {what, who}), asked);
   choose(field, what, true, place => send(service, {...members, to: place.to}, say('moved', {what, who, to: placeName(place)}), asked));
 };
 
-// Takes the typed text; asks if it isn't one place, or nobody is logged on.
+// Why nobody takes a call there soon, as the gate knows it now; nothing where it doesn't answer.
+async function whyNot({to = '', name = '', isEmpty = false}) {
+  const reply = await net.ask(`/mine?agent=${id}&to=${to}`, undefined, PATIENCE).catch(() => null);
+  /** @type {There|undefined} */ const there = reply?.status === 200 ? JSON.parse(reply.text).place : undefined;
+  if (there?.loggedOn !== undefined) return there.loggedOn ? '' : say('empty.group', {group: placeName({to, name})});
+  if (there?.agent ? false : isEmpty) return say('empty', {station: placeName({to, name})});
+  if (!there?.doing || there.doing === 'ready') return '';
+  return say('stands', {who: placeName({to, name}), state: `${DOING[there.doing].sign} ${DOING[there.doing].words}`});
+}
+
+// Asks where nobody takes the call soon.
+/** @type {Sure} */
+const sure = async (place, what, take) => {
+  if (wonders) return;
+  wonders = true;
+  const why = await whyNot(place);
+  wonders = false;
+  if (!why) return take(place);
+  notice('ask', why, [[say('allTheSame', {what}), () => take(place)], [say('no')]]);
+};
+
+// Takes the typed text; asks if it isn't one place.
 /** @type {Choose} */
 const choose = (field, what, asks, take) => {
-  const typed = field.value.trim(), found = meant(typed, places, mine?.agent.device), one = found?.length === 1 && found[0], isEmpty = asks && one && one.isEmpty;
+  const typed = field.value.trim(), found = meant(typed, places, mine?.agent.device);
   drop('ask');
   if (!found?.length) {
     refuse(say(found ? typed ? 'nobody' : 'sayWhere' : 'away', {what, who: named(typed)}));
     return field.focus();
   }
-  if (one && !isEmpty) return take(one);
-  /** @type {Button[]} */ const buttons = found.map(place => [isEmpty ? say('allTheSame', {what}) : placeName(place), () => take(place)]);
-  notice('ask', one ? say('empty', {station: placeName(one)}) : say('which', {what}), [...buttons, [say('no')]]);
+  const goOn = (place = found[0]) => asks ? void sure(place, what, take) : take(place);
+  if (found.length === 1) return goOn();
+  /** @type {Button[]} */ const buttons = found.map(place => [placeName(place), () => goOn(place)]);
+  notice('ask', say('which', {what}), [...buttons, [say('no')]]);
 };
 
 // Only somebody can say whether it is still wanted.
@@ -204,10 +228,10 @@ const lastCalls = table('day', [
 ]);
 
 function drawDay(moment = 0) {
-  const {agent: {state, since = 0}, day} = mine;
+  const {day} = mine;
   set('own-day', {hidden: !day});
   if (!day) return;
-  const {answered, missed, calls} = day, talking = day.talking + (state === 'busy' ? Math.max(0, moment - Math.max(since, day.begins)) : 0);
+  const {answered, missed, calls} = day, talking = day.talking + (day.talks ? Math.max(0, moment - Math.max(day.talks, day.begins)) : 0);
   put('day-sums', joined(say('day.calls', {n: answered}), answered && say('day.average', {clock: clock(talking / answered)}), missed && say('day.missed', {n: missed})));
   set('day', {hidden: !calls.length});
   lastCalls.draw(calls.map(call => ({...call, key: `${call.call} ${call.moment}`})).reverse());

@@ -4,8 +4,8 @@ import {isHeard, notify, tone} from '../sound.js';
 import {clock, CONNECTION, word} from '../words.js';
 import {ringLeft, services, sideOf} from './mine.js';
 
-// in their order, with their keys: before the sixth the field for a place, the last one apart
-const SERVICES = {answerCall: 'F2', rejectCall: 'F8', phoneOffHook: '', holdCall: '', retrieveCall: '', singleStepTransfer: '', deflectCall: '', clearConnection: ''};
+// in their order, with their keys: before the seventh the field for a place, the last one apart
+const SERVICES = {answerCall: 'F2', rejectCall: 'F8', back: 'F8', phoneOffHook: '', holdCall: '', retrieveCall: '', singleStepTransfer: '', deflectCall: '', clearConnection: ''};
 /** @type {Notification|undefined} */ let shown;
 let rings = '', beats = 0;
 
@@ -30,16 +30,16 @@ const card = ({mine, now, acts, off, who: nameOf, group, act}, call) => {
   const buttons = Object.entries(SERVICES).map(([service, key]) => {
     const what = say(service);
     return make('button', {class: service === 'answerCall' && 'main', 'data-service': service, 'aria-keyshortcuts': key || false, hidden: !may.has(service), disabled: off.has(`${service} ${number}`), 'aria-label': say('button', {what, who}),
-      onclick: ({currentTarget}) => act(service, {call: call.call, key: `${number} ${here.since}`}, who, currentTarget.parentElement.querySelector('input'))},
+      onclick: ({currentTarget}) => act(service, {call: call.call, key: `${number} ${here.since}`, back: call.back}, who, currentTarget.parentElement.querySelector('input'))},
     what, key && ' ', key && make('kbd', key));
   });
   const place = make('input', {list: 'destinations', 'aria-label': say('to'), placeholder: say('to'), autocomplete: 'off', spellcheck: 'false', hidden: !may.has('singleStepTransfer') && !may.has('deflectCall'),
     onkeydown: ({key, target}) => { if (key === 'Enter') target.parentElement.querySelector('input ~ button:not([hidden], [data-service=clearConnection])')?.click(); }});
   return make('li', {'data-key': number, tabindex: -1, 'data-state': here.state},
-    make('p.line', `${sign} ${words} ${clock(now - here.since)} · ${here.group ? group(here.group) : say(dials ? 'byYou' : 'direct')}`),
+    make('p.line', `${sign} ${words} ${clock(now - here.since)} · ${here.group ? group(here.group) : joined(say(dials ? 'byYou' : 'direct'), here.sent && group(here.sent))}`),
     make('p.number', other ? nameOf(other) : '…'),
     make('p.soft', joined(call.queued && here.state === 'alerting' && say('hasWaited', {clock: clock(now - call.queued)}), left > 0 && say('ringsFor', {clock: clock(left)}), word('agents.call', {call: number}))),
-    make('div.buttons', ...buttons.slice(0, 5), place, ...buttons.slice(5)));
+    make('div.buttons', ...buttons.slice(0, 6), place, ...buttons.slice(6)));
 };
 
 addEventListener('keydown', event => {

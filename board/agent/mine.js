@@ -9,7 +9,7 @@ const plain = (name = '') => name.normalize('NFKC').toLocaleLowerCase().trim();
 /** @param {{agents: string[][], groups: string[][], stations: string[]}} told @returns {Names} */
 const namesOf = ({agents, groups, stations}) => ({agents: agents.map(([agent, name, device]) => ({agent, name, device})), groups: groups.map(([device, name]) => ({device, name})), stations});
 
-export const {taken, sideOf, sides, isFree, states, services, ringLeft, wrapLeft, isOverdue, placesOf, meant} = /** @type {Rules} */ ({
+export const {taken, sideOf, sides, isFree, states, isOutside, services, ringLeft, wrapLeft, isOverdue, placesOf, meant} = /** @type {Rules} */ ({
   // What the gate tells, with what it told before. Names come again only where they changed, and of a group that is left nothing is told.
   taken(before, {groups, names: given, ...told}, isWhole) {
     const lines = {...!isWhole && before?.lines, ...groups}, names = given ? namesOf(given) : before?.names, mine = {doing: {doing: 'null', since: 0}, ...!isWhole && before, ...told, names};
@@ -29,14 +29,18 @@ export const {taken, sideOf, sides, isFree, states, services, ringLeft, wrapLeft
     return new Set(!state ? [] : state === 'null' ? ['loggedOn'] : STATES.filter(one => one !== now));
   },
 
-  // A group's call that rings isn't hung up: that would throw the caller out.
+  // Whether the caller is from outside: no station calls.
+  isOutside: ({names}, {caller = ''}) => !names?.stations.includes(caller),
+
+  // A caller from outside who rings isn't hung up: that would throw the caller out.
   services(mine, call) {
     const here = sideOf(mine, call);
     if (!here) return new Set();
     // an external caller's side, which no event has, is connected
     const moves = call.connections.every(({state}) => ['connected', 'hold'].includes(state)) ? ['singleStepTransfer'] : [], back = isFree(mine) ? ['retrieveCall'] : [];
     const given = {alerting: ['answerCall', 'deflectCall'], initiated: ['phoneOffHook'], connected: ['holdCall', ...moves], hold: back, fail: [], queued: []}[here.state];
-    return new Set([...given, here.state === 'alerting' && here.group ? 'rejectCall' : 'clearConnection']);
+    if (here.state !== 'alerting') return new Set([...given, 'clearConnection']);
+    return new Set([...given, ...here.group ? ['rejectCall'] : !isOutside(mine, call) ? ['clearConnection'] : call.back ? ['back'] : []]);
   },
 
   // For how long a call rings yet; null where no tick ends it.

@@ -4,15 +4,18 @@ import type {AgentState, ConnectionState, Doing, News} from '../types';
 declare global {
   // what the gate tells
 
-  type Side = {device: string, group?: string, since: number, state: ConnectionState};
-  type MyCall = {call: number, called?: string, caller?: string, connections: Side[], queued?: number, since: number};
+  type Side = {device: string, group?: string, sent?: string, since: number, state: ConnectionState};
+  /** back: to whom it goes back; sent: the group that the caller came from, where no group gave the call to the agent */
+  type MyCall = {back?: string, call: number, called?: string, caller?: string, connections: Side[], queued?: number, since: number};
   type MyQueue = {calls: {call: number, caller?: string, queued?: number}[], device: string, loggedOn: number, name: string, ready: number, ring: number, wrap: number};
   /** logOn identifies a log-on */
   type MyState = {agent: string, device?: string, groups?: string[], logOn?: number, name?: string, pending?: string, since?: number, state?: AgentState};
   /** the last offer that the desk withdrew */
+  /** of a place for a call: of a group how many are logged on, of a station what the agent there does */
+  type There = {device: string, loggedOn?: number, ready?: number, agent?: string, doing?: Doing};
   type Missed = {call: number, caller?: string, group?: string, moment: number, since: number};
   type DayCall = {call: number, caller?: string, group?: string, moment: number, talked: number};
-  type MyDay = {answered: number, begins: number, calls: DayCall[], missed: number, talking: number};
+  type MyDay = {answered: number, begins: number, calls: DayCall[], missed: number, talking: number, talks?: number};
   type Names = {agents: {agent: string, device?: string, name: string}[], groups: {device: string, name: string}[], stations: string[]};
   /** lines: those of groups that were told, by their numbers; queues: which of them are the agent's */
   type Mine = {agent: MyState, calls: MyCall[], day?: MyDay | null, doing: {doing: Doing, since: number, group?: string | null}, groups: MyQueue[], lines: Record<string, MyQueue>, live: boolean, missed?: Missed | null, names?: Names, queues: string[]};
@@ -38,14 +41,15 @@ declare global {
   type Namer = (device?: string) => string;
   type Rules = {
     taken(before: Mine | undefined, told: any, isWhole: boolean): Mine,
-    sideOf(mine: Mine, call: MyCall): Side | undefined, sides(mine: Mine): Side[], isFree(mine: Mine): boolean, states(mine: Mine): Set<string>, services(mine: Mine, call: MyCall): Set<string>,
+    sideOf(mine: Mine, call: MyCall): Side | undefined, sides(mine: Mine): Side[], isFree(mine: Mine): boolean, states(mine: Mine): Set<string>, isOutside(mine: Mine, call: MyCall): boolean, services(mine: Mine, call: MyCall): Set<string>,
     ringLeft(mine: Mine, side: Side, now: number): number | null, wrapLeft(mine: Mine, now: number): number | null, isOverdue(mine: Mine, now: number): boolean,
     placesOf(names: Names, office: OfficeNames): Places, meant(typed: string, known: Places, station?: string): Goal[] | null,
   };
   type Say = (key: string, values?: Record<string, string | number>) => string;
   type Send = (service: string, members: Record<string, unknown>, words: string, key: string) => void;
   type Notice = (key: string, words: string, buttons?: Button[], more?: Part) => void;
-  type Act = (service: string, offer: {call: number, key: string}, who: string, to: HTMLInputElement) => void;
+  type Act = (service: string, offer: {call: number, key: string, back?: string}, who: string, to: HTMLInputElement) => void;
+  type Sure = (place: Goal, what: string, take: (place: Goal) => void) => Promise<void>;
   type Choose = (field: HTMLInputElement, what: string, asks: boolean, take: (place: Goal) => void) => void;
   type LastLogOn = {device: string, groups: string[]};
   type Keep = (place: string, one: Kept) => void;

@@ -11,8 +11,8 @@ const APART = 60, LEAST = 10;
 /** @param {State} state */
 function overdue(state, now = 0) {
   const late = (who = '', since = 0, given = 0) => given > 0 && now - since > given + GRACE && {who: named(who), clock: clock(now - since), given: clock(given), since: since + given};
-  for (const {state: is, at, group, since} of state.calls.values()) {
-    const found = is === 'alerting' && group && late(state.agentAt(at)?.name || at, since, state.groups.get(group)?.ring);
+  for (const {state: is, at, group, since, direct} of state.calls.values()) {
+    const found = is === 'alerting' && group && !direct && late(state.agentAt(at)?.name || at, since, state.groups.get(group)?.ring);
     if (found) return found;
   }
   for (const {id, name, doing, groups, since} of state.agents.values()) {
@@ -21,16 +21,25 @@ function overdue(state, now = 0) {
   }
 }
 
+// Of each group the call that rings longest at an agent whom no group gave it: no tick takes it back.
+/** @param {State} state */
+function sent(state) {
+  /** @type {Map<string|null, Call>} */ const found = new Map();
+  for (const call of state.calls.values()) if (call.direct && call.state === 'alerting' && call.since < (found.get(call.group)?.since ?? Infinity)) found.set(call.group, call);
+  return found;
+}
+
 // The desk's time may be ahead of the server's clock: it stops until that has caught up.
 /** @param {Drawn} drawn */
-function alarms({state, lines, counted, now}, serverClock = 0) {
-  const ahead = state.moment - serverClock, over = ahead > APART ? undefined : overdue(state, now);
+function alarms({state, lines, counted, now, settings}, serverClock = 0) {
+  const ahead = state.moment - serverClock, over = ahead > APART ? undefined : overdue(state, now), rings = sent(state);
   /** @type {Alarm[]} */ const found = [];
   const add = (kind = '', id = '', values = () => ({}), since = 0) => found.push({kind, key: id ? `${kind}.${id}` : kind, since, values});
   if (ahead > APART) add('clock', '', () => ({clock: clock(ahead)}));
   if (over) add('ticks', '', () => over, over.since);
   for (const {id, name, limits: {goal, lost: most, bad}, waiting, loggedOn, severity, queued, level, levelSeverity, lost, lostSeverity, answered, late, abandoned} of lines) {
-    const group = named(name);
+    const group = named(name), rung = rings.get(id);
+    if (rung && now - rung.since > settings.ringing) add('sent', id, () => ({group, who: named(state.agentAt(rung.at)?.name || rung.at)}), rung.since + settings.ringing);
     if (waiting && !loggedOn) add('nobody', id, () => ({group, n: waiting}));
     if (severity === 'bad') add('wait', id, () => ({group}), queued + bad);
     if (counted && levelSeverity === 'bad' && answered + late >= LEAST) add('level', id, () => ({group, share: percent(level), goal: percent(goal / 100)}));
@@ -39,7 +48,7 @@ function alarms({state, lines, counted, now}, serverClock = 0) {
   return found;
 }
 
-const PLACE = 'acd-alarms', FORGOTTEN = 60000, NARROW = 1200, AGAIN = 30000, KEPT_EVERY = 5000, KINDS = ['clock', 'ticks', 'nobody', 'wait', 'level', 'lost'];
+const PLACE = 'acd-alarms', FORGOTTEN = 60000, NARROW = 1200, AGAIN = 30000, KEPT_EVERY = 5000, KINDS = ['clock', 'ticks', 'nobody', 'sent', 'wait', 'level', 'lost'];
 /** @type {Record<string, Known>} */ let known = {};
 try { known = JSON.parse(localStorage[PLACE]) ?? {}; } catch { /* nothing was kept, or nothing may be */ }
 // when was looked last: a page that sleeps, or whose desk is gone, doesn't know that an alarm is over

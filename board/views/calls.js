@@ -1,4 +1,5 @@
 // The live calls, as many as were asked for.
+import {isMoved} from '../act.js';
 import {put, set, table} from '../draw.js';
 import {callLines, search, severity} from '../lines.js';
 import {limitsOf} from '../settings.js';
@@ -25,8 +26,8 @@ export function draw(drawn) {
   const found = search(callLines(drawn).filter(line => !group || line.group === group), find, line => [`${line.number}`, line.caller, who(line.at), state.nameOf(line.group ?? '')]);
   const shown = found.slice(0, most), rest = found.length - most;
   calls.draw(shown.map(line => {
-    const {number, at, since, begun} = line, id = line.group ?? '', waits = line.state === 'queued';
-    return {...line, counted: true, key: `${number}`, at: waits ? '' : who(at), groupName: state.nameOf(id), severity: waits ? severity(now - since, limitsOf(id)) : '',
+    const {number, at, since, begun, queued} = line, id = line.group ?? '', inQueue = line.state === 'queued', waits = isMoved(line);
+    return {...line, counted: true, key: `${number}`, at: inQueue ? '' : who(at), groupName: state.nameOf(id), severity: waits ? severity(now - queued, limitsOf(id)) : '',
       for: now - since, whole: now - begun, act: lead.may(line) && word(waits ? 'act.move' : 'act.end')};
   }));
   put('calls-rest', !found.length && word('calls.none'));

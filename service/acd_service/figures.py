@@ -18,6 +18,8 @@ STEP = 900
 # what an agent does from each event on, for the agent's figures
 DOES = {"agentBusy": "talk", "agentWorkingAfterCall": "afterCall", "agentReady": "ready", "agentNotReady": "notReady",
         "agentLoggedOn": "notReady"}
+# a call leaves a device
+ENDS = ("diverted", "transferred", "connectionCleared")
 
 
 class Reached(NamedTuple):
@@ -77,12 +79,20 @@ class Quarter:
         return reached(self.stays_answered, self.stays_lost, limit)
 
 
+class Talk(NamedTuple):
+    """A talk with a caller from outside whom no group gave the agent: since when, and the group that the caller came
+    from, nothing where there was none."""
+    since: int
+    group: str
+
+
 @dataclass(eq=False)
 class AgentFigures:
-    """Seconds by what the agent did, from the first event that was counted on. The agent `does` this since `since`, and
-    `handles` a call of this group since `handled`; `kind` is the last event."""
+    """Seconds by what the agent did, from the first event that was counted on. The agent is in the `state` since
+    `since`, or in `talks` by the numbers of their calls, and `handles` a call of this group since `handled`; `kind` is
+    the last event."""
     since: int
-    does: str = ""
+    state: str = ""
     calls: int = 0
     missed: int = 0
     spent: dict[str, int] = field(default_factory=dict)
@@ -90,6 +100,18 @@ class AgentFigures:
     handles: str = ""
     handled: int = 0
     kind: str = ""
+    talks: dict[int, Talk] = field(default_factory=dict)
+
+    @property
+    def does(self) -> str:
+        """A talk is one also where the desk says that the agent is ready."""
+        return "talk" if self.talks else self.state
+
+    def pass_to(self, moment: int) -> None:
+        """Counts the seconds up to the moment."""
+        if self.does:
+            self.spent[self.does] = self.spent.get(self.does, 0) + moment - self.since
+        self.since = moment
 
 
 class Figures:
@@ -110,23 +132,48 @@ class Figures:
         # stations whose agent's next event follows an answered call of a group, or an offer without an answer
         self.answered: dict[str, str] = {}
         self.missed: set[str] = set()
+        # of what rings at a station its call, and whether a group offered it
+        self.rings: dict[str, tuple[int, bool]] = {}
         # where the call that is being cleared had connections: the first is where somebody began to
         self.cleared: list[str] = []
 
     def take(self, event: Event) -> None:
         """The next event."""
         self.moment = event.moment
-        ended = self.waits.take(event)
-        if event.moment < self.begin:
-            return
-        if event.agent is not None:
-            self.take_agent(event, event.agent)
-        else:
-            self.take_call(event)
+        agent, ended = self.waits.at.get(event.device or ""), self.waits.take(event)
+        if event.kind == "connectionCleared":
+            self.cleared.append(event.device or "")
+        if event.moment >= self.begin:
+            self.count(event, agent)
         if ended is not None and ended.how is not End.LEFT:
             self.end(event, ended)
+        self.follow(event)
+
+    def follow(self, event: Event) -> None:
+        """What rings and what is being cleared, of before the begin too."""
+        if event.kind == "delivered":
+            self.rings[event.device or ""] = event.call or 0, event.group is not None
+        elif event.call is not None and self.rings.get(event.device or "", (None,))[0] == event.call:
+            del self.rings[event.device or ""]
         if event.kind == "callCleared":
             self.cleared.clear()
+
+    def count(self, event: Event, agent: str | None) -> None:
+        """Counts it; the agent was logged on at its device before."""
+        if event.agent is not None:
+            self.take_agent(event, event.agent)
+            return
+        self.take_call(event)
+        if agent is not None and self.is_hung_up(event):
+            self.figures_of(agent, event.moment).missed += 1
+        if agent is not None and event.call not in self.waits.made:
+            self.take_talk(event, event.call or 0, agent)
+
+    def is_hung_up(self, event: Event) -> bool:
+        """Whether somebody ends it at a station where an offer rings, or a caller from outside."""
+        call, is_offer = self.rings.get(event.device or "", (None, False))
+        is_first = event.kind == "connectionCleared" and self.cleared == [event.device]
+        return is_first and call == event.call and (is_offer or call not in self.waits.made)
 
     def quarter(self, group: str, moment: int) -> Quarter:
         """The quarter of an hour of this moment, which is about to change."""
@@ -153,8 +200,6 @@ class Figures:
             self.take_diversion(moment, device or "", group, cause)
         elif kind == "established" and group is not None:
             self.answered[device or ""] = group
-        elif kind == "connectionCleared":
-            self.cleared.append(device or "")
         elif kind == "callCleared" and group is not None and group in self.cleared:
             self.change(moment, group, -1)
 
@@ -168,23 +213,54 @@ class Figures:
 
     def end(self, event: Event, ended: Ended) -> None:
         """A wait ends."""
-        self.quarter(ended.group, event.moment).add(ended)
+        if event.moment >= self.begin:
+            self.quarter(ended.group, event.moment).add(ended)
+
+    def figures_of(self, number: str, moment: int) -> AgentFigures:
+        """Those of an agent, up to a moment, which are about to change."""
+        found = self.agents.get(number)
+        if found is None:
+            found = self.agents[number] = AgentFigures(moment)
+        self.touched.add(number)
+        found.pass_to(moment)
+        return found
+
+    def handle(self, group: str, begun: int, moment: int) -> None:
+        """An agent is done with a call of the group."""
+        quarter = self.quarter(group, moment)
+        quarter.handled += 1
+        quarter.handling += moment - begun
+
+    def take_talk(self, event: Event, call: int, number: str) -> None:
+        """What an agent does with a caller from outside, where the desk has no state of the agent for it."""
+        moment, kind = event.moment, event.kind
+        if kind == "established" and event.group is None:
+            agent, wait = self.figures_of(number, moment), self.waits.calls.get(call)
+            agent.talks[call] = Talk(moment, wait.group if wait is not None else "")
+            agent.calls += 1
+            if wait is not None:
+                agent.groups.add(wait.group)
+        elif kind in ENDS and number in self.agents and call in self.agents[number].talks:
+            self.end_talk(self.figures_of(number, moment), call, moment)
+
+    def end_talk(self, agent: AgentFigures, call: int, moment: int) -> None:
+        """After-call work in which the agent is by then belongs to it."""
+        talk = agent.talks.pop(call)
+        if talk.group and agent.state == "afterCall" and not agent.handles and not agent.talks:
+            agent.handles, agent.handled = talk.group, talk.since
+        elif talk.group:
+            self.handle(talk.group, talk.since, moment)
 
     def take_agent(self, event: Event, number: str) -> None:
         moment, kind, device = event.moment, event.kind, event.device or ""
-        agent = self.agents.get(number)
-        if agent is None:
-            agent = self.agents[number] = AgentFigures(moment)
-        self.touched.add(number)
-        if agent.does:
-            agent.spent[agent.does] = agent.spent.get(agent.does, 0) + moment - agent.since
+        agent = self.figures_of(number, moment)
         # after-call work right after a call belongs to it
         if agent.handles and not (agent.kind == "agentBusy" and kind == "agentWorkingAfterCall"):
-            quarter = self.quarter(agent.handles, moment)
-            quarter.handled += 1
-            quarter.handling += moment - agent.handled
+            self.handle(agent.handles, agent.handled, moment)
             agent.handles = ""
-        agent.kind, agent.does, agent.since = kind, DOES.get(kind, ""), moment
+        agent.kind, agent.state = kind, DOES.get(kind, "")
+        for call in list(agent.talks) if kind == "agentLoggedOff" else ():
+            self.end_talk(agent, call, moment)
         if device in self.missed:
             self.missed.discard(device)
             agent.missed += 1

@@ -99,7 +99,7 @@ class Day(Figures):
 
     def end(self, event: Event, ended: Ended) -> None:
         super().end(event, ended)
-        if event.call is not None and self.cleared and self.cleared[0] == ended.group:
+        if event.moment >= self.begin and event.call is not None and self.cleared and self.cleared[0] == ended.group:
             self.suspects[event.call] = event.moment, ended
 
     def judge(self, suspects: Iterable[int], ended: Set[int]) -> None:

@@ -21,14 +21,23 @@ LAST = 5
 
 @dataclass
 class AgentDay:
-    """`busy` is since when the agent talks; `missed_offer` the last offer that the desk withdrew, until the agent logs
-    on or off."""
+    """The agent talks since `since`: `is_busy` by the desk's own state, or in `talks`, the numbers of calls of callers
+    from outside whom no group gave the agent. `missed_offer` is the last offer that the desk withdrew, until the agent
+    logs on or off."""
     answered: int = 0
     talking: int = 0
     missed: int = 0
-    busy: int | None = None
+    since: int | None = None
+    is_busy: bool = False
+    talks: set[int] = field(default_factory=set)
     calls: deque[Text] = field(default_factory=lambda: deque(maxlen=LAST))
     missed_offer: Text | None = None
+
+    def pass_to(self, moment: int, begins: int) -> None:
+        """Counts the talk up to a moment, and says whether it goes on."""
+        if self.since is not None:
+            self.talking += max(0, moment - max(self.since, begins))
+        self.since = moment if self.is_busy or self.talks else None
 
 
 def midnight(moment: float, days: int = 0) -> int:
@@ -46,9 +55,11 @@ class Days:
         self.whole = False
         self.agents: dict[str, AgentDay] = {}
         self.at: dict[str, str | None] = {}
-        self.offers: dict[str, tuple[int, int]] = {}
+        self.offers: dict[str, tuple[int, int, str | None]] = {}
         self.talks: dict[int, dict[str, tuple[int, str | None]]] = {}
         self.waits = Waits()
+        # while a call is being cleared: its first connection is gone
+        self.cleared: bool | None = None
         self.begins, self.ends = midnight(moment), midnight(moment, 1)
 
     def roll(self, moment: float) -> bool:
@@ -81,34 +92,56 @@ class Days:
     def take_agent(self, report: Text, moment: int) -> None:
         day, event = self.day_of(report["agent"]), report["event"]
         self.at[report["device"]] = report["agent"] if event != "agentLoggedOff" else None
-        if day.busy is not None:
-            day.talking += max(0, moment - max(day.busy, self.begins))
-        day.busy = moment if event == "agentBusy" else None
-        day.answered += event == "agentBusy" and moment >= self.begins
+        day.is_busy = event == "agentBusy"
+        day.answered += day.is_busy and moment >= self.begins
         if event in ("agentLoggedOn", "agentLoggedOff"):
             day.missed_offer = None
+            day.talks.clear()
+        day.pass_to(moment, self.begins)
 
     def take_call(self, report: Text, moment: int, state: State) -> None:
         event, number, device = report["event"], report["call"], report.get("device", "")
         if event == "delivered":
-            self.offers[device] = number, moment
+            self.offers[device] = number, moment, report.get("group")
         elif event == "established":
-            self.talks.setdefault(number, {})[device] = moment, report.get("group")
+            self.establish(report, moment, state)
         elif event == "callCleared":
             self.talks.pop(number, None)
+            self.cleared = None
         elif event in ("diverted", "transferred", "connectionCleared"):
             self.leave(report, moment, state)
 
+    def agent_at(self, device: str, state: State) -> str | None:
+        station = state.stations.get(device)
+        return self.at.get(device, station.agent if station else None)
+
+    def establish(self, report: Text, moment: int, state: State) -> None:
+        number, device, group = report["call"], report["device"], report.get("group")
+        self.offers.pop(device, None)
+        agent, wait = self.agent_at(device, state), self.waits.calls.get(number)
+        self.talks.setdefault(number, {})[device] = moment, group or (wait.group if wait is not None else None)
+        if group is None and agent is not None and number not in self.waits.made:
+            day = self.day_of(agent)
+            day.talks.add(number)
+            day.answered += moment >= self.begins
+            day.pass_to(moment, self.begins)
+
     def leave(self, report: Text, moment: int, state: State) -> None:
-        number, device = report["call"], report["device"]
-        station, call = state.stations.get(device), state.calls.get(number)
-        agent, caller = self.at.get(device, station.agent if station else None), call.caller if call else None
-        offered, since = self.offers.get(device, (None, 0))
+        number, device, call = report["call"], report["device"], state.calls.get(report["call"])
+        agent, caller = self.agent_at(device, state), call.caller if call else None
+        offered, since, group = self.offers.pop(device, (None, 0, None))
+        is_first, self.cleared = self.cleared is None, report["event"] == "connectionCleared" or None
+        is_hung_up = is_first and self.cleared and offered == number
+        if is_hung_up and agent and (group is not None or number not in self.waits.made):
+            self.day_of(agent).missed += moment >= self.begins
         if report.get("cause") == "noAnswer" and agent and offered == number:
             day = self.day_of(agent)
             day.missed += moment >= self.begins
             day.missed_offer = {"call": number, "caller": caller, "group": report.get("group"), "moment": moment,
                                 "since": since}
+        if agent and number in self.day_of(agent).talks:
+            self.day_of(agent).talks.remove(number)
+            self.day_of(agent).pass_to(moment, self.begins)
         began, group = self.talks.get(number, {}).pop(device, (None, None))
         if began is not None and agent and moment >= self.begins:
             self.day_of(agent).calls.append({"call": number, "caller": caller, "group": group, "moment": began,
@@ -120,7 +153,8 @@ class Days:
             return None
         day = self.agents.get(agent) or AgentDay()
         return {"answered": day.answered, "begins": self.begins,
-                "calls": [without_nothing(**call) for call in day.calls], "missed": day.missed, "talking": day.talking}
+                "calls": [without_nothing(**call) for call in day.calls], "missed": day.missed,
+                "talking": day.talking, **without_nothing(talks=day.since)}
 
     def missed_offer(self, agent: str) -> Text | None:
         day = self.agents.get(agent)

@@ -19,7 +19,7 @@ from acd_service.gate.parts import Text
 from acd_service.gate.ruled import FILE as RULES, Ruled
 from acd_service.gate.state import State
 from acd_service.gate.streams import Streams
-from acd_service.gate.texts import agent_text, groups_of, names_text, without_nothing
+from acd_service.gate.texts import agent_text, groups_of, names_text, place_text, without_nothing
 
 # seconds: between two looks at the desk, at least and without a request in between, two snapshots, two tries of a desk
 # that is away; until pages learn that the desk is away, until the gate answers a question without news, and for how
@@ -346,9 +346,9 @@ class Following:
         return AGAIN
 
     async def mine(self, agent: str, groups: frozenset[str] | None, after: int, names: int, hold: float = HELD,
-                   has_left: Callable[[], bool] = lambda: False) -> bytes | None:
+                   has_left: Callable[[], bool] = lambda: False, to: str | None = None) -> bytes | None:
         """An agent's page as JSON, as soon as it has news; None if the gate never reached the desk. Left where nobody
-        waits for it any more."""
+        waits for it any more. `to` is a place for a call, of which it says who is there."""
         waiter = Waiter(agent, groups or frozenset(), after, names)
         self.want()
         if self.state is None or (after and not self.has_agent_news(waiter)):
@@ -357,7 +357,8 @@ class Following:
             raise Left
         if self.state is None:
             return None
-        body = as_json(self.text_of(self.state, waiter))
+        place = {} if to is None else {"place": place_text(self.state, to)}
+        body = as_json(self.text_of(self.state, waiter) | place)
         if not (self.names_changed > names or names > self.number):
             return body
         return body[:-1] + b',"names":' + self.names_now(self.state) + b"}"

@@ -165,11 +165,13 @@ def may_lead(role: Role, request: Request, state: State) -> bool:
         return request["device"] in state.groups
     call = state.calls.get(request["call"])
     here = call.connections.get(request["device"]) if call else None
-    if not call or not here or here.group not in groups:
+    if not call or not here or here.whose not in groups:
         return False
     if service == "clearConnection":
-        others = [one.group for one in call.connections.values()]
+        others = [one.whose for one in call.connections.values()]
         return here.state != "queued" and all(group is None or group in groups for group in others)
     there = state.agent_at(request["to"])
     is_within = request["to"] in groups or (there is not None and not groups.isdisjoint(there.groups))
-    return here.state == "queued" and is_within
+    # an offer is the desk's, and a tick takes it back
+    waits = here.state == "queued" or here.state == "alerting" and here.group is None
+    return waits and is_within

@@ -57,14 +57,17 @@ def side_of(state: State, call: Call) -> Connection | None:
 
 
 def call_line(state: State, call: Call) -> str:
-    """`begun` is there where it isn't `since`."""
+    """`begun` is there where it isn't `since`; `direct` where no group gave the call to the agent, and `queued` is
+    since when such a caller waits."""
     side = side_of(state, call)
     if side is None:
         return as_text(without_zeros(begun=call.since, caller=call.caller))
     since = waits_since(call) if side.state == "queued" else side.since
     begun = call.since if call.since != since else None
-    return as_text(without_zeros(at=side.device, begun=begun, caller=call.caller, group=side.group, since=since,
-                                 state=side.state))
+    direct = side.sent is not None
+    queued = waits_since(call) if direct and side.state == "alerting" else None
+    return as_text(without_zeros(at=side.device, begun=begun, caller=call.caller, direct=direct, group=side.whose,
+                                 queued=queued, since=since, state=side.state))
 
 
 def groups_of(state: State, numbers: Iterable[str]) -> dict[str, str]:

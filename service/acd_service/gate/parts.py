@@ -47,17 +47,27 @@ class Group:
 
 @dataclass
 class Station:
+    """`gave` are the calls that were sent from here last."""
     id: str
     agent: str | None = None
     calls: set[int] = field(default_factory=set)
+    gave: set[int] = field(default_factory=set)
 
 
 @dataclass
 class Connection:
+    """`group` is that of a queue, or of the offer of one; `sent` that of a caller who was sent to this station from
+    there, or was passed on: the group that the caller entered last."""
     device: str
     state: str
     group: str | None
     since: int
+    sent: str | None = None
+
+    @property
+    def whose(self) -> str | None:
+        """The group that the caller came from, by an offer or without one."""
+        return self.sent if self.group is None else self.group
 
 
 class Doing(NamedTuple):
@@ -70,7 +80,7 @@ class Doing(NamedTuple):
 @dataclass(eq=False)
 class Call:
     """`queued` is since when the caller waits, or waited before somebody answered; `ended` the number of the report
-    that began to clear it."""
+    that began to clear it; `left` the group or station that the call was sent from last."""
     number: int
     since: int
     caller: str | None = None
@@ -78,6 +88,7 @@ class Call:
     rank: int = 0
     queued: int | None = None
     ended: int = 0
+    left: str | None = None
     connections: dict[str, Connection] = field(default_factory=dict)
 
     def told(self) -> tuple[object, ...]:

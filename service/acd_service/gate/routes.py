@@ -206,7 +206,7 @@ class Gate:
         role, asked = self.role_of(login), dict(urllib.parse.parse_qsl(question.query))
         numbers = [asked.get("after", "0"), asked.get("names", "0"), asked.get("hold", "20")]
         agent = asked.get("agent", role.agent)
-        if not all(re.fullmatch(r"[0-9]{1,15}", number) for number in numbers):
+        if not all(re.fullmatch(r"[0-9]{1,15}", number) for number in [*numbers, asked.get("to", "0")]):
             raise Refused(error(400))
         refuse_to_show(role, agent)
         if agent is None:
@@ -216,7 +216,7 @@ class Gate:
                 raise Refused(error(429))
             groups = role.groups if agent == role.agent else None
             after, names, hold = map(int, numbers)
-            page = await self.following.mine(agent, groups, after, names, hold, question.has_left)
+            page = await self.following.mine(agent, groups, after, names, hold, question.has_left, asked.get("to"))
         if page is None:
             raise Refused(error(502))
         return Answer(200, "application/json", page)

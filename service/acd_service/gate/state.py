@@ -70,6 +70,7 @@ class State:
         known = before.calls.get(call.number) if before else None
         if known is not None:
             call.queued = known.queued
+            self.leaves(call, known.left)
         if call.caller in self.stations:
             self.waits.made.add(call.number)
         for one in text["connections"]:
@@ -141,6 +142,7 @@ class State:
         agent.rank = self.leaving.pop(agent.id, report["number"])
         self.touched.add(agent.id)
         self.dirty.update(agent.groups)
+        self.touch_others(report["device"])
 
     def change_call(self, report: Text) -> None:
         number, event, device, moment = report["call"], report["event"], report.get("device", ""), report["moment"]
@@ -152,6 +154,8 @@ class State:
         elif event == "queued":
             self.enqueue(call, report)
         elif event == "delivered":
+            # who is passed on after a talk waits anew, without a queue
+            call.queued = self.waits.since(number) or call.queued
             self.put(call, device, "alerting", report.get("group"), moment)
         elif event == "failed":
             self.put(call, device, "fail", None, moment)
@@ -168,18 +172,26 @@ class State:
     def clear(self, call: Call) -> None:
         for left in list(call.connections):
             self.take(call, left)
+        self.leaves(call, None)
         del self.calls[call.number]
 
     def mark(self, call: Call) -> None:
         """Whom the call touches."""
         self.moved.add(call.number)
         for device, connection in call.connections.items():
-            if connection.group in self.groups:
-                self.dirty.add(connection.group)
+            if connection.whose in self.groups:
+                self.dirty.add(connection.whose)
             agent = self.agent_at(device)
             if agent:
                 self.touched.add(agent.id)
                 self.dirty.update(agent.groups)
+                self.touch_others(device)
+
+    def touch_others(self, device: str) -> None:
+        """What the agent there does concerns those to whom calls were sent from there: who may give one back."""
+        for number in self.stations[device].gave if device in self.stations else ():
+            others = (self.agent_at(other) for other in self.calls[number].connections)
+            self.touched.update(other.id for other in others if other is not None)
 
     def enqueue(self, call: Call, report: Text) -> None:
         if report["cause"] != "noAnswer":
@@ -187,37 +199,62 @@ class State:
         self.put(call, report["device"], "queued", report["device"], report["moment"])
 
     def put(self, call: Call, device: str, state: str, group: str | None, since: int) -> None:
-        call.connections[device] = Connection(device, state, group, since)
+        one = call.connections[device] = Connection(device, state, group, since)
         if state == "queued":
             made(Group, self.groups, device).waiting.add(call)
         elif device in self.stations:
             self.stations[device].calls.add(call.number)
+            self.send(call, one)
         if state == "alerting" and group is not None:
             made(Group, self.groups, group).ringing.add(call)
+
+    def send(self, call: Call, one: Connection) -> None:
+        """Notes where a caller comes from who is at a station without an offer, and for whom it rings there as long as
+        the caller waits."""
+        wait = self.waits.calls.get(call.number)
+        if one.group is not None or wait is None or not self.is_customers(call):
+            return
+        one.sent = wait.group
+        if one.state == "alerting" and not wait.over and wait.until is None:
+            made(Group, self.groups, wait.group).ringing.add(call)
+
+    def is_customers(self, call: Call) -> bool:
+        """Whether the caller is from outside."""
+        return call.number not in self.waits.made and call.caller not in self.stations
 
     def become(self, call: Call, device: str, state: str, since: int) -> None:
         connection = call.connections.get(device)
         if connection is None:
             return self.put(call, device, state, None, since)
-        if connection.group is not None:
-            made(Group, self.groups, connection.group).ringing.discard(call)
+        if connection.whose is not None:
+            made(Group, self.groups, connection.whose).ringing.discard(call)
         connection.state, connection.since = state, since
 
     def leave_call(self, call: Call, device: str, report: Text) -> None:
         if report["event"] == "connectionCleared" and not call.ended:
             call.ended = report["number"]
+        if report["event"] == "transferred" or report.get("cause") == "deflected":
+            self.leaves(call, device)
         self.take(call, device)
+
+    def leaves(self, call: Call, device: str | None) -> None:
+        """It is sent from this group or station, or ends."""
+        if call.left in self.stations:
+            self.stations[call.left].gave.discard(call.number)
+        call.left = device
+        if device in self.stations:
+            self.stations[device].gave.add(call.number)
 
     def take(self, call: Call, device: str) -> None:
         connection, agent = call.connections.pop(device, None), self.agent_at(device)
         if device in self.stations:
             self.stations[device].calls.discard(call.number)
-        if connection is None or connection.group is None:
+        if connection is None or connection.whose is None:
             return
-        group = made(Group, self.groups, connection.group)
+        group = made(Group, self.groups, connection.whose)
         group.waiting.discard(call)
         group.ringing.discard(call)
-        if agent is None:
+        if agent is None or connection.group is None:
             return
         agent.pending = None  # it holds now
         # of two agents who leave one call by one request the lesser number was ready first
@@ -234,26 +271,33 @@ class State:
             self.touched.add(agent.id)
 
     def learn_waits(self, waits: Waits) -> None:
-        """Takes over since when callers wait, which a snapshot doesn't say of who was moved before."""
+        """Takes over since when callers wait, and where they came from, which a snapshot doesn't say of who was moved
+        before."""
+        self.waits.made |= waits.made & self.calls.keys()
         for number, wait in waits.calls.items():
             call = self.calls.get(number)
             if call is None or wait.since is None:
                 continue
             self.waits.calls[number] = replace(wait)
-            if not wait.over and call.queued != wait.since:
+            if not wait.over:
                 call.queued = wait.since
-                self.mark(call)
-        self.waits.made |= waits.made & self.calls.keys()
+            for device, one in call.connections.items():
+                if device in self.stations:
+                    self.send(call, one)
+            self.mark(call)
 
     def callers_unknown(self) -> list[int]:
         """The calls whose caller no report named."""
         return [call.number for call in self.calls.values() if call.caller is None or call.called is None]
 
+    def calls_of(self, agent: Agent) -> list[Call]:
+        """The calls at the agent's station."""
+        station = self.stations.get(agent.station) if agent.station else None
+        return [self.calls[call] for call in sorted(station.calls) if call in self.calls] if station else []
+
     def sides_of(self, agent: Agent) -> list[Connection]:
         """The connections at the agent's station."""
-        station = self.stations.get(agent.station) if agent.station else None
-        calls = [self.calls[call] for call in sorted(station.calls) if call in self.calls] if station else []
-        return [call.connections[agent.station] for call in calls if agent.station in call.connections]
+        return [call.connections[agent.station] for call in self.calls_of(agent) if agent.station in call.connections]
 
     def logged_on(self) -> dict[str, str]:
         """The agents by their stations."""
@@ -265,14 +309,33 @@ class State:
         return agent.state == "ready" and all(one.state == "fail" for one in self.sides_of(agent))
 
     def doing(self, agent: Agent) -> Doing:
-        """What the agent does: a group's call comes before all else, then a call of the agent's own."""
+        """What the agent does: a group's call comes before all else, then one of another caller from outside, then a
+        call of the agent's own."""
         here = self.sides_of(agent)
-        given = next((one for one in here if one.group), None)
+        given = next((one for one in here if one.group), None) or self.customers(agent)
         if given is not None:
             named = {"alerting": "ringing", "hold": "hold"}.get(given.state)
-            return Doing(named or "busy", given.since if named else agent.since, given.group)
+            return Doing(named or "busy", given.since if named or not given.group else agent.since, given.whose)
         own = next((one for one in here if one.state != "fail"), None) if agent.state == "ready" else None
         return Doing("own", own.since) if own else Doing(agent.state, agent.since)
+
+    def customers(self, agent: Agent) -> Connection | None:
+        """The call of a caller from outside whom no group gave the agent; one that the agent has comes first."""
+        calls = [call for call in self.calls_of(agent) if self.is_customers(call)]
+        here = [call.connections[agent.station] for call in calls if agent.station in call.connections]
+        order = [one for name in ("connected", "hold", "alerting") for one in here if one.state == name]
+        return order[0] if order else None
+
+    def back(self, call: Call, device: str) -> str | None:
+        """To whom a call goes back that rings at a station without an offer: to the group it came from, or to the
+        colleague, where that one may take it; else to the caller's last group."""
+        one, colleague = call.connections[device], self.agent_at(call.left or "")
+        if one.state != "alerting" or one.group is not None or not self.is_customers(call):
+            return None
+        is_free = colleague is not None and colleague.state != "notReady" and not self.sides_of(colleague)
+        if call.left in self.groups or call.left != device and is_free:
+            return call.left
+        return one.sent if one.sent in self.groups else None
 
     def is_outside(self, call: Call, device: str) -> bool:
         """Whether it is the side of a caller from outside, who has no station."""

@@ -12,15 +12,15 @@ def without_nothing(**members: Any) -> Text:
 
 
 def side_text(one: Connection) -> Text:
-    return without_nothing(device=one.device, group=one.group if one.state != "queued" else None, since=one.since,
-                           state=one.state)
+    return without_nothing(device=one.device, group=one.group if one.state != "queued" else None, sent=one.sent,
+                           since=one.since, state=one.state)
 
 
-def call_text(call: Call) -> Text:
-    """A call of the agent, with all members."""
+def call_text(state: State, call: Call, station: str) -> Text:
+    """A call at an agent's station, with all members."""
     connections = [side_text(call.connections[device]) for device in in_order(call.connections)]
     return without_nothing(call=call.number, called=call.called, caller=call.caller, connections=connections,
-                           queued=call.queued, since=call.since)
+                           back=state.back(call, station), queued=call.queued, since=call.since)
 
 
 def queue_text(state: State, group: Group) -> Text:
@@ -39,9 +39,20 @@ def own_text(state: State, number: str) -> Text:
         return {"agent": {"agent": number}, "calls": []}
     state_text = without_nothing(agent=agent.id, device=agent.station, groups=agent.groups or None, logOn=agent.log_on,
                                  name=agent.name, pending=agent.pending, since=agent.since, state=agent.state)
-    station = state.stations.get(agent.station) if agent.station else None
-    calls = [call_text(state.calls[call]) for call in sorted(station.calls) if call in state.calls] if station else []
-    return {"agent": state_text, "calls": calls}
+    here = [call for call in state.calls_of(agent) if agent.station in call.connections]
+    return {"agent": state_text, "calls": [call_text(state, call, agent.station) for call in here if agent.station]}
+
+
+def place_text(state: State, device: str) -> Text:
+    """What a page says of a place to which somebody is about to send a caller: of a group how many are logged on and
+    ready there, of a station who is there and what that agent does."""
+    group, agent = state.groups.get(device), state.agent_at(device)
+    if group is not None:
+        ready = sum(state.is_eligible(number) for number in group.agents)
+        return {"device": device, "loggedOn": len(group.agents), "ready": ready}
+    if agent is None:
+        return {"device": device}
+    return {"device": device, "agent": agent.id, "doing": state.doing(agent).doing}
 
 
 def agent_text(state: State, number: str, groups: Iterable[str]) -> Text:

@@ -74,6 +74,7 @@ class Call:
     at: dict = field(default_factory=dict)  # where it is: device to leg, with the caller's from outside, which is none of its legs
     since: int = 0
     busy: int = 0  # how many agents are busy with it, or in after-call work after it
+    is_outside: bool = True  # whether the caller is
 
     def pass_to(self, moment):
         """Counts the seconds up to the moment by what the call's connections are."""
@@ -122,6 +123,7 @@ class Agent:
     groups: list = field(default_factory=list)
     call: Call = None  # the call that the agent is busy with, or after which the agent is in after-call work, and its leg
     leg: Leg = None
+    talks: set = field(default_factory=set)  # calls from outside that the agent has without an offer
 
 
 @dataclass(eq=False)
@@ -169,6 +171,7 @@ class Records:
         came, caller, called, moment, is_made = next(self.came, (None,) * 5)
         if came is not None:
             call = self.calls[came] = Call(came, caller, called, moment, since=moment)
+            call.is_outside = not is_made
             if not is_made:
                 call.at[caller] = Leg(caller, "connected", moment)
         return came
@@ -194,12 +197,23 @@ class Records:
         if kind == "connectionCleared":
             if call.ended == "live":
                 call.ended = call.ending(device, device in self.at)
-                if call.at[device].state == "offered":
+                if device in self.at and call.at[device].state in RINGS and (call.is_outside or call.at[device].state == "offered"):
                     self.count(moment, self.at[device], "rings_hung_up")
             ended = call.ended
         elif cause == "noAnswer":
             ended = self.take_return(moment, call.number, device)
         call.end(device, moment, ended, to)
+        if device in self.at and call.number in self.agents[self.at[device]].talks:
+            self.talk(moment, self.at[device], call.number, False)
+
+    def talk(self, moment, number, call, begins):
+        """An agent begins or ends to talk to a caller from outside without an offer, which is no state of the agent."""
+        agent = self.agents[number]
+        self.pass_to(moment, number, agent)
+        if begins:
+            agent.talks.add(call)
+        else:
+            agent.talks.discard(call)
 
     def take_return(self, moment, call, device):
         """How the offer ended: by a tick or by a rejectCall, which no event shows. Of several in one moment a tick made the first at most: no offer of that moment is overdue."""
@@ -216,7 +230,10 @@ class Records:
             if before == "offered":
                 self.agents[agent].call, self.agents[agent].leg = call, leg
                 self.count(moment, agent, "calls")
-        if agent and (kind == "originated" or (kind == "established" and before != "offered")):
+        if agent and kind == "established" and before != "offered" and call.is_outside:
+            self.count(moment, agent, "calls")
+            self.talk(moment, agent, call.number, True)
+        elif agent and (kind == "originated" or (kind == "established" and before != "offered")):
             self.count(moment, agent, "own_calls")
 
     def count(self, moment, agent, column):
@@ -235,6 +252,7 @@ class Records:
         if kind == "agentLoggedOn":
             self.at[station], agent.groups = number, next(self.log_ons, [])
         elif kind == "agentLoggedOff":
+            agent.talks.clear()
             del self.at[station]
 
     def pass_to(self, moment, number, agent):
@@ -248,7 +266,7 @@ class Records:
             day.first, day.last = begin if day.first is None else day.first, end
             day.groups.update(agent.groups)
             day.counts["logged_on"] += end - begin
-            day.counts[SECONDS[agent.state]] += end - begin
+            day.counts["talking" if agent.talks else SECONDS[agent.state]] += end - begin
             if end == moment:
                 return
             begin = end

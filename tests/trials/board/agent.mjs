@@ -9,7 +9,7 @@ import {AGENT, button, Hands, refused, requested, shift, STATION} from './shift.
 const F2 = '\uE032', F8 = '\uE038';
 
 /** In their order; from the second on up to the console they need an agent who is logged on. */
-export const PARTS = {shift, lastLogOn, rings, hidden, secondClicks, missedOffer, places, day, lost, lostReply, tooOld, otherLogOn, olderPage, quiet, owners, words, layout, session};
+export const PARTS = {shift, lastLogOn, rings, hidden, secondClicks, missedOffer, places, sentOn, day, lost, lostReply, tooOld, otherLogOn, olderPage, quiet, owners, words, layout, session};
 
 export async function agentsPage(see, browser, desk, front, folder, only = Object.keys(PARTS)) {
   const hands = new Hands(see, browser, desk, front);
@@ -200,10 +200,49 @@ async function places(hands) {
   await hands.ask('setAgentState', {agent: '8', requested: 'loggedOn', device: '208', group: '120'});
   await until(() => browser.run('return [...document.querySelectorAll("#destinations option")].some(option => option.label === "Ben Berg")'), 15);
   await type('BEN');
-  await hands.click(button('singleStepTransfer'), '✓ Transfer: 0402, to Ben Berg (208)');
+  await hands.click(button('singleStepTransfer'));
+  await hands.allTheSame('Ben Berg (208): ■ not ready.', 'Transfer');
+  see('it is said: Transfer', Boolean(await hands.said('✓ Transfer: 0402, to Ben Berg (208)')), await hands.text('#told'));
   see('a name finds its number', (await hands.events(last))[0] === `transferred ${first}`, String(await hands.events(last)));
   await hands.ask('clearConnection', {call: first, device: '208'});
   await dial(hands);
+}
+
+/** A caller whom a colleague passes on: no button throws the caller out, Back gives the call to the colleague, or to the group where that one has a break. */
+async function sentOn(hands) {
+  const {see, browser, desk} = hands, at = async call => (await desk.get(`/calls/${call}`)).connections.map(one => one.device).filter(one => one !== '0405');
+  const buttons = () => browser.run(`return [...document.querySelectorAll('#calls li:first-child .buttons button')].filter(one => one.checkVisibility()).map(one => one.textContent)`);
+  for (const {call} of (await desk.get('/queues/120')).calls) await hands.ask('clearConnection', {call, device: '120'});
+  await hands.ask('setAgentState', {agent: '8', requested: 'ready'});
+  const call = await hands.call('120', '0405'), pass = async () => {
+    await hands.ask('answerCall', {call, device: '208'});
+    await hands.ask('singleStepTransfer', {call, device: '208', to: STATION});
+    await until(() => browser.find('#calls [data-state=alerting]'), 10);
+  };
+  await pass();
+  await hands.sees('it says where the caller comes from', '#calls li', 'direct to you · Orders', 5);
+  see('Answer, Back and Pass on', String(await buttons()) === 'Answer F2,Back F8,Pass on', String(await buttons()));
+  await sleep(450);
+  await browser.press(F8);
+  see('F8 is Back', Boolean(await hands.said('✓ Back: 0405, to Ben Berg (208)')), await hands.text('#told'));
+  see('it rings at the colleague', String(await at(call)) === '208', String(await at(call)));
+  await pass();
+  await hands.ask('setAgentState', {agent: '8', requested: 'notReady'});
+  see('who has a break gets nothing back', Boolean(await until(async () => (await hands.mine()).calls[0]?.back === '120', 5)), JSON.stringify((await hands.mine()).calls[0]));
+  await hands.click(button('back'), '✓ Back: 0405, to Orders (120)');
+  see('it waits in its group', String(await at(call)) === '120', String(await at(call)));
+  await hands.ask('setAgentState', {agent: '8', requested: 'ready'});
+  await pass();
+  await hands.ask('setAgentState', {agent: '8', requested: 'notReady'});
+  await sleep(450);
+  await browser.press(F2);
+  await hands.said('✓ Answer: 0405');
+  await hands.sees('the talk is one', '#state', 'on a call', 5);
+  await browser.run('document.querySelector("#calls input").value = "ben"');
+  await hands.click(button('singleStepTransfer'));
+  await hands.sees('who is not ready is asked about', '#notices', 'Ben Berg (208): ■ not ready.Transfer all the sameNo', 5);
+  await browser.click('#notices button:last-child');
+  await hands.click(button('clearConnection'), '✓ Hang up');
 }
 
 /** A number that is dialled, picked up, and rings at a colleague. */

@@ -3,7 +3,8 @@ const SERVICES = ['answerCall', 'rejectCall', 'phoneOffHook', 'holdCall', 'retri
 const MOVES = ['singleStepTransfer', 'deflectCall'];
 
 /** What the gate would tell of the calls at a station, out of a snapshot. */
-const mineAt = (snapshot, device) => ({agent: snapshot.agents.find(agent => agent.device === device) ?? {device}, calls: snapshot.calls.filter(call => call.connections.some(one => one.device === device))});
+const mineAt = (snapshot, device) => ({agent: snapshot.agents.find(agent => agent.device === device) ?? {device}, calls: snapshot.calls.filter(call => call.connections.some(one => one.device === device)),
+  names: {stations: snapshot.stations.map(station => station.device)}});
 
 const NAMES = {agents: [{agent: '7', device: '207', name: 'Ana'}, {agent: '8', device: '208', name: 'Ben Berg'}, {agent: '9', name: 'Cem'}, {agent: '10', device: '210', name: 'Berger'}, {agent: '11', device: '211', name: 'Ben'}],
   groups: [{device: '100', name: 'Billing'}], stations: ['207', '208', '209', '210', '211']};
@@ -33,12 +34,12 @@ export async function buttons({services, states, isFree, ...places}, desk, round
     const ends = snapshot.stations.flatMap(({device, connections}) => connections.map(one => [snapshot.calls.find(call => call.call === one.call), device]));
     for (const [call, device] of pick(ends, 8)) {
       const mine = mineAt(snapshot, device), may = services(mine, call), to = snapshot.groups.find(group => !call.connections.some(one => one.device === group.device)).device;
-      const isOffer = call.connections.some(one => one.device === device && one.state === 'alerting' && one.group);
+      const isOutside = !snapshot.stations.some(station => station.device === call.caller), throwsOut = call.connections.some(one => one.device === device && one.state === 'alerting' && (one.group || isOutside));
       for (const service of SERVICES) {
         const members = {call: call.call, device, ...(MOVES.includes(service) ? {to} : {})};
         if (may.has(service)) enabled.push([service, members]);
         // the desk grants it; the page doesn't ask for it, since it throws a caller out
-        else if (service !== 'clearConnection' || !isOffer) await ask(false, service, members);
+        else if (service !== 'clearConnection' || !throwsOut) await ask(false, service, members);
         else if (may.has('clearConnection')) wrong.push(`Hang up beside Answer at call ${call.call}`);
       }
       const called = snapshot.stations.find(one => one.device !== device).device;

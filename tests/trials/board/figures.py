@@ -4,7 +4,7 @@
 usage: figures.py --desk PORT [--begin B] [--end E] [--groups 100,110] [--limit 20] [--limit-of 100=30]     (default: all events)
 
 Prints them as JSON: of each group and of all chosen ones entered, answered, abandoned, moved, waited, within (answered within the limit), late (abandoned later), longest, handled and handling
-(talk, hold, and the after-call work right behind it), and by the last stay in a queue answeredStay, abandonedStay, withinStay and lateStay, also by quarters of an hour; of each agent calls, missed, talk, work, ready and notReady, from the first event of the day on to E; and of each group since when the caller waits who waits longest."""
+(talk, hold, and the after-call work right behind it), and by the last stay in a queue answeredStay, abandonedStay, withinStay and lateStay, also by quarters of an hour; of each agent calls, missed, talk, work, ready and notReady, from the first event of the day on to E; and of each group since when the caller waits who waits longest, and for how many of its callers it rings whom somebody sent to an agent."""
 import argparse
 import json
 import sys
@@ -85,14 +85,59 @@ def waits(events):
 
 
 def waiting(events):
-    """By groups since when the caller waits who waits longest in the queue, or is rung for by it."""
-    found = {}
+    """By groups since when the caller waits who waits longest in the queue, or is rung for by it or at an agent to whom somebody sent the caller; and how many these are."""
+    found, sent = {}, defaultdict(int)
     for _, _, places in courses(events):
-        if places and places[-1][0] == "queue":
+        if places and places[-1][0] in ("queue", "person"):
             talks = [place for place, (kind, *_) in enumerate(places) if kind == "talk"]
-            begin, group = places[talks[-1] + 1 if talks else 0][2], places[-1][1]
+            begin, group = places[talks[-1] + 1 if talks else 0][2], [device for kind, device, _ in places if kind == "queue"][-1]
             found[group] = min(begin, found.get(group, begin))
+            sent[group] += places[-1][0] == "person"
+    return found, {group: count for group, count in sent.items() if count}
+
+
+def talks(events):
+    """Each talk of an agent with a caller from outside whom no group gave the agent: (agent, call, group that the caller came from, number and moment of its begin, and of its end or nothing)."""
+    at, of_call, found = {}, defaultdict(list), []
+    for event in events:
+        if "agent" in event:
+            at[event["device"]] = event["agent"] if event["event"] != "agentLoggedOff" else None
+            if event["event"] == "agentLoggedOff":
+                for one in found:
+                    if one["device"] == event["device"] and one["end"] is None:
+                        one["end"] = event["number"], event["moment"]
+            continue
+        before = of_call[event["call"]]
+        before.append(event)
+        is_outside = all(one["event"] != "serviceInitiated" for one in before)
+        if event["event"] == "established" and "group" not in event and is_outside and at.get(event["device"]):
+            groups = [one["device"] for one in before if one["event"] == "queued"]
+            found.append({"agent": at[event["device"]], "call": event["call"], "device": event["device"], "group": groups[-1] if groups else None,
+                          "begin": (event["number"], event["moment"]), "end": None})
+        elif event["event"] in ("diverted", "transferred", "connectionCleared"):
+            for one in found:
+                if (one["call"], one["device"], one["end"]) == (event["call"], event["device"], None):
+                    one["end"] = event["number"], event["moment"]
     return found
+
+
+def hung_up(events):
+    """Each offer, or ring of a caller from outside, that was ended at the agent's station: (agent, when)."""
+    at, rings, made, clearing = {}, {}, set(), set()
+    for event in events:
+        kind, call, device = event["event"], event.get("call"), event.get("device")
+        if "agent" in event:
+            at[device] = event["agent"] if kind != "agentLoggedOff" else None
+        elif kind == "serviceInitiated":
+            made.add(call)
+        elif kind == "delivered":
+            rings[call, device] = "group" in event
+        elif kind == "connectionCleared" and call not in clearing:
+            clearing.add(call)
+            if (call, device) in rings and at.get(device) and (rings[call, device] or call not in made):
+                yield at[device], event["moment"]
+        if kind in ("established", "diverted", "transferred"):
+            rings.pop((call, device), None)
 
 
 def periods(events, begin, end):
@@ -114,8 +159,37 @@ def periods(events, begin, end):
             yield agent, kind, moment, end if after is None else after, group, missed, after is None
 
 
+def done(events, begin):
+    """Each call that an agent is done with whom somebody sent to the agent: (group, when, seconds). After-call work in which the agent is at its end belongs to it, where it belongs to no other
+    call and no other talk goes on."""
+    of_agent = defaultdict(list)
+    for event in events:
+        if "agent" in event and event["moment"] >= begin:
+            of_agent[event["agent"]].append((event["number"], event["moment"], event["event"], None))
+    for one in talks(events):
+        if one["begin"][1] >= begin:
+            of_agent[one["agent"]] += [(*one["begin"], "begin", one), *([(*one["end"], "end", one)] if one["end"] else [])]
+    for told in of_agent.values():
+        going, states, last = set(), [], None
+        # a talk that a log-off ends goes by the state that the agent has by then
+        for _, moment, kind, one in sorted(told, key=lambda each: (each[0], each[3] is not None)):
+            if kind == "begin":
+                going.add(one["call"])
+            elif kind == "end":
+                going.discard(one["call"])
+                is_others = last is not None or states[-2:-1] == ["agentBusy"]
+                if one["group"] and states[-1:] == ["agentWorkingAfterCall"] and not going and not is_others:
+                    last = one
+                elif one["group"]:
+                    yield one["group"], moment, moment - one["begin"][1]
+            else:
+                if last is not None:
+                    yield last["group"], moment, moment - last["begin"][1]
+                states, last = [*states, kind], None
+
+
 def handlings(events, begin, end):
-    """Each call that an agent is done with: (group, when, seconds)."""
+    """Each call that an agent is done with whom the desk gave it: (group, when, seconds)."""
     told = defaultdict(list)
     for agent, kind, moment, until, group, _, is_last in periods(events, begin, end):
         told[agent].append((kind, moment, until, group, is_last))
@@ -154,15 +228,36 @@ def reckoned(events, begin, end, limits, limit, chosen):
                 count(group, moment, late=int(waited > within))
             if stay is not None:
                 count(group, moment, **{f"{how}Stay": 1, **({"withinStay": int(stay <= within)} if how == "answered" else {"lateStay": int(stay > within)})})
-    for group, moment, seconds in handlings(events, begin, end):
-        count(group, moment, handled=1, handling=seconds)
+    for group, moment, seconds in [*handlings(events, begin, end), *done(events, begin)]:
+        if moment < end:
+            count(group, moment, handled=1, handling=seconds)
+    beside = defaultdict(list)
+    for one in talks(events):
+        if begin <= one["begin"][1] < end:
+            beside[one["agent"]].append((one["begin"][1], end if one["end"] is None else min(end, one["end"][1])))
+            agents[one["agent"]]["calls"] += 1
+    for agent, spans in beside.items():
+        agents[agent]["talk"] += covered(spans)
     for agent, kind, moment, until, group, missed, _ in periods(events, begin, end):
         line = agents[agent]
         line["missed"] += missed
         line["calls"] += kind == "agentBusy" and group is not None
         if kind in SPENT:
-            line[SPENT[kind]] += until - moment
-    return {"groups": groups, "quarters": quarters, "agents": agents, "waiting": waiting(events), "last": events[-1]["number"]}
+            # what is talk is nothing else
+            line[SPENT[kind]] += until - moment - covered([(max(first, moment), min(last, until)) for first, last in beside[agent]])
+    for agent, moment in hung_up(events):
+        agents[agent]["missed"] += begin <= moment < end
+    longest, sent = waiting(events)
+    return {"groups": groups, "quarters": quarters, "agents": agents, "waiting": longest, "sent": sent, "last": events[-1]["number"]}
+
+
+def covered(spans):
+    """The seconds in at least one of these spans."""
+    seconds = last = 0
+    for first, until in sorted(spans):
+        seconds += max(0, until - max(first, last))
+        last = max(last, until)
+    return seconds
 
 
 def main():

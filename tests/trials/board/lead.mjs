@@ -5,13 +5,16 @@ import {live} from './page.mjs';
 import {Story} from './story.mjs';
 import {brackets, strange} from './words.mjs';
 
-/** Three groups with an agent each: one is ready, one talks, in the third a call waits. */
+/** Three groups with an agent each: one is rung by a caller whom somebody sent there, one talks, in the third a call waits. */
 export function office(now) {
   const story = new Story(now - 600, [['100', 'Billing'], ['101', 'Orders'], ['102', 'Returns']]);
   story.ask(now - 300, 'arriveCall', {caller: '0401', called: '101'});
   story.ask(now - 290, 'answerCall', {call: 1, device: '201'});
   story.ask(now - 200, 'setAgentState', {agent: '3', requested: 'notReady'});
   story.ask(now - 100, 'arriveCall', {caller: '0402', called: '102'});
+  story.ask(now - 90, 'arriveCall', {caller: '0403', called: '102'});
+  // who isn't of the lead's groups, and doesn't answer
+  story.ask(now - 60, 'deflectCall', {call: 3, device: '102', to: '200'});
   return story.lines;
 }
 
@@ -23,7 +26,7 @@ function hands(browser) {
     await until(async () => (await visible(selector)).length, 5);
     await browser.click(selector);
     await sleep(200);
-    if (chosen) await browser.run('document.querySelector("#act select").value = arguments[0]', chosen);
+    if (chosen !== undefined) await browser.run('document.querySelector("#act select").value = arguments[0]', chosen);
   };
   return {visible, ask, yes: () => browser.run('const button = document.querySelector("#act [value=yes]"); button.click(); button.click();')};
 }
@@ -63,12 +66,13 @@ export async function lead(see, browser, desk, front) {
     return JSON.stringify(found);
   };
   see('a supervisor has no button', await shown('sup') === '{"agents":[],"calls":[],"queues":[]}', await shown('sup'));
-  see('a lead has those of the own groups', await shown('lea') === '{"agents":["2","3"],"calls":["2","1"],"queues":["101","102"]}', await shown('lea'));
+  see('a lead has those of the own groups', await shown('lea') === '{"agents":["2","3"],"calls":["2","3","1"],"queues":["101","102"]}', await shown('lea'));
   const {ask, yes} = hands(browser), agent = async id => (await desk.get(`/agents/${id}`)).state;
   await ask('agents', '#agents-list [data-key="3"] [data-press=state]', 'ready');
   await browser.press('\uE00C');
   await sleep(800);
   see('without a yes nothing is asked for', await agent('3') === 'notReady' && await browser.run('return !document.querySelector("#act").open'));
+  await nobodys(see, browser, desk, {ask, yes});
   await ask('calls', '#calls-table [data-key="2"] [data-press=call]', '101');
   await yes();
   see('a waiting call is moved', await until(async () => (await desk.get('/calls/2')).connections.some(one => one.device === '101'), 5), JSON.stringify(await desk.get('/calls/2')));
@@ -89,6 +93,34 @@ export async function lead(see, browser, desk, front) {
   await browser.run(`import('./act.js').then(({lead}) => { lead.begin({login: 'lea', role: 'lead', groups: ['100']}); lead.send('setGroupPriority', {device: '100', priority: 3}, 'Priority', 'Billing', '3'); })`);
   see('beyond the own groups it is refused', await until(async () => /■ .*may not/.test(await browser.text('#act-told')), 5) && (await desk.get('/snapshot')).groups.find(one => one.device === '100').priority !== 3, await browser.text('#act-told'));
   see('and does nothing', (await desk.get('/events?after=999999999999999')).last === before);
+}
+
+/** A caller who was sent to an agent and isn't answered: on the board with the own group, moved after a question of who isn't ready, and ended. */
+async function nobodys(see, browser, desk, {ask, yes}) {
+  const device = async () => (await desk.get('/calls/3')).connections.map(one => one.device).find(one => one !== '0403');
+  await browser.run('location.hash = "calls"');
+  const row = await until(async () => { const text = await browser.text('#calls-table [data-key="3"]'); return text?.includes('Returns') && text; }, 5);
+  see('its row has the group and whom it rings at', /ringing.*ReturnsAgent 10403/.test(row), row);
+  see('it is counted as ringing', (await browser.text('#tiles')).includes('and 1 ringing'), await browser.text('#tiles'));
+  const alarm = await browser.text('#alarm [data-key="sent.102"] b');
+  see('it is an alarm', alarm === "■ Returns: Agent 1 doesn't answer a caller who was sent there", alarm);
+  await ask('calls', '#calls-table [data-key="3"] [data-press=call]', '202');
+  const [question, choice] = await browser.run('return [document.querySelector("#act p").textContent, document.querySelector("#act select").selectedOptions[0].textContent.replace(/[\\u2068\\u2069]/g, "")]');
+  see('the question says who and where, and the choice what the agent does', question.includes('0403') && question.includes('Agent 1 (200)') && choice.includes('Agent 3 (202): ■ not ready'), `${question} ${choice}`);
+  await browser.click('#act [value=yes]');
+  await sleep(300);
+  const again = await browser.text('#act p');
+  see('who is not ready is asked about again', again.includes('Agent 3 (202): ■ not ready.') && await browser.run('return document.querySelector("#act").open'), again);
+  see('and nothing is done before', await device() === '200', await device());
+  await yes();
+  see('then it rings there', await until(async () => await device() === '202', 5), await device());
+  see('and the alarm is over', await until(async () => await browser.run('return !document.querySelector("#alarm [data-key=\'sent.102\']")'), 5));
+  await ask('calls', '#calls-table [data-key="3"] [data-press=call]', '');
+  await browser.click('#act [value=yes]');
+  await sleep(300);
+  see('a lead ends it', (await browser.text('#act p')).includes('cut off'), await browser.text('#act p'));
+  await yes();
+  see('it is gone', await until(() => desk.get('/calls/3').then(() => false, () => true), 5));
 }
 
 /** A browser's session: a form, a board, an end. */

@@ -63,7 +63,8 @@ async function wrongNumbers(desk, view, {tiles, rows, moment}, {groups, limits})
   const staff = snapshot.agents.filter(agent => agent.state !== 'null' && serves(agent)), ready = staff.filter(agent => agent.state === 'ready' && !stations.get(agent.device).connections.some(one => one.state !== 'fail'));
   const names = new Map(snapshot.groups.map(group => [view === 'wall' ? group.name : `${group.name} (${group.device})`, group.device])), sum = place => report.reduce((all, line) => all + Number(line[place]), 0);
   const longest = group => group in day.waiting ? moment - day.waiting[group] : null, most = of => of.reduce((found, one) => one === null ? found : Math.max(found ?? 0, one), null), tile = name => (tiles.find(one => one[0].startsWith(name)) ?? ['', '', '']).map(plain), all = {...NONE, ...day.groups.all};
-  see('Waiting', tile('Waiting').slice(1), [sum(1), sum(2) ? `and ${sum(2)} ringing` : '']);
+  const sent = group => day.sent[group] ?? 0, ringing = sum(2) + report.reduce((all, [group]) => all + sent(group), 0);
+  see('Waiting', tile('Waiting').slice(1), [sum(1), ringing ? `and ${ringing} ringing` : '']);
   near('Longest wait', seconds(tile('Longest wait')[1]), most(report.map(([group]) => longest(group))));
   see('Agents ready', tile('Agents ready').slice(1), [ready.length, `of ${staff.length} logged on`]);
   see('In time', tile('In time')[1], level(all));
@@ -79,7 +80,7 @@ async function wrongNumbers(desk, view, {tiles, rows, moment}, {groups, limits})
     near(`${row[0]}: longest`, seconds(row[3]), longest(group));
     if (view === 'wall') { see(`${row[0]}: ready, in time`, [row[4], plain(row[6])], [free, level(of)]); continue; }
     const next = (await desk.get(`/queues/${group}`)).ready[0], named = snapshot.agents.find(agent => agent.agent === next)?.name ?? '–';
-    see(`${row[0]}: ringing, ready, next, in time`, [row[4], row[5], row[7], plain(row[11])], [line[2], free, named, level(of)]);
+    see(`${row[0]}: ringing, ready, next, in time`, [row[4], row[5], row[7], plain(row[11])], [Number(line[2]) + sent(group), free, named, level(of)]);
     see(`${row[0]}: in time by stay`, plain(row[12]), percent(of.withinStay ?? 0, (of.answeredStay ?? 0) + (of.lateStay ?? 0)));
     see(`${row[0]}: entered, answered, abandoned, moved`, [13, 14, 15, 17].map(place => plain(row[place])), [of.entered, of.answered, of.abandoned, of.moved]);
     // the desk's own report counts stays in queues
@@ -104,11 +105,13 @@ async function wrongDays(desk, {rows, moment}, groups) {
 const ALONE = {ready: 'ready', busy: 'on a call', workingAfterCall: 'after-call work', notReady: 'not ready'};
 
 /** How the tiles of the agents who are logged on differ from a snapshot: name, state, station, calls and groups; no event tells what is pending. */
-function wrongTiles({agents, calls, groups}, tiles, own) {
+function wrongTiles({agents, calls, groups, stations}, tiles, own) {
   const names = new Map(groups.map(group => [group.device, group.name])), ends = calls.flatMap(call => call.connections.map(one => ({...one, call: call.call})));
   const wanted = agents.filter(agent => agent.state !== 'null' && (!own.length || (agent.groups ?? [agent.group]).some(one => own.includes(one)))).map(({agent, name, state, device, group, groups: several}) => {
     const here = ends.filter(one => one.device === device), given = here.find(one => one.group), free = state === 'ready' && here.some(one => one.state !== 'fail');
-    const words = given ? {alerting: 'ringing', hold: 'call on hold', connected: 'on a call'}[given.state] : free ? 'own call' : ALONE[state];
+    const callers = here.filter(one => !stations.some(station => station.device === calls.find(({call}) => call === one.call).caller)), order = ['connected', 'hold', 'alerting'];
+    const customers = order.flatMap(state => callers.find(one => one.state === state) ?? [])[0], has = given ?? customers;
+    const words = has ? {alerting: 'ringing', hold: 'call on hold', connected: 'on a call'}[has.state] : free ? 'own call' : ALONE[state];
     return [name, words, [`${agent} at ${device}`, ...(several ?? [group]).map(one => names.get(one))].join(', '), here.map(one => `call ${one.call}`).join('')].join(' | ');
   });
   const shown = tiles.map(([name, words, place, calls]) => [name, words.replace(/: .*/, ''), place, calls].join(' | '));

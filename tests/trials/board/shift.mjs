@@ -37,6 +37,12 @@ export class Hands {
     return until(() => this.browser.run('return window.agent?.mine()?.live'), 20);
   }
 
+  /** A question before a call is sent, and its yes. */
+  async allTheSame(why, what) {
+    await this.sees(`it is asked: ${why}`, '#notices', `${why}${what} all the sameNo`, 5);
+    await this.click('#notices [data-key=ask] button');
+  }
+
   /** Two clicks that follow one another by less are one to the page. */
   async click(selector, words) {
     await sleep(450);
@@ -72,13 +78,17 @@ export async function shift(hands, folder) {
   await hands.click(button('holdCall'), '✓ Hold: 0301234567');
   await hands.click(button('retrieveCall'), '✓ Retrieve: 0301234567');
   await browser.run('document.querySelector("#calls input").value = "120"');
-  await hands.click(button('singleStepTransfer'), '✓ Transfer: 0301234567, to Orders (120)');
+  await hands.click(button('singleStepTransfer'));
+  await hands.allTheSame('Nobody is logged on for Orders (120).', 'Transfer');
+  see('it is said: Transfer', Boolean(await hands.said('✓ Transfer: 0301234567, to Orders (120)')), await hands.text('#told'));
   await hands.sees('after-call work ends by itself, and when', '#pending', /^ready in 0:(2\d|30) · at 207$/);
   await hands.click(requested('ready'), '✓ Ready');
   const second = await hands.call();
   await until(() => browser.find(button('deflectCall')), 10);
   await browser.run('document.querySelector("#calls input").value = "orders"');
-  await hands.click(button('deflectCall'), '✓ Pass on: 0301234567, to Orders (120)');
+  await hands.click(button('deflectCall'));
+  await hands.allTheSame('Nobody is logged on for Orders (120).', 'Pass on');
+  see('it is said: Pass on', Boolean(await hands.said('✓ Pass on: 0301234567, to Orders (120)')), await hands.text('#told'));
   const own = await hands.call(STATION), third = await ending(hands, own);
   await hands.click(button('answerCall'), '✓ Answer: 0301234567');
   see('one that was answered is hung up', String(await ends(third, browser, 'connected')) === 'Hang up', String(await ends(third, browser, 'connected')));
@@ -87,15 +97,18 @@ export async function shift(hands, folder) {
   await hands.click(button('clearConnection'), '✓ Hang up: 0301234567');
   see('the agent is logged off behind it', Boolean(await until(() => browser.run('return !document.querySelector("#log-on").hidden'), 10)));
   const mine = await hands.events(), wanted = ['agentLoggedOn', 'agentReady', `delivered ${first}`, `established ${first}`, 'agentBusy', `held ${first}`, `retrieved ${first}`, `transferred ${first}`, 'agentWorkingAfterCall', 'agentReady',
-    `delivered ${second}`, `diverted ${second}`, `delivered ${own}`, `connectionCleared ${own}`, `delivered ${third}`, `diverted ${third}`, 'agentNotReady', 'agentReady', `delivered ${third}`, `established ${third}`, 'agentBusy', `connectionCleared ${third}`, 'agentLoggedOff'];
+    `delivered ${second}`, `diverted ${second}`, `delivered ${own}`, `diverted ${own}`, `delivered ${third}`, `diverted ${third}`, 'agentNotReady', 'agentReady', `delivered ${third}`, `established ${third}`, 'agentBusy', `connectionCleared ${third}`, 'agentLoggedOff'];
   see('the events are what the buttons said', String(mine) === String(wanted), `${mine}`);
 }
 
-/** What ends a call that rings: one of the own, and one of a group, which waits in its queue then. */
+/** What ends a call that rings: nothing ends one of a caller from outside but the caller; one of a group waits in its queue then. */
 async function ending(hands, own) {
   const {see, browser} = hands;
-  see('a call of the own is hung up', String(await ends(own, browser)) === 'Hang up', String(await ends(own, browser)));
-  await hands.click(button('clearConnection'), '✓ Hang up: 0301234567');
+  see('a caller from outside is not hung up', String(await ends(own, browser)) === '', String(await ends(own, browser)));
+  await browser.run('document.querySelector("#calls input").value = "orders"');
+  await hands.click(button('deflectCall'));
+  await hands.allTheSame('Nobody is logged on for Orders (120).', 'Pass on');
+  await hands.said('✓ Pass on: 0301234567');
   const third = await hands.call();
   see('a call of a group is rejected', String(await ends(third, browser)) === 'Not now F8', String(await ends(third, browser)));
   await hands.click(button('rejectCall'), '✓ Not now: 0301234567');

@@ -58,14 +58,15 @@ class Days(Trial):
         agents, calls = (rows([sys.executable, "-B", *by_file, *more]) for more in (["--agents"], []))
         callers = {int(call["number"]): call["caller"] for call in calls}
         begins = int(datetime.datetime.combine(DAY, datetime.time()).timestamp())
-        answered, last, at, talks = Counter(), {}, {}, {}
-        for report in rows([self.program, "export", "--file", file]):
+        answered, last, at, talks, reports = Counter(), {}, {}, {}, rows([self.program, "export", "--file", file])
+        made = {report["call"] for report in reports if report["event"] == "serviceInitiated"}
+        for report in reports:
             kind, device, now = report["event"], report["device"], int(report["moment"])
             if kind == "agentLoggedOn":
                 at[device] = report["agent"]
             elif kind == "established":
                 talks[report["call"], device] = now
-                answered[at.get(device)] += bool(report["group"]) and now >= begins
+                answered[at.get(device)] += (report["group"] != "" or report["call"] not in made) and now >= begins
             elif kind in ("diverted", "transferred", "connectionCleared") and (report["call"], device) in talks:
                 since = talks.pop((report["call"], device))
                 if now >= begins and device in at:
@@ -76,7 +77,7 @@ class Days(Trial):
         for line in agents:
             if line["day"] == str(DAY):
                 agent = line["agent"]
-                counts = answered[agent], int(line["talking"]), int(line["rings_not_answered"]) + int(line["rings_refused"])
+                counts = answered[agent], int(line["talking"]), sum(int(line[name]) for name in ("rings_not_answered", "rings_refused", "rings_hung_up"))
                 if any(counts) or agent in last:
                     wanted[agent] = counts, list(last.get(agent, ()))
         return wanted
@@ -86,7 +87,8 @@ def told(follower, moment):
     """Calls, seconds of talk with the running one's, and missed offers of each agent of whom there is something."""
     found = {}
     for agent in follower.state.agents.values():
-        day, running = follower.days.text(agent.id), moment - max(agent.since, follower.days.begins) if agent.state == "busy" else 0
+        day = follower.days.text(agent.id)
+        running = moment - max(day["talks"], follower.days.begins) if "talks" in day else 0
         counts = day["answered"], day["talking"] + running, day["missed"]
         if any(counts) or day["calls"]:
             found[agent.id] = counts

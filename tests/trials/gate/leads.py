@@ -63,10 +63,13 @@ class Leads(Place):
             self.refused(f"call {odd!r}", "deflectCall", call=odd, device="110", to="100")
         self.refused("to clear one that waits", "clearConnection", call=own, device="110")
         self.refused("to clear the caller of one that waits", "clearConnection", call=own, device="0301234567")
-        for station in ("201", "202"):  # calls that ring by a lead's request are no longer of a group
+        for station in ("201", "202"):  # calls that ring by a lead's request are still of the group that they came from
             call = next(one["call"] for one in self.calls() if any(side["device"] == station for side in one["connections"]))
-            self.refused("to clear one that isn't distributed", "clearConnection", call=call, device=station)
-            self.service("try", "clearConnection", call=call, device=station)
+            self.refused("to send one on to another group that isn't distributed", "deflectCall", call=call, device=station, to="120")
+            self.allowed("to clear one that isn't distributed", "clearConnection", call=call, device=station)
+        private = self.service("try", "arriveCall", caller="0309", called="201")["call"]
+        self.refused("to clear one that no group had", "clearConnection", call=private, device="201")
+        self.service("try", "clearConnection", call=private, device="201")
         for call in (own, other):
             self.service("try", "clearConnection", call=call, device="0301234567")
 

@@ -101,17 +101,20 @@ class Streamed(Trial):
 
     def compare_state(self, when, desk, tables, events, named):
         """Groups, agents and calls as the desk's reads have them; since when callers wait by the events; names where they can't have changed since."""
-        longest = figures.waiting(events)
+        longest, sent = figures.waiting(events)
+        groups = {event["call"]: event["device"] for event in events if event["event"] == "queued"}
         snapshot = json.loads(desk.told("/snapshot")[1])
         sides = [(call["call"], side) for call in snapshot["calls"] for side in call["connections"]]
-        doings = {agent["agent"]: doing_of(agent, [side for _, side in sides if side["device"] == agent.get("device")]) for agent in snapshot["agents"]}
+        stations = {station["device"] for station in snapshot["stations"]}
+        callers = {call["call"]: groups.get(call["call"]) for call in snapshot["calls"] if call["caller"] not in stations}
+        doings = {agent["agent"]: doing_of(agent, [(call, side) for call, side in sides if side["device"] == agent.get("device")], callers) for agent in snapshot["agents"]}
         for group in snapshot["groups"]:
             number, line = group["device"], tables["groups"][group["device"]]
             queue = json.loads(desk.told(f"/queues/{number}")[1])
             counts = Counter(doings[agent["agent"]][0] for agent in snapshot["agents"] if number in groups_of(agent))
             ringing = {call for call, side in sides if side["state"] == "alerting" and side.get("group") == number}
             self.expect(f"{when}, group {number}", (line.get("waiting", 0), line.get("queued"), line.get("next"), line.get("ringing", 0), line.get("counts", {})),
-                        (len(queue["calls"]), longest.get(number), next(iter(queue["ready"]), None), len(ringing), counts))
+                        (len(queue["calls"]), longest.get(number), next(iter(queue["ready"]), None), len(ringing) + sent.get(number, 0), counts))
         for agent in snapshot["agents"]:
             line, calls = tables["agents"][agent["agent"]], sorted(call for call, side in sides if side["device"] == agent.get("device"))
             self.expect(f"{when}, agent {agent['agent']}", (line["doing"], line.get("group"), line.get("station"), line.get("groups", []), line.get("calls", [])),
@@ -230,12 +233,14 @@ def groups_of(agent):
     return agent.get("groups") or ([agent["group"]] if "group" in agent else [])
 
 
-def doing_of(agent, here):
-    """What an agent does, and for which group, by the agent's state and the connections at the station."""
-    given = next((side for side in here if side.get("group")), None)
+def doing_of(agent, here, callers):
+    """What an agent does, and for which group, by the agent's state and the connections at the station; `callers` are the calls from outside, with the groups that they entered last."""
+    given = [(side["state"], side["group"]) for _, side in here if side.get("group")]
+    given += [(state, callers[call]) for state in ("connected", "hold", "alerting") for call, side in here if call in callers and side["state"] == state]
     if given:
-        return {"alerting": "ringing", "hold": "hold"}.get(given["state"], "busy"), given["group"]
-    return "own" if agent["state"] == "ready" and any(side["state"] != "fail" for side in here) else agent["state"], None
+        state, group = given[0]
+        return {"alerting": "ringing", "hold": "hold"}.get(state, "busy"), group
+    return "own" if agent["state"] == "ready" and any(side["state"] != "fail" for _, side in here) else agent["state"], None
 
 
 def walked(events, groups, begin):

@@ -78,6 +78,8 @@ class Reckoning:
         self.switch = self.desk.switch = Watched(self)
         self.calls, self.legs, self.open, self.places, self.wraps = {}, defaultdict(list), defaultdict(dict), defaultdict(set), {}
         self.handles = {}
+        # calls from outside that an agent answered without an offer and still has: since when, and for which group
+        self.talks = defaultdict(dict)
         self.days = defaultdict(lambda: {**dict.fromkeys(COUNTS, 0), "first": None, "last": None, "groups": set()})
         self.quarters, self.waiting, self.limits = defaultdict(Counter), Counter(), limits or {}
         self.waits = defaultdict(lambda: {"group": None, "since": None, "until": None})
@@ -112,6 +114,7 @@ class Reckoning:
             self.change_calls(request, calls, legs)
             self.change_waits(request, calls)
             self.change_agents(request, calls, agents)
+            self.change_talks()
             self.pass_quarters(begin, waiting)
             self.change_quarters(figures, queued)
         return answer
@@ -175,7 +178,9 @@ class Reckoning:
                 for column, does in (("waited", state == "queued"), ("rang", state == "alerting"), ("talked", states == ["connected"] * 2), ("held", state == "hold")):
                     leg[column] += seconds * does
         cuts = [begin, *self.changes[bisect.bisect_right(self.changes, begin):bisect.bisect_left(self.changes, self.switch.moment)], self.switch.moment]
-        for agent, (state, _, groups) in agents.items():
+        for agent, (state, station, groups) in agents.items():
+            talks = any(device == station and place is None and it in ("connected", "hold") and number in self.talks[agent]
+                        for number, ends in calls.items() for device, (it, _, place) in ends.items())
             if state == "workingAfterCall" and self.wraps[agent] is not None:
                 self.calls[self.wraps[agent]["call"]]["wrapped_up"] += seconds
                 self.wraps[agent]["leg"]["wrapped_up"] += seconds
@@ -183,7 +188,7 @@ class Reckoning:
                 if state != "null" and other > one:
                     day = self.is_on(one, agent, groups, other)
                     day["logged_on"] += other - one
-                    day[COLUMNS[state]] += other - one
+                    day["talking" if talks else COLUMNS[state]] += other - one
 
     def is_on(self, begin, agent, groups, end):
         """The agent is logged on in these groups from begin to end, on one day."""
@@ -211,7 +216,7 @@ class Reckoning:
         for number in calls.keys() - self.switch.calls.keys():
             row, ends, device = self.calls[number], calls[number], request["device"]
             row["ended"], row["ended_at"] = self.ending(ends, row["caller"], device), when(self.switch.moment)
-            if ends[device][0] == "alerting" and ends[device][2] is not None:
+            if device in self.stations and ends[device][0] == "alerting" and (ends[device][2] is not None or row["caller"] not in self.switch.stations):
                 self.days[self.date(self.switch.moment), self.stations[device]]["rings_hung_up"] += 1
 
     def change_answered(self, row, device, leg, is_offer):
@@ -220,8 +225,11 @@ class Reckoning:
         row["station"].append(device)
         row["answered_at"] = row["answered_at"] or when(self.switch.moment)
         leg["answered_at"], leg["agent"] = self.switch.moment, agent or "-"
+        is_callers = is_offer or row["caller"] not in self.switch.stations
         if agent:
-            self.days[self.date(self.switch.moment), agent]["calls" if is_offer else "own_calls"] += 1
+            self.days[self.date(self.switch.moment), agent]["calls" if is_callers else "own_calls"] += 1
+        if agent and is_callers and not is_offer:
+            self.talks[agent][row["number"]] = self.switch.moment, self.waits[row["number"]]["group"]
 
     def change_agents(self, request, calls, agents):
         for agent, record in self.switch.agents.items():
@@ -247,6 +255,22 @@ class Reckoning:
         elif agent in self.handles and (state, record.state) != ("busy", "workingAfterCall"):
             begun, group = self.handles.pop(agent)
             self.quarters[self.switch.moment // STEP, group].update({"handled": 1, "handling": self.switch.moment - begun})
+
+    def change_talks(self):
+        """After-call work in which the agent is at the end of such a talk belongs to it, where it isn't another call's and no other talk goes on."""
+        for agent, talks in self.talks.items():
+            record = self.switch.agents[agent]
+            for number in [one for one in talks if not self.is_there(one, record.station)]:
+                begun, group = talks.pop(number)
+                if group and record.state == "workingAfterCall" and agent not in self.handles and not talks:
+                    self.handles[agent] = begun, group
+                elif group:
+                    self.quarters[self.switch.moment // STEP, group].update({"handled": 1, "handling": self.switch.moment - begun})
+
+    def is_there(self, number, station):
+        """Whether somebody at the station has the call without an offer: one that was sent on may be offered there at once."""
+        here = self.switch.calls[number].connections.get(station) if number in self.switch.calls else None
+        return here is not None and here.place is None
 
     # who waits, from the first entrance on
 

@@ -72,6 +72,57 @@ class LinesTest(unittest.TestCase):
         state.apply({"number": 11, "moment": 60, "event": "diverted", "call": 3, "device": "100", "to": "200", "group": "100", "cause": "distributed"})
         self.assertEqual(told(lines.call_line(state, state.calls[3])), {"begun": 22, "caller": "0303"})
 
+    def sent(self, *events):
+        """The state after call 3, which waits in 100 since 23, was sent to agent 9 at 202 in 60."""
+        state = desk_state()
+        for kind, members in (("diverted", {"device": "100", "to": "202", "group": "100", "cause": "deflected"}), ("delivered", {"device": "202", "cause": "deflected"}), *events):
+            state.apply({"number": state.last + 1, "moment": 60, "event": kind, "call": 3, **members})
+        return state
+
+    def test_a_caller_who_was_sent_to_an_agent(self):
+        """It rings for the group that the caller came from, and its wait goes on until somebody answers."""
+        state = self.sent()
+        self.assertEqual(told(lines.call_line(state, state.calls[3])), {"at": "202", "begun": 22, "caller": "0303", "direct": True, "group": "100", "queued": 23, "since": 60, "state": "alerting"})
+        group = told(lines.group_line(state, state.groups["100"]))
+        self.assertEqual((group.get("waiting", 0), group["ringing"], group["queued"]), (0, 2, 21))
+        state.groups["100"].ringing.discard(state.calls[1])
+        self.assertEqual(told(lines.group_line(state, state.groups["100"]))["queued"], 23)
+        self.assertEqual(state.doing(state.agents["9"]), ("ringing", 60, "100"))
+        for kind, does in (("established", "busy"), ("held", "hold"), ("retrieved", "busy")):
+            state.apply({"number": state.last + 1, "moment": 70, "event": kind, "call": 3, "device": "202"})
+            self.assertEqual(state.doing(state.agents["9"]), (does, 70, "100"))
+            self.assertNotIn("ringing", told(lines.group_line(state, state.groups["100"])))
+        self.assertEqual(told(lines.call_line(state, state.calls[3])), {"at": "202", "begun": 22, "caller": "0303", "direct": True, "group": "100", "since": 70, "state": "connected"})
+        state.apply({"number": state.last + 1, "moment": 80, "event": "transferred", "call": 3, "device": "202", "to": "203"})
+        state.apply({"number": state.last + 1, "moment": 80, "event": "delivered", "call": 3, "device": "203", "cause": "transferred"})
+        self.assertEqual(told(lines.call_line(state, state.calls[3]))["queued"], 80)
+
+    def test_one_who_was_sent_where_nobody_is(self):
+        """An announcement has the caller's group, and the caller doesn't wait there."""
+        state = desk_state()
+        for kind, members in (("diverted", {"device": "100", "to": "210", "group": "100", "cause": "deflected"}), ("delivered", {"device": "210", "cause": "deflected"})):
+            state.apply({"number": state.last + 1, "moment": 60, "event": kind, "call": 3, **members})
+        self.assertEqual((told(lines.call_line(state, state.calls[3]))["group"], told(lines.group_line(state, state.groups["100"]))["ringing"]), ("100", 1))
+
+    def test_a_call_between_colleagues(self):
+        """It is no group's, wherever it is sent."""
+        state = desk_state()
+        self.assertEqual((state.calls[2].connections["210"].sent, state.doing(state.agents["8"]).doing), (None, "own"))
+
+    def test_to_whom_a_call_goes_back(self):
+        """To the group that it was moved from; to the colleague who passed it on, unless that one has a call or a break, then to the caller's last group; no offer and no talk goes back."""
+        state = self.sent()
+        self.assertEqual((state.back(state.calls[3], "202"), state.back(state.calls[1], "200"), state.back(state.calls[2], "210")), ("100", None, None))
+        answered = ("established", {"device": "202"}), ("transferred", {"device": "202", "to": "203"}), ("delivered", {"device": "203", "cause": "transferred"})
+        state = self.sent(*answered[:1])
+        self.assertIsNone(state.back(state.calls[3], "202"))
+        state = self.sent(*answered)
+        self.assertEqual(state.back(state.calls[3], "203"), "202")
+        state.agents["9"].state = "notReady"
+        self.assertEqual(state.back(state.calls[3], "203"), "100")
+        state = self.sent(*answered, ("delivered", {"device": "202", "call": 9, "cause": "newCall"}))
+        self.assertEqual(state.back(state.calls[3], "203"), "100")
+
     def test_who_is_next(self):
         """Of two who leave one call the lesser number; of others who was ready first."""
         state = desk_state()

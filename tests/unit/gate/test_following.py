@@ -52,6 +52,13 @@ class FollowTest(unittest.TestCase):
         self.assertEqual([group["device"] for group in texts.agent_text(state, "9", frozenset({"120", "100", "7"}))["groups"]], ["100", "120"])
         self.assertEqual(texts.agent_text(state, "77", frozenset()), {"agent": {"agent": "77"}, "calls": [], "groups": []})
 
+    def test_a_place_for_a_call(self):
+        """Who is there as somebody is about to send a caller."""
+        state = desk_state()
+        self.assertEqual([texts.place_text(state, device) for device in ("110", "202", "201", "203", "999")],
+                         [{"device": "110", "loggedOn": 1, "ready": 0}, {"device": "202", "agent": "8", "doing": "ringing"}, {"device": "201", "agent": "7", "doing": "busy"}, {"device": "203"},
+                          {"device": "999"}])
+
     def test_whom_a_report_touches(self):
         state = desk_state()
         self.assertEqual(self.changes(state, event="queued", call=5, device="110", cause="newCall"), (set(), {"110"}, False))

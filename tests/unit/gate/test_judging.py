@@ -143,10 +143,12 @@ class KeyTest(GateTest):
 
 
 class LeadTest(unittest.TestCase):
-    def may(self, service, **members):
+    def may(self, service, *events, **members):
         body = json.dumps({"requester": "lea-1", "invoke": 1, "service": service, **members}).encode()
-        lead = Role("lead", groups=frozenset({"100", "110"}))
-        allowed = may(lead, "lea", {"lea"}, body, Seen(state=desk_state()))
+        lead, state = Role("lead", groups=frozenset({"100", "110"})), desk_state()
+        for kind, told in events:
+            state.apply({"number": state.last + 1, "moment": 60, "event": kind, **told})
+        allowed = may(lead, "lea", {"lea"}, body, Seen(state=state))
         self.assertFalse(may(lead, "lea", {"lea"}, body))  # without a look at the desk
         self.assertLessEqual(allowed, looks_at(lead, "lea", {"lea"}, body) is Look.STATE)
         return allowed
@@ -155,6 +157,19 @@ class LeadTest(unittest.TestCase):
         for service, members in (("setAgentState", {"agent": "7", "requested": "ready"}), ("setAgentState", {"agent": "8", "requested": "loggedOff"}), ("clearConnection", {"call": 1, "device": "201"}),
                                  ("deflectCall", {"call": 3, "device": "100", "to": "110"}), ("deflectCall", {"call": 3, "device": "100", "to": "202"}), ("setGroupPriority", {"device": "110", "priority": 9})):
             self.assertTrue(self.may(service, **members), (service, members))
+
+    def test_a_caller_who_was_sent_to_an_agent(self):
+        """Whose last group is the lead's, ringing or talking; of another group's, or of a colleague's call, nobody's lead is asked."""
+        for call, group, allowed in ((3, "100", True), (4, "120", False)):
+            sent = [("diverted", {"call": call, "device": group, "to": "203", "group": group, "cause": "deflected"}), ("delivered", {"call": call, "device": "203", "cause": "deflected"})]
+            talks = [*sent, ("agentLoggedOn", {"agent": "9", "device": "203", "group": "120"}), ("established", {"call": call, "device": "203"})]
+            for events in (sent, talks):
+                self.assertIs(self.may("clearConnection", *events, call=call, device="203"), allowed)
+            self.assertIs(self.may("deflectCall", *sent, call=call, device="203", to="110"), allowed)
+            self.assertFalse(self.may("deflectCall", *talks, call=call, device="203", to="110"))
+            self.assertFalse(self.may("deflectCall", *sent, call=call, device="203", to="120"))
+        own = ("serviceInitiated", {"call": 9, "device": "202"}), ("originated", {"call": 9, "device": "202", "to": "203"}), ("delivered", {"call": 9, "device": "203", "cause": "newCall"})
+        self.assertFalse(self.may("clearConnection", *own, call=9, device="203"))
 
     def test_what_a_lead_may_not(self):
         for service, members in (("setAgentState", {"agent": "9", "requested": "ready"}), ("setAgentState", {"agent": "7", "requested": "workingAfterCall"}), ("setAgentState", {"agent": ["7"], "requested": "ready"}),

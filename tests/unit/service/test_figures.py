@@ -119,6 +119,58 @@ class OfOneEvent(unittest.TestCase):
         self.assertEqual((quarter.entered, len(quarter.answers), list(quarter.losses), quarter.handled), (0, 0, [60], 0))
         self.assertEqual((figures.agents["7"].calls, figures.agents["7"].does, figures.agents["7"].since), (0, "ready", 110))
 
+    def talks(self, *events, begin=0):
+        """The figures of agent 8 at 202, who is ready from 90 on; caller 5 enters 100 at 100, and somebody sends the caller there at 150."""
+        figures = Figures(begin)
+        for event in (Event(80, "agentLoggedOn", "202", agent="8", group="110"), Event(90, "agentReady", "202", agent="8"), Event(100, "queued", "100", 5, cause="newCall"),
+                      Event(150, "diverted", "100", 5, group="100", to="202", cause="deflected"), Event(150, "delivered", "202", 5, cause="deflected"), *events):
+            figures.take(event)
+        agent = figures.agents["8"]
+        handled = [(group, one.handled, one.handling) for group, quarters in figures.groups.items() for one in quarters.values() if one.handled]
+        return (agent.calls, agent.missed, agent.spent, agent.does, agent.since), handled
+
+    answered, cleared = Event(160, "established", "202", 5), (Event(760, "connectionCleared", "0304", 5), Event(760, "connectionCleared", "202", 5), Event(760, "callCleared", None, 5))
+
+    def test_a_talk_with_a_caller_who_was_sent(self):
+        """600 s of talk are no 600 s of ready: ready until 160, and again from 760 on."""
+        self.assertEqual(self.talks(self.answered), ((1, 0, {"notReady": 10, "ready": 70}, "talk", 160), []))
+        self.assertEqual(self.talks(self.answered, *self.cleared), ((1, 0, {"notReady": 10, "ready": 70, "talk": 600}, "ready", 760), [("100", 1, 600)]))
+        held = Event(300, "held", "202", 5), Event(400, "retrieved", "202", 5), Event(460, "transferred", "202", 5, to="203")
+        self.assertEqual(self.talks(self.answered, *held), ((1, 0, {"notReady": 10, "ready": 70, "talk": 300}, "ready", 460), [("100", 1, 300)]))
+
+    def test_the_state_of_who_talks(self):
+        """What the agent is beside a talk counts once it is over; after-call work in which the agent is then belongs to it; a log-off ends it."""
+        works = Event(700, "agentWorkingAfterCall", "202", agent="8"), *self.cleared, Event(800, "agentReady", "202", agent="8")
+        self.assertEqual(self.talks(self.answered, *works), ((1, 0, {"notReady": 10, "ready": 70, "talk": 600, "afterCall": 40}, "ready", 800), [("100", 1, 640)]))
+        leaves = Event(260, "agentLoggedOff", "202", agent="8"), *self.cleared
+        self.assertEqual(self.talks(self.answered, *leaves), ((1, 0, {"notReady": 10, "ready": 70, "talk": 100}, "", 260), [("100", 1, 100)]))
+
+    def test_two_talks_at_once(self):
+        """One that is held beside another one makes no second of talk count twice."""
+        other = Event(200, "held", "202", 5), Event(210, "delivered", "202", 6, cause="newCall"), Event(220, "established", "202", 6), Event(250, "connectionCleared", "0306", 6)
+        end = Event(250, "connectionCleared", "202", 6), Event(250, "callCleared", None, 6)
+        self.assertEqual(self.talks(self.answered, *other, *end, *self.cleared), ((2, 0, {"notReady": 10, "ready": 70, "talk": 600}, "ready", 760), [("100", 1, 600)]))
+
+    def test_a_ring_that_is_hung_up(self):
+        """By the agent it is missed, by the caller it isn't; in both cases the caller is lost."""
+        for first, missed in (("202", 1), ("0304", 0)):
+            ends = [Event(170, "connectionCleared", device, 5) for device in sorted({"202", "0304"}, key=lambda device: device != first)]
+            found, _ = self.talks(*ends, Event(170, "callCleared", None, 5))
+            self.assertEqual(found[:2], (0, missed))
+        # it rang before the day began
+        found, _ = self.talks(Event(170, "connectionCleared", "202", 5), begin=160)
+        self.assertEqual(found[:2], (0, 1))
+
+    def test_a_talk_with_a_colleague(self):
+        """It is a call of the agents' own: the desk's state counts."""
+        events = (Event(80, "agentLoggedOn", "202", agent="8"), Event(90, "agentReady", "202", agent="8"), Event(95, "serviceInitiated", "201", 5), Event(100, "delivered", "202", 5, cause="newCall"),
+                  Event(110, "established", "202", 5), Event(150, "connectionCleared", "201", 5), Event(150, "connectionCleared", "202", 5), Event(150, "callCleared", None, 5),
+                  Event(200, "agentNotReady", "202", agent="8"))
+        figures = Figures()
+        for event in events:
+            figures.take(event)
+        self.assertEqual((figures.agents["8"].calls, figures.agents["8"].spent), (0, {"notReady": 10, "ready": 110}))
+
     def test_the_service_level(self):
         """The first as the page's Math.round has it, of the same number."""
         for within, later, late, level in ((57, 93, 50, 28), (2, 1, 0, 67), (0, 0, 4, 0), (0, 0, 0, None)):
