@@ -28,6 +28,8 @@ export class Day {
   /** @type {Map<string, any>} */ agents = new Map();
   // how many waited at once in all chosen groups
   /** @type {Map<number, number[]>} */ peaks = new Map();
+  // of each group the last half hour
+  /** @type {Map<string, HalfHour>} */ recent = new Map();
   // other days, by their begin
   /** @type {Map<number, Day>} */ past = new Map();
 
@@ -44,9 +46,10 @@ export class Day {
   }
 
   /** @param {Told} told @param {boolean} isWhole */
-  take({sums = {}, quarters = {}, peaks = {}, spent = {}, past = {}, day = {}}, isWhole) {
-    if (isWhole) for (const table of [this.groups, this.agents, this.peaks, this.past]) table.clear();
+  take({sums = {}, quarters = {}, peaks = {}, spent = {}, past = {}, recent = {}, day = {}}, isWhole) {
+    if (isWhole) for (const table of [this.groups, this.agents, this.peaks, this.past, this.recent]) table.clear();
     Object.assign(this, day);
+    for (const [group, [answered, abandoned, within, late, levelSince, lostSince]] of Object.entries(recent)) this.recent.set(group, {...noSums(), answered, abandoned, within, late, levelSince, lostSince});
     for (const [group, line] of Object.entries(sums)) Object.assign(this.line(group), {sum: sumsOf(line), balance: line[FIGURES.length]});
     for (const [key, line] of Object.entries(quarters)) {
       const [group, number] = key.split(' '), [top, end] = line.slice(FIGURES.length);

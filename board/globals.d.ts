@@ -23,6 +23,7 @@ declare global {
   type Doing = types.Doing;
   type Drawn = types.Drawn;
   type Group = types.Group;
+  type HalfHour = types.HalfHour;
   type GroupLine = types.GroupLine;
   type Limits = types.Limits;
   type Looked = types.Looked;

@@ -1,7 +1,7 @@
 // What a view shows of the chosen groups, agents and calls, by the settings and the time.
 import {order} from './desk.js';
 import {abandonment, level, levelByStay, occupancy} from './figures.js';
-import {chosenOf, limitsOf, settings} from './settings.js';
+import {areSome, chosenOf, limitsOf, settings} from './settings.js';
 
 // so many percent below its goal a service level is bad
 const FAR = 15, STATES = ['queued', 'alerting', 'hold', 'fail', 'connected', 'initiated', 'none'];
@@ -35,7 +35,7 @@ export function groupLines({state, day, now}) {
 /** @param {Looked} looked */
 export function chosenAgents({state, day}) {
   const chosen = chosenOf();
-  return [...state.agents.values()].filter(agent => !settings.groups || day.groupsOf(agent).some(group => chosen(group)));
+  return [...state.agents.values()].filter(agent => !areSome() || day.groupsOf(agent).some(group => chosen(group)));
 }
 
 // An agent of several groups counts once.
@@ -55,7 +55,7 @@ export function totals(looked, lines) {
 /** @param {Looked} looked */
 export function callLines({state}) {
   const chosen = chosenOf(), rank = (/** @type {Call} */ call) => STATES.indexOf(call.state);
-  return [...state.calls.values()].filter(({group}) => !settings.groups || chosen(group ?? '')).sort((one, other) => rank(one) - rank(other) || one.since - other.since || one.number - other.number);
+  return [...state.calls.values()].filter(({group}) => !areSome() || chosen(group ?? '')).sort((one, other) => rank(one) - rank(other) || one.since - other.since || one.number - other.number);
 }
 
 // The line whose number is looked for, or else all that have it in their texts.

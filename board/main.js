@@ -1,5 +1,6 @@
 // The board: a desk, its day, and the view that is looked at.
 import {lead} from './act.js';
+import {drawChoice} from './choice.js';
 import {save} from './csv.js';
 import {State} from './desk.js';
 import {byId, drawStatus, make, put, set, withNumber} from './draw.js';
@@ -7,7 +8,7 @@ import {Day} from './figures.js';
 import {listen} from './hear.js';
 import {callLines, groupLines, totals} from './lines.js';
 import {logIn, logOut, openSession} from './session.js';
-import {chosenOf, dayBegin, FIELDS, FILTERS, limitsSaid, searchOf, settings, settingsOf, valueOf} from './settings.js';
+import {chosenOf, dayBegin, FIELDS, FILTERS, limitsSaid, searchOf, settings, settingsOf, usualGroups, valueOf} from './settings.js';
 import {soundWhere} from './sound.js';
 import {fault, office, refusal, translate, word} from './words.js';
 import * as agents from './views/agents.js';
@@ -108,6 +109,7 @@ function draw(anew = false) {
   if (choice.value !== settings.group) choice.value = settings.group;
   if (course.kind === 'live') unseen = alarms.draw(drawn, serverClock(), view === 'wall');
   drawTotals(drawn);
+  drawChoice(state);
   VIEWS[view].draw(drawn, anew);
   if (counted && dayBegin(now()) !== counting.begin && course.kind === 'live') count();   // another day has begun
 }
@@ -192,7 +194,7 @@ document.addEventListener('click', ({target}) => {
 });
 
 translate();
-put('fields', ...FIELDS.map(setting => labelled(setting)), make('p', make('output', {id: 'set-told'})), make('p', word('set.about')));
+put('fields', ...FIELDS.map(setting => labelled(setting)), make('fieldset', {id: 'own-groups'}), make('p', make('output', {id: 'set-told'})), make('p', word('set.about')));
 set('fields', {onchange: change, onsubmit: event => event.preventDefault()});
 put('filters', ...FILTERS.map(([views, ...setting]) => labelled(setting, {'data-for': views, oninput: () => filter({[setting[0]]: field(setting[0]).value})})),
   make('label', {'data-for': 'events'}, make('input', {type: 'checkbox', id: 'events-hold'}), make('span', word('filter.hold'))),
@@ -208,6 +210,10 @@ useSettings();
 show();
 openSession(logOut).then(who => {
   lead.begin(who);
+  if (usualGroups([...lead.groups].join(','))) {
+    useSettings();
+    count();
+  }
   set(document.body, {'data-lead': lead.groups.size > 0});
   redraw();
 });

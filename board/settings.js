@@ -13,14 +13,14 @@ export const USUAL = {
 
 // the form: each setting, its kind, or '' and the other choices
 export const FIELDS = [
-  ['title'], ['groups'], ['limit', 'number'], ['goal', 'number'], ['level', '', 'answered'], ['lost', 'number'], ['long', 'number'], ['bad', 'number'], ['notReady', 'number'], ['since', 'time'], ['lang', '', 'en', 'de'], ['theme', '', 'dark', 'light'], ['tone', 'checkbox'], ['notify', 'checkbox'],
+  ['title'], ['groups', 'hidden'], ['limit', 'number'], ['goal', 'number'], ['level', '', 'answered'], ['lost', 'number'], ['long', 'number'], ['bad', 'number'], ['notReady', 'number'], ['since', 'time'], ['lang', '', 'en', 'de'], ['theme', '', 'dark', 'light'], ['tone', 'checkbox'], ['notify', 'checkbox'],
 ];
 // the filters, by the views that have them
 export const FILTERS = [['agents calls day events', 'group', ''], ['agents calls', 'find', 'search'], ['agents', 'sort', '', 'name', 'state', 'time'], ['day', 'beside', '', '1', '7']];
 
 const OF_GROUP = /^(limit|goal|lost|long|bad)\.\d{1,15}$/, HOUR = 3600;
 /** @type {Record<string, RegExp>} */
-const FORMS = {since: /^([01]?\d|2[0-3]):[0-5]\d$|^0$|^\d{10}$/, theme: /^(dark|light)?$/, groups: /^(\d{1,15}(,\d{1,15})*)?$/, level: /^(answered)?$/, tone: /^1?$/, notify: /^1?$/, group: /^\d{0,15}$/};
+const FORMS = {since: /^([01]?\d|2[0-3]):[0-5]\d$|^0$|^\d{10}$/, theme: /^(dark|light)?$/, groups: /^(all|\d{1,15}(,\d{1,15})*)?$/, level: /^(answered)?$/, tone: /^1?$/, notify: /^1?$/, group: /^\d{0,15}$/};
 
 export function valueOf(name = '', text = '') {
   const plain = name.replace(OF_GROUP, '$1'), usual = /** @type {any} */ (USUAL)[plain], number = Number(text);
@@ -54,12 +54,21 @@ export function limitsOf(group = '') {
   return {limit: of('limit'), goal: of('goal'), lost: of('lost'), long, bad: Math.max(long, of('bad'))};
 }
 
-// the limits of all groups, and of single ones
-export const limitsSaid = () => Object.fromEntries(Object.entries(settings).flatMap(([name, value]) => /^limit\b/.test(name) ? [[name, `${value}`]] : []));
+// the limits and goals of all groups, and of single ones, by which the gate counts
+export const limitsSaid = () => ({...Object.fromEntries(Object.entries(settings).flatMap(([name, value]) => /^(limit|goal|lost)\b/.test(name) ? [[name, `${value}`]] : [])), level: settings.level});
+
+// The groups where the address names none: a lead's own.
+export const usualGroups = (given = usual.groups) => {
+  if (given !== usual.groups && !settings.groups) settings.groups = given;
+  return usual.groups = given;
+};
+
+// Whether some groups were chosen.
+export const areSome = () => settings.groups !== '' && settings.groups !== 'all';
 
 // All groups count as chosen if none was.
 export function chosenOf(groups = settings.groups) {
-  const chosen = new Set(groups.split(',').filter(Boolean));
+  const chosen = new Set(groups === 'all' ? [] : groups.split(',').filter(Boolean));
   return (group = '') => !chosen.size || chosen.has(group);
 }
 

@@ -46,6 +46,8 @@ export type Sums = Figures & {within: number, late: number, longest: number, han
 export type Step = Sums & {top: number, end: number};
 /** a step where it is shown; beside: the same one of another day */
 export type Quarter = Sums & {at: number, peak: number, running?: boolean, beside: Sums | null};
+/** what ended in the last half hour; since when its level or its losses are an alarm, if they are */
+export type HalfHour = Sums & {levelSince: number | null, lostSince: number | null};
 export type Line = {steps: Map<number, Step>, sum: Sums, balance: number};
 
 // what is reckoned of them
@@ -57,8 +59,8 @@ export type Share = {byStay: number | null, level: number | null, levelSeverity:
 /** wait: of the call that waits longest, since `queued`; next: the agent who gets the next call; level: the share answered in time, byStay: the same by the last stay in a queue; lost: the share that gave up */
 export type GroupLine = Sums & Share & {rule: Rule | undefined, id: string, name: string, priority: number, waiting: number, ringing: number, queued: number, wait: number | null, severity: Severity,
   counts: Record<Doing, number>, loggedOn: number, next: Agent | null, limits: Limits};
-/** since: if the figures show it, else 0 */
-export type Alarm = {key: string, kind: string, since: number, values: () => Values};
+/** group: none of the desk itself; since: if the figures show it, else 0; weight: of two of a kind the greater is worse */
+export type Alarm = {key: string, kind: string, group: string, since: number, weight: number, values: () => Values};
 /** since: when it began, as far as is known; last: when it was there for the last time, in milliseconds; seen: whether somebody said so in this browser */
 export type Known = {since: number, last: number, seen: boolean};
 /** what a word has values for */

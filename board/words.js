@@ -102,6 +102,7 @@ groups: None of the groups in this address is planned.
 [set]
 title: Title
 groups: Own groups
+groups.all: all groups
 limit: Service level: answered within, s
 goal: Its goal, %
 level: Of which calls
@@ -224,8 +225,8 @@ fewer: fewer
 all: All seen
 [alarm]
 wait: {group}: a caller waits too long
-level: {group}: only {share} in time, the goal is {goal}
-lost: {group}: {share} gave up, the goal is {goal}
+level: {group}: only {share} in time in the last half hour, the goal is {goal}
+lost: {group}: {share} gave up in the last half hour, the goal is {goal}
 nobody.one: {group}: {n} caller waits, and nobody is logged on
 nobody.other: {group}: {n} callers wait, and nobody is logged on
 sent: {group}: {who} doesn't answer a caller who was sent there

@@ -1,11 +1,12 @@
 // Facts that a supervisor has to know at once, as a list, and its signs.
 import {GRACE} from '../desk.js';
 import {byId, make, put, set} from '../draw.js';
+import {abandonment, level, sumOf} from '../figures.js';
 import {isHeard, notify, tone} from '../sound.js';
 import {clock, isWord, named, percent, plain, timeOfDay, word} from '../words.js';
 
-// seconds that clocks may be apart; of fewer calls a share says nothing
-const APART = 60, LEAST = 10;
+// seconds that clocks may be apart
+const APART = 60;
 
 // An offer or after-call work that a tick should have ended.
 /** @param {State} state */
@@ -31,28 +32,37 @@ function sent(state) {
 
 // The desk's time may be ahead of the server's clock: it stops until that has caught up.
 /** @param {Drawn} drawn */
-function alarms({state, lines, counted, now, settings}, serverClock = 0) {
+function alarms({state, lines, counted, now, settings, day}, serverClock = 0) {
   const ahead = state.moment - serverClock, over = ahead > APART ? undefined : overdue(state, now), rings = sent(state);
   /** @type {Alarm[]} */ const found = [];
-  const add = (kind = '', id = '', values = () => ({}), since = 0) => found.push({kind, key: id ? `${kind}.${id}` : kind, since, values});
+  const add = (kind = '', group = '', values = () => ({}), since = 0, weight = 0) => found.push({kind, group, key: group ? `${kind}.${group}` : kind, since, weight, values});
   if (ahead > APART) add('clock', '', () => ({clock: clock(ahead)}));
   if (over) add('ticks', '', () => over, over.since);
-  for (const {id, name, limits: {goal, lost: most, bad}, waiting, loggedOn, severity, queued, level, levelSeverity, lost, lostSeverity, answered, late, abandoned} of lines) {
-    const group = named(name), rung = rings.get(id);
-    if (rung && now - rung.since > settings.ringing) add('sent', id, () => ({group, who: named(state.agentAt(rung.at)?.name || rung.at)}), rung.since + settings.ringing);
-    if (waiting && !loggedOn) add('nobody', id, () => ({group, n: waiting}));
-    if (severity === 'bad') add('wait', id, () => ({group}), queued + bad);
-    if (counted && levelSeverity === 'bad' && answered + late >= LEAST) add('level', id, () => ({group, share: percent(level), goal: percent(goal / 100)}));
-    if (counted && lostSeverity === 'bad' && answered + abandoned >= LEAST) add('lost', id, () => ({group, share: percent(lost), goal: percent(most / 100)}));
+  for (const {id, name, limits: {goal, lost: most, bad}, waiting, loggedOn, severity, queued} of lines) {
+    const group = named(name), rung = rings.get(id), {levelSince, lostSince, ...sums} = day.recent.get(id) ?? NONE, reached = level(sums, settings.level === 'answered'), lost = abandonment(sums);
+    if (waiting && !loggedOn) add('nobody', id, () => ({group, n: waiting}), 0, waiting);
+    if (rung && now - rung.since > settings.ringing) add('sent', id, () => ({group, who: named(state.agentAt(rung.at)?.name || rung.at)}), rung.since + settings.ringing, now - rung.since);
+    if (severity === 'bad') add('wait', id, () => ({group}), queued + bad, now - queued);
+    if (counted && lostSince !== null) add('lost', id, () => ({group, share: percent(lost), goal: percent(most / 100)}), lostSince, lost ?? 0);
+    if (counted && levelSince !== null) add('level', id, () => ({group, share: percent(reached), goal: percent(goal / 100)}), levelSince, goal / 100 - (reached ?? 0));
   }
   return found;
 }
 
-const PLACE = 'acd-alarms', FORGOTTEN = 60000, NARROW = 1200, AGAIN = 30000, KEPT_EVERY = 5000, KINDS = ['clock', 'ticks', 'nobody', 'sent', 'wait', 'level', 'lost'];
+// The worst of each group, the worst first.
+/** @param {Alarm[]} found */
+function worst(found) {
+  const sorted = [...found].sort((one, other) => KINDS.indexOf(one.kind) - KINDS.indexOf(other.kind) || other.weight - one.weight);
+  return sorted.filter(({group}, place) => !group || sorted.findIndex(one => one.group === group) === place);
+}
+
+// of a group where nothing ended
+/** @type {HalfHour} */ const NONE = {...sumOf([]), levelSince: null, lostSince: null};
+const PLACE = 'acd-alarms', FORGOTTEN = 60000, NARROW = 1200, AGAIN = 30000, KEPT_EVERY = 5000, KINDS = ['clock', 'ticks', 'nobody', 'sent', 'wait', 'lost', 'level'];
 /** @type {Record<string, Known>} */ let known = {};
 try { known = JSON.parse(localStorage[PLACE]) ?? {}; } catch { /* nothing was kept, or nothing may be */ }
 // when was looked last: a page that sleeps, or whose desk is gone, doesn't know that an alarm is over
-let sounded = 0, kept = 0, all = false, looked = Date.now();
+let sounded = 0, kept = 0, whole = false, looked = Date.now();
 
 const paper = matchMedia('print');
 
@@ -62,21 +72,25 @@ const wordsOf = ({kind, values}) => word(`alarm.${kind}`, values());
 // Says how many nobody has seen. What has no room on the screen is printed.
 /** @param {Drawn} drawn */
 export function draw(drawn, serverClock = 0, onWall = false) {
-  const {settings, now, redraw} = drawn, found = alarms(drawn, serverClock), moment = Date.now(), unknown = found.filter(alarm => isNew(alarm, now, moment)), unseen = found.filter(({key}) => !known[key].seen);
+  const {settings, now, redraw} = drawn, all = alarms(drawn, serverClock), moment = Date.now(), fresh = new Set(all.filter(alarm => isNew(alarm, now, moment)));
+  const found = worst(all), unknown = found.filter(alarm => fresh.has(alarm)), unseen = found.filter(({key}) => !known[key].seen);
   for (const key of Object.keys(known)) if (looked - known[key].last > FORGOTTEN) delete known[key];
   looked = moment;
   if (unknown.length || moment - kept > KEPT_EVERY) try { kept = moment; localStorage[PLACE] = JSON.stringify(known); } catch { /* known until the page is left */ }
   const few = onWall || innerWidth < NARROW ? 1 : 2, see = (/** @type {Known[]} */ those) => () => { for (const one of those) one.seen = true; kept = 0; redraw(); };
-  const sorted = [...found].sort((one, other) => Number(known[one.key].seen) - Number(known[other.key].seen) || KINDS.indexOf(one.kind) - KINDS.indexOf(other.kind));
+  const sorted = [...found].sort((one, other) => Number(known[one.key].seen) - Number(known[other.key].seen));
+  // what else is so of a group is seen with its worst, and said beside it
+  const ofGroup = (/** @type {Alarm} */ alarm) => all.filter(one => one === alarm || alarm.group && one.group === alarm.group);
+  const beside = (/** @type {Alarm} */ alarm) => ofGroup(alarm).filter(one => one !== alarm).map(wordsOf).join(' · ');
   paper.onchange = redraw;
-  put('alarm', ...sorted.slice(0, all || paper.matches ? Infinity : few).map(alarm => {
+  put('alarm', ...sorted.slice(0, whole || paper.matches ? Infinity : few).map(alarm => {
     const {key, kind, values} = alarm, {since, seen} = known[key], words = wordsOf(alarm), detail = `detail.${kind}`;
-    return make('li', {'data-key': key, 'data-seen': seen}, make('b', `${seen ? '□' : '■'} ${words}`), make('span.detail', isWord(detail) && word(detail, values())),
+    return make('li', {'data-key': key, 'data-seen': seen}, make('b', `${seen ? '□' : '■'} ${words}`), make('span.detail', isWord(detail) ? word(detail, values()) : beside(alarm)),
       make('span.since', word('alarms.since', {time: timeOfDay(since, 'short'), clock: clock(now - since)})),
-      make('button', {hidden: seen, 'aria-label': `${word('alarms.seen')}: ${plain(words)}`, onclick: see([known[key]])}, word('alarms.seen')));
+      make('button', {hidden: seen, 'aria-label': `${word('alarms.seen')}: ${plain(words)}`, onclick: see(ofGroup(alarm).map(one => known[one.key]))}, word('alarms.seen')));
   }));
-  set('alarms-rest', {hidden: found.length <= few, onclick: () => { all = !all; redraw(); }});
-  put('alarms-rest', all ? word('alarms.fewer') : word('alarms.rest', {n: found.length - few}));
+  set('alarms-rest', {hidden: found.length <= few, onclick: () => { whole = !whole; redraw(); }});
+  put('alarms-rest', whole ? word('alarms.fewer') : word('alarms.rest', {n: found.length - few}));
   set('alarms-seen', {hidden: unseen.length < 2, onclick: see(Object.values(known))});
   set('alarms-mute', {hidden: !settings.tone || isHeard()});
   set('alarms', {hidden: !found.length});

@@ -34,7 +34,7 @@ export default {
   'fault.office': 'board.json des Büros ist nicht brauchbar: {what}',
   empty: {plan: 'Noch ist keine Gruppe geplant.', groups: 'Keine der Gruppen dieser Adresse ist geplant.'},
   set: {
-    title: 'Titel', groups: 'Eigene Gruppen', limit: 'Servicelevel: angenommen innerhalb von, s', goal: 'Sein Ziel, %', level: 'Von welchen Anrufen',
+    title: 'Titel', groups: 'Eigene Gruppen', 'groups.all': 'alle Gruppen', limit: 'Servicelevel: angenommen innerhalb von, s', goal: 'Sein Ziel, %', level: 'Von welchen Anrufen',
     'level.': 'angenommene + später aufgegebene', 'level.answered': 'nur angenommene', lost: 'Ziel für aufgegebene, %', long: 'Lange ist ein Warten ab, s', bad: 'Zu lange ab, s',
     notReady: 'Nicht bereit ist lange ab, s', since: 'Der Tag beginnt um', lang: 'Sprache', 'lang.': 'wie das Büro sagt', theme: 'Farben', 'lang.en': 'English', 'lang.de': 'Deutsch',
     'theme.': 'wie das System', 'theme.dark': 'dunkel', 'theme.light': 'hell', tone: 'Ein Ton bei Alarm', notify: 'Eine Mitteilung bei Alarm', wrong: 'Das geht hier nicht',
@@ -75,7 +75,8 @@ export default {
     title: 'Alarme', seen: 'Gesehen', since: 'seit {time}, {clock}', rest: {one: 'und {n} weiterer Alarm', other: 'und {n} weitere Alarme'}, fewer: 'weniger', all: 'Alle gesehen',
   },
   alarm: {
-    wait: '{group}: ein Anrufer wartet zu lange', level: '{group}: nur {share} rechtzeitig, das Ziel ist {goal}', lost: '{group}: {share} gaben auf, das Ziel ist {goal}',
+    wait: '{group}: ein Anrufer wartet zu lange', level: '{group}: nur {share} rechtzeitig in der letzten halben Stunde, das Ziel ist {goal}',
+    lost: '{group}: {share} gaben auf in der letzten halben Stunde, das Ziel ist {goal}',
     nobody: {one: '{group}: {n} Anrufer wartet, und niemand ist angemeldet', other: '{group}: {n} Anrufer warten, und niemand ist angemeldet'},
     sent: '{group}: {who} nimmt einen Anrufer nicht an, der dorthin geschickt wurde',
     clock: 'Die Zeit der Zentrale ist der Uhr um {clock} voraus',

@@ -5,40 +5,41 @@ with the same limits share its lines."""
 import asyncio
 import math
 import re
-from array import array
-from collections.abc import Awaitable, Callable, Coroutine, Iterable, Mapping, Set
+from collections.abc import Callable, Coroutine, Iterable, Mapping
 from itertools import count
 from typing import NamedTuple
 
 from acd_service.command import report
-from acd_service.events import Event, event_of
-from acd_service.figures import STEP, Figures
 from acd_service.gate import lines
-from acd_service.gate.days import beginning
+from acd_service.gate.counting import Day, Peaks, Read
 from acd_service.gate.desk import Away
 from acd_service.gate.parts import Text
-from acd_service.gate.ruled import OVERFLOWS, Ruled, is_of_group
+from acd_service.gate.ruled import OVERFLOWS, Ruled
 from acd_service.gate.state import State
-from acd_service.gate.tables import Recent, Table, Tables
-from acd_service.waits import Ended
+from acd_service.gate.tables import Recent as Latest, Table, Tables
+from acd_service.recent import Goals, Recent
 
 # events that a board is shown; days that are counted, and what boards may want to see, at a time
 RECENT, MOST_DAYS, MOST_VIEWS = 4000, 32, 64
 # seconds of a limit, where a board names none, and until the desk is asked again where it doesn't answer; and so many
 # seconds of events before a day say since when its first callers wait
 LIMIT, AGAIN, EARLIER = 20.0, 1, 4 * 3600.0
-Read = Callable[[str], Awaitable[list[Text]]]
+USUAL = {"limit": LIMIT, "goal": 80.0, "lost": 5.0}
 
 
 class Sight(NamedTuple):
     """What a board wants to see besides the desk as it is. Its day counts from `begin`; `limits` are those of groups,
     and of "" for all others; `groups` are the chosen ones, none for all. `parts` may be `day`, the day by quarters of
-    an hour, and `events`; `past` are other days, from a moment to another."""
+    an hour, and `events`; `past` are other days, from a moment to another. `goals` and `losts` are the goals of the
+    service level and of those who give up, and `alone` says whether the level is of the answered alone."""
     begin: int
     limits: tuple[tuple[str, float], ...] = ()
     groups: frozenset[str] = frozenset()
     parts: frozenset[str] = frozenset()
     past: tuple[tuple[int, int], ...] = ()
+    goals: tuple[tuple[str, float], ...] = ()
+    losts: tuple[tuple[str, float], ...] = ()
+    alone: bool = False
 
     @property
     def reach(self) -> float:
@@ -48,8 +49,9 @@ class Sight(NamedTuple):
 
 # a limit as a board's address has it, a day in seconds since 1970, and other days
 LIMITS = r"[0-9]{1,5}(\.[0-9]{1,15})?"
-SAID = {"begin": "[0-9]{1,12}", "groups": "([0-9]{1,15}(,[0-9]{1,15})*)?", "show": "((day|events)(,(day|events))*)?",
-        "past": "([0-9]{1,12}-[0-9]{1,12}(,[0-9]{1,12}-[0-9]{1,12})?)?"}
+SAID = {"begin": "[0-9]{1,12}", "groups": "(all|[0-9]{1,15}(,[0-9]{1,15})*)?",
+        "show": "((day|events)(,(day|events))*)?",
+        "past": "([0-9]{1,12}-[0-9]{1,12}(,[0-9]{1,12}-[0-9]{1,12})?)?", "level": "(answered)?"}
 
 
 def sight_of(said: Mapping[str, str]) -> Sight:
@@ -57,121 +59,25 @@ def sight_of(said: Mapping[str, str]) -> Sight:
     for name, form in SAID.items():
         if not re.fullmatch(form, said.get(name, "0" if name == "begin" else "")):
             raise ValueError(name)
-    limits = {name.removeprefix("limit").removeprefix("."): value for name, value in said.items()
-              if re.fullmatch(r"limit(\.[0-9]{1,15})?", name)}
-    if not all(re.fullmatch(LIMITS, value) for value in limits.values()):
-        raise ValueError("limit")
+    limits, goals, losts = (numbers_of(said, name) for name in USUAL)
     past = [span.split("-") for span in said.get("past", "").split(",") if span]
-    return Sight(int(said.get("begin", "0")), tuple(sorted((group, float(value)) for group, value in limits.items())),
-                 frozenset(filter(None, said.get("groups", "").split(","))),
+    return Sight(int(said.get("begin", "0")), limits,
+                 frozenset(filter(None, said.get("groups", "").removeprefix("all").split(","))),
                  frozenset(filter(None, said.get("show", "").split(","))),
-                 tuple((int(begin), int(end)) for begin, end in past))
+                 tuple((int(begin), int(end)) for begin, end in past), goals, losts, bool(said.get("level")))
+
+
+def numbers_of(said: Mapping[str, str], name: str) -> tuple[tuple[str, float], ...]:
+    """The number of a name for each group that has one, and for "", all others."""
+    form = rf"{name}(\.[0-9]{{1,15}})?"
+    found = {key[len(name) + 1:]: value for key, value in said.items() if re.fullmatch(form, key)}
+    if not all(re.fullmatch(LIMITS, value) for value in found.values()):
+        raise ValueError(name)
+    return tuple(sorted((group, float(value)) for group, value in found.items()))
 
 
 class TooMany(Exception):
     """There is no room for one more stream, view or day."""
-
-
-class Day(Figures):
-    """The figures of a day, and the course of who waits. `last` is the number of the last report that it took, None
-    before the first; `whole` says whether it has all up to the present, or to its end, and `is_known` is False where
-    its beginning is in another file."""
-
-    def __init__(self, begin: int, until: float, reach: float, at: Mapping[str, str] | None = None) -> None:
-        super().__init__(begin, at)
-        self.until, self.reach = until, reach
-        self.last: int | None = None
-        self.first = 0
-        self.reading: asyncio.Task[None] | None = None
-        self.whole, self.is_known = False, True
-        # calls that ended at their group, where callers who give up do not end it: the moment, and the wait
-        self.suspects: dict[int, tuple[int, Ended]] = {}
-        # when a call was moved at its group last
-        self.moved = 0
-        self.numbers: dict[str, int] = {}
-        # of each change the quarter of an hour, and the number of the group, less than nothing where one waits less
-        self.quarters_of_course, self.course = array("I"), array("i")
-
-    def change(self, moment: int, group: str, by: int) -> None:
-        super().change(moment, group, by)
-        self.quarters_of_course.append(moment // STEP)
-        self.course.append(by * self.numbers.setdefault(group, len(self.numbers) + 1))
-
-    def end(self, event: Event, ended: Ended) -> None:
-        super().end(event, ended)
-        if event.moment >= self.begin and event.call is not None and self.cleared and self.cleared[0] == ended.group:
-            self.suspects[event.call] = event.moment, ended
-
-    def judge(self, suspects: Iterable[int], ended: Set[int]) -> None:
-        """Of these calls rules ended some: nobody gave up."""
-        for call in suspects:
-            found = self.suspects.pop(call, None)
-            if found is not None and call in ended:
-                moment, wait = found
-                self.quarter(wait.group, moment).close(wait)
-
-    def take_report(self, told: Text) -> None:
-        self.last = told["number"]
-        if told["moment"] < self.until:
-            self.take(event_of(told))
-        if is_of_group(told):
-            self.moved = told["moment"]
-
-    async def read(self, events: Read, last: Callable[[], int]) -> None:
-        """Reads what the desk had before, up to the present; reports that come later are given to it. It goes on where
-        it was broken off."""
-        if self.last is None:
-            begin = self.begin - self.reach - 1
-            self.first, is_whole = await beginning(lambda after: events(f"/events?after={after}"), last(), begin)
-            self.last = self.first
-            self.is_known = is_whole or await self.has_earlier(events)
-            if not self.first or self.until < math.inf:
-                self.waits.at.clear()   # nobody was logged on yet; of another day, nobody at its midnight is the guess
-        while self.last < last():
-            page = await events(f"/history?after={self.last}")
-            for told in page:
-                if told["number"] <= last():
-                    self.take_report(told)
-            if not page or page[-1]["moment"] >= self.until:
-                break
-            await asyncio.sleep(0)
-        self.whole = True
-
-    async def has_earlier(self, events: Read) -> bool:
-        """Whether the file has events of before the day, where it begins later than its reach."""
-        page = await events(f"/events?after={self.first}")
-        return bool(page) and page[0]["moment"] < self.begin
-
-    def share(self, last: int) -> float:
-        """How much of it has been read; 1 once it is whole."""
-        if self.whole:
-            return 1
-        read = 0 if self.last is None else 100 * (self.last - self.first) // max(1, last - self.first)
-        return min(99, read) / 100
-
-
-class Peaks:
-    """How many waited at once in the chosen groups, by quarters of an hour: more than before the first report, at most
-    and in the end."""
-
-    def __init__(self, day: Day, groups: frozenset[str]) -> None:
-        self.day, self.groups = day, groups
-        self.place = self.balance = 0
-        self.found: dict[int, list[int]] = {}
-
-    def catch_up(self) -> set[int]:
-        """The quarters that changed."""
-        names, changed = {number: group for group, number in self.day.numbers.items()}, set()
-        for place in range(self.place, len(self.day.course)):
-            one, number = self.day.course[place], self.day.quarters_of_course[place]
-            if self.groups and names[abs(one)] not in self.groups:
-                continue
-            quarter = self.found.setdefault(number, [self.balance, self.balance])
-            self.balance += 1 if one > 0 else -1
-            quarter[:] = max(quarter[0], self.balance), self.balance
-            changed.add(number)
-        self.place = len(self.day.course)
-        return changed
 
 
 class View:
@@ -182,10 +88,12 @@ class View:
     def __init__(self, sight: Sight, day: Day, past: Mapping[tuple[int, int], Day], common: Tables,
                  number: int) -> None:
         self.sight, self.day, self.past, self.serial = sight, day, past, next(self.serials)
-        self.limits, self.seen = dict(sight.limits), 0.0
+        self.limits, self.seen = {name: dict(numbers) for name, numbers in
+                                  zip(USUAL, (sight.limits, sight.goals, sight.losts))}, 0.0
+        self.recents: dict[str, Recent] = {}
         self.known: dict[str, dict[int, list[int]]] = {}
         self.peaks = Peaks(day, sight.groups) if "day" in sight.parts else None
-        self.own = {name: Table(number) for name in ("day", "sums", "spent")}
+        self.own = {name: Table(number) for name in ("day", "sums", "spent", "recent")}
         if self.peaks is not None:
             self.own |= {name: Table(number) for name in ("quarters", "peaks", "past")}
         wanted = [name for name in common if name != "events" or "events" in sight.parts]
@@ -194,8 +102,19 @@ class View:
             every = ((group, each) for group, quarters in day.groups.items() for each in quarters)
             self.put_figures(every, day.agents, number)
 
-    def limit_of(self, group: str) -> float:
-        return self.limits.get(group, self.limits.get("", LIMIT))
+    def limit_of(self, group: str, name: str = "limit") -> float:
+        return self.limits[name].get(group, self.limits[name].get("", USUAL[name]))
+
+    def put_recent(self, moment: int, number: int) -> None:
+        """Writes down the last half hour, and since when it is an alarm."""
+        for group, endings in self.day.endings.items():
+            if group not in self.recents:
+                level, lost = self.limit_of(group, "goal"), self.limit_of(group, "lost")
+                goals = Goals(self.limit_of(group), level, lost, self.sight.alone)
+                self.recents[group] = Recent(endings, goals)
+            recent = self.recents[group]
+            since = recent.pass_to(moment)
+            self.own["recent"].put(group, lines.as_text([*recent.figures(), *since]), number)
 
     def put_figures(self, quarters: Iterable[tuple[str, int]], agents: Iterable[str], number: int) -> None:
         """Writes down what changed of the day."""
@@ -213,6 +132,13 @@ class View:
             self.own["spent"].put(agent, lines.agent_figures_line(self.day.agents[agent]), number)
         for each in self.peaks.catch_up() if self.peaks is not None else ():
             self.own["peaks"].put(str(each), lines.as_text(self.peaks.found[each] if self.peaks else []), number)
+
+    def put(self, last: int, moment: int, number: int) -> None:
+        """Writes down what changed, and what the moment changes."""
+        if self.day.whole:
+            self.put_figures(self.day.changed, self.day.touched, number)
+            self.put_recent(moment, number)
+        self.put_day(last, number)
 
     def put_day(self, last: int, number: int) -> None:
         self.own["day"].put("share", lines.as_text(self.day.share(last)), number)
@@ -234,7 +160,7 @@ class Boards:
         self.events, self.state, self.ruled = events, state, ruled
         self.common: dict[str, Table] = {name: Table(number, found) for name, found in lines.all_of(state).items()}
         self.common["desk"], self.common["rules"] = Table(number), Table(number, ruled.lines())
-        self.common["events"] = Recent(number, RECENT)
+        self.common["events"] = Latest(number, RECENT)
         self.days: dict[tuple[int, float, float], Day] = {}
         self.views: dict[Sight, View] = {}
         self.tasks: set[asyncio.Task[None]] = set()
@@ -283,6 +209,8 @@ class Boards:
                 self.fresh = []
                 self.start(self.read_events)
             found.put_day(self.state.last, number)
+            if found.day.whole:
+                found.put_recent(self.moment, number)
             self.views[sight] = found
         return found
 
@@ -371,12 +299,15 @@ class Boards:
                 common["events"].put(str(told["number"]), lines.as_text(told), number)
             self.fresh = []
         for view in self.views.values():
-            if view.day.whole:
-                view.put_figures(view.day.changed, view.day.touched, number)
-            view.put_day(state.last, number)
+            view.put(state.last, self.moment, number)
         for day in self.days.values():
             if day.whole:
                 day.changed, day.touched = set(), set()
+
+    @property
+    def moment(self) -> int:
+        """Now, by the clock; the desk's may be ahead of it."""
+        return max(self.state.moment, int(self.ruled.clock()))
 
     def put_desk(self, number: int) -> None:
         self.common["desk"].put("last", str(self.state.last), number)

@@ -213,6 +213,7 @@ async function sentOn(hands) {
   const {see, browser, desk} = hands, at = async call => (await desk.get(`/calls/${call}`)).connections.map(one => one.device).filter(one => one !== '0405');
   const buttons = () => browser.run(`return [...document.querySelectorAll('#calls li:first-child .buttons button')].filter(one => one.checkVisibility()).map(one => one.textContent)`);
   for (const {call} of (await desk.get('/queues/120')).calls) await hands.ask('clearConnection', {call, device: '120'});
+  await hands.ask('setAgentState', {agent: '8', requested: 'loggedOn', device: '208', group: '120'});
   await hands.ask('setAgentState', {agent: '8', requested: 'ready'});
   const call = await hands.call('120', '0405'), pass = async () => {
     await hands.ask('answerCall', {call, device: '208'});
@@ -243,6 +244,7 @@ async function sentOn(hands) {
   await hands.sees('who is not ready is asked about', '#notices', 'Ben Berg (208): ■ not ready.Transfer all the sameNo', 5);
   await browser.click('#notices button:last-child');
   await hands.click(button('clearConnection'), '✓ Hang up');
+  await hands.ask('setAgentState', {agent: '8', requested: 'loggedOff'});
 }
 
 /** A number that is dialled, picked up, and rings at a colleague. */
@@ -262,8 +264,9 @@ async function dial(hands) {
 /** The day: answered calls, talk and missed offers as the desk's events have them. */
 async function day(hands) {
   const {see, desk} = hands, events = await desk.events(0), of = event => events.filter(one => one.event === event && (one.agent === AGENT || one.device === STATION));
-  const answered = of('established').filter(one => one.group).length, missed = of('diverted').filter(one => one.cause === 'noAnswer').length;
-  let talking = 0, since = null;
+  // a caller whom a colleague passed on is one of the own, and no state of the agent
+  const answered = of('established').length, direct = of('established').filter(one => !one.group).map(one => one.call), missed = of('diverted').filter(one => one.cause === 'noAnswer').length;
+  let talking = direct.reduce((sum, call) => sum + events.find(one => one.event === 'connectionCleared' && one.call === call).moment - events.find(one => one.event === 'established' && one.call === call && one.device === STATION).moment, 0), since = null;
   for (const event of events.filter(one => one.agent === AGENT)) {
     if (since !== null) talking += event.moment - since;
     since = event.event === 'agentBusy' ? event.moment : null;
@@ -271,7 +274,7 @@ async function day(hands) {
   const average = Math.floor(talking / answered), sums = await hands.text('#day-sums');
   see("the day is the desk's", sums === `${answered} calls answered · talk 0:${String(average).padStart(2, '0')} on average · ${missed} offers not taken`, `${sums}, not ${answered}, ${average}, ${missed}`);
   const rows = await hands.browser.run('return [...document.querySelectorAll("#day tbody tr")].map(row => [...row.children].map(cell => cell.textContent))');
-  see('the last calls, the last one first', rows.length === 5 && rows[0][1] === '0402' && rows[0][2] === 'Quick' && rows[1][1] === '0401111', JSON.stringify(rows));
+  see('the last calls, the last one first', rows.length === 5 && String(rows.slice(0, 3).map(row => row.slice(1, 3))) === '0405,Orders,0402,Quick,0401111,Quick', JSON.stringify(rows));
 }
 
 /** While nobody knows what goes on no clock goes on either, and all is grey soon. */

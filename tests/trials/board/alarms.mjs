@@ -3,16 +3,19 @@ import {sleep, until} from './browser.mjs';
 import {live} from './page.mjs';
 import {Story} from './story.mjs';
 
-const WAITS = 150;
+const WAITS = 150, FIRST = 1600;
+// how long ago the tenth wait of a group ended: before, a share said nothing
+const TENTH = {lost: FIRST - 9 * 120 - 30, level: FIRST - 10 - 9 * 120 - 40};
 
-/** Of four groups one has a caller and nobody there, one a caller who waits, one lost eleven callers, and one answers all late. */
+/** Of four groups one has a caller and nobody there, one a caller who waits, one lost eleven callers, and one answers all late. Of the last half hour each fact is worst once: what is one group's
+ * is one alarm. */
 export function troubles(now) {
   const story = new Story(now - 7200, [['100', 'Nobody'], ['101', 'Waits'], ['102', 'Lost'], ['103', 'Late']]);
   story.ask(now - 7200, 'setAgentState', {agent: '1', requested: 'loggedOff'});
   story.ask(now - 7200, 'setAgentState', {agent: '2', requested: 'notReady'});
   for (let turn = 0; turn < 12; turn++) {
-    story.call(now - 7000 + 200 * turn, 2, 30, turn ? 0 : 60);
-    story.call(now - 6900 + 200 * turn, 3, 40, 60);
+    story.call(now - FIRST + 120 * turn, 2, 30, turn ? 0 : 60);
+    story.call(now - FIRST + 10 + 120 * turn, 3, 40, 60);
   }
   story.ask(now - WAITS, 'arriveCall', {caller: '0401', called: '101'});
   story.ask(now - 5, 'arriveCall', {caller: '0402', called: '100'});
@@ -28,25 +31,31 @@ const NOTICED = `
 
 const list = browser => browser.run(`return [...document.querySelectorAll('#alarm li')].map(item => [item.dataset.key, item.querySelector('b').textContent, item.querySelector('.since').textContent, item.hasAttribute('data-seen')])`);
 
-export async function alarms(see, browser, desk, address) {
+export async function alarms(see, browser, desk, address, made) {
   await browser.command('Page.enable');
   const {identifier} = await browser.command('Page.addScriptToEvaluateOnNewDocument', {source: NOTICED});
   await browser.open(`${address}?since=0&tone=1&notify=1#queues`);
   await live(browser);
-  await until(async () => (await browser.run('return document.title')).startsWith('■ 5 alarms'), 10);
+  await until(async () => (await browser.run('return document.title')).startsWith('■ 4 alarms'), 10);
   const told = await browser.text('#alarm-told');
-  see('a screen reader is told how many there are', /^[2-5] alarms$/.test(told), told);
+  see('a screen reader is told how many there are', /^[2-4] alarms$/.test(told), told);
   await onPaper(see, browser);
   await anew(see, browser);
   await browser.click('#alarms-rest');
   await sleep(300);
   const found = await list(browser), keys = found.map(([key]) => key);
-  see('each alarm, and none beside', String([...keys].sort()) === 'level.102,level.103,lost.102,nobody.100,wait.101', String(keys));
-  see('the worst first', String(keys.slice(0, 2)) === 'nobody.100,wait.101', String(keys));
-  see('its words', found[0]?.[1] === '■ Nobody: 1 caller waits, and nobody is logged on' && found.some(([key, words]) => key === 'lost.102' && words === '■ Lost: 92% gave up, the goal is 5%'), found.map(one => one[1]).join('; '));
+  see('each alarm, and none beside', String([...keys].sort()) === 'level.103,lost.102,nobody.100,wait.101', String(keys));
+  see('the worst first', String(keys) === 'nobody.100,wait.101,lost.102,level.103', String(keys));
+  see('its words', found[0]?.[1] === '■ Nobody: 1 caller waits, and nobody is logged on' && found.some(([key, words]) => key === 'lost.102' && words === '■ Lost: 92% gave up in the last half hour, the goal is 5%'), found.map(one => one[1]).join('; '));
   const late = /, (\d):(\d\d)$/.exec(found.find(([key]) => key === 'wait.101')?.[2] ?? ''), waits = Date.now() / 1000 - (await desk.get('/queues/101')).calls[0].since;
   see('since when a wait is too long', late && Math.abs(60 * Number(late[1]) + Number(late[2]) - (waits - 120)) < 4, `${late?.[0]} ${waits}`);
-  see('the title counts them', (await browser.run('return document.title')).startsWith('■ 5 alarms – '), await browser.run('return document.title'));
+  for (const [kind, key] of [['lost', 'lost.102'], ['level', 'level.103']]) {
+    const [, minutes, seconds] = /, (\d+):(\d\d)$/.exec(found.find(one => one[0] === key)?.[2] ?? '') ?? [], ago = TENTH[kind] + Date.now() / 1000 - made;
+    see(`since when ${key} is so`, Math.abs(60 * Number(minutes) + Number(seconds) - ago) < 4, `${minutes}:${seconds} and not ${ago}`);
+  }
+  const more = await browser.text('#alarm [data-key="lost.102"] .detail');
+  see('what else is so of a group is beside its worst', more === 'Lost: only 0% in time in the last half hour, the goal is 80%', more);
+  see('the title counts them', (await browser.run('return document.title')).startsWith('■ 4 alarms – '), await browser.run('return document.title'));
   await noticed(see, browser);
   await seen(see, browser, address);
   await limits(see, browser, address);
@@ -70,17 +79,17 @@ async function anew(see, browser) {
 async function onPaper(see, browser) {
   const shown = () => browser.run('return [...document.querySelectorAll("#alarm li")].filter(one => one.checkVisibility()).length'), onScreen = await shown();
   await browser.command('Emulation.setEmulatedMedia', {media: 'print'});
-  await until(async () => await shown() === 5, 3);
+  await until(async () => await shown() === 4, 3);
   const printed = await shown();
   await browser.command('Emulation.setEmulatedMedia', {media: ''});
-  see('all alarms are printed, of which the screen has two', onScreen === 2 && printed === 5, `${onScreen} ${printed}`);
+  see('all alarms are printed, of which the screen has two', onScreen === 2 && printed === 4, `${onScreen} ${printed}`);
 }
 
 /** A tone and a notification for what is new; a screen reader is told once, and not each second. */
 async function noticed(see, browser) {
   const {tones, notes} = await browser.run('return window.noticed');
   // those of the day come once it is counted
-  see('a tone, and a notification for each', tones >= 2 && tones <= 4 && notes.length === 5 && notes.every(note => !/[\u2068\u2069]/.test(note)), JSON.stringify([tones, notes]));
+  see('a tone, and a notification for each', tones >= 2 && tones <= 4 && notes.length === 4 && notes.every(note => !/[\u2068\u2069]/.test(note)), JSON.stringify([tones, notes]));
   await browser.run(`window.told = []; for (const part of document.querySelectorAll('[role=alert], [role=status]')) new MutationObserver(() => window.told.push(part.textContent)).observe(part, {childList: true, characterData: true, subtree: true})`);
   await sleep(4000);
   const told = await browser.run('return window.told');
@@ -102,8 +111,8 @@ async function seen(see, browser, address) {
   if (await browser.run('return !document.querySelector("#alarms-rest").hidden')) await browser.click('#alarms-rest');
   await sleep(300);
   const found = await list(browser);
-  see('what was seen stays seen', String(found.filter(one => one[3]).map(one => one[0])) === 'wait.101' && found.length === 5, JSON.stringify(found));
-  see('and goes last', found[4]?.[0] === 'wait.101' && found[4][1].startsWith('□'), found[4]);
+  see('what was seen stays seen', String(found.filter(one => one[3]).map(one => one[0])) === 'wait.101' && found.length === 4, JSON.stringify(found));
+  see('and goes last', found[3]?.[0] === 'wait.101' && found[3][1].startsWith('□'), found[3]);
 }
 
 /** Limits of a group, and own groups. */

@@ -84,6 +84,26 @@ def waits(events):
                 left = None if kind != "nobody" else moment if left is None else left
 
 
+def alarms(events, now, limit, goal=80, lost=5, alone=False):
+    """By groups what ended in the last half hour, and since when the level and those who give up are an alarm, or nothing: each second in which that may change is looked at by itself."""
+    ended = defaultdict(list)
+    for _, group, how, moment, seconds, _ in waits(events):
+        if how != "left" and moment <= now:
+            ended[group].append((moment, how, seconds))
+    found = {}
+    for group, all_of_it in ended.items():
+        since = {"level": None, "lost": None}
+        for second in sorted({at for moment, _, _ in all_of_it for at in (moment, moment + 1800) if at <= now} | {now}):
+            here = [(how, seconds > limit) for moment, how, seconds in all_of_it if second - 1800 < moment <= second]
+            answered, within = sum(how == "answered" for how, _ in here), sum(how == "answered" and not is_late for how, is_late in here)
+            gave_up, late = len(here) - answered, sum(how == "abandoned" and is_late for how, is_late in here)
+            of = answered if alone else answered + late
+            is_bad = {"level": answered + late >= 10 and of > 0 and 100 * within / of < goal - 15, "lost": len(here) >= 10 and 100 * gave_up / len(here) > 2 * lost}
+            since = {name: (second if since[name] is None else since[name]) if is_bad[name] else None for name in since}
+        found[group] = [answered, gave_up, within, late, since["level"], since["lost"]]
+    return found
+
+
 def waiting(events):
     """By groups since when the caller waits who waits longest in the queue, or is rung for by it or at an agent to whom somebody sent the caller; and how many these are."""
     found, sent = {}, defaultdict(int)

@@ -67,6 +67,7 @@ export async function lead(see, browser, desk, front) {
   };
   see('a supervisor has no button', await shown('sup') === '{"agents":[],"calls":[],"queues":[]}', await shown('sup'));
   see('a lead has those of the own groups', await shown('lea') === '{"agents":["2","3"],"calls":["2","3","1"],"queues":["101","102"]}', await shown('lea'));
+  await chosen(see, browser, front);
   const {ask, yes} = hands(browser), agent = async id => (await desk.get(`/agents/${id}`)).state;
   await ask('agents', '#agents-list [data-key="3"] [data-press=state]', 'ready');
   await browser.press('\uE00C');
@@ -93,6 +94,32 @@ export async function lead(see, browser, desk, front) {
   await browser.run(`import('./act.js').then(({lead}) => { lead.begin({login: 'lea', role: 'lead', groups: ['100']}); lead.send('setGroupPriority', {device: '100', priority: 3}, 'Priority', 'Billing', '3'); })`);
   see('beyond the own groups it is refused', await until(async () => /■ .*may not/.test(await browser.text('#act-told')), 5) && (await desk.get('/snapshot')).groups.find(one => one.device === '100').priority !== 3, await browser.text('#act-told'));
   see('and does nothing', (await desk.get('/events?after=999999999999999')).last === before);
+}
+
+/** A lead begins with the own groups; others are chosen by name, and all of them stand in the address. */
+async function chosen(see, browser, front) {
+  const rows = () => browser.run('return [...document.querySelectorAll("#queues-table tbody tr")].map(row => row.dataset.key)'), has = async wanted => until(async () => String(await rows()) === wanted, 5);
+  await browser.fresh(front.page('lea', '/board/?since=0#queues'));
+  await live(browser);
+  see('a lead begins with the own groups', await has('101,102'), String(await rows()));
+  await browser.click('#settings summary');
+  await until(() => browser.find('#own-groups label'), 5);
+  const boxes = await browser.run('return [...document.querySelectorAll("#own-groups label")].map(one => `${one.querySelector("input").checked} ${one.textContent}`)');
+  see('they are chosen by name', String(boxes) === 'false all groups,false Billing (100),true Orders (101),true Returns (102)', String(boxes));
+  await browser.click('#own-groups [data-key="100"]');
+  see('another one is chosen', await has('100,101,102') && (await browser.run('return location.search')).includes('groups=100,101,102'), String(await rows()));
+  await browser.click('#own-groups [data-key="102"]');
+  see('and one left out', await has('100,101'), String(await rows()));
+  await browser.click('#own-groups [data-key="all"]');
+  see('all groups', await has('100,101,102') && (await browser.run('return location.search')).includes('groups=all') && await live(browser), await browser.run('return location.search'));
+  await browser.run('document.querySelector(\'#own-groups [data-key="101"] input\').focus()');
+  await browser.press(' ');
+  see('by a key too', await has('101'), String(await rows()));
+  await browser.fresh(front.page('sup', '/board/?since=0#queues'));
+  await live(browser);
+  see('a supervisor begins with all', await has('100,101,102') && !(await browser.run('return location.search')).includes('groups'), String(await rows()));
+  await browser.fresh(front.page('lea', '/board/?since=0#agents'));
+  await live(browser);
 }
 
 /** A caller who was sent to an agent and isn't answered: on the board with the own group, moved after a question of who isn't ready, and ended. */

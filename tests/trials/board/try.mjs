@@ -146,9 +146,9 @@ class Trial {
   }
 
   async alarms() {
-    const desk = await this.desk('alarms.db', troubles(Math.floor(Date.now() / 1000))), front = await this.front(desk);
+    const made = Math.floor(Date.now() / 1000), desk = await this.desk('alarms.db', troubles(made)), front = await this.front(desk);
     const browser = await this.browser();
-    await alarms(this.see, browser, desk, front.page('sup', '/board/'));
+    await alarms(this.see, browser, desk, front.page('sup', '/board/'), made);
     await browser.fresh(front.page('sup', '/board/?since=0#queues'));
     await live(browser);
     await hangs(this.see, browser, front, () => browser.text('#queues-table [data-key="101"] td:nth-child(4)'));

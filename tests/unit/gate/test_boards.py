@@ -139,7 +139,8 @@ class SightTest(unittest.TestCase):
         self.assertEqual(sight_of({}), Sight(0))
         self.assertEqual(sight_of({"begin": "1795388400", "limit": "20", "limit.100": "7.5", "groups": "110,100", "show": "day,events", "past": "5-9,1-2", "after": "x"}),
                          Sight(1795388400, (("", 20.0), ("100", 7.5)), frozenset({"100", "110"}), frozenset({"day", "events"}), ((5, 9), (1, 2))))
-        for name, value in (("begin", "-1"), ("begin", "x"), ("limit", ""), ("limit.100", "1e3"), ("groups", "100,"), ("show", "all"), ("past", "5"), ("past", "1-2,3-4,5-6")):
+        self.assertEqual(sight_of({"groups": "all", "goal": "90", "goal.100": "75", "lost": "3", "level": "answered"}), Sight(0, goals=(("", 90.0), ("100", 75.0)), losts=(("", 3.0),), alone=True))
+        for name, value in (("goal.100", "-1"), ("lost", "x"), ("level", "all"), ("begin", "-1"), ("begin", "x"), ("limit", ""), ("limit.100", "1e3"), ("groups", "100,"), ("show", "all"), ("past", "5"), ("past", "1-2,3-4,5-6")):
             with self.assertRaises(ValueError, msg=(name, value)):
                 sight_of({name: value})
 
@@ -164,6 +165,16 @@ def a_day():
     return [event(1, event="queued", call=1, device="100", cause="newCall"), event(2, event="queued", call=2, device="100", cause="newCall"),
             event(3, event="diverted", call=1, device="100", to="200", group="100", cause="distributed"), event(4, event="established", call=1, device="200", group="100", waited=3),
             event(5, event="agentBusy", agent="7", device="200"), event(6, event="connectionCleared", call=2, device="100"), event(7, event="callCleared", call=2, group="100")]
+
+
+def losses(now):
+    """Ten callers who enter 100 and give up after 30 s, one a minute, the last one so many seconds before."""
+    found = [{"number": 1, "moment": now - 900, "event": "agentLoggedOn", "agent": "7", "device": "200", "group": "100"}]
+    for call in range(1, 11):
+        came = now - 600 + 60 * (call - 1) - 30
+        found += [{"number": 0, "moment": came, "event": "queued", "call": call, "device": "100", "cause": "newCall"}, {"number": 0, "moment": came + 30, "event": "connectionCleared", "call": call, "device": f"03{call}"},
+                  {"number": 0, "moment": came + 30, "event": "connectionCleared", "call": call, "device": "100"}, {"number": 0, "moment": came + 30, "event": "callCleared", "call": call, "group": "100"}]
+    return [{**event, "number": number} for number, event in enumerate(found, 1)]
 
 
 class BoardsTest(unittest.IsolatedAsyncioTestCase):
@@ -254,6 +265,18 @@ class BoardsTest(unittest.IsolatedAsyncioTestCase):
             await asyncio.gather(*found.tasks)
         found.turn(200)
         self.assertEqual((self.table(view, "day")["share"], self.table(view, "sums")["100"][0]), (1, 2))
+
+    async def test_the_last_half_hour(self):
+        """Ten gave up, the tenth in 1,570: it is an alarm since then, also of the half hour before a day begins; half an hour later the first is over."""
+        asked = Asked(losses(1600))
+        self.ruled.clock = lambda: 1600.0
+        found, (view, other, late) = await self.begun(asked, Sight(0), Sight(1550), Sight(0, (("", 40.0),), losts=(("", 60.0),)), last=41)
+        self.assertEqual(self.table(view, "recent"), {"100": [0, 10, 0, 10, 1540, 1540]})
+        self.assertEqual(self.table(other, "recent"), {"100": [0, 10, 0, 10, 1540, 1540]})
+        self.assertEqual(self.table(late, "recent"), {"100": [0, 10, 0, 0, None, None]})
+        self.ruled.clock = lambda: 1000.0 + 1800.0
+        found.turn(102)
+        self.assertEqual(self.table(view, "recent"), {"100": [0, 9, 0, 9, None, None]})
 
     async def test_another_day(self):
         """It ends, and isn't there where its beginning is in an archive."""
