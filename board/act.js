@@ -36,7 +36,7 @@ export const lead = {
   may({group, state}) { return group !== null && this.groups.has(group) && ['queued', 'alerting', 'connected', 'hold'].includes(state); },
 
   async ofAgent(state, agent) {
-    const who = named(state.agent(agent).name || agent), requested = await ask(word('act.state', {who}), ['ready', 'notReady', 'loggedOff'].map(one => [one, word(`agent.${one}`)]));
+    const who = named(state.agent(agent).name || agent), requested = await ask(word('act.state', {who}), ['ready', 'notReady', 'loggedOff'].map(one => [one, word(`agent.${one}`)]), 'ready', 'head.state');
     if (requested) await this.send('setAgentState', {agent, requested}, word(`agent.${requested}`), who);
   },
 
@@ -55,7 +55,7 @@ export const lead = {
   },
 
   async ofGroup(state, device) {
-    const {name, priority: has} = state.group(device), group = named(name || device), priority = await ask(word('act.priority.sure', {group}), [...'0123456789'].map(one => [one, one]), `${has}`);
+    const {name, priority: has} = state.group(device), group = named(name || device), priority = await ask(word('act.priority.sure', {group}), [...'0123456789'].map(one => [one, one]), `${has}`, 'head.priority');
     if (priority) await this.send('setGroupPriority', {device, priority: Number(priority)}, word('head.priority'), group, priority);
   },
 
@@ -81,9 +81,9 @@ function show(text = '') {
 
 // Asks for a yes, and a choice; null for no.
 /** @type {Asks} */
-const ask = (question, choices = [], chosen = choices[0]?.[0]) => {
+const ask = (question, choices = [], chosen = choices[0]?.[0], what = 'act.to') => {
   const dialog = byId('act'), options = choices.map(([value, text]) => make('option', {value}, text));
-  put(dialog.firstElementChild, make('p', question), make('label', {hidden: !choices.length}, make('span', word('act.to')), ' ', make('select', ...options)),
+  put(dialog.firstElementChild, make('p', question), make('label', {hidden: !choices.length}, make('span', word(what)), ' ', make('select', ...options)),
     make('menu', make('button.main', {value: 'yes'}, word('act.yes')), make('button', {value: ''}, word('act.no'))));
   const select = dialog.querySelector('select');
   select.value = chosen;

@@ -89,12 +89,12 @@ const textOf = ({text, seconds, share, severity, day}, line) => {
   return (is === 'long' || is === 'bad' ? `${SIGN[is]} ` : '') + (seconds ? clock : percent)(figure(line));
 };
 
-// The same in a file: seconds are whole, a share has four digits.
+// The same in a file: seconds are whole, a share is in percent, with two digits.
 /** @type {CellOf} */
 const fileCell = (column, line) => {
-  const {file, seconds, share} = column, parts = share ? 1e4 : 1, figure = seconds ?? share;
+  const {file, seconds, share} = column, figure = seconds ?? share;
   const value = file ? file(line) : !figure ? textOf(column, line) : line.counted ? figure(line) : null;
-  return typeof value !== 'number' ? plain(value ?? '') : figure ? Math.round(parts * value) / parts : value;
+  return typeof value !== 'number' ? plain(value ?? '') : share ? Math.round(1e4 * value) / 100 : seconds ? Math.round(value) : value;
 };
 
 // A table with a row for each line; main.js does what its buttons are pressed for.

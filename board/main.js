@@ -8,9 +8,9 @@ import {Day} from './figures.js';
 import {listen} from './hear.js';
 import {callLines, groupLines, totals} from './lines.js';
 import {logIn, logOut, openSession} from './session.js';
-import {chosenOf, dayBegin, FIELDS, FILTERS, limitsSaid, searchOf, settings, settingsOf, usualGroups, valueOf} from './settings.js';
+import {chosenOf, dateOf, dayBegin, FIELDS, FILTERS, limitsSaid, searchOf, settings, settingsOf, usualGroups, valueOf} from './settings.js';
 import {soundWhere} from './sound.js';
-import {fault, office, refusal, translate, word} from './words.js';
+import {faults, office, refusal, translate, word} from './words.js';
 import * as agents from './views/agents.js';
 import * as alarms from './views/alarms.js';
 import * as calls from './views/calls.js';
@@ -199,9 +199,9 @@ set('fields', {onchange: change, onsubmit: event => event.preventDefault()});
 put('filters', ...FILTERS.map(([views, ...setting]) => labelled(setting, {'data-for': views, oninput: () => filter({[setting[0]]: field(setting[0]).value})})),
   make('label', {'data-for': 'events'}, make('input', {type: 'checkbox', id: 'events-hold'}), make('span', word('filter.hold'))),
   make('div', {id: 'states', role: 'group', 'aria-label': word('filter.states'), 'data-for': 'agents'}));
-put('fault', fault && word('fault.office', {what: fault}));
+put('fault', faults.length > 0 && word('fault.office', {what: faults.join(', ')}));
 set('skip', {onclick: event => { event.preventDefault(); byId('main').focus(); }});
-set('csv', {onclick: () => { if (drawn) save(`${view}-${new Date(serverClock() * 1000).toISOString().slice(0, 10)}.csv`, VIEWS[view].file(drawn)); }});
+set('csv', {onclick: () => { if (drawn) save(`${view}-${dateOf(serverClock())}.csv`, VIEWS[view].file(drawn)); }});
 soundWhere(() => Boolean(settings.tone));
 addEventListener('hashchange', show);
 addEventListener('resize', redraw);
@@ -209,6 +209,7 @@ setInterval(() => { drawTop(); schedule(); }, 1000);
 useSettings();
 show();
 openSession(logOut).then(who => {
+  if (who.role === 'agent' && who.reads === 'own') location.replace(`agent/${location.search}`);
   lead.begin(who);
   if (usualGroups([...lead.groups].join(','))) {
     useSettings();

@@ -1,11 +1,13 @@
 // A board's settings are in its address, as a bookmark; others are as the office says, or as here.
-import {office} from './words.js';
+import {faults, office} from './words.js';
 
 export const USUAL = {
   // a group may have its own: `long.100`
   limit: 20, goal: 80, lost: 5, long: 60, bad: 120,
   // seconds from which on it is long that an agent does this
   ringing: 15, busy: 900, hold: 120, own: 600, workingAfterCall: 180, notReady: 900,
+  // the wall has so many rows at least, in smaller letters where they don't fit
+  rows: 1,
   title: '', lang: '', since: '00:00', theme: '', groups: '', level: '', tone: '', notify: '',
   // filters
   group: '', find: '', states: '', sort: '', beside: '',
@@ -40,6 +42,7 @@ export const settingsOf = (said, before) => {
 };
 
 const usual = settingsOf(Object.entries(office.limits));
+for (const [name, text] of Object.entries(office.limits)) if (valueOf(name, text) === undefined) faults.push(`limits.${name}`);
 export const settings = settingsOf(new URLSearchParams(location.search), usual);
 
 // what differs from the usual
@@ -77,6 +80,9 @@ const clock = new Intl.DateTimeFormat('sv', {timeZone: office.zone, dateStyle: '
 
 // What the office's clock shows, or else the browser's, as seconds since 1970.
 export const shown = (moment = 0) => Date.parse(`${clock.format(moment * 1000).replace(' ', 'T')}Z`) / 1000;
+
+// The day on the office's clock, 2026-11-28 say.
+export const dateOf = (moment = 0) => clock.format(moment * 1000).slice(0, 10);
 
 // When the day begins, so many days before: as late as the setting says; or a moment since 1970.
 export function dayBegin(now = 0, back = 0) {

@@ -119,7 +119,8 @@ export type Charts = (steps: Quarter[], then: string | undefined, settings: Sett
 export type Chart = (steps: Quarter[], title: string, series: Series[], times?: number, top?: number, goal?: number) => Part;
 export type SettingsOf = (said: Iterable<[string, string]>, before?: Settings) => Settings;
 export type Labelled = (setting: string[], attributes?: Attributes) => Part;
-export type Asks = (question: string, choices?: string[][], chosen?: string) => Promise<string | null>;
+/** what: the word for what is chosen */
+export type Asks = (question: string, choices?: string[][], chosen?: string, what?: string) => Promise<string | null>;
 
 // who leads groups
 export type LeadOf = {groups: Set<string>, requester: string, invoke: number, begin(who: Who): void, leads(agent: Agent): boolean, may(line: Call): boolean,

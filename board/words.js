@@ -368,30 +368,47 @@ function keyed(text = '') {
 /** @returns {string[][]} */
 const flat = (said = {}, area = '') => Object.entries(said).flatMap(([name, one]) => typeof one === 'string' ? [[area + name, one]] : flat(one, `${area}${name}.`));
 
-// The office's settings of its pages, of /etc/acd/board.json; `fault` names the file or a member that can't be used.
+// The office's settings of its pages, of /etc/acd/board.json; `faults` names the file, or each member that can't be used.
 const PATIENCE = 3000, LONGEST = 80;
 
 /** @returns {Record<string, string>} */
 const texts = (said = {}) => Object.fromEntries(Object.entries(said ?? {}).flatMap(([name, value]) => ['string', 'number'].includes(typeof value) ? [[name, String(value).slice(0, LONGEST)]] : []));
 
+// Which members of an object are none of these, or aren't of the form that they have to be.
+const strange = (/** @type {any} */ said, area = '', known = (/** @type {string} */ name, /** @type {any} */ value) => false) => said === undefined ? [] :
+  said?.constructor !== Object ? [area.slice(0, -1)] : Object.entries(said).flatMap(([name, value]) => known(name, value) ? [] : area + name);
+
+const isText = (/** @type {any} */ value) => ['string', 'number'].includes(typeof value);
+
 function officeOf(text = '') {
-  let said, fault = '';
+  let said;
+  /** @type {string[]} */ const faults = [];
   try { said = JSON.parse(text); } catch { /* a fault, as any other that is no object */ }
-  if (said?.constructor !== Object) [said, fault] = [{}, 'board.json'];
-  const given = texts(said), {names, limits} = said, drop = (name = '') => { delete given[name]; fault = name; };
+  if (said?.constructor !== Object) {
+    said = {};
+    faults.push('board.json');
+  }
+  const given = texts(said), {names, limits} = said, drop = (name = '') => { delete given[name]; faults.push(name); };
+  faults.push(...strange(said, '', (name, value) => ['title', 'language', 'zone'].includes(name) ? isText(value) : ['names', 'limits'].includes(name)), ...strange(limits, 'limits.', (_, value) => isText(value)),
+    ...strange(names, 'names.', name => ['groups', 'agents', 'stations'].includes(name)), ...['groups', 'agents', 'stations'].flatMap(name => strange(names?.[name], `names.${name}.`, (_, value) => isText(value))));
   if (!/^[a-z]{2,3}$/.test(given.language ?? 'en')) drop('language');
   try { new Intl.DateTimeFormat('en', {timeZone: given.zone}); } catch { drop('zone'); }
-  return {office: {title: given.title, language: given.language, zone: given.zone, limits: texts(limits), names: {groups: texts(names?.groups), agents: texts(names?.agents), stations: texts(names?.stations)}}, fault};
+  return {office: {title: given.title, language: given.language, zone: given.zone, limits: texts(limits), names: {groups: texts(names?.groups), agents: texts(names?.agents), stations: texts(names?.stations)}}, faults};
 }
 
-const reply = await ask('/board/board.json', {cache: 'no-cache'}, PATIENCE).catch(() => null);
-export const {office, fault} = officeOf(reply?.status === 200 ? reply.text : '{}');
+const reply = await ask('/board/board.json', {cache: 'no-cache'}, PATIENCE).catch(() => null), isTold = reply?.status === 200;
+export const {office, faults} = officeOf(isTold ? reply.text : '{}');
+// a page without a session, that of log-in, speaks as the last one did, or as the browser
+if (isTold) localStorage['acd-language'] = office.language ?? 'en'; else office.language = localStorage['acd-language'] ?? navigator.language.slice(0, 2);
 
 export const query = new URLSearchParams(location.search);
 const asked = query.get('lang') ?? '';
 export let language = /^[a-z]{2,3}$/.test(asked) ? asked : office.language ?? 'en';
 let chosen = ENGLISH;
-if (language !== 'en') try { chosen = Object.fromEntries(flat((await import(`./words/${language}.js`)).default)); } catch { language = 'en'; }
+if (language !== 'en') try { chosen = Object.fromEntries(flat((await import(`./words/${language}.js`)).default)); } catch {
+  if (isTold && language === office.language) faults.push('language');
+  language = 'en';
+}
 document.documentElement.lang = language;
 // Britain's English has 24 hours
 const locale = language === 'en' ? 'en-GB' : language, dates = (how = {}) => new Intl.DateTimeFormat(locale, {timeZone: office.zone, ...how});

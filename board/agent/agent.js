@@ -144,7 +144,8 @@ function take({told, kind, ahead: clock, received}) {
   // it is alive, and has never known the desk
   if (!mine && kind === 'change') return;
   mine = taken(mine, told, kind === 'picture');
-  if (mine.live) known = received;
+  // of a desk that doesn't answer when it last did, or nothing where the gate doesn't know
+  if (mine.live) known = received; else known ||= 1000 * told.answered && 1000 * told.answered - clock;
   if (told.names && mine.names) takeNames(mine.names);
   if (mine.live && acts && !begun) requests.takeUp();
   begun ||= mine.live;
@@ -188,12 +189,15 @@ function draw() {
   const {agent, calls, groups} = mine, {state, device, pending, name} = agent, moment = now(), isLiving = isLive(), may = acts && isLiving ? states(mine) : new Set();
   const offer = isLiving ? offerOf(moment) : undefined, {doing: does, since} = mine.doing, left = wrapLeft(mine, moment), {sign, words} = DOING[does];
   put('name', withNumber({id, name: office.names.agents[id] ?? name}));
-  put('states', ...STATES.map(requested => make('button', {'data-requested': requested, disabled: !may.has(requested) || requests.out.has(requested), onclick: () => ask(requested)}, say(requested))));
+  put('states', ...STATES.map(requested => make('button', {'data-requested': requested, 'aria-disabled': may.has(requested) && !requests.out.has(requested) ? false : 'true', onclick: () => { if (may.has(requested)) ask(requested); }}, say(requested))));
   const hidden = {'at-station': !device, 'own-queues': !device, states: !device || !acts, 'log-on': state !== 'null' || !acts, dial: !acts || !isLiving || !isFree(mine), 'no-calls': calls.length > 0};
+  const wasHidden = byId('states').hidden;
   for (const [part, is] of Object.entries(hidden)) set(part, {hidden: is});
   drawLogOn(agent, may.has('loggedOn') && !requests.out.has('loggedOn'));
   set('state', {'data-doing': does});
-  put('state', make('span', {'aria-hidden': 'true'}, sign), ' ', make('span', state ? words : say('notPlanned')), ' ', make('time', device && clock(moment - since)));
+  put('state', make('span', {'aria-hidden': 'true'}, sign), ' ', make('span', {id: 'state-words', role: 'status'}, state ? words : say('notPlanned')), ' ', make('time', device && clock(moment - since)));
+  // who has just logged on or off by a key goes on from there
+  if (wasHidden !== byId('states').hidden && [document.body, null].includes(/** @type {any} */ (document.activeElement))) byId(device ? 'states' : 'log-on').querySelector('button:not([hidden])')?.focus();
   put('pending', joined(left !== null && (left > 0 ? say('readyIn', {clock: clock(Math.ceil(left))}) : say('readySoon')), pending && word(`pending.${pending}`), device && say('at', {station: device})));
   set(document.body, {'data-rings': Boolean(offer)});
   ring(offer);

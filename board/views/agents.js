@@ -4,8 +4,9 @@ import {AS_IT_IS, byId, make, put, set, table, withNumber} from '../draw.js';
 import {chosenAgents, noCounts, search} from '../lines.js';
 import {clock, DOING, named, word} from '../words.js';
 
-const SORTED_EVERY = 5000, KINDS = /** @type {Doing[]} */ (Object.keys(DOING));
-let sorted = 0, how = '', redraw = () => {}, places = [''];
+// a table of so many is written anew less often
+const MANY = 100, DAYS_EVERY = 5000, SORTED_EVERY = 5000, KINDS = /** @type {Doing[]} */ (Object.keys(DOING));
+let sorted = 0, told = 0, how = '', redraw = () => {}, places = [''];
 
 // tiles on the screen, or near to it
 const seen = new Set(), watcher = new IntersectionObserver(entries => {
@@ -36,7 +37,10 @@ export function draw(drawn) {
   put('states', ...KINDS.map(doing => make('button', {'data-doing': doing, 'aria-pressed': `${wanted.has(doing)}`, onclick: () => filter({states: `${KINDS.filter(one => wanted.has(one) !== (one === doing))}`})}, `${does({doing})} ${counts[doing]}`)));
   drawn.empty(shown.length ? '' : word(find || wanted.size ? 'agents.none' : 'agents.nobody'));
   set('agents-details', {ontoggle: redraw});
-  if (byId('agents-details').open) drawDays(drawn, shown);
+  if (byId('agents-details').open && (shown.length < MANY || Date.now() - told > DAYS_EVERY)) {
+    told = Date.now();
+    drawDays(drawn, shown);
+  }
 }
 
 /** @param {Drawn} drawn */

@@ -4,8 +4,8 @@ import {byId, make, put, set, table, withNumber} from '../draw.js';
 import {averageHandling, averageWait} from '../figures.js';
 import {clock, named, office, percent, SIGN, waits, word} from '../words.js';
 
-// rows of the wall grow to so many times the least
-const SORTED_EVERY = 5000, GROWS = 1.9;
+// rows of the wall grow and shrink to so many times their size
+const SORTED_EVERY = 5000, GROWS = 1.9, LEAST = 0.35;
 
 // A share of the day, and what it means.
 /** @type {Judged} */
@@ -40,6 +40,7 @@ const rows = table('queues-table', [
   {head: 'handling wide', seconds: averageHandling},
   'priority least',
   'closed least day',
+  {head: 'number filed', text: line => line.id},
   {head: 'act words lead', press: 'priority'},
 ]);
 
@@ -60,7 +61,7 @@ let sorted = 0, shown = 0, place = 0, places = [''];
 /** @type {View} */
 export const wall = {
   file: wallRows.file,
-  draw({lines, counted, state}, anew) {
+  draw({lines, counted, state, settings}, anew) {
     const late = anew || Date.now() - sorted > SORTED_EVERY || places.length !== lines.length;
     if (late) {
       sorted = Date.now();
@@ -69,25 +70,32 @@ export const wall = {
     const found = places.flatMap(key => lines.filter(({id}) => id === key).map(line => ({...line, counted, goes: goes(state, line), key})));
     wallRows.draw(found);
     const {top} = byId('wall-table').tBodies[0].getBoundingClientRect();
-    if (late || top !== place) fit(place = top);
+    if (late || top !== place) fit(place = top, settings.rows);
     const rest = found.slice(shown);
     put('wall-rest', rest.length > 0 && word('wall.rest', {n: rest.length, waiting: rest.reduce((sum, {waiting}) => sum + waiting, 0)}));
   },
 };
 
-// Shows what has room; few rows grow. A page that may be scrolled shows all.
-function fit(top = 0) {
+// Shows what has room; few rows grow, and more shrink where so many are wanted. A page that may be scrolled shows all.
+function fit(top = 0, least = 1) {
   const whole = byId('wall-table'), rows = [...whole.tBodies[0].rows], scrolls = getComputedStyle(document.body).overflowY !== 'hidden', room = innerHeight - top - 8;
   const hide = () => rows.forEach((row, number) => set(row, {hidden: number >= shown}));
   whole.style.removeProperty('--grow');
   shown = rows.length;
   hide();
-  const ends = rows.map(row => row.getBoundingClientRect().bottom - top), all = ends[shown - 1];
+  const measured = () => rows.map(row => row.getBoundingClientRect().bottom - top);
+  let ends = measured();
   if (scrolls) return;
+  const last = ends[Math.min(least, rows.length) - 1], wanted = least < rows.length ? last + ends[0] : last, shrinks = least > 1 && wanted > room;
+  if (shrinks) {
+    whole.style.setProperty('--grow', Math.max(LEAST, room / wanted - 0.02).toFixed(2));
+    ends = measured();
+  }
+  const all = ends[shown - 1];
   // a line below says what the others have
   if (all > room) shown = Math.max(1, ends.filter(end => end <= room - 0.8 * ends[0]).length);
   hide();
-  if (shown === rows.length) for (let grow = Math.min(GROWS, room / all), wide = 1; grow > 1; grow /= Math.max(wide, 1.05)) {
+  if (shown === rows.length && !shrinks) for (let grow = Math.min(GROWS, room / all), wide = 1; grow > 1; grow /= Math.max(wide, 1.05)) {
     whole.style.setProperty('--grow', grow.toFixed(2));
     wide = whole.offsetWidth / byId('totals').offsetWidth;
     if (wide <= 1 && whole.getBoundingClientRect().bottom <= innerHeight) break;

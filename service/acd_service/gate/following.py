@@ -25,6 +25,8 @@ from acd_service.gate.texts import agent_text, groups_of, names_text, place_text
 # that is away; until pages learn that the desk is away, until the gate answers a question without news, and for how
 # long it follows the desk after the last question
 LEAST, EVERY, RENEW, AGAIN = 0.05, 0.2, 30, 1
+# the same after a request that changes what no event tells, and what such a request has in its text
+SOON, PLANS = 2, (b"setGroupPriority", b"changeGroup", b"changeAgent", b"addGroup", b"addAgent", b"addStation")
 AWAY, HELD, WANTED = 2, 20, 60
 # the gate sends the names, which are long, to all pages once in this time at most
 NAMES_EVERY = 10
@@ -81,9 +83,10 @@ class Following:
         self.answered, self.renewed, self.began, self.heard, self.live = 0.0, 0.0, 0.0, 0.0, False
         self.spoke = 0.0
         self.state: State | None = None
-        # the last report; and whether the desk that answered last is another one, which is there and is read at once
+        # the last report; whether the desk that answered last is another one, which is there and is read at once; and
+        # whether something was asked for that no report tells
         self.seen: Text | None = None
-        self.is_other = False
+        self.is_other = self.is_stale = False
         self.days = Days(clock())
         # numbers that no earlier gate gave, unless the clock was set back; the epoch is another one for another desk
         self.number = self.epoch = int(clock() * 1000)
@@ -155,8 +158,9 @@ class Following:
     async def renewed_state(self) -> State:
         """The state, by a new snapshot where the last one is too old."""
         before = self.state
-        if before is not None and time.monotonic() - self.renewed < RENEW:
+        if before is not None and time.monotonic() - self.renewed < (SOON if self.is_stale else RENEW):
             return before
+        self.is_stale = False
         while before is not None and await self.take_page(before):
             pass
         snapshot = await self.page("/snapshot")
@@ -301,6 +305,8 @@ class Following:
         """The desk has answered somebody's request: the reply has the pending state, which no event names."""
         if self.task is None:
             return
+        # names, priorities and new groups have no event
+        self.is_stale |= any(service in body for service in PLANS) and b'"error"' not in reply
         if b'"pending"' in reply and self.state is not None:
             with contextlib.suppress(ValueError, KeyError, TypeError, AttributeError):
                 agent = self.state.agents[json.loads(body)["agent"]]

@@ -9,7 +9,7 @@ import {AGENT, button, Hands, refused, requested, shift, STATION} from './shift.
 const F2 = '\uE032', F8 = '\uE038';
 
 /** In their order; from the second on up to the console they need an agent who is logged on. */
-export const PARTS = {shift, lastLogOn, rings, hidden, secondClicks, missedOffer, places, sentOn, day, lost, lostReply, tooOld, otherLogOn, olderPage, quiet, owners, words, layout, session};
+export const PARTS = {shift, lastLogOn, byKeys, rings, hidden, secondClicks, missedOffer, places, sentOn, day, lost, lostReply, tooOld, otherLogOn, olderPage, quiet, owners, words, layout, session};
 
 export async function agentsPage(see, browser, desk, front, folder, only = Object.keys(PARTS)) {
   const hands = new Hands(see, browser, desk, front);
@@ -32,6 +32,25 @@ async function lastLogOn(hands) {
   await hands.click('#again:enabled', `✓ Log on at ${STATION}`);
   const agent = await until(async () => { const {agent} = await hands.mine(); return agent.device && agent; }, 5);
   hands.see('it did', agent.device === STATION && String(agent.groups) === '100,110', JSON.stringify(agent));
+}
+
+/** By keys alone: what has the focus at a log-on, a change of state and a log-off; a button that doesn't apply keeps it, and a change is read out. */
+async function byKeys(hands) {
+  const {see, browser} = hands, focused = () => browser.run('return document.activeElement.dataset.requested ?? document.activeElement.id');
+  await hands.click(requested('loggedOff'), '✓ Log off');
+  await until(() => browser.find('#again:enabled'), 10);
+  await sleep(450);
+  await browser.run('document.querySelector("#again").focus()');
+  await browser.press('\uE007');
+  await hands.said('✓ Log on at');
+  see('behind a log-on the states have the focus', Boolean(await until(async () => await focused() === 'ready', 5)), await focused());
+  await browser.run(`window.said = []; const words = document.querySelector('#state-words'); new MutationObserver(() => window.said.push(words.textContent)).observe(words, {childList: true, characterData: true, subtree: true})`);
+  await sleep(450);
+  await browser.press('\uE007');
+  await hands.said('✓ Ready');
+  see('the button that was pressed keeps it', await focused() === 'ready' && await browser.run('return document.activeElement.getAttribute("aria-disabled") === "true"'), await focused());
+  await hands.ask('setAgentState', {agent: AGENT, requested: 'notReady'});
+  see('what others change is read out', Boolean(await until(async () => String(await browser.run('return said')) === 'ready,not ready', 5)) && await browser.run('return document.querySelector("#state-words").role') === 'status', String(await browser.run('return said')));
 }
 
 /** Counts what makes itself noticed: tones, notifications, changes of the live region and of the title. */
@@ -221,7 +240,7 @@ async function sentOn(hands) {
     await until(() => browser.find('#calls [data-state=alerting]'), 10);
   };
   await pass();
-  await hands.sees('it says where the caller comes from', '#calls li', 'direct to you · Orders', 5);
+  await hands.sees('it says where the caller comes from', '#calls li', 'to you · Orders', 5);
   see('Answer, Back and Pass on', String(await buttons()) === 'Answer F2,Back F8,Pass on', String(await buttons()));
   await sleep(450);
   await browser.press(F8);
@@ -283,7 +302,7 @@ async function lost(hands) {
   desk.child.kill('SIGSTOP');
   await hands.sees('a desk that hangs is told', '#status-text', 'What you see is old: the desk does not answer', 8);
   see('its age stands beside, where no reader reads it each second', await browser.run(`const age = document.querySelector('#status-age'); return /old$/.test(age.textContent) && !age.closest('[role=status], [role=alert]')`));
-  see('buttons are off', await browser.run('return [...document.querySelectorAll("#states button")].every(button => button.disabled)'));
+  see('buttons are off', await browser.run('return [...document.querySelectorAll("#states button")].every(button => button.ariaDisabled === "true")'));
   await sleep(8000);
   const stood = await clock();
   await sleep(2500);

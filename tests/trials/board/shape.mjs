@@ -113,6 +113,11 @@ async function wall(see, browser, page) {
   const minutes = size => size * 0.73 * 0.634 / 1.454;
   see('rows of 16 minutes of arc, heads of 10, the status of 10', minutes(sizes[0]) >= 16 && minutes(sizes[1]) >= 10 && minutes(sizes[2]) >= 10, sizes.map(minutes).map(one => one.toFixed(1)));
   see('and some groups have room, though their names are long', sizes[3] >= 3, sizes[3]);
+  await browser.open(page('?since=0&rows=12#wall'));
+  await live(browser);
+  await sleep(600);
+  const [twelve, sideways] = [await browser.run(`return document.querySelectorAll('#wall-table tbody tr:not([hidden])').length`), (await browser.run(FITS)).wide];
+  see('twelve groups, where so many are wanted', twelve >= 12 && !sideways.length, `${twelve} ${sideways}`);
   await browser.open(page('?since=0&groups=100,101,102#wall'));
   await live(browser);
   await sleep(600);
@@ -126,7 +131,9 @@ async function office(see, browser, page, file) {
   for (const [what, text, wanted] of [
     ['no JSON', '{"title": ', "board.json of the office can't be used: board.json,Help line,en,20,0"], ['a list', '[1]', "board.json of the office can't be used: board.json,Help line,en,20,0"],
     ['no zone', '{"zone":"Mars/Base","title":"T"}', "board.json of the office can't be used: zone,T,en,20,0"],
-    ['all of it', '{"title":"Nord","language":"de","zone":"Europe/Berlin","limits":{"limit":45,"long.100":30,"bad":"soon"}}', 'false,Nord,de,45,30'], ['nothing', '{}', 'false,Help line,en,20,0']]) {
+    ['all of it', '{"title":"Nord","language":"de","zone":"Europe/Berlin","limits":{"limit":45,"long.100":30}}', 'false,Nord,de,45,30'],
+    ['what is not in its table', '{"titel":"x","limits":{"limit":"abc","foo":3,"long":30},"names":{"groups":[1,2],"agents":{"7":[]},"teams":{}}}', "board.json of the office can't be used: titel, names.teams, names.groups, names.agents.7, limits.limit, limits.foo,Help line,en,20,0"],
+    ['a language without words', '{"language":"xx"}', "board.json of the office can't be used: language,Help line,en,20,0"], ['nothing', '{}', 'false,Help line,en,20,0']]) {
     await writeFile(file, text);
     await browser.fresh(page('#queues'));
     await live(browser);

@@ -28,16 +28,19 @@ export async function sheets(see, browser, desk, address) {
     see(`${view} as a file`, String(begins) === '239,187,191' && new RegExp(`^${view}-[0-9-]+\\.csv$`).test(name) && rows.length > 2 && rows[1].length === rows[0].length, `${name} ${rows.length}`);
   }
   const {rows: [head, ...rows]} = await sheet(browser, 'queues'), report = reportLines(await desk.get('/reports/queues')), of = name => head.indexOf(name);
+  see('numbers beside names', rows.every((row, place) => row[of('Number')] === report[place][0]), String(rows[0]));
+  const shares = rows.map((row, place) => [Number(row[of('Lost, %')]), report[place]]).filter(([, line]) => Number(line[4]) + Number(line[5]) > 0);
+  see('a share is in percent', shares.some(([share]) => share > 1), String(shares[0]));
   const wrong = rows.filter((row, place) => String(['Entered', 'Answered', 'Abandoned', 'Moved'].map(name => row[of(name)])) !== String(report[place].slice(3, 7)));
   see('the file of queues has the report\'s figures', rows.length === report.length && !wrong.length, String(wrong[0]));
-  see('times in seconds, shares as numbers', rows.every(row => /^\d*(\.\d+)?$/.test(row[of('Speed of answer')]) && /^[01]?(\.\d+)?$/.test(row[of('In time')])), String(rows[0]));
+  see('times in seconds, shares as numbers', rows.every(row => /^\d*(\.\d+)?$/.test(row[of('Speed of answer')]) && /^(\d{1,3}(\.\d{1,2})?)?$/.test(row[of('In time')])), String(rows[0]));
   const {field} = await browser.run(`return import('./csv.js').then(({field}) => ({field: ['=1+1', '037676944', '@x', 'a,b', 'a"b', '-3', '-', 'plain'].map(field)}))`);
   see('nothing is a formula, and no 0 is lost', String(field) === String(["'=1+1", "'037676944", "'@x", '"a,b"', '"a""b"', "'-3", '-', 'plain']), String(field));
   await browser.fresh(`${address}?since=0&lang=de#queues`);
   await live(browser);
   await browser.run(KEPT);
   const german = await sheet(browser, 'queues', ';');
-  see('German parts by semicolons, and has commas', german.rows.length === rows.length + 1 && german.rows.slice(1).some(row => row.some(cell => /^0,\d+$/.test(cell))), String(german.rows[1]));
+  see('German parts by semicolons, and has commas', german.rows.length === rows.length + 1 && german.rows.slice(1).some(row => row.some(cell => /^\d+,\d+$/.test(cell))), String(german.rows[1]));
 }
 
 /** A call that has just come has its caller at once, though no event tells it. */

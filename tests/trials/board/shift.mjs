@@ -15,7 +15,7 @@ export const PLAN = [
   {service: 'addGroup', device: '130', name: 'Quick', ring: 2, wrap: 12},
 ].map((request, number) => `0 ${JSON.stringify({requester: 'plan', invoke: number + 1, ...request})}`);
 
-export const button = name => `#calls [data-service=${name}]:enabled:not([hidden])`, requested = name => `#states [data-requested=${name}]:enabled`;
+export const button = name => `#calls [data-service=${name}]:enabled:not([hidden])`, requested = name => `#states [data-requested=${name}]:not([aria-disabled])`;
 
 /** What the trials do with a page of the agent. */
 export class Hands {

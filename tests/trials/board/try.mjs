@@ -1,11 +1,12 @@
 // What tests/trials/try-board does, in its order.
 import {execFileSync, spawnSync} from 'node:child_process';
-import {readdirSync, statSync} from 'node:fs';
+import {readdirSync, readFileSync} from 'node:fs';
 import {cp, mkdir, mkdtemp, rm, writeFile} from 'node:fs/promises';
 import {existsSync} from 'node:fs';
 import {createServer} from 'node:net';
 import {join, resolve} from 'node:path';
 import {pathToFileURL} from 'node:url';
+import {gzipSync} from 'node:zlib';
 import {Browser, sleep} from './browser.mjs';
 import {aDay, Desk, Front, missing, run, TOP} from './desk.mjs';
 import {buttons} from './buttons.mjs';
@@ -23,7 +24,7 @@ import {agentsPage} from './agent.mjs';
 import {PLAN} from './shift.mjs';
 
 const NEEDED = {chromedriver: 'chromium-driver', chromium: 'chromium', nginx: 'nginx-light', tsc: 'node-typescript', openssl: 'openssl', curl: 'curl', python3: 'python3'};
-const PARTS = ['files', 'gate', 'show', 'lines', 'buttons', 'board', 'alarms', 'words', 'shape', 'days', 'lead', 'agent', 'tabs', 'full'], MOST_BYTES = 150000, MOST_CALLS = 2000, ROUNDS = 50;
+const PARTS = ['files', 'gate', 'show', 'lines', 'buttons', 'board', 'alarms', 'words', 'shape', 'days', 'lead', 'agent', 'tabs', 'full'], MOST_CALLS = 2000, ROUNDS = 50;
 const ROLES = [['pbx', 'exchange'], ['planner', 'office'], ['sup', 'supervisor'], ['ana', 'agent', '7'], ['lea', 'lead', 'groups=101,102']];
 // an agent who may look at boards too, so that one session does for both
 const READS_ALL = [['ana', 'agent', 'agent=7', 'reads=all']];
@@ -64,10 +65,14 @@ class Trial {
   async front(desk, roles = ROLES, more) { return this.keep(await Front.start(this.folder, desk, roles, more), front => front.stop()); }
   async browser() { return this.keep(await Browser.start(1920, 1080), browser => browser.end()); }
 
-  /** The types, and how much a browser loads at most. */
+  /** The types, and how much a page loads at most, as nginx sends it. */
   async files() {
-    const files = readdirSync(join(TOP, 'board'), {recursive: true}).map(String).filter(name => /\.(js|css|html)$/.test(name)), bytes = files.filter(name => !/^words\/(?!en)/.test(name)).reduce((sum, name) => sum + statSync(join(TOP, 'board', name)).size, 0);
-    this.see(`board/ has less than ${MOST_BYTES} bytes`, bytes < MOST_BYTES, bytes);
+    const board = join(TOP, 'board'), shared = ['board.css', 'draw.js', 'desk.js', 'session.js', 'sound.js', 'words.js', 'net.js', 'hear.js', 'stream.js'];
+    const ofAgent = [...readdirSync(join(board, 'agent')).map(name => `agent/${name}`), ...shared], ofBoard = [...readdirSync(board), ...readdirSync(join(board, 'views')).map(name => `views/${name}`)];
+    for (const [page, names, most] of [['a board', ofBoard, 60000], ["an agent's page", ofAgent, 40000]]) {
+      const files = names.filter(name => /(?<!\.d)\.(js|css|html)$/.test(name)), bytes = files.reduce((sum, name) => sum + gzipSync(readFileSync(join(board, name))).length, 0);
+      this.see(`${page} has less than ${most} bytes by gzip`, bytes < most, bytes);
+    }
     const said = await run('tsc', ['-p', join(TOP, 'board/jsconfig.json')]);
     this.see('tsc, as jsconfig.json says', said === '', said.slice(0, 400));
   }

@@ -75,6 +75,15 @@ async function logIn(see, browser, address) {
   await until(() => browser.text('#told'), 10);
   const {said, left} = await strange(browser, []);
   see('the page of log-in: all words are of the table', said.includes('[login.wrong]') && !left.length, left.join('; ') || String(said));
+  await logInGerman(see, browser, address);
+}
+
+/** Without a session a page speaks as the last one of this browser did. */
+async function logInGerman(see, browser, address) {
+  await browser.run('localStorage["acd-language"] = "de"');
+  await browser.open(`${address}/board/login/`);
+  see('the page of log-in speaks as the office does', Boolean(await until(() => browser.run('return document.title === "Anmelden" && document.documentElement.lang === "de"'), 10)), await browser.run('return document.title'));
+  await browser.run('delete localStorage["acd-language"]');
 }
 
 /** What is left of a text without what is in brackets, what the desk tells, and names of languages and zones. */

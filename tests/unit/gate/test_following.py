@@ -208,6 +208,18 @@ class FollowingTest(Named, unittest.IsolatedAsyncioTestCase):
         renewed = await self.following.catch_up()
         self.assertEqual((renewed is state, renewed.agents["7"].name, self.following.names_changed), (False, "Anna", number + 1))
 
+    async def test_what_no_event_tells_is_shown_soon(self):
+        """After a request that changes names or priorities the next snapshot comes in two seconds; after one that was refused, or another one, it doesn't."""
+        await self.following.catch_up()
+        for service, reply, wanted in (("setGroupPriority", b'{"result":{},"status":200}', True), ("setGroupPriority", b'{"error":{"code":3}}', False), ("holdCall", b'{"result":{}}', False)):
+            self.following.task, self.following.is_stale = True, False
+            self.following.nudge(f'{{"service":"{service}"}}'.encode(), reply)
+            self.following.task = None
+            self.assertIs(self.following.is_stale, wanted)
+        self.following.is_stale, self.following.renewed = True, time.monotonic() - 3
+        await self.following.catch_up()
+        self.assertEqual((self.following.is_stale, self.desk.asked.count("/snapshot")), (False, 2))
+
     async def test_another_history(self):
         """One that is shorter, one whose last event is another, one with a hole; and a file that was carried over is none."""
         for others in ([], [logged_on(1), event(2, event="agentBusy", agent="7", device="201")], [None, None, None, event(4, event="agentReady", agent="7", device="201")]):
