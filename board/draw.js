@@ -81,12 +81,12 @@ export const withNumber = ({id = '', name = ''}) => name && name !== id ? `${nam
 
 // Seconds, shares and what else is of the `day` are known once that has been counted.
 /** @type {CellOf} */
-const textOf = ({text, seconds, share, severity, day}, line) => {
+const textOf = ({text, seconds, share, severity, day, goal}, line) => {
   const figure = seconds ?? share;
   if ((figure || day) && !line.counted) return '…';
   if (!figure) return text?.(line) ?? '';
   const is = share && severity?.(line);
-  return (is === 'long' || is === 'bad' ? `${SIGN[is]} ` : '') + (seconds ? clock : percent)(figure(line));
+  return (is === 'long' || is === 'bad' ? `${SIGN[is]} ` : '') + (seconds ? clock(figure(line)) : percent(figure(line), goal?.(line)));
 };
 
 // The same in a file: seconds are whole, a share is in percent, with two digits.

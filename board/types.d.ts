@@ -69,7 +69,8 @@ export type Values = Record<string, string | number>;
 export type Cell = (line: any) => string | number;
 export type Figure = (line: any) => number | null;
 /** head: the word at the top, and after it classes: wide and least are left out on a small screen, and day is known once the day has been counted; text: a line's cell, else the line's member of that name, or a figure of seconds or a share; file: the cell in a file; press: the name of the button that it is */
-export type Column = {head: string, kind?: string, day?: boolean, text?: Cell, seconds?: Figure, share?: Figure, file?: (line: any) => string | number | null, severity?: (line: any) => string, press?: string};
+export type Column = {head: string, kind?: string, day?: boolean, text?: Cell, seconds?: Figure, share?: Figure, file?: (line: any) => string | number | null, severity?: (line: any) => string, press?: string,
+  /** of a share, in percent */ goal?: (line: any) => number};
 /** look: first, second or third, by which the style distinguishes them, with colour and without; a bar, or a line */
 export type Series = {name: string, look: string, value: Figure, isLine?: boolean};
 

@@ -413,6 +413,7 @@ document.documentElement.lang = language;
 // Britain's English has 24 hours
 const locale = language === 'en' ? 'en-GB' : language, dates = (how = {}) => new Intl.DateTimeFormat(locale, {timeZone: office.zone, ...how});
 const plural = new Intl.PluralRules(locale), figures = new Intl.NumberFormat(locale), shares = new Intl.NumberFormat(locale, {style: 'percent'});
+const exact = new Intl.NumberFormat(locale, {style: 'percent', minimumFractionDigits: 1, maximumFractionDigits: 1});
 const times = {short: dates({timeStyle: 'short'}), medium: dates({timeStyle: 'medium'}), long: dates({timeStyle: 'long'})}, days = dates({weekday: 'short', day: 'numeric', month: 'short'});
 
 /** @param {string|number} [n] */
@@ -442,8 +443,9 @@ export function translate() {
 
 export const number = (value = 0) => figures.format(value);
 
+// In whole percent; one that is its goal only in whole percent has a digit more.
 /** @param {number|null} share */
-export const percent = share => share === null ? '–' : shares.format(share);
+export const percent = (share, goal = NaN) => share === null ? '–' : (Math.round(100 * share) === goal && Math.abs(100 * share - goal) > 1e-9 ? exact : shares).format(share);
 
 // seconds as 0:07, 12:34 or 1:02:03
 /** @param {number|null} seconds */

@@ -9,7 +9,7 @@ const SORTED_EVERY = 5000, GROWS = 1.9, LEAST = 0.35;
 
 // A share of the day, and what it means.
 /** @type {Judged} */
-const judged = (head, name) => ({head, share: line => line[name], severity: line => line.counted ? line[`${name}Severity`] : ''});
+const judged = (head, name) => ({head, share: line => line[name], goal: ({limits: {goal, lost}}) => name === 'lost' ? lost : goal, severity: line => line.counted ? line[`${name}Severity`] : ''});
 // What an office's rules do with a group's callers.
 /** @param {GroupLine & {goes?: string}} line */
 const ruled = ({rule, goes}) => [rule?.closed && word('rule.closed'), rule?.to && word('rule.to', {to: goes ?? rule.to})].filter(Boolean).join(' · ');
@@ -118,8 +118,8 @@ export function drawTotals({all, settings, counted}) {
     tile('head.waiting', all.waiting, all.ringing > 0 && word('tile.ringing', {n: all.ringing})),
     tile('head.longestWait', clock(all.wait), all.wait !== null && waits(all), all.severity),
     tile('tile.ready', counts.ready, `${none ? '▲ ' : ''}${word('tile.loggedOn', {n: all.loggedOn})}`, none ? 'long' : 'none'),
-    day('tile.level', percent(all.level), judged(levelSeverity, settings.goal), levelSeverity, word('tile.of', values)),
-    day('head.abandoned', all.abandoned, [lost !== null && judged(lostSeverity, settings.lost, `${percent(lost)}, `), all.closed && word('tile.closed', {n: all.closed})].filter(Boolean).join(', '), lostSeverity),
+    day('tile.level', percent(all.level, settings.goal), judged(levelSeverity, settings.goal), levelSeverity, word('tile.of', values)),
+    day('head.abandoned', all.abandoned, [lost !== null && judged(lostSeverity, settings.lost, `${percent(lost, settings.lost)}, `), all.closed && word('tile.closed', {n: all.closed})].filter(Boolean).join(', '), lostSeverity),
     day('head.answered', all.answered),
     day('head.average', clock(averageWait(all))),
     day('head.handling', clock(averageHandling(all))),

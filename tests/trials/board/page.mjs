@@ -50,7 +50,8 @@ export async function numbers(see, browser, desk, folks, moments, {groups = [], 
 }
 
 const seconds = text => text === '–' ? null : text.split(':').reduce((sum, part) => 60 * sum + Number(part), 0);
-const percent = (part, whole) => whole ? `${Math.round(100 * part / whole)}%` : '–', plain = text => text.replace(/^[■▲] /, '').replaceAll(',', '');
+/** A digit more where it is the goal in whole percent alone. */
+const percent = (part, whole, goal) => !whole ? '–' : `${Math.round(100 * part / whole) === goal && Math.abs(100 * part / whole - goal) > 1e-9 ? (100 * part / whole).toFixed(1) : Math.round(100 * part / whole)}%`, plain = text => text.replace(/^[■▲] /, '').replaceAll(',', '');
 const NONE = {entered: 0, answered: 0, abandoned: 0, moved: 0, waited: 0, within: 0, late: 0, handled: 0, handling: 0};
 
 async function wrongNumbers(desk, view, {tiles, rows, moment}, {groups, limits}) {
@@ -58,7 +59,7 @@ async function wrongNumbers(desk, view, {tiles, rows, moment}, {groups, limits})
   const day = await reckoned(desk, '--end', Math.floor(moment), '--groups', groups.join(','), ...Object.entries(limits).flatMap(([group, limit]) => ['--limit-of', `${group}=${limit}`]));
   const see = (what, has, wanted) => { if (String(has) !== String(wanted)) wrong.push(`${what} is ${has} and not ${wanted}`); };
   const near = (what, has, wanted, by = 2.5 + passed) => { if ((has === null) !== (wanted === null) || Math.abs(has - wanted) > by) wrong.push(`${what} is ${has} and not ${wanted}`); };
-  const level = of => percent(of.within, of.answered + of.late), lost = of => percent(of.abandoned, of.answered + of.abandoned), average = (part, whole) => whole ? Math.floor(part / whole) : null;
+  const level = of => percent(of.within, of.answered + of.late, 80), lost = of => percent(of.abandoned, of.answered + of.abandoned, 5), average = (part, whole) => whole ? Math.floor(part / whole) : null;
   const stations = new Map(snapshot.stations.map(station => [station.device, station])), serves = agent => !groups.length || (agent.groups ?? [agent.group]).some(group => groups.includes(group));
   const staff = snapshot.agents.filter(agent => agent.state !== 'null' && serves(agent)), ready = staff.filter(agent => agent.state === 'ready' && !stations.get(agent.device).connections.some(one => one.state !== 'fail'));
   const names = new Map(snapshot.groups.map(group => [view === 'wall' ? group.name : `${group.name} (${group.device})`, group.device])), sum = place => report.reduce((all, line) => all + Number(line[place]), 0);
@@ -199,6 +200,8 @@ export async function settings(see, browser, address) {
   see('a changed setting stands in the address', ['limit=45', 'title=North', 'goal=90'].every(part => search.includes(part)), search);
   await browser.run('const field = document.querySelector("[name=long]"); field.value = "300"; field.dispatchEvent(new Event("change", {bubbles: true}))');
   see('long is not more than too long', await browser.text('#set-told') === 'Too long has to be more than long' && !(await browser.run('return location.search')).includes('long'), await browser.text('#set-told'));
+  const shares = await browser.run(`return import(new URL('words.js', location.href)).then(({percent}) => [percent(0.052, 5), percent(0.05, 5), percent(0.058, 5), percent(0.052), percent(null, 5)])`);
+  see('a share is told from its goal', String(shares) === '5.2%,5%,6%,5%,–', String(shares));
   await browser.fresh(`${address}?since=soon&limit=-3&theme=pink&long=300&bad=100&groups=x&group=100&states=ready&find=a&sort=time#agents`);
   await live(browser);
   const {settings, search: kept} = await browser.run('const {since, limit, theme, long, bad, groups} = window.board.settings; return {settings: [since, limit, theme, long, bad, groups], search: location.search}');
