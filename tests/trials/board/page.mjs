@@ -247,7 +247,7 @@ export async function ways(see, browser, desk, address) {
   for (const [width, height] of [SCREEN, [1366, 768], [768, 1024]]) {
     await browser.size(width, height);
     await sleep(300);
-    const rows = await browser.run('const ends = {}; for (const tile of document.querySelectorAll("#totals div")) { const {top, right} = tile.getBoundingClientRect(); ends[top] = Math.round(right); } return Object.values(ends)');
+    const rows = await browser.run('const ends = {}; for (const tile of document.querySelectorAll("#totals div")) if (tile.checkVisibility()) { const {top, right} = tile.getBoundingClientRect(); ends[top] = Math.round(right); } return Object.values(ends)');
     see(`no tile stands alone at ${width}`, rows.length <= 2 && new Set(rows).size === 1, String(rows));
   }
   await browser.size(...SCREEN);
