@@ -17,6 +17,7 @@ from acd_service.figures import STEP, Figures, Reached
 from acd_service.leaving.records import Call, Records
 from acd_service.office import FILE, Office, counting
 from acd_service.record_days import APART, KINDS, Days, Writer, wanted_from
+from acd_service.rules.reading import REQUESTER
 
 CALLS = ["number", "caller", "called", "entered", "groups", "rings", "agent", "station", "waited", "talked", "held",
          "wrapped_up", "ended", "rung", "answered_at", "ended_at"]
@@ -25,7 +26,7 @@ LEGS = ["call", "leg", "device", "agent", "group", "begun", "answered_at", "ende
 AGENTS = ["day", "agent", "name", "logged_on", "ready", "talking", "wrap_up", "rings_not_answered", "rings_refused",
           "rings_hung_up", "rings", "calls", "own_calls", "not_ready", "first_on", "last_on", "groups"]
 GROUPS = ["begin", "group", "entered", "answered", "abandoned", "moved", "limit", "in_time", "abandoned_late",
-          "service_level", "waited", "longest", "most_waiting", "handled", "handling", "answered_by_stay",
+          "service_level", "waited", "longest", "most_waiting", "handled", "handling", "closed", "answered_by_stay",
           "abandoned_by_stay", "in_time_by_stay", "late_by_stay", "service_level_by_stay"]
 # the columns that --names adds for those that have numbers, and of what these are
 NAMES = {"groups": ("group_names", "groups"), "group": ("group_name", "groups"), "agent": ("agent_names", "agents"),
@@ -87,12 +88,12 @@ def group_rows(figures: Figures, waited: Mapping[str, int], begin: int, end: int
              for number, has, most in figures.steps(group, waited.get(group, 0), begin // STEP, end // STEP)]
     for number, group, has, most in sorted(found, key=lambda one: (one[0], int("1" + one[1]))):
         limit, counts = limit_of(group), (has.entered, len(has.answers), len(has.losses), has.moved)
-        if any(counts) or most or has.handled:
+        if any(counts) or has.closed or most or has.handled:
             by_stay = len(has.stays_answered), len(has.stays_lost)
             yield number * STEP, [when(number * STEP), group, *counts, f"{limit:g}",
                                   *shown(has.reached(limit)), sum(has.answers),
-                                  max(has.answers, default=""), most, has.handled, has.handling, *by_stay,
-                                  *shown(has.reached_by_stay(limit))]
+                                  max(has.answers, default=""), most, has.handled, has.handling, has.closed,
+                                  *by_stay, *shown(has.reached_by_stay(limit))]
 
 
 def shown(found: Reached) -> Row:
@@ -189,9 +190,16 @@ def follow(book: Book, records: Records | None, figures: Figures | None, write_c
     return end
 
 
-def figures_of(book: Book) -> Figures:
+def ended_by_rules(book: Book) -> frozenset[int]:
+    """The calls that an office's rules ended, in their groups. No event says who did."""
+    granted, groups = book.granted(f'"requester":"{REQUESTER}-'), book.names()["groups"]
+    return frozenset(request["call"] for _, request, _ in granted
+                     if request["service"] == "clearConnection" and request["device"] in groups)
+
+
+def figures_of(book: Book, closed: frozenset[int]) -> Figures:
     """Of the events of a book, which are still to come."""
-    return Figures(at=None if book.begins() is None else book.logged_on_before())
+    return Figures(at=None if book.begins() is None else book.logged_on_before(), closed=closed)
 
 
 def group_rows_of(book: Book, figures: Figures, end: int, limit_of: Callable[[str], float]) -> Iterator[
@@ -225,13 +233,14 @@ class Printed:
         if self.options.excel:
             sys.stdout.write(sheets.MARK)
         self.writer.writerow(self.form.head(columns))
+        closed = ended_by_rules(book)
         if self.options.table == "groups":
-            figures = figures_of(book)
+            figures = figures_of(book, closed)
             end = follow(book, None, figures, lambda call: None)
             for begin, row in group_rows_of(book, figures, end, self.office.limit_of):
                 self.put(columns, begin, row)
             return
-        records = Records(book)
+        records = Records(book, closed)
         follow(book, records, None,
                {"legs": self.put_legs, "agents": lambda call: None}.get(self.options.table, self.put_call))
         if self.options.table == "agents":
@@ -267,7 +276,8 @@ def book_of(file: Path, options: argparse.Namespace, folder: Path, since: dateti
 def write_days(folder: Path, book: Book, office: Office, form: Form, names: Names, made: int) -> bool:
     """The files of the days that are over. Returns whether none is missing."""
     heads = {kind: form.head(columns) for kind, columns in zip(KINDS, (CALLS, AGENTS, GROUPS))}
-    records, figures = Records(book), figures_of(book)
+    closed = ended_by_rules(book)
+    records, figures = Records(book, closed), figures_of(book, closed)
     end, begins = made or book.last_moment(), book.begins()
     # an older archive has the beginning of the first request's day
     first = datetime.date.min if begins is None else datetime.date.fromtimestamp(begins) + datetime.timedelta(days=1)

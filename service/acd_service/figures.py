@@ -7,7 +7,7 @@ from __future__ import annotations
 import math
 from array import array
 from collections import defaultdict
-from collections.abc import Iterator, Mapping
+from collections.abc import Container, Iterator, Mapping
 from dataclasses import dataclass, field
 from typing import NamedTuple
 
@@ -42,10 +42,9 @@ def no_waits() -> array[int]:
 
 @dataclass(eq=False)
 class Quarter:
-    """`answers` are the waits of those that were answered, `losses` of those who gave up, without those of whom
-    somebody says that they were `closed`; `stays_answered` and `stays_lost` those of their last stay in the queue,
-    where the wait ended there; `top` and `end` how many more wait than before the first event, at most and in the
-    end."""
+    """`answers` are the waits of those that were answered, `losses` of those who gave up, without those whose calls a
+    rule ended, which are `closed`; `stays_answered` and `stays_lost` those of their last stay in the queue, where the
+    wait ended there; `top` and `end` how many more wait than before the first event, at most and in the end."""
     entered: int = 0
     moved: int = 0
     closed: int = 0
@@ -118,10 +117,11 @@ class Figures:
     """What is of `begin` or later. A wait is counted in the group where it ends, as a whole; a stay in a queue where
     the call enters it, or is moved; and a call is handled where its talk and the after-call work right after it end.
     `changed` are group and number of the quarters that changed, `touched` the agents whose figures did; `at` says who
-    was logged on at a station before the first event."""
+    was logged on at a station before the first event; `closed` are calls of which it is known that rules ended them."""
 
-    def __init__(self, begin: float = -math.inf, at: Mapping[str, str] | None = None) -> None:
-        self.begin = begin
+    def __init__(self, begin: float = -math.inf, at: Mapping[str, str] | None = None,
+                 closed: Container[int] = ()) -> None:
+        self.begin, self.closed = begin, closed
         self.waits = Waits(at)
         self.moment = 0
         self.groups: defaultdict[str, dict[int, Quarter]] = defaultdict(dict)
@@ -213,8 +213,13 @@ class Figures:
 
     def end(self, event: Event, ended: Ended) -> None:
         """A wait ends."""
-        if event.moment >= self.begin:
-            self.quarter(ended.group, event.moment).add(ended)
+        if event.moment < self.begin:
+            return
+        quarter = self.quarter(ended.group, event.moment)
+        if ended.how is End.LOST and event.call in self.closed:
+            quarter.closed += 1
+        else:
+            quarter.add(ended)
 
     def figures_of(self, number: str, moment: int) -> AgentFigures:
         """Those of an agent, up to a moment, which are about to change."""

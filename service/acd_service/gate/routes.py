@@ -27,10 +27,11 @@ from acd_service.gate.limits import Held, Rates, Replies
 from acd_service.gate.metrics import KIND, Metrics
 from acd_service.gate.passwords import RIGHT, TOO_MANY, Passwords, network
 from acd_service.gate.roles import MEMBERS, NO_KEYS, NOTHING, Role, Watched, has_keys, hashes_of, roles_of
-from acd_service.gate.ruled import DIRECT, FILE as RULES
+from acd_service.gate.ruled import FILE as RULES
 from acd_service.gate.sessions import Secrets, Session, Sessions, cookie_field
 from acd_service.gate.streams import Stream
 from acd_service.gate.traces import Traces
+from acd_service.rules.reading import REQUESTER
 
 # who asks for these needs no login, or is judged by what they ask
 OPEN = {"/auth", "/auth/any", "/auth/reads", "/login", "/logout", "/health", "/metrics"}
@@ -127,7 +128,7 @@ class Gate:
     def is_rules(self, requester: str) -> bool:
         """Whether it is a requester of the office's rules, through the gate or at the desk itself."""
         login = owner(requester, self.logins())
-        return requester.startswith(f"{DIRECT}-") if login is None else self.role_of(login).name == "rules"
+        return requester.startswith(f"{REQUESTER}-") if login is None else self.role_of(login).name == "rules"
 
     # sessions
 

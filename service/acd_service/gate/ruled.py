@@ -12,13 +12,11 @@ from acd_service import settings
 from acd_service.command import Fault, report
 from acd_service.gate.lines import as_text
 from acd_service.gate.parts import Text
-from acd_service.rules.reading import Rules, read
+from acd_service.rules.reading import REQUESTER, Rules, read
 
 FILE = settings.FILE.parent / "rules.toml"
 # for so many seconds after a move a group's callers overflow
 OVERFLOWS = 300
-# what requesters of rules begin with that ask the desk itself
-DIRECT = "rules"
 Requests = Callable[[int], Awaitable[Text]]
 
 
@@ -44,7 +42,7 @@ class Hours:
         if stamp != self.stamp:
             self.rules, self.stamp = {}, stamp
             try:
-                has = read(self.file, DIRECT)
+                has = read(self.file, REQUESTER)
                 self.rules = {} if has.faults else dict(has.rules)
             except Fault as fault:
                 report(str(fault))

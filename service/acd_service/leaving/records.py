@@ -136,9 +136,10 @@ class Day:
 
 
 class Records:
-    """The calls and the agents' days, event by event."""
+    """The calls and the agents' days, event by event. `closed` are the calls that rules ended."""
 
-    def __init__(self, book):
+    def __init__(self, book, closed):
+        self.closed = closed
         self.came, self.log_ons, self.by_ticks = book.calls_that_came(), book.log_ons(), book.returns_by_ticks()
         self.calls, self.agents, self.days, self.calendar = {}, defaultdict(Agent), defaultdict(Day), Calendar()
         self.at = {}  # who is logged on at a station
@@ -196,7 +197,7 @@ class Records:
         ended = {"distributed": "offered", "deflected": "deflected"}.get(cause, kind)
         if kind == "connectionCleared":
             if call.ended == "live":
-                call.ended = call.ending(device, device in self.at)
+                call.ended = "closed" if call.number in self.closed else call.ending(device, device in self.at)
                 if device in self.at and call.at[device].state in RINGS and (call.is_outside or call.at[device].state == "offered"):
                     self.count(moment, self.at[device], "rings_hung_up")
             ended = call.ended

@@ -14,12 +14,10 @@ from acd_service import book, command, reach, settings
 from acd_service.command import Fault, report, say
 from acd_service.rules import following, replay
 from acd_service.rules.judging import unfit
-from acd_service.rules.reading import Place, Read, line_of, read
+from acd_service.rules.reading import REQUESTER, Place, Read, line_of, read
 from acd_service.rules.sending import Several
 
 FILE = settings.FILE.parent / "rules.toml"
-# what requesters begin with where no login is named, as on the desk's own machine
-REQUESTER = "rules"
 
 
 def parser() -> command.Parser:

@@ -17,6 +17,8 @@ from acd_service.rules.hours import Closing, Hours, Span, Spans
 WEEKDAYS = ("mon", "tue", "wed", "thu", "fri", "sat", "sun")
 DEVICE, NAME = r"[0-9]{1,15}", r"[a-z0-9](-?[a-z0-9])*"
 TIME = r"([01][0-9]|2[0-4]):([0-5][0-9])"
+# what requesters of rules begin with, a hyphen after it, where no login is named, as on the desk's own machine
+REQUESTER = "rules"
 # signs of a requester, and of them those that a hyphen and a try may take
 LONGEST, OF_TRY = 32, 4
 # the greatest number of seconds, and of callers who wait

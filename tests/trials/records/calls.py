@@ -27,7 +27,7 @@ import moved
 import office
 import story
 from ground import Records
-from reckoning import Reckoning, stretched
+from reckoning import Reckoning, ended_by_rules, stretched
 
 TABLES = {"calls": ([], story.CALLS, "call_lines"), "legs": (["--legs"], story.LEGS, "leg_lines"), "agents": (["--agents"], story.AGENTS, "day_lines"),
           "groups": (["--groups"], story.GROUPS, "quarter_lines")}
@@ -79,7 +79,7 @@ class Calls(Records):
     def make_day(cls, given, begin, factor, zone):
         os.environ["TZ"] = zone
         time.tzset()
-        file, lines = Path(HOME.name) / f"day{len(cls.days)}.db", list(stretched(given, begin, factor))
+        file, lines = Path(HOME.name) / f"day{len(cls.days)}.db", list(stretched(ended_by_rules(given), begin, factor))
         reckoned = Reckoning(lines)
         cls.expect_lines(f"answers of {file.name}", cls.feed(file, "".join(f"{line}\n" for line in lines)), reckoned.answers)
         cls.days.append((file, zone, {name: list(getattr(reckoned, lines_of)()) for name, (_, _, lines_of) in TABLES.items()}, reckoned.switch.moment))
@@ -573,7 +573,9 @@ class Calls(Records):
             report = [line.split() for line in self.ran([self.program, "report", "--file", file])[1].splitlines()[1:]]
             has = {group: [0] * 4 for group, *_ in report}
             for row in groups:
-                has[row["group"]] = [one + int(row[name]) for one, name in zip(has[row["group"]], ("entered", "answered_by_stay", "abandoned_by_stay", "moved"))]
+                # the report knows no rules
+                stays = int(row["entered"]), int(row["answered_by_stay"]), int(row["abandoned_by_stay"]) + int(row["closed"]), int(row["moved"])
+                has[row["group"]] = [one + more for one, more in zip(has[row["group"]], stays)]
             self.expect(f"{file.name}: the report", has, {group: list(map(int, figures[2:6])) for group, *figures in report})
 
     def expect_sums(self, what, calls, legs, column, part):

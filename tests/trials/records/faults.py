@@ -16,6 +16,8 @@ CALLS = [
     ("each archive is opened", "[] if is_whole(book, since) else archives_of(file, since)", "archives_of(file, None)"),
     ("copies of archives aren't found", "folders = [file.parent, chain.copies_of(file.parent.parent)]", "folders = [file.parent]"),
     ("the last wait is the longest", 'max(has.answers, default="")', 'has.answers[-1] if has.answers else ""'),
+    ("whoever a rule ended gave up", 'if request["service"] == "clearConnection" and', "if False and"),
+    ("at whichever device", ' and request["device"] in groups)', ")"),
     ("a day ends with the last request", "end = max(book.last_moment(), made)", "end = book.last_moment()"),
 ]
 BOOK = [
@@ -42,6 +44,7 @@ RECORDS = [
     ("a busy destination isn't told", '        if "fail" in states:\n            return "busy"\n', ""),
     ("abandoned where it rang isn't told", '        if "queued" in states or "offered" in states:\n            return', '        if "queued" in states:\n            return'),
     ("who hangs up while it rings isn't told", '        if state in RINGS:\n            return f"at {device} while it rang"\n', ""),
+    ("a call that a rule ended is another's", 'call.ended = "closed" if call.number in self.closed else', "call.ended ="),
     ("who takes it out of the queue isn't told", '        if state == "queued":\n            return f"at {device} while it waited"\n', ""),
     ("the last who is cleared ended it", '            if call.ended == "live":\n', "            if True:\n"),
     ("calls that came before are told of", "        elif call >= self.first:", "        else:"),
@@ -71,6 +74,7 @@ FIGURES = [
     ("after-call work isn't handling", 'agent.kind == "agentBusy" and kind == "agentWorkingAfterCall"', "False"),
     ("the level of the answered alone", "counted = len(answers) + late", "counted = len(answers)"),
     ("who waited before isn't there", "before + counted[at].top", "counted[at].top"),
+    ("whom a rule ended later wasn't answered", "ended.how is End.LOST and event.call in self.closed", "event.call in self.closed"),
 ]
 WAITS = [
     ("who is moved waits anew", "        if wait is None or wait.over:\n            self.calls[number] = Wait(group", "        if True:\n            self.calls[number] = Wait(group"),

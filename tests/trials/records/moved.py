@@ -36,10 +36,10 @@ LINES = """\
 # late and two gave up late: 50 %. By stay in a queue all three of 5, 3 and 4 s were answered in time, and nobody gave up late: 100 %, and 4 s on average. Ben
 # talks 600 s to caller 4, which is a call that he is done with, beside Ana's 26 s
 GROUPS = """\
-begin,group,entered,answered,abandoned,moved,limit,in_time,abandoned_late,service_level,waited,longest,most_waiting,handled,handling,answered_by_stay,abandoned_by_stay,in_time_by_stay,late_by_stay,service_level_by_stay
-1970-01-01 10:00:00,100,2,0,0,2,20,0,0,,0,,2,0,0,0,0,0,0,
-1970-01-01 10:00:00,110,2,1,1,0,20,0,1,0,605,605,1,1,35,1,1,1,0,100
-1970-01-01 10:15:00,100,1,1,1,0,20,1,1,50,3,3,1,1,17,1,0,1,0,100
-1970-01-01 10:30:00,100,1,2,0,0,20,2,0,100,12,8,1,2,626,1,0,1,0,100
+begin,group,entered,answered,abandoned,moved,limit,in_time,abandoned_late,service_level,waited,longest,most_waiting,handled,handling,closed,answered_by_stay,abandoned_by_stay,in_time_by_stay,late_by_stay,service_level_by_stay
+1970-01-01 10:00:00,100,2,0,0,2,20,0,0,,0,,2,0,0,0,0,0,0,0,
+1970-01-01 10:00:00,110,2,1,1,0,20,0,1,0,605,605,1,1,35,0,1,1,1,0,100
+1970-01-01 10:15:00,100,1,1,1,0,20,1,1,50,3,3,1,1,17,0,1,0,1,0,100
+1970-01-01 10:30:00,100,1,2,0,0,20,2,0,100,12,8,1,2,626,0,1,0,1,0,100
 """
 WAITED = [605, 615, 3 + 600, 4 + 8]

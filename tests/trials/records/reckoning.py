@@ -11,6 +11,7 @@ COLUMNS = {"ready": "ready", "busy": "talking", "workingAfterCall": "wrap_up", "
 COUNTS = ("logged_on", "ready", "talking", "wrap_up", "rings_not_answered", "rings_refused", "rings_hung_up", "rings", "calls", "own_calls", "not_ready")
 RETURNS = {"tick": "rings_not_answered", "rejectCall": "rings_refused"}
 FIGURES = ("entered", "answered", "abandoned", "moved", "waited")
+RULES = "rules-"  # what requesters of rules begin with
 OUTSIDE = ("note",)  # members that the office's lines have besides
 LIMIT, STEP = 20, 900
 
@@ -20,6 +21,19 @@ def stretched(lines, begin, factor):
     for line in lines:
         moment, _, request = line.partition(" ")
         yield f"{begin + int(moment) * factor} {request}"
+
+
+def ended_by_rules(lines):
+    """The same lines, where a rule does every second of what takes a call out of a group's queue, or would if that were a group."""
+    groups, count = set(), 0
+    for line in lines:
+        request = json.loads(line.partition(" ")[2]) if line.endswith("}") and '"service"' in line else {}
+        if request.get("service") == "addGroup":
+            groups.add(request["device"])
+        elif request.get("service") == "clearConnection" and request["device"] in groups:
+            count += 1
+            line = line.replace(f'"{request["requester"]}"', f'"{RULES}{request["device"]}-{count}"') if count % 2 else line
+        yield line
 
 
 def when(moment):
@@ -157,6 +171,8 @@ class Reckoning:
     def ending(self, ends, caller, device):
         """By the states before, and by where it was cleared."""
         state = ends[device][0]
+        if self.is_ended_by_rule():
+            return "closed"
         if state in ("queued", "alerting"):
             return f"at {device} while it {'waited' if state == 'queued' else 'rang'}"
         if any(place is not None for _, _, place in ends.values()):
@@ -276,7 +292,8 @@ class Reckoning:
 
     def change_waits(self, request, calls):
         for number in calls.keys() - self.switch.calls.keys():
-            self.end_wait(number, "abandoned" if any(place is not None for _, _, place in calls[number].values()) or self.waits[number]["until"] is None else "left")
+            is_in_group = any(place is not None for _, _, place in calls[number].values())
+            self.end_wait(number, "closed" if self.is_ended_by_rule() else "abandoned" if is_in_group or self.waits[number]["until"] is None else "left")
         for number, call in self.switch.calls.items():
             wait, before = self.waits[number], calls.get(number, {})
             placed = next((it for it in call.connections.values() if it.place is not None), None)
@@ -295,6 +312,10 @@ class Reckoning:
         if is_offer or agent or self.waits[number]["until"] is None:
             self.end_wait(number, "answered" if is_offer or not is_inside else "left")
 
+    def is_ended_by_rule(self):
+        """Whether it is a rule that ends a call, in its group."""
+        return self.request["requester"].startswith(RULES) and self.request["device"] in self.switch.groups
+
     def end_wait(self, number, how):
         wait = self.waits[number]
         if wait["since"] is None:
@@ -307,6 +328,8 @@ class Reckoning:
             quarter.update(answered=1, waited=seconds, in_time=int(seconds <= self.limit(wait["group"])))
         elif how == "abandoned":
             quarter.update(abandoned=1, late=int(seconds > self.limit(wait["group"])))
+        elif how == "closed":
+            quarter.update(closed=1)
         wait.update(since=None, until=None)
 
     # quarters of an hour
@@ -331,10 +354,11 @@ class Reckoning:
             if not any(more.values()):
                 continue
             quarter = self.quarters[moment // STEP, device]
-            quarter.update(entered=more["entered"], moved=more["moved"], answered_by_stay=more["answered"], abandoned_by_stay=more["abandoned"])
+            lost = 0 if self.is_ended_by_rule() else more["abandoned"]
+            quarter.update(entered=more["entered"], moved=more["moved"], answered_by_stay=more["answered"], abandoned_by_stay=lost)
             if more["answered"]:
                 quarter["in_time_by_stay"] += more["waited"] <= self.limit(device)
-            if more["abandoned"]:
+            if lost:
                 quarter["late_by_stay"] += moment - queued[number] > self.limit(device)
 
     # the lines
@@ -360,12 +384,12 @@ class Reckoning:
             yield joined([date, agent, self.switch.agents[agent].name, *(day[name] for name in COUNTS), when(day["first"]), when(day["last"]), sorted(day["groups"], key=order)])
 
     def quarter_lines(self):
-        yield "begin,group,entered,answered,abandoned,moved,limit,in_time,abandoned_late,service_level,waited,longest,most_waiting,handled,handling,answered_by_stay,abandoned_by_stay," \
+        yield "begin,group,entered,answered,abandoned,moved,limit,in_time,abandoned_late,service_level,waited,longest,most_waiting,handled,handling,closed,answered_by_stay,abandoned_by_stay," \
               "in_time_by_stay,late_by_stay,service_level_by_stay"
         for number, group in sorted(self.quarters, key=lambda key: (key[0], order(key[1]))):
             has = self.quarters[number, group]
             by_stay = [has[f"{name}_by_stay"] for name in ("answered", "abandoned", "in_time", "late")]
-            if any(has[name] for name in ("entered", "answered", "abandoned", "moved", "most", "handled")):
+            if any(has[name] for name in ("entered", "answered", "abandoned", "closed", "moved", "most", "handled")):
                 yield joined([when(number * STEP), group, has["entered"], has["answered"], has["abandoned"], has["moved"], self.limit(group), has["in_time"], has["late"],
                               level_of(has["in_time"], has["answered"], has["late"]), has["waited"], has["longest"] if has["answered"] else "", has["most"], has["handled"],
-                              has["handling"], *by_stay, level_of(by_stay[2], by_stay[0], by_stay[3])])
+                              has["handling"], has["closed"], *by_stay, level_of(by_stay[2], by_stay[0], by_stay[3])])

@@ -96,7 +96,7 @@ day,agent,name,logged_on,ready,talking,wrap_up,rings_not_answered,rings_refused,
 # call 1 waited 5 s, call 3 15 s; calls 2, 6 and 7 gave up behind 60, 45 and 10 s, or were made to. The agent was busy with call 1, and behind it, from
 # 86325 to 86380, with call 3 from 86455 to 86500. Nobody was moved, so it is the same by stay
 GROUPS = """\
-begin,group,entered,answered,abandoned,moved,limit,in_time,abandoned_late,service_level,waited,longest,most_waiting,handled,handling,answered_by_stay,abandoned_by_stay,in_time_by_stay,late_by_stay,service_level_by_stay
-1970-01-01 23:45:00,100,2,1,0,0,20,1,0,100,5,5,1,1,55,1,0,1,0,100
-1970-01-02 00:00:00,100,4,1,3,0,20,1,2,33,15,15,1,1,45,1,3,1,2,33
+begin,group,entered,answered,abandoned,moved,limit,in_time,abandoned_late,service_level,waited,longest,most_waiting,handled,handling,closed,answered_by_stay,abandoned_by_stay,in_time_by_stay,late_by_stay,service_level_by_stay
+1970-01-01 23:45:00,100,2,1,0,0,20,1,0,100,5,5,1,1,55,0,1,0,1,0,100
+1970-01-02 00:00:00,100,4,1,3,0,20,1,2,33,15,15,1,1,45,0,1,3,1,2,33
 """
