@@ -50,6 +50,12 @@ returns-in-Prune-clause-result g c =
     (task.Prune c.in-Prune.file c.in-Prune.archive c.in-Prune.retention c.in-Prune.quiet) c.in-Prune.is
     (match_so c.prune_file.result _ _ _ _ (λ status h. h) (λ fault h. (refl, refl, h)) c.prune_file.ensures)
 
+pub returns-in-ExportWithArchives-clause-result : goal.returns-in-ExportWithArchives-clause-result
+returns-in-ExportWithArchives-clause-result g c =
+    task_ends _ IsFresh c.export_with_archives.result c.args.task (streams g.R.Read.remaining g.W.Write.contents (c.args.reader.now, c.args.reader.now) (c.args.writer.now, c.export_with_archives.new.writer)) _ _
+    (task.ExportWithArchives c.in-ExportWithArchives.file c.in-ExportWithArchives.archives) c.in-ExportWithArchives.is
+    (match_so c.export_with_archives.result _ _ _ _ (λ status h. h) (λ fault h. (refl, refl, h)) c.export_with_archives.ensures)
+
 pub returns-clause-result : goal.returns-clause-result
 returns-clause-result g c =
     let io : _ = streams g.R.Read.remaining g.W.Write.contents (c.args.reader.now, c.args.reader.now) (c.args.writer.now, c.work_in.new.writer) in
@@ -73,6 +79,9 @@ returns-in-AuditWithArchive-clause-elsewhere g c = err_elsewhere _ IsFresh _ _ _
 
 pub returns-in-Prune-clause-elsewhere : goal.returns-in-Prune-clause-elsewhere
 returns-in-Prune-clause-elsewhere g c = err_elsewhere _ IsFresh _ _ _ _ _ (returns-in-Prune-clause-result g c)
+
+pub returns-in-ExportWithArchives-clause-elsewhere : goal.returns-in-ExportWithArchives-clause-elsewhere
+returns-in-ExportWithArchives-clause-elsewhere g c = err_elsewhere _ IsFresh _ _ _ _ _ (returns-in-ExportWithArchives-clause-result g c)
 
 pub returns-clause-elsewhere : goal.returns-clause-elsewhere
 returns-clause-elsewhere g c = err_elsewhere _ IsFresh _ _ _ _ _ (returns-clause-result g c)
