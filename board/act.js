@@ -36,26 +36,35 @@ export const lead = {
   may({group, state}) { return group !== null && this.groups.has(group) && ['queued', 'alerting', 'connected', 'hold'].includes(state); },
 
   async ofAgent(state, agent) {
-    const who = named(state.agent(agent).name || agent), requested = await ask(word('act.state', {who}), ['ready', 'notReady', 'loggedOff'].map(one => [one, word(`agent.${one}`)]), 'ready', 'head.state');
+    const who = named(state.agent(agent).name || agent);
+    const states = ['ready', 'notReady', 'loggedOff'].map(one => [one, word(`agent.${one}`)]);
+    const requested = await ask(word('act.state', {who}), states, 'ready', 'head.state');
     if (requested) await this.send('setAgentState', {agent, requested}, word(`agent.${requested}`), who);
   },
 
   async ofCall(state, line) {
-    const {number: call, at: device, caller, state: is} = line, who = caller ? named(caller) : word('agents.call', {call: `${call}`}), isInQueue = is === 'queued';
-    const end = async () => { if (await ask(word('act.end.sure', {who})) !== null) await this.send('clearConnection', {call, device}, word('act.end'), who); };
+    const {number: call, at: device, caller, state: is} = line, isInQueue = is === 'queued';
+    const who = caller ? named(caller) : word('agents.call', {call: `${call}`});
+    const end = async () => {
+      if (await ask(word('act.end.sure', {who})) !== null) await this.send('clearConnection', {call, device}, word('act.end'), who);
+    };
     if (!isMoved(line)) return end();
     const groups = [...this.groups].flatMap(id => state.groups.has(id) && id !== device ? id : []);
-    const stations = [...state.agents.values()].flatMap(agent => agent.station && agent.station !== device && this.leads(agent) ? agent.station : []);
+    const stations = [...state.agents.values()]
+      .flatMap(agent => agent.station && agent.station !== device && this.leads(agent) ? agent.station : []);
     const places = [...groups, ...stations].map(to => [to, [placeName(state, to), stands(state, to)].filter(Boolean).join(': ')]);
-    const to = await ask(word(isInQueue ? 'act.move.sure' : 'act.rings.sure', {who, at: placeName(state, device)}), isInQueue ? places : [...places, ['', word('act.end')]]);
+    const to = await ask(word(isInQueue ? 'act.move.sure' : 'act.rings.sure', {who, at: placeName(state, device)}),
+      isInQueue ? places : [...places, ['', word('act.end')]]);
     if (to === '') return end();
     if (to === null) return;
     const why = stands(state, to);
-    if (!why || await ask(word('act.place.sure', {place: placeName(state, to), why})) !== null) await this.send('deflectCall', {call, device, to}, word('act.move'), who, placeName(state, to));
+    if (!why || await ask(word('act.place.sure', {place: placeName(state, to), why})) !== null)
+      await this.send('deflectCall', {call, device, to}, word('act.move'), who, placeName(state, to));
   },
 
   async ofGroup(state, device) {
-    const {name, priority: has} = state.group(device), group = named(name || device), priority = await ask(word('act.priority.sure', {group}), [...'0123456789'].map(one => [one, one]), `${has}`, 'head.priority');
+    const {name, priority: has} = state.group(device), group = named(name || device), digits = [...'0123456789'].map(one => [one, one]);
+    const priority = await ask(word('act.priority.sure', {group}), digits, `${has}`, 'head.priority');
     if (priority) await this.send('setGroupPriority', {device, priority: Number(priority)}, word('head.priority'), group, priority);
   },
 
@@ -65,7 +74,8 @@ export const lead = {
     show('…');
     for (let tried = 0; tried < TRIES; tried++) {
       const reply = await post(body);
-      if (reply) return show(reply.status === 200 ? `✓ ${word(to ? 'agent.moved' : 'agent.button', {what, who, to})}` : `■ ${refusal(reply.status, reply.text)}`);
+      const done = () => `✓ ${word(to ? 'agent.moved' : 'agent.button', {what, who, to})}`;
+      if (reply) return show(reply.status === 200 ? done() : `■ ${refusal(reply.status, reply.text)}`);
       await sleep(AGAIN);
     }
     show(`■ ${word('act.unknown')}`);
@@ -83,7 +93,8 @@ function show(text = '') {
 /** @type {Asks} */
 const ask = (question, choices = [], chosen = choices[0]?.[0], what = 'act.to') => {
   const dialog = byId('act'), options = choices.map(([value, text]) => make('option', {value}, text));
-  put(dialog.firstElementChild, make('p', question), make('label', {hidden: !choices.length}, make('span', word(what)), ' ', make('select', ...options)),
+  put(dialog.firstElementChild, make('p', question),
+    make('label', {hidden: !choices.length}, make('span', word(what)), ' ', make('select', ...options)),
     make('menu', make('button.main', {value: 'yes'}, word('act.yes')), make('button', {value: ''}, word('act.no'))));
   const select = dialog.querySelector('select');
   select.value = chosen;

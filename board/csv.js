@@ -15,7 +15,8 @@ export function field(value) {
 /** @param {(string|number)[][]} rows */
 export function save(name = '', rows) {
   // a spreadsheet knows by the first sign that it is UTF-8
-  const text = `\ufeff${rows.map(row => row.map(field).join(BETWEEN)).join('\r\n')}\r\n`, address = URL.createObjectURL(new Blob([text], {type: 'text/csv'})), link = document.createElement('a');
+  const text = `\ufeff${rows.map(row => row.map(field).join(BETWEEN)).join('\r\n')}\r\n`;
+  const address = URL.createObjectURL(new Blob([text], {type: 'text/csv'})), link = document.createElement('a');
   Object.assign(link, {href: address, download: name});
   link.click();
   setTimeout(() => URL.revokeObjectURL(address), LIVES);

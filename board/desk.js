@@ -13,7 +13,10 @@ const LINES = {
   groups: (line, id) => ({id, name: '', ring: 0, wrap: 0, priority: 0, waiting: 0, ringing: 0, queued: 0, counts: {}, next: '', ...line}),
   agents: (line, id) => ({id, name: '', since: 0, group: null, station: null, groups: [], pending: null, calls: [], ...line}),
   rules: line => line,
-  calls: (line, id) => ({number: Number(id), state: 'none', since: 0, begun: line.since ?? 0, group: null, at: '', caller: '', direct: false, queued: line.since ?? 0, ...line}),
+  calls: (line, id) => ({
+    number: Number(id), state: 'none', since: 0, begun: line.since ?? 0, group: null, at: '', caller: '', direct: false,
+    queued: line.since ?? 0, ...line,
+  }),
 };
 
 export class State {
@@ -46,7 +49,8 @@ export class State {
       const lines = /** @type {Map<string, any>} */ (this[name]);
       if (isWhole) lines.clear();
       for (const [id, line] of Object.entries(told[name] ?? {})) {
-        if (line === null) lines.delete(id); else lines.set(id, LINES[name]({...line, name: this.names[name]?.[id] ?? line.name ?? ''}, id));
+        if (line === null) lines.delete(id);
+        else lines.set(id, LINES[name]({...line, name: this.names[name]?.[id] ?? line.name ?? ''}, id));
       }
     }
     if (isWhole || told.agents) this.at = new Map([...this.agents.values()].flatMap(({id, station}) => station ? [[station, id]] : []));

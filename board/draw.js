@@ -17,8 +17,10 @@ export const byId = place => typeof place === 'string' ? document.getElementById
 // An element: tag and class, attributes, if any, and parts. It is known by its `data-key`.
 /** @param {Attributes|Part} [one] @param {Part[]} more @returns {Made} */
 export function make(kind = '', one, ...more) {
-  const first = /** @type {any} */ (one), given = typeof first === 'object' && !first.tag, attributes = given ? first : {}, parts = given ? more : [first, ...more], dot = kind.indexOf('.');
-  return dot < 0 ? {tag: kind, attributes, parts} : {tag: kind.slice(0, dot), attributes: {class: kind.slice(dot + 1), ...attributes}, parts};
+  const first = /** @type {any} */ (one), given = typeof first === 'object' && !first.tag, attributes = given ? first : {};
+  const parts = given ? more : [first, ...more], dot = kind.indexOf('.');
+  return dot < 0 ? {tag: kind, attributes, parts}
+    : {tag: kind.slice(0, dot), attributes: {class: kind.slice(dot + 1), ...attributes}, parts};
 }
 
 // Gives attributes, and removes those that are false or nothing. A function handles an event.
@@ -43,13 +45,15 @@ export const put = (place, ...parts) => {
   const element = byId(place), one = parts.length === 1 ? parts[0] : undefined;
   if (one === AS_IT_IS || (one !== undefined && one === element[SAYS])) return;
   element[SAYS] = one;
-  const wanted = parts.flatMap(part => typeof part === 'number' ? number(part) : typeof part === 'string' ? texts(part, element) : part ? /** @type {Made} */ (part) : []);
+  const wanted = parts.flatMap(part => typeof part === 'number' ? number(part)
+    : typeof part === 'string' ? texts(part, element) : part ? /** @type {Made} */ (part) : []);
   const keys = new Set(wanted.flatMap(part => typeof part === 'string' ? [] : part.attributes['data-key'] ?? [])), old = new Map();
   if (keys.size) for (const one of [...element.children]) if (keys.has(one.dataset.key)) old.set(one.dataset.key, one); else one.remove();
   let there = element.firstChild;
   for (const part of wanted) {
     const isText = typeof part === 'string', fits = isText ? there instanceof Text : !keys.size && there?.localName === part.tag;
-    const node = !isText && old.get(part.attributes['data-key']) || (fits ? there : isText ? new Text() : document.createElementNS(part.tag === 'svg' ? SVG : element.namespaceURI, part.tag));
+    const node = !isText && old.get(part.attributes['data-key'])
+      || (fits ? there : isText ? new Text() : document.createElementNS(part.tag === 'svg' ? SVG : element.namespaceURI, part.tag));
     if (node === there) there = there.nextSibling; else element.insertBefore(node, there);
     if (!isText) {
       for (const name of node[MADE] ?? []) if (!(name in part.attributes)) set(node, {[name]: undefined});
@@ -68,10 +72,13 @@ const texts = (text = '', within) => !text.includes(OPENS) || within.localName =
 
 // The state's age: `known` is its millisecond. What changes each second is outside what a screen reader reads.
 export function drawStatus(kind = '', known = 0, why = '', moment = 0, reading = '') {
-  const age = Date.now() - known, isLive = kind === 'live', means = isLive ? 'calm' : kind === 'lost' ? 'bad' : 'long', text = kind === 'lost' ? word(known ? 'status.old' : 'status.none', {why}) : word(`status.${isLive && reading ? 'counting' : kind}`);
+  const age = Date.now() - known, isLive = kind === 'live', means = isLive ? 'calm' : kind === 'lost' ? 'bad' : 'long';
+  const lost = () => word(known ? 'status.old' : 'status.none', {why});
+  const text = kind === 'lost' ? lost() : word(`status.${isLive && reading ? 'counting' : kind}`);
   const more = known && ['late', 'lost'].includes(kind) ? word('status.age', {clock: clock(age / 1000)}) : isLive && reading;
   set('status', {'data-kind': kind, 'data-severity': means});
-  put('status', make('span', {'aria-hidden': 'true'}, `${SIGN[means]} `), make('span', {id: 'status-text', role: 'status'}, text), ' ', make('span', {id: 'status-age'}, more));
+  put('status', make('span', {'aria-hidden': 'true'}, `${SIGN[means]} `),
+    make('span', {id: 'status-text', role: 'status'}, text), ' ', make('span', {id: 'status-age'}, more));
   set(document.body, {'data-old': known > 0 && !isLive && age > GREY});
   put('clock', timeOfDay(moment, 'long'));
   return `${text} ${more || ''}`;
@@ -102,16 +109,21 @@ const fileCell = (column, line) => {
 export function table(id = '', given) {
   /** @type {any[]} */ let lines = [];
   const columns = given.map(/** @returns {Column} */ one => {
-    const column = typeof one === 'string' ? {head: one} : one, [head, ...kinds] = column.head.split(' '), of = (/** @type {any} */ line) => line[head];
+    const column = typeof one === 'string' ? {head: one} : one, [head, ...kinds] = column.head.split(' ');
+    const of = (/** @type {any} */ line) => line[head];
     return {text: of, ...column, head, kind: kinds.join(' '), day: kinds.includes('day'), ...kinds.includes('seconds') && {seconds: of}};
   }), inFile = columns.filter(({kind}) => !kind?.includes('lead'));
   return {
     draw(now = lines) {
       lines = now;
-      put(id, make('thead', make('tr', ...columns.map(({head, kind}) => make('th', {scope: 'col', class: kind}, word(`head.${head}`))))), make('tbody', ...lines.map(line => make('tr', {'data-key': line.key, 'data-severity': line.severity ?? ''}, ...columns.map((column, place) => {
+      const heads = columns.map(({head, kind}) => make('th', {scope: 'col', class: kind}, word(`head.${head}`)));
+      const cells = (/** @type {any} */ line) => columns.map((column, place) => {
         const {kind, press, severity} = column, text = textOf(column, line);
-        return make(place ? 'td' : 'th', {scope: !place && 'row', class: kind, 'data-severity': severity?.(line)}, press && text ? make('button', {'data-press': press}, text) : text);
-      })))));
+        return make(place ? 'td' : 'th', {scope: !place && 'row', class: kind, 'data-severity': severity?.(line)},
+          press && text ? make('button', {'data-press': press}, text) : text);
+      });
+      const rows = lines.map(line => make('tr', {'data-key': line.key, 'data-severity': line.severity ?? ''}, ...cells(line)));
+      put(id, make('thead', make('tr', ...heads)), make('tbody', ...rows));
     },
     file: () => [inFile.map(({head}) => word(`head.${head}`)), ...lines.map(line => inFile.map(column => fileCell(column, line)))],
   };

@@ -1,10 +1,12 @@
-// The figures of a day, by quarters of an hour, and of each agent, as the gate counts them, and what is reckoned of them. No document, no network.
+// The figures of a day, by quarters of an hour, and of each agent, as the gate counts them, and what is reckoned of them.
+// No document, no network.
 
 export const STEP = 900;
 
 // of an agent's figures the place of the groups
 const GROUPS = 8;
-const FIGURES = /** @type {const} */ (['entered', 'answered', 'abandoned', 'moved', 'waited', 'within', 'late', 'longest', 'handled', 'handling', 'closed',
+const FIGURES = /** @type {const} */ ([
+  'entered', 'answered', 'abandoned', 'moved', 'waited', 'within', 'late', 'longest', 'handled', 'handling', 'closed',
   // by the last stay in a queue
   'answeredStay', 'abandonedStay', 'withinStay', 'lateStay']);
 
@@ -16,7 +18,9 @@ const sumsOf = (line = [0]) => /** @type {any} */ (Object.fromEntries(FIGURES.ma
 /** @param {Sums[]} steps */
 export function sumOf(steps) {
   const sum = noSums();
-  for (const step of steps) for (const name of FIGURES) sum[name] = name === 'longest' ? Math.max(sum.longest, step.longest) : sum[name] + step[name];
+  for (const step of steps) {
+    for (const name of FIGURES) sum[name] = name === 'longest' ? Math.max(sum.longest, step.longest) : sum[name] + step[name];
+  }
   return sum;
 }
 
@@ -49,7 +53,9 @@ export class Day {
   take({sums = {}, quarters = {}, peaks = {}, spent = {}, past = {}, recent = {}, day = {}}, isWhole) {
     if (isWhole) for (const table of [this.groups, this.agents, this.peaks, this.past, this.recent]) table.clear();
     Object.assign(this, day);
-    for (const [group, [answered, abandoned, within, late, levelSince, lostSince]] of Object.entries(recent)) this.recent.set(group, {...noSums(), answered, abandoned, within, late, levelSince, lostSince});
+    for (const [group, [answered, abandoned, within, late, levelSince, lostSince]] of Object.entries(recent)) {
+      this.recent.set(group, {...noSums(), answered, abandoned, within, late, levelSince, lostSince});
+    }
     for (const [group, line] of Object.entries(sums)) Object.assign(this.line(group), {sum: sumsOf(line), balance: line[FIGURES.length]});
     for (const [key, line] of Object.entries(quarters)) {
       const [group, number] = key.split(' '), [top, end] = line.slice(FIGURES.length);
@@ -63,7 +69,8 @@ export class Day {
   // The chosen groups together.
   /** @returns {Line} */
   get all() {
-    const chosen = [...this.groups].flatMap(([group, line]) => this.chosen(group) ? line : []), numbers = new Set(chosen.flatMap(({steps}) => [...steps.keys()]));
+    const chosen = [...this.groups].flatMap(([group, line]) => this.chosen(group) ? line : []);
+    const numbers = new Set(chosen.flatMap(({steps}) => [...steps.keys()]));
     let end = 0;
     const steps = [...numbers].sort((one, other) => one - other).map(number => {
       const [top, ends] = this.peaks.get(number) ?? [end, end];
@@ -75,8 +82,13 @@ export class Day {
 
   // In seconds, from the agent's first event of the day on.
   agent(id = '', now = 0) {
-    const [calls = 0, missed = 0, talk = 0, afterCall = 0, ready = 0, notReady = 0, since = now, does = ''] = this.agents.get(id) ?? [], of = (name = '', spent = 0) => spent + (does === name ? Math.max(0, now - since) : 0);
-    return {calls, missed, talk: of('talk', talk), afterCall: of('afterCall', afterCall), ready: of('ready', ready), notReady: of('notReady', notReady)};
+    const counts = this.agents.get(id) ?? [];
+    const [calls = 0, missed = 0, talk = 0, afterCall = 0, ready = 0, notReady = 0, since = now, does = ''] = counts;
+    const of = (name = '', spent = 0) => spent + (does === name ? Math.max(0, now - since) : 0);
+    return {
+      calls, missed, talk: of('talk', talk), afterCall: of('afterCall', afterCall), ready: of('ready', ready),
+      notReady: of('notReady', notReady),
+    };
   }
 
   // Now, or else today.
@@ -90,7 +102,8 @@ export class Day {
     let before = base;
     for (let number = Math.max(Math.floor(this.begin / STEP), earliest); number <= Math.floor(now / STEP); number++) {
       const counted = line.steps.get(number);
-      found.push({...counted ?? {...noSums(), top: 0, end: 0}, at: number * STEP, peak: counted ? Math.max(before, base + counted.top) : before});
+      found.push({...counted ?? {...noSums(), top: 0, end: 0}, at: number * STEP,
+        peak: counted ? Math.max(before, base + counted.top) : before});
       if (counted) before = base + counted.end;
     }
     return found;
@@ -114,7 +127,8 @@ const share = (part = 0, whole = 0) => whole ? part / whole : null;
 export const level = ({within, answered, late} = noSums(), alone = false) => share(within, alone ? answered : answered + late);
 
 // The same by the last stay in a queue.
-export const levelByStay = ({withinStay, answeredStay, lateStay} = noSums(), alone = false) => share(withinStay, alone ? answeredStay : answeredStay + lateStay);
+export const levelByStay = ({withinStay, answeredStay, lateStay} = noSums(), alone = false) =>
+  share(withinStay, alone ? answeredStay : answeredStay + lateStay);
 
 export const abandonment = ({abandoned, answered} = noSums()) => share(abandoned, answered + abandoned);
 export const averageWait = ({waited, answered} = noSums()) => share(waited, answered);

@@ -15,7 +15,8 @@ export function listen(hear, isOwn = false) {
   const lock = isShared && crypto.randomUUID();
   let asked = '', heard = 0;
   /** @type {MessagePort|Worker|undefined} */ let worker;
-  const leave = () => worker?.postMessage({asked: ''}), say = () => { if (asked) worker?.postMessage({asked, isOwn, isShown: !document.hidden, isNarrow: isNarrow(), lock}); };
+  const leave = () => worker?.postMessage({asked: ''});
+  const say = () => { if (asked) worker?.postMessage({asked, isOwn, isShown: !document.hidden, isNarrow: isNarrow(), lock}); };
   function begin() {
     leave();
     if (worker) worker.onmessage = null;

@@ -16,17 +16,23 @@ function shares(sum, {goal, lost: most} = limitsOf()) {
   const reached = level(sum, settings.level === 'answered'), lost = abandonment(sum);
   /** @type {Judge} */
   const judged = (share, missed, far) => share === null ? 'none' : missed <= 0 ? 'calm' : missed > far ? 'bad' : 'long';
-  return {byStay: levelByStay(sum, settings.level === 'answered'), level: reached, levelSeverity: judged(reached, goal - 100 * (reached ?? 0), FAR), lost, lostSeverity: judged(lost, 100 * (lost ?? 0) - most, most)};
+  return {
+    byStay: levelByStay(sum, settings.level === 'answered'),
+    level: reached, levelSeverity: judged(reached, goal - 100 * (reached ?? 0), FAR),
+    lost, lostSeverity: judged(lost, 100 * (lost ?? 0) - most, most),
+  };
 }
 
 /** @param {Looked} looked @returns {GroupLine[]} */
 export function groupLines({state, day, now}) {
   const chosen = chosenOf(), groups = [...state.groups.values()].filter(({id}) => chosen(id)).sort((one, other) => order(one.id, other.id));
   return groups.map(({id, name, priority, waiting, ringing, queued, counts: has, next}) => {
-    const wait = waiting || ringing ? Math.max(0, now - queued) : null, limits = limitsOf(id), {sum} = day.line(id), counts = {...noCounts(), ...has};
+    const wait = waiting || ringing ? Math.max(0, now - queued) : null, limits = limitsOf(id), {sum} = day.line(id);
+    const counts = {...noCounts(), ...has};
     return {
       rule: state.rules.get(id), id, name: name || id, priority, waiting, ringing, queued, wait, severity: severity(wait, limits), limits,
-      counts, loggedOn: Object.values(counts).reduce((all, one) => all + one), next: next ? state.agent(next) : null, ...sum, ...shares(sum, limits),
+      counts, loggedOn: Object.values(counts).reduce((all, one) => all + one), next: next ? state.agent(next) : null, ...sum,
+      ...shares(sum, limits),
     };
   });
 }
@@ -46,7 +52,8 @@ export function totals(looked, lines) {
   const waits = lines.flatMap(({wait}) => wait ?? []);
   const worst = /** @type {Severity[]} */ (['bad', 'long', 'calm']).find(one => lines.some(line => line.severity === one));
   return {
-    waiting: lines.reduce((all, {waiting}) => all + waiting, 0), ringing: lines.reduce((all, {ringing}) => all + ringing, 0), wait: waits.length ? Math.max(...waits) : null, severity: worst ?? 'none', counts, loggedOn: agents.length - counts.null,
+    waiting: lines.reduce((all, {waiting}) => all + waiting, 0), ringing: lines.reduce((all, {ringing}) => all + ringing, 0),
+    wait: waits.length ? Math.max(...waits) : null, severity: worst ?? 'none', counts, loggedOn: agents.length - counts.null,
     ...sum, ...shares(sum), occupancy: occupancy(agents.map(({id}) => day.agent(id, now))),
   };
 }
@@ -55,7 +62,8 @@ export function totals(looked, lines) {
 /** @param {Looked} looked */
 export function callLines({state}) {
   const chosen = chosenOf(), rank = (/** @type {Call} */ call) => STATES.indexOf(call.state);
-  return [...state.calls.values()].filter(({group}) => !areSome() || chosen(group ?? '')).sort((one, other) => rank(one) - rank(other) || one.since - other.since || one.number - other.number);
+  return [...state.calls.values()].filter(({group}) => !areSome() || chosen(group ?? ''))
+    .sort((one, other) => rank(one) - rank(other) || one.since - other.since || one.number - other.number);
 }
 
 // The line whose number is looked for, or else all that have it in their texts.

@@ -33,16 +33,20 @@ let answered = 0, unseen = 0, due = false;
 const serverClock = () => (Date.now() + ahead) / 1000;
 
 // The desk's clock; it stops if the connection is lost: no wait grows that may have ended.
-const now = () => Math.max(state.moment, course.kind === 'lost' && answered ? Math.min(serverClock(), (answered + OLD + ahead) / 1000) : serverClock());
+const now = () => Math.max(state.moment,
+  course.kind === 'lost' && answered ? Math.min(serverClock(), (answered + OLD + ahead) / 1000) : serverClock());
 
 const ask = listen(hear);
 
 // Other days as the gate is to count them, each to its end; none where this one begins at a moment.
-const pastDays = () => settings.since.includes(':') && shows.has('day') ? [1, WEEK].map(back => `${dayBegin(now(), back)}-${dayBegin(now(), back - 1)}`) : [];
+const pastDays = () => settings.since.includes(':') && shows.has('day')
+  ? [1, WEEK].map(back => `${dayBegin(now(), back)}-${dayBegin(now(), back - 1)}`) : [];
 
-// Follows what the settings ask for: the day and its limits, the chosen groups, and what a view shows besides; says whether that is something else.
+// Follows what the settings ask for: the day and its limits, the chosen groups, and what a view shows besides; says whether
+// that is something else.
 function follow() {
-  const begin = dayBegin(now()), asked = new URLSearchParams({begin: `${begin}`, ...limitsSaid(), groups: settings.groups, show: [...shows].sort().join(','), past: pastDays().join(',')});
+  const begin = dayBegin(now()), show = [...shows].sort().join(','), past = pastDays().join(',');
+  const asked = new URLSearchParams({begin: `${begin}`, ...limitsSaid(), groups: settings.groups, show, past});
   for (const [name, value] of [...asked]) if (!value) asked.delete(name);
   const what = `${asked}`.replaceAll('%2C', ',');
   if (what === followed) return false;
@@ -118,17 +122,24 @@ const title = () => settings.title || office.title || word('title.usual');
 
 function drawTop() {
   const lost = course.kind === 'lost', late = course.kind === 'live' && Date.now() - answered > OLD;
-  const said = drawStatus(late ? 'late' : course.kind, answered, 'why' in course ? course.why : '', serverClock(), counted ? '' : `${Math.floor(100 * counting.share)} %`);
+  const said = drawStatus(late ? 'late' : course.kind, answered, 'why' in course ? course.why : '', serverClock(),
+    counted ? '' : `${Math.floor(100 * counting.share)} %`);
   put('band', lost && `■ ${said}`);
-  document.title = `${'gaveWay' in course && course.gaveWay ? `▲ ${word('status.late')} – ` : lost ? `■ ${word('title.lost')} – ` : unseen ? `■ ${word('title.alarms', {n: unseen})} – ` : ''}${title()}: ${word(`view.${view}`)}`;
+  const gaveWay = 'gaveWay' in course && course.gaveWay;
+  const alarmed = unseen ? `■ ${word('title.alarms', {n: unseen})} – ` : '';
+  const first = gaveWay ? `▲ ${word('status.late')} – ` : lost ? `■ ${word('title.lost')} – ` : alarmed;
+  document.title = `${first}${title()}: ${word(`view.${view}`)}`;
 }
 
 function show() {
   const hash = location.hash.slice(1);
   view = Object.hasOwn(VIEWS, hash) ? hash : 'wall';
   set(document.body, {'data-view': view});
-  for (const part of document.querySelectorAll('[data-for]')) set(part, {hidden: !part.getAttribute('data-for')?.split(' ').includes(view)});
-  put('views', ...Object.keys(VIEWS).map(name => make('li', make('a', {href: `#${name}`, 'aria-current': name === view && 'page'}, word(`view.${name}`)))));
+  for (const part of document.querySelectorAll('[data-for]')) {
+    set(part, {hidden: !part.getAttribute('data-for')?.split(' ').includes(view)});
+  }
+  const link = (name = '') => make('a', {href: `#${name}`, 'aria-current': name === view && 'page'}, word(`view.${name}`));
+  put('views', ...Object.keys(VIEWS).map(name => make('li', link(name))));
   put('view', word(`view.${view}`));
   if (view === 'day' || view === 'events') shows.add(view);
   follow();
@@ -146,7 +157,8 @@ function useSettings() {
     const one = field(name);
     if (one?.type === 'checkbox') one.checked = Boolean(value);
     // a field of times takes no day that begins at a moment
-    else if (one && document.activeElement !== one) one.value = one.type !== 'time' ? value : `${value}`.includes(':') ? `${value}`.padStart(5, '0') : '';
+    else if (one && document.activeElement !== one)
+      one.value = one.type !== 'time' ? value : `${value}`.includes(':') ? `${value}`.padStart(5, '0') : '';
   }
   window.history.replaceState(null, '', location.pathname + searchOf() + location.hash);
 }
@@ -161,7 +173,8 @@ const filter = (wanted, hash) => {
 /** @type {Labelled} */
 const labelled = ([name, kind = 'text', ...choices], attributes = {}) => {
   const options = ['', ...choices].map(value => make('option', {value}, word(`set.${name}.${value}`)));
-  return make('label', attributes, make('span', word(`set.${name}`)), kind ? make('input', {name, type: kind, min: 1, autocomplete: 'off'}) : make('select', {name}, ...options));
+  return make('label', attributes, make('span', word(`set.${name}`)),
+    kind ? make('input', {name, type: kind, min: 1, autocomplete: 'off'}) : make('select', {name}, ...options));
 };
 
 /** @param {any} event */
@@ -194,9 +207,11 @@ document.addEventListener('click', ({target}) => {
 });
 
 translate();
-put('fields', ...FIELDS.map(setting => labelled(setting)), make('fieldset', {id: 'own-groups'}), make('p', make('output', {id: 'set-told'})), make('p', word('set.about')));
+put('fields', ...FIELDS.map(setting => labelled(setting)), make('fieldset', {id: 'own-groups'}),
+  make('p', make('output', {id: 'set-told'})), make('p', word('set.about')));
 set('fields', {onchange: change, onsubmit: event => event.preventDefault()});
-put('filters', ...FILTERS.map(([views, ...setting]) => labelled(setting, {'data-for': views, oninput: () => filter({[setting[0]]: field(setting[0]).value})})),
+put('filters', ...FILTERS.map(([views, ...setting]) =>
+  labelled(setting, {'data-for': views, oninput: () => filter({[setting[0]]: field(setting[0]).value})})),
   make('label', {'data-for': 'events'}, make('input', {type: 'checkbox', id: 'events-hold'}), make('span', word('filter.hold'))),
   make('div', {id: 'states', role: 'group', 'aria-label': word('filter.states'), 'data-for': 'agents'}));
 put('fault', faults.length > 0 && word('fault.office', {what: faults.join(', ')}));

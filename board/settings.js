@@ -15,14 +15,22 @@ export const USUAL = {
 
 // the form: each setting, its kind, or '' and the other choices
 export const FIELDS = [
-  ['title'], ['groups', 'hidden'], ['limit', 'number'], ['goal', 'number'], ['level', '', 'answered'], ['lost', 'number'], ['long', 'number'], ['bad', 'number'], ['notReady', 'number'], ['since', 'time'], ['lang', '', 'en', 'de'], ['theme', '', 'dark', 'light'], ['tone', 'checkbox'], ['notify', 'checkbox'],
+  ['title'], ['groups', 'hidden'], ['limit', 'number'], ['goal', 'number'], ['level', '', 'answered'], ['lost', 'number'],
+  ['long', 'number'], ['bad', 'number'], ['notReady', 'number'], ['since', 'time'], ['lang', '', 'en', 'de'],
+  ['theme', '', 'dark', 'light'], ['tone', 'checkbox'], ['notify', 'checkbox'],
 ];
 // the filters, by the views that have them
-export const FILTERS = [['agents calls day events', 'group', ''], ['agents calls', 'find', 'search'], ['agents', 'sort', '', 'name', 'state', 'time'], ['day', 'beside', '', '1', '7']];
+export const FILTERS = [
+  ['agents calls day events', 'group', ''], ['agents calls', 'find', 'search'],
+  ['agents', 'sort', '', 'name', 'state', 'time'], ['day', 'beside', '', '1', '7'],
+];
 
 const OF_GROUP = /^(limit|goal|lost|long|bad)\.\d{1,15}$/, HOUR = 3600;
 /** @type {Record<string, RegExp>} */
-const FORMS = {since: /^([01]?\d|2[0-3]):[0-5]\d$|^0$|^\d{10}$/, theme: /^(dark|light)?$/, groups: /^(all|\d{1,15}(,\d{1,15})*)?$/, level: /^(answered)?$/, tone: /^1?$/, notify: /^1?$/, group: /^\d{0,15}$/};
+const FORMS = {
+  since: /^([01]?\d|2[0-3]):[0-5]\d$|^0$|^\d{10}$/, theme: /^(dark|light)?$/, groups: /^(all|\d{1,15}(,\d{1,15})*)?$/,
+  level: /^(answered)?$/, tone: /^1?$/, notify: /^1?$/, group: /^\d{0,15}$/,
+};
 
 export function valueOf(name = '', text = '') {
   const plain = name.replace(OF_GROUP, '$1'), usual = /** @type {any} */ (USUAL)[plain], number = Number(text);
@@ -47,7 +55,8 @@ export const settings = settingsOf(new URLSearchParams(location.search), usual);
 
 // what differs from the usual
 export function searchOf() {
-  const query = new URLSearchParams(Object.entries(settings).flatMap(([name, value]) => value === usual[/** @type {'limit'} */ (name)] ? [] : [[name, `${value}`]]));
+  const query = new URLSearchParams(Object.entries(settings)
+    .flatMap(([name, value]) => value === usual[/** @type {'limit'} */ (name)] ? [] : [[name, `${value}`]]));
   return `?${query}`.replaceAll('%2C', ',').replaceAll('%3A', ':').replace(/^\?$/, '');
 }
 
@@ -58,7 +67,10 @@ export function limitsOf(group = '') {
 }
 
 // the limits and goals of all groups, and of single ones, by which the gate counts
-export const limitsSaid = () => ({...Object.fromEntries(Object.entries(settings).flatMap(([name, value]) => /^(limit|goal|lost)\b/.test(name) ? [[name, `${value}`]] : [])), level: settings.level});
+export const limitsSaid = () => {
+  const limits = Object.entries(settings).flatMap(([name, value]) => /^(limit|goal|lost)\b/.test(name) ? [[name, `${value}`]] : []);
+  return {...Object.fromEntries(limits), level: settings.level};
+};
 
 // The groups where the address names none: a lead's own.
 export const usualGroups = (given = usual.groups) => {
@@ -88,7 +100,8 @@ export const dateOf = (moment = 0) => clock.format(moment * 1000).slice(0, 10);
 export function dayBegin(now = 0, back = 0) {
   const [hour, minute] = settings.since.split(':').map(Number), whole = Math.floor(now);
   if (minute === undefined) return hour;
-  const here = shown(whole), midnight = here - here % 86400, wanted = midnight + hour * HOUR + minute * 60, day = wanted > here ? wanted - 86400 : wanted;
+  const here = shown(whole), midnight = here - here % 86400, wanted = midnight + hour * HOUR + minute * 60;
+  const day = wanted > here ? wanted - 86400 : wanted;
   const clock = day - 86400 * back, guess = clock - (shown(clock) - clock);
   return clock - (shown(guess) - guess);   // where a clock is put forward or back between the two
 }

@@ -1,8 +1,9 @@
-// Reads streams of the gate, each address once for all pages of a browser, and goes on after a loss. A worker, since a browser slows down the clock of a hidden page;
-// one for all pages, since over HTTP/1.1 a browser has six connections for all of them.
+// Reads streams of the gate, each address once for all pages of a browser, and goes on after a loss. A worker, since a browser
+// slows down the clock of a hidden page; one for all pages, since over HTTP/1.1 a browser has six connections for all of them.
 import {base, pause, sleep} from './net.js';
 
-// milliseconds: without a line it is lost; between two beats, unless the machine slept; until a page asks again, and one that had to give way to others
+// milliseconds: without a line it is lost; between two beats, unless the machine slept; until a page asks again, and one
+// that had to give way to others
 const SILENT = 8000, SLEPT = 5000, AGAIN = 200, GAVE_WAY = 60000;
 // streams: of a browser over HTTP/1.1, of whose six connections some are for requests; and of a login
 const FEW = 4, MOST = 8;
@@ -84,12 +85,14 @@ class Stream {
 
   /** @param {string} text an event */
   take(text) {
-    const lines = Object.fromEntries(text.split('\n').map(line => [line.slice(0, line.indexOf(': ')), line.slice(line.indexOf(': ') + 2)])), told = JSON.parse(lines.data);
+    const parted = (line = '') => [line.slice(0, line.indexOf(': ')), line.slice(line.indexOf(': ') + 2)];
+    const lines = Object.fromEntries(text.split('\n').map(line => parted(line))), told = JSON.parse(lines.data);
     if (lines.event === 'end') return told.why;
     this.number = lines.id ?? this.number;
     this.clocks = [...this.clocks.slice(-3), 1000 * told.clock - Date.now()];
     this.losses = 0;
-    this.send({kind: lines.event === 'picture' ? 'picture' : 'change', told, asked: this.asked, ahead: Math.max(...this.clocks), received: Date.now()});
+    this.send({kind: lines.event === 'picture' ? 'picture' : 'change', told, asked: this.asked, ahead: Math.max(...this.clocks),
+      received: Date.now()});
   }
 }
 
@@ -98,10 +101,11 @@ function end(asked = '') {
   streams.delete(asked);
 }
 
-// Opens what there is room for: an agent's own page comes first, then what is shown, then what was shown last. A worker of one page knows of no others: over HTTP/1.1 it reads
-// while the page is shown.
+// Opens what there is room for: an agent's own page comes first, then what is shown, then what was shown last. A worker of
+// one page knows of no others: over HTTP/1.1 it reads while the page is shown.
 function settle() {
-  const ranked = [...pages.values()].filter(page => isShared || page.isOwn || page.isShown || !page.isNarrow).sort((one, other) => Number(other.isOwn) - Number(one.isOwn) || Number(other.isShown) - Number(one.isShown) || other.said - one.said);
+  const ranked = [...pages.values()].filter(page => isShared || page.isOwn || page.isShown || !page.isNarrow).sort((one, other) =>
+    Number(other.isOwn) - Number(one.isOwn) || Number(other.isShown) - Number(one.isShown) || other.said - one.said);
   const room = ranked.some(page => page.isNarrow) ? FEW : MOST, open = [...new Set(ranked.map(page => page.asked))].slice(0, room);
   for (const asked of [...streams.keys()]) if (!open.includes(asked)) end(asked);
   for (const asked of open) if (!streams.has(asked)) streams.set(asked, new Stream(asked));

@@ -13,7 +13,8 @@ export type News = {kind: 'picture' | 'change', told: Told, asked: string, ahead
 /** what the worker hears: why nothing came, and each second that it is alive */
 export type Lost = {kind: 'lost', status: number, text: string};
 export type Heard = News | Lost | {kind: 'beat'};
-/** what a page says to the worker. asked: of the gate, nothing where the page leaves; isOwn: the page of an agent who works with it; isNarrow: over HTTP/1.1; lock: which it holds as long as it is there; said: how many said something before */
+/** what a page says to the worker. asked: of the gate, nothing where the page leaves; isOwn: the page of an agent who works with
+ *  it; isNarrow: over HTTP/1.1; lock: which it holds as long as it is there; said: how many said something before */
 export type Page = {asked: string, isOwn: boolean, isShown: boolean, isNarrow: boolean, lock: string | false, said: number};
 export type Port = {onmessage: ((event: MessageEvent) => void) | null, postMessage: (one: Heard) => void};
 /** gives what asks for something else */
@@ -21,7 +22,8 @@ export type Listen = (hear: (heard: Heard) => void, isOwn?: boolean) => (asked: 
 
 /** what is left out of an event of a call: `callCleared` has no device */
 export type CallReport = {number: number, moment: number, call: number, device: string, group?: string, waited?: number,
-  event: 'serviceInitiated' | 'originated' | 'queued' | 'delivered' | 'diverted' | 'established' | 'held' | 'retrieved' | 'transferred' | 'failed' | 'connectionCleared' | 'callCleared',
+  event: 'serviceInitiated' | 'originated' | 'queued' | 'delivered' | 'diverted' | 'established' | 'held' | 'retrieved'
+    | 'transferred' | 'failed' | 'connectionCleared' | 'callCleared',
   cause?: 'newCall' | 'distributed' | 'deflected' | 'transferred' | 'noAnswer'};
 export type AgentReport = {number: number, moment: number, agent: string, device: string, group?: string,
   event: 'agentLoggedOn' | 'agentLoggedOff' | 'agentNotReady' | 'agentReady' | 'agentBusy' | 'agentWorkingAfterCall'};
@@ -30,16 +32,21 @@ export type Report = CallReport | AgentReport;
 // the state
 
 /** queued: since when the caller waits who waits longest, in the queue or while it rings; next: the agent who gets the next call */
-export type Group = {id: string, name: string, ring: number, wrap: number, priority: number, waiting: number, ringing: number, queued: number, counts: Partial<Record<Doing, number>>, next: string};
+export type Group = {id: string, name: string, ring: number, wrap: number, priority: number, waiting: number, ringing: number,
+  queued: number, counts: Partial<Record<Doing, number>>, next: string};
 /** whether a group is closed by its hours, and where rules moved its callers lately */
 export type Rule = {closed?: boolean, to?: string};
 /** what an agent does, since when, and for which group; calls: those at the agent's station */
-export type Agent = {id: string, name: string, doing: Doing, since: number, group: string | null, station: string | null, groups: string[], pending: string | null, calls: number[]};
-/** a call, by the connection that says most of it, which is `at` a device; direct: no group gave it to the agent there, and `group` is the one that the caller came from; queued: since when the caller waits */
-export type Call = {number: number, caller: string, begun: number, state: ConnectionState | 'none', since: number, group: string | null, at: string, direct: boolean, queued: number};
+export type Agent = {id: string, name: string, doing: Doing, since: number, group: string | null, station: string | null,
+  groups: string[], pending: string | null, calls: number[]};
+/** a call, by the connection that says most of it, which is `at` a device; direct: no group gave it to the agent there, and `group`
+ *  is the one that the caller came from; queued: since when the caller waits */
+export type Call = {number: number, caller: string, begun: number, state: ConnectionState | 'none', since: number,
+  group: string | null, at: string, direct: boolean, queued: number};
 
 // the day
-/** within: answered in time; late: abandoned later than that; longest: wait of an answered call; handled, handling: calls that agents are done with, and seconds for them; closed: calls that a rule ended; the last four are of stays in a queue alone */
+/** within: answered in time; late: abandoned later than that; longest: wait of an answered call; handled, handling: calls that
+ *  agents are done with, and seconds for them; closed: calls that a rule ended; the last four are of stays in a queue alone */
 export type Sums = Figures & {within: number, late: number, longest: number, handled: number, handling: number, closed: number,
   answeredStay: number, abandonedStay: number, withinStay: number, lateStay: number};
 /** top and end: how many more wait than at the day's begin, at most and in the end */
@@ -56,20 +63,26 @@ export type Doing = 'ready' | 'ringing' | 'busy' | 'hold' | 'own' | 'workingAfte
 export type Severity = 'none' | 'calm' | 'long' | 'bad';
 export type Limits = {limit: number, goal: number, lost: number, long: number, bad: number};
 export type Share = {byStay: number | null, level: number | null, levelSeverity: Severity, lost: number | null, lostSeverity: Severity};
-/** wait: of the call that waits longest, since `queued`; next: the agent who gets the next call; level: the share answered in time, byStay: the same by the last stay in a queue; lost: the share that gave up */
-export type GroupLine = Sums & Share & {rule: Rule | undefined, id: string, name: string, priority: number, waiting: number, ringing: number, queued: number, wait: number | null, severity: Severity,
+/** wait: of the call that waits longest, since `queued`; next: the agent who gets the next call; level: the share answered in time,
+ *  byStay: the same by the last stay in a queue; lost: the share that gave up */
+export type GroupLine = Sums & Share & {rule: Rule | undefined, id: string, name: string, priority: number, waiting: number,
+  ringing: number, queued: number, wait: number | null, severity: Severity,
   counts: Record<Doing, number>, loggedOn: number, next: Agent | null, limits: Limits};
 /** group: none of the desk itself; since: if the figures show it, else 0; weight: of two of a kind the greater is worse */
 export type Alarm = {key: string, kind: string, group: string, since: number, weight: number, values: () => Values};
-/** since: when it began, as far as is known; last: when it was there for the last time, in milliseconds; seen: whether somebody said so in this browser */
+/** since: when it began, as far as is known; last: when it was there for the last time, in milliseconds; seen: whether somebody
+ *  said so in this browser */
 export type Known = {since: number, last: number, seen: boolean};
 /** what a word has values for */
 export type Values = Record<string, string | number>;
 /** of a line */
 export type Cell = (line: any) => string | number;
 export type Figure = (line: any) => number | null;
-/** head: the word at the top, and after it classes: wide and least are left out on a small screen, and day is known once the day has been counted; text: a line's cell, else the line's member of that name, or a figure of seconds or a share; file: the cell in a file; press: the name of the button that it is */
-export type Column = {head: string, kind?: string, day?: boolean, text?: Cell, seconds?: Figure, share?: Figure, file?: (line: any) => string | number | null, severity?: (line: any) => string, press?: string,
+/** head: the word at the top, and after it classes: wide and least are left out on a small screen, and day is known once the day
+ *  has been counted; text: a line's cell, else the line's member of that name, or a figure of seconds or a share; file: the cell in
+ *  a file; press: the name of the button that it is */
+export type Column = {head: string, kind?: string, day?: boolean, text?: Cell, seconds?: Figure, share?: Figure,
+  file?: (line: any) => string | number | null, severity?: (line: any) => string, press?: string,
   /** of a share, in percent */ goal?: (line: any) => number};
 /** look: first, second or third, by which the style distinguishes them, with colour and without; a bar, or a line */
 export type Series = {name: string, look: string, value: Figure, isLine?: boolean};
@@ -124,14 +137,19 @@ export type Labelled = (setting: string[], attributes?: Attributes) => Part;
 export type Asks = (question: string, choices?: string[][], chosen?: string, what?: string) => Promise<string | null>;
 
 // who leads groups
-export type LeadOf = {groups: Set<string>, requester: string, invoke: number, begin(who: Who): void, leads(agent: Agent): boolean, may(line: Call): boolean,
-  ofAgent(state: import('./desk.js').State, agent: string): Promise<void>, ofCall(state: import('./desk.js').State, line: Call): Promise<void>,
-  ofGroup(state: import('./desk.js').State, group: string): Promise<void>, send(service: string, members: object, what: string, who: string, to?: string): Promise<void>};
+export type LeadOf = {groups: Set<string>, requester: string, invoke: number, begin(who: Who): void,
+  leads(agent: Agent): boolean, may(line: Call): boolean,
+  ofAgent(state: import('./desk.js').State, agent: string): Promise<void>,
+  ofCall(state: import('./desk.js').State, line: Call): Promise<void>,
+  ofGroup(state: import('./desk.js').State, group: string): Promise<void>,
+  send(service: string, members: object, what: string, who: string, to?: string): Promise<void>};
 
 // what a view draws
 /** what all is reckoned from */
 export type Looked = {state: import('./desk.js').State, day: import('./figures.js').Day, now: number};
-/** counted: whether the day's events have been read; all: the chosen groups together; lines: one for each; past: another day, so many days before; empty: says why nothing is shown; filter: sets filters, and shows a view; redraw: draws all anew */
+/** counted: whether the day's events have been read; all: the chosen groups together; lines: one for each; past: another day, so
+ *  many days before; empty: says why nothing is shown; filter: sets filters, and shows a view; redraw: draws all anew */
 export type Drawn = Looked & {settings: Settings, counted: boolean, recent: Report[], lines: GroupLine[],
-  all: ReturnType<typeof import('./lines.js').totals>, past: (back: number) => import('./figures.js').Day | undefined, empty: (text: string) => void, lead: LeadOf,
+  all: ReturnType<typeof import('./lines.js').totals>, past: (back: number) => import('./figures.js').Day | undefined,
+  empty: (text: string) => void, lead: LeadOf,
   filter: (wanted: Record<string, string>, view?: string) => void, redraw: () => void};

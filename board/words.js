@@ -206,7 +206,8 @@ today: Today
 until: {day} until {time}
 [counted]
 title: How it is counted
-wait: A caller waits from the first entrance into a queue, through all moves, until an agent answers or the caller goes. Who is passed on after a talk waits anew. It counts in the group that the caller entered last.
+wait: A caller waits from the first entrance into a queue, through all moves, until an agent answers or the caller goes.
+  Who is passed on after a talk waits anew. It counts in the group that the caller entered last.
 level: In time: answered within the limit, of all answered and those who gave up later than the limit.
 lost: Lost: gave up, of all answered and all who gave up. Speed of answer: the average wait of the answered.
 stay: By stay: the same of the last stay in a queue alone, where the wait ended there.
@@ -355,10 +356,11 @@ wait: Too many wrong passwords, or too many who log in: wait a minute.
 fault: The server cannot be asked: try again.
 `);
 
+// A line that begins with spaces continues the one above.
 /** @returns {Record<string, string>} */
 function keyed(text = '') {
   let area = '';
-  return Object.fromEntries(text.split('\n').flatMap(line => {
+  return Object.fromEntries(text.replace(/\n +/g, ' ').split('\n').flatMap(line => {
     const [, into, name, said] = /^\[(.*)\]$|^(.*?): (.*)$/.exec(line) ?? [];
     if (into) area = `${into}.`;
     return name ? [[area + name, said]] : [];
@@ -366,17 +368,22 @@ function keyed(text = '') {
 }
 
 /** @returns {string[][]} */
-const flat = (said = {}, area = '') => Object.entries(said).flatMap(([name, one]) => typeof one === 'string' ? [[area + name, one]] : flat(one, `${area}${name}.`));
+const flat = (said = {}, area = '') => Object.entries(said)
+  .flatMap(([name, one]) => typeof one === 'string' ? [[area + name, one]] : flat(one, `${area}${name}.`));
 
 // The office's settings of its pages, of /etc/acd/board.json; `faults` names the file, or each member that can't be used.
 const PATIENCE = 3000, LONGEST = 80;
 
 /** @returns {Record<string, string>} */
-const texts = (said = {}) => Object.fromEntries(Object.entries(said ?? {}).flatMap(([name, value]) => ['string', 'number'].includes(typeof value) ? [[name, String(value).slice(0, LONGEST)]] : []));
+const texts = (said = {}) => Object.fromEntries(Object.entries(said ?? {})
+  .flatMap(([name, value]) => ['string', 'number'].includes(typeof value) ? [[name, String(value).slice(0, LONGEST)]] : []));
 
 // Which members of an object are none of these, or aren't of the form that they have to be.
-const strange = (/** @type {any} */ said, area = '', known = (/** @type {string} */ name, /** @type {any} */ value) => false) => said === undefined ? [] :
-  said?.constructor !== Object ? [area.slice(0, -1)] : Object.entries(said).flatMap(([name, value]) => known(name, value) ? [] : area + name);
+function strange(/** @type {any} */ said, area = '', known = (/** @type {string} */ name, /** @type {any} */ value) => false) {
+  if (said === undefined) return [];
+  if (said?.constructor !== Object) return [area.slice(0, -1)];
+  return Object.entries(said).flatMap(([name, value]) => known(name, value) ? [] : area + name);
+}
 
 const isText = (/** @type {any} */ value) => ['string', 'number'].includes(typeof value);
 
@@ -389,17 +396,24 @@ function officeOf(text = '') {
     faults.push('board.json');
   }
   const given = texts(said), {names, limits} = said, drop = (name = '') => { delete given[name]; faults.push(name); };
-  faults.push(...strange(said, '', (name, value) => ['title', 'language', 'zone'].includes(name) ? isText(value) : ['names', 'limits'].includes(name)), ...strange(limits, 'limits.', (_, value) => isText(value)),
-    ...strange(names, 'names.', name => ['groups', 'agents', 'stations'].includes(name)), ...['groups', 'agents', 'stations'].flatMap(name => strange(names?.[name], `names.${name}.`, (_, value) => isText(value))));
+  const kinds = ['groups', 'agents', 'stations'], ofText = (_ = '', /** @type {any} */ value) => isText(value);
+  const isOf = (name = '', /** @type {any} */ value) =>
+    ['title', 'language', 'zone'].includes(name) ? isText(value) : ['names', 'limits'].includes(name);
+  faults.push(
+    ...strange(said, '', isOf),
+    ...strange(limits, 'limits.', ofText), ...strange(names, 'names.', name => kinds.includes(name)),
+    ...kinds.flatMap(name => strange(names?.[name], `names.${name}.`, ofText)));
   if (!/^[a-z]{2,3}$/.test(given.language ?? 'en')) drop('language');
   try { new Intl.DateTimeFormat('en', {timeZone: given.zone}); } catch { drop('zone'); }
-  return {office: {title: given.title, language: given.language, zone: given.zone, limits: texts(limits), names: {groups: texts(names?.groups), agents: texts(names?.agents), stations: texts(names?.stations)}}, faults};
+  const allNames = {groups: texts(names?.groups), agents: texts(names?.agents), stations: texts(names?.stations)};
+  return {office: {title: given.title, language: given.language, zone: given.zone, limits: texts(limits), names: allNames}, faults};
 }
 
 const reply = await ask('/board/board.json', {cache: 'no-cache'}, PATIENCE).catch(() => null), isTold = reply?.status === 200;
 export const {office, faults} = officeOf(isTold ? reply.text : '{}');
 // a page without a session, that of log-in, speaks as the last one did, or as the browser
-if (isTold) localStorage['acd-language'] = office.language ?? 'en'; else office.language = localStorage['acd-language'] ?? navigator.language.slice(0, 2);
+if (isTold) localStorage['acd-language'] = office.language ?? 'en';
+else office.language = localStorage['acd-language'] ?? navigator.language.slice(0, 2);
 
 export const query = new URLSearchParams(location.search);
 const asked = query.get('lang') ?? '';
@@ -411,10 +425,13 @@ if (language !== 'en') try { chosen = Object.fromEntries(flat((await import(`./w
 }
 document.documentElement.lang = language;
 // Britain's English has 24 hours
-const locale = language === 'en' ? 'en-GB' : language, dates = (how = {}) => new Intl.DateTimeFormat(locale, {timeZone: office.zone, ...how});
-const plural = new Intl.PluralRules(locale), figures = new Intl.NumberFormat(locale), shares = new Intl.NumberFormat(locale, {style: 'percent'});
+const locale = language === 'en' ? 'en-GB' : language;
+const dates = (how = {}) => new Intl.DateTimeFormat(locale, {timeZone: office.zone, ...how});
+const plural = new Intl.PluralRules(locale), figures = new Intl.NumberFormat(locale);
+const shares = new Intl.NumberFormat(locale, {style: 'percent'});
 const exact = new Intl.NumberFormat(locale, {style: 'percent', minimumFractionDigits: 1, maximumFractionDigits: 1});
-const times = {short: dates({timeStyle: 'short'}), medium: dates({timeStyle: 'medium'}), long: dates({timeStyle: 'long'})}, days = dates({weekday: 'short', day: 'numeric', month: 'short'});
+const times = {short: dates({timeStyle: 'short'}), medium: dates({timeStyle: 'medium'}), long: dates({timeStyle: 'long'})};
+const days = dates({weekday: 'short', day: 'numeric', month: 'short'});
 
 /** @param {string|number} [n] */
 const saidIn = (table = chosen, key = '', n) => table[key] ?? table[`${key}.${plural.select(Number(n))}`] ?? table[`${key}.other`];
@@ -422,7 +439,10 @@ const saidIn = (table = chosen, key = '', n) => table[key] ?? table[`${key}.${pl
 /** @param {Values} [values] */
 export function word(key = '', values = {}) {
   const text = saidIn(chosen, key, values.n) ?? saidIn(ENGLISH, key, values.n) ?? key;
-  return text.replace(/\{(\w+)\}/g, (all, name) => { const value = values[name] ?? all; return typeof value === 'number' ? number(value) : value; });
+  return text.replace(/\{(\w+)\}/g, (all, name) => {
+    const value = values[name] ?? all;
+    return typeof value === 'number' ? number(value) : value;
+  });
 }
 
 export const isWord = (key = '') => saidIn(ENGLISH, key) !== undefined;
@@ -445,13 +465,15 @@ export const number = (value = 0) => figures.format(value);
 
 // In whole percent; one that is its goal only in whole percent has a digit more.
 /** @param {number|null} share */
-export const percent = (share, goal = NaN) => share === null ? '–' : (Math.round(100 * share) === goal && Math.abs(100 * share - goal) > 1e-9 ? exact : shares).format(share);
+export const percent = (share, goal = NaN) => share === null ? '–'
+  : (Math.round(100 * share) === goal && Math.abs(100 * share - goal) > 1e-9 ? exact : shares).format(share);
 
 // seconds as 0:07, 12:34 or 1:02:03
 /** @param {number|null} seconds */
 export const clock = seconds => {
   if (seconds === null) return '–';
-  const whole = Math.max(0, Math.floor(seconds)), hour = Math.floor(whole / 3600), minute = `${Math.floor(whole / 60) % 60}`, second = `${whole % 60}`.padStart(2, '0');
+  const whole = Math.max(0, Math.floor(seconds)), hour = Math.floor(whole / 3600), minute = `${Math.floor(whole / 60) % 60}`;
+  const second = `${whole % 60}`.padStart(2, '0');
   return hour ? `${hour}:${minute.padStart(2, '0')}:${second}` : `${minute}:${second}`;
 };
 
@@ -461,9 +483,12 @@ export const timeOfDay = (moment = 0, style = /** @type {keyof times} */ ('mediu
 export const dayOf = (moment = 0) => days.format(moment * 1000);
 
 /** @type {Signed} */
-const signed = (area, signs) => Object.fromEntries(Object.entries(signs).map(([name, sign]) => [name, {sign, words: word(`${area}.${name}`)}]));
-export const DOING = signed('doing', {ready: '●', ringing: '◆', busy: '▶', hold: '‖', own: '▷', workingAfterCall: '✎', notReady: '■', null: '○'});
-export const CONNECTION = signed('connection', {queued: '●', alerting: '◆', hold: '‖', fail: '×', connected: '▶', initiated: '○', none: '○'});
+const signed = (area, signs) =>
+  Object.fromEntries(Object.entries(signs).map(([name, sign]) => [name, {sign, words: word(`${area}.${name}`)}]));
+export const DOING = signed('doing',
+  {ready: '●', ringing: '◆', busy: '▶', hold: '‖', own: '▷', workingAfterCall: '✎', notReady: '■', null: '○'});
+export const CONNECTION = signed('connection',
+  {queued: '●', alerting: '◆', hold: '‖', fail: '×', connected: '▶', initiated: '○', none: '○'});
 
 /** @type {Record<string, string>} */
 export const SIGN = {none: '○', calm: '●', long: '▲', bad: '■'};

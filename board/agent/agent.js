@@ -13,7 +13,8 @@ import {Requests} from './requests.js';
 // milliseconds until the page is late, an answer of the gate isn't waited for, a text fades, a refusal fades, a click is no second one
 const OLD = 8000, PATIENCE = 2000, FLEETING = 5000, REFUSED = 30000, SECOND = 400, MOST_GROUPS = 8, form = byId('log-on');
 
-let id = query.get('agent') ?? '', acts = false, leaves = false, wonders = false, begun = false, isFilled = false, free = [''], offered = [''];
+let id = query.get('agent') ?? '', acts = false, leaves = false, wonders = false, begun = false, isFilled = false;
+let free = [''], offered = [''];
 /** @type {Mine} */ let mine;
 /** @type {Lost|null} */ let lost = null;
 /** @type {Names} */ let names;
@@ -28,7 +29,8 @@ const isLive = () => mine?.live && !lost && age() < OLD;
 // the desk's clock; it stops while the desk is unknown
 const now = () => (Math.min(Date.now(), known + OLD) + ahead) / 1000;
 
-const groupName = (device = '') => named(office.names.groups[device] ?? names.groups.find(group => group.device === device)?.name ?? device);
+const groupName = (device = '') =>
+  named(office.names.groups[device] ?? names.groups.find(group => group.device === device)?.name ?? device);
 const placeName = ({to = '', name = ''}) => withNumber({id: to, name});
 const callerName = (device = '') => placeName(places.places.find(({to}) => to === device) ?? {to: device});
 
@@ -37,7 +39,8 @@ const callerName = (device = '') => placeName(places.places.find(({to}) => to ==
 // It stays until it is clicked away, or is over.
 /** @type {Notice} */
 const notice = (key, words, buttons = [], more) => {
-  notices.set(key, make('p.notice', {'data-key': key}, make('span', words), make('span', ...buttons.map(([label, act]) => make('button', {onclick: () => { drop(key); act?.(); }}, label)), more)));
+  notices.set(key, make('p.notice', {'data-key': key}, make('span', words),
+    make('span', ...buttons.map(([label, act]) => make('button', {onclick: () => { drop(key); act?.(); }}, label)), more)));
   put('notices', ...notices.values());
 };
 
@@ -68,7 +71,8 @@ const send = (service, members, words, key) => {
 };
 
 /** @param {{device?:string}} [more] */
-const ask = (requested = '', more) => send('setAgentState', {agent: id, requested, ...more}, more ? say('logOnAt', {station: `${more.device}`}) : say(requested), requested);
+const ask = (requested = '', more) => send('setAgentState', {agent: id, requested, ...more},
+  more ? say('logOnAt', {station: `${more.device}`}) : say(requested), requested);
 
 /** @type {Act} */
 const act = (service, {call, key, back = ''}, who, field) => {
@@ -119,9 +123,11 @@ const choose = (field, what, asks, take) => {
 // Only somebody can say whether it is still wanted.
 /** @type {Asking['ask']} */
 const askAbout = ({body, words, at = 0}, answer) => {
-  const {requested, call} = JSON.parse(body), {state, device} = mine?.agent ?? {}, isThere = !call || mine?.calls.some(one => one.call === call);
+  const {requested, call} = JSON.parse(body), {state, device} = mine?.agent ?? {};
+  const isThere = !call || mine?.calls.some(one => one.call === call);
   if (requested && (requested === state || requested === (device ? 'loggedOn' : 'loggedOff'))) return answer(false);
-  if (isThere) return notice(`kept ${at} ${words}`, say('kept', {what: words, time: timeOfDay(at / 1000)}), [[say('kept.send'), () => answer(true)], [say('kept.drop'), () => answer(false)]]);
+  if (isThere) return notice(`kept ${at} ${words}`, say('kept', {what: words, time: timeOfDay(at / 1000)}),
+    [[say('kept.send'), () => answer(true)], [say('kept.drop'), () => answer(false)]]);
   answer(false);
   refuse(`${words}: ${word('error.unknownCall')}`);
 };
@@ -160,11 +166,13 @@ function takeNames(given) {
   offered = names.groups.map(({device}) => device).filter(device => who.groups?.includes(device) ?? true);
   put('destinations', ...places.places.map(({to, name}) => make('option', {value: to}, name || say('station'))));
   put('stations', ...free.map(device => make('option', {value: device}, office.names.stations[device])));
-  put('groups', ...offered.map(device => make('label', {'data-key': device}, make('input', {type: 'checkbox', value: device}), make('span', `${groupName(device)} (${device})`))));
+  put('groups', ...offered.map(device => make('label', {'data-key': device},
+    make('input', {type: 'checkbox', value: device}), make('span', `${groupName(device)} (${device})`))));
   if (isFilled) return;
   isFilled = true;
   form.elements.station.value = query.get('station') ?? lastLogOn()?.device ?? '';
-  for (const box of form.querySelectorAll('[type=checkbox]')) box.checked = (query.get('groups')?.split(',') ?? lastLogOn()?.groups ?? []).includes(box.value);
+  const chosen = query.get('groups')?.split(',') ?? lastLogOn()?.groups ?? [];
+  for (const box of form.querySelectorAll('[type=checkbox]')) box.checked = chosen.includes(box.value);
 }
 
 /** @returns {LastLogOn|null} */
@@ -184,26 +192,42 @@ function drawLogOn({device, groups}, may = false) {
 
 function draw() {
   const why = lost?.status ? refusal(lost.status, lost.text) : word(lost ? `lost.${lost.text}` : 'error.gatewayTimeout');
-  drawStatus(lost || (mine && !mine.live) ? 'lost' : !known ? 'begins' : age() > OLD ? 'late' : 'live', known, why, (Date.now() + ahead) / 1000);
+  const status = lost || (mine && !mine.live) ? 'lost' : !known ? 'begins' : age() > OLD ? 'late' : 'live';
+  drawStatus(status, known, why, (Date.now() + ahead) / 1000);
   if (!mine) return;
-  const {agent, calls, groups} = mine, {state, device, pending, name} = agent, moment = now(), isLiving = isLive(), may = acts && isLiving ? states(mine) : new Set();
-  const offer = isLiving ? offerOf(moment) : undefined, {doing: does, since} = mine.doing, left = wrapLeft(mine, moment), {sign, words} = DOING[does];
+  const {agent, calls, groups} = mine, {state, device, pending, name} = agent, moment = now(), isLiving = isLive();
+  const may = acts && isLiving ? states(mine) : new Set(), offer = isLiving ? offerOf(moment) : undefined;
+  const {doing: does, since} = mine.doing, left = wrapLeft(mine, moment), {sign, words} = DOING[does];
   put('name', withNumber({id, name: office.names.agents[id] ?? name}));
-  put('states', ...STATES.map(requested => make('button', {'data-requested': requested, 'aria-disabled': may.has(requested) && !requests.out.has(requested) ? false : 'true', onclick: () => { if (may.has(requested)) ask(requested); }}, say(requested))));
-  const hidden = {'at-station': !device, 'own-queues': !device, states: !device || !acts, 'log-on': state !== 'null' || !acts, dial: !acts || !isLiving || !isFree(mine), 'no-calls': calls.length > 0};
+  put('states', ...STATES.map(requested => make('button', {
+    'data-requested': requested,
+    'aria-disabled': may.has(requested) && !requests.out.has(requested) ? false : 'true',
+    onclick: () => { if (may.has(requested)) ask(requested); },
+  }, say(requested))));
+  const hidden = {
+    'at-station': !device, 'own-queues': !device, states: !device || !acts, 'log-on': state !== 'null' || !acts,
+    dial: !acts || !isLiving || !isFree(mine), 'no-calls': calls.length > 0,
+  };
   const wasHidden = byId('states').hidden;
   for (const [part, is] of Object.entries(hidden)) set(part, {hidden: is});
   drawLogOn(agent, may.has('loggedOn') && !requests.out.has('loggedOn'));
   set('state', {'data-doing': does});
-  put('state', make('span', {'aria-hidden': 'true'}, sign), ' ', make('span', {id: 'state-words', role: 'status'}, state ? words : say('notPlanned')), ' ', make('time', device && clock(moment - since)));
+  put('state', make('span', {'aria-hidden': 'true'}, sign), ' ',
+    make('span', {id: 'state-words', role: 'status'}, state ? words : say('notPlanned')), ' ',
+    make('time', device && clock(moment - since)));
   // who has just logged on or off by a key goes on from there
-  if (wasHidden !== byId('states').hidden && [document.body, null].includes(/** @type {any} */ (document.activeElement))) byId(device ? 'states' : 'log-on').querySelector('button:not([hidden])')?.focus();
-  put('pending', joined(left !== null && (left > 0 ? say('readyIn', {clock: clock(Math.ceil(left))}) : say('readySoon')), pending && word(`pending.${pending}`), device && say('at', {station: device})));
+  const isLost = [document.body, null].includes(/** @type {any} */ (document.activeElement));
+  if (wasHidden !== byId('states').hidden && isLost) byId(device ? 'states' : 'log-on').querySelector('button:not([hidden])')?.focus();
+  const soon = left !== null && (left > 0 ? say('readyIn', {clock: clock(Math.ceil(left))}) : say('readySoon'));
+  put('pending', joined(soon, pending && word(`pending.${pending}`), device && say('at', {station: device})));
   set(document.body, {'data-rings': Boolean(offer)});
   ring(offer);
   document.title = offer ? `◆ ${offer.title}` : `${isLiving ? sign : '▲'} ${name ?? id}`;
   drawCalls({mine, now: moment, acts: acts && isLiving, off: requests.out, who: callerName, group: groupName, act});
-  queues.draw(groups.map(group => ({...group, key: group.device, wait: group.calls.length ? moment - Math.min(...group.calls.map(({queued = moment}) => queued)) : null})));
+  queues.draw(groups.map(group => ({
+    ...group, key: group.device,
+    wait: group.calls.length ? moment - Math.min(...group.calls.map(({queued = moment}) => queued)) : null,
+  })));
   drawDay(moment);
   showMissed(moment);
   if (leaves && isLiving && !device) end();
@@ -213,8 +237,10 @@ function draw() {
 function offerOf(moment = 0) {
   for (const call of mine.calls) {
     const side = sideOf(mine, call);
-    if (side?.state === 'alerting') return {key: `${call.call} ${side.since}`, title: plain(`${call.caller ? callerName(call.caller) : '…'} ${side.group ? groupName(side.group) : ''}`).trim(),
-      words: side.group && call.queued ? say('hasWaited', {clock: clock(moment - call.queued)}) : ''};
+    if (side?.state !== 'alerting') continue;
+    const caller = call.caller ? callerName(call.caller) : '…', group = side.group ? groupName(side.group) : '';
+    const words = side.group && call.queued ? say('hasWaited', {clock: clock(moment - call.queued)}) : '';
+    return {key: `${call.call} ${side.since}`, title: plain(`${caller} ${group}`).trim(), words};
   }
 }
 
@@ -236,7 +262,8 @@ function drawDay(moment = 0) {
   set('own-day', {hidden: !day});
   if (!day) return;
   const {answered, missed, calls} = day, talking = day.talking + (day.talks ? Math.max(0, moment - Math.max(day.talks, day.begins)) : 0);
-  put('day-sums', joined(say('day.calls', {n: answered}), answered && say('day.average', {clock: clock(talking / answered)}), missed && say('day.missed', {n: missed})));
+  put('day-sums', joined(say('day.calls', {n: answered}), answered && say('day.average', {clock: clock(talking / answered)}),
+    missed && say('day.missed', {n: missed})));
   set('day', {hidden: !calls.length});
   lastCalls.draw(calls.map(call => ({...call, key: `${call.call} ${call.moment}`})).reverse());
 }
@@ -246,10 +273,13 @@ function showMissed(moment = 0) {
   if (missed && acts && localStorage[place] !== key) {
     const read = () => { localStorage[place] = key; };
     /** @type {Button[]} */ const ready = isOff ? [[say('ready'), () => { ask('ready'); if (requests.out.has('ready')) read(); }]] : [];
-    notice('missed', say('missed', {who: missed.caller ?? say('somebody'), group: groupName(missed.group), clock: clock(missed.moment - missed.since), time: timeOfDay(missed.moment), so: isOff ? say('missed.so') : ''}),
-      [...ready, [say('read'), read]]);
+    notice('missed', say('missed', {
+      who: missed.caller ?? say('somebody'), group: groupName(missed.group), clock: clock(missed.moment - missed.since),
+      time: timeOfDay(missed.moment), so: isOff ? say('missed.so') : '',
+    }), [...ready, [say('read'), read]]);
   } else drop('missed');
-  const is = {'alarm.ticks': isLive() && isOverdue(mine, moment), sound: acts && agent.device && byId('tone').checked && !isHeard(), 'agent.leaves': leaves};
+  const mute = acts && agent.device && byId('tone').checked && !isHeard();
+  const is = {'alarm.ticks': isLive() && isOverdue(mine, moment), sound: mute, 'agent.leaves': leaves};
   for (const [key, so] of Object.entries(is)) if (so) notice(key, word(key)); else drop(key);
 }
 
@@ -259,11 +289,13 @@ function end() {
 }
 
 function listen() {
-  const field = byId('tone'), called = byId('called'), offerNotices = () => set('notify', {hidden: !('Notification' in window) || Notification.permission !== 'default'});
+  const field = byId('tone'), called = byId('called');
+  const offerNotices = () => set('notify', {hidden: !('Notification' in window) || Notification.permission !== 'default'});
   set(form, {onsubmit: event => {
     const groups = [...form.querySelectorAll('input:checked')].map(input => input.value);
     event.preventDefault();
-    if (groups.length && groups.length <= MOST_GROUPS) logOn({device: form.elements.station.value, groups}); else refuse(`${say('loggedOn')}: ${say('groups')}`);
+    if (groups.length && groups.length <= MOST_GROUPS) logOn({device: form.elements.station.value, groups});
+    else refuse(`${say('loggedOn')}: ${say('groups')}`);
   }});
   set('dial', {onsubmit: event => {
     const what = say('makeCall');

@@ -5,7 +5,10 @@ import {clock, CONNECTION, word} from '../words.js';
 import {ringLeft, services, sideOf} from './mine.js';
 
 // in their order, with their keys: before the seventh the field for a place, the last one apart
-const SERVICES = {answerCall: 'F2', rejectCall: 'F8', back: 'F8', phoneOffHook: '', holdCall: '', retrieveCall: '', singleStepTransfer: '', deflectCall: '', clearConnection: ''};
+const SERVICES = {
+  answerCall: 'F2', rejectCall: 'F8', back: 'F8', phoneOffHook: '', holdCall: '', retrieveCall: '', singleStepTransfer: '', deflectCall: '',
+  clearConnection: '',
+};
 /** @type {Notification|undefined} */ let shown;
 let rings = '', beats = 0;
 
@@ -26,19 +29,33 @@ export function drawCalls(drawn) {
 const card = ({mine, now, acts, off, who: nameOf, group, act}, call) => {
   const here = sideOf(mine, call), number = `${call.call}`;
   if (!here) return false;
-  const may = acts ? services(mine, call) : new Set(), dials = call.caller === here.device, other = dials ? call.called : call.caller, who = other ?? number, left = ringLeft(mine, here, now) ?? 0, {sign, words} = CONNECTION[here.state];
+  const may = acts ? services(mine, call) : new Set(), dials = call.caller === here.device, other = dials ? call.called : call.caller;
+  const who = other ?? number, left = ringLeft(mine, here, now) ?? 0, {sign, words} = CONNECTION[here.state];
   const buttons = Object.entries(SERVICES).map(([service, key]) => {
     const what = say(service);
-    return make('button', {class: service === 'answerCall' && 'main', 'data-service': service, 'aria-keyshortcuts': key || false, hidden: !may.has(service), disabled: off.has(`${service} ${number}`), 'aria-label': say('button', {what, who}),
-      onclick: ({currentTarget}) => act(service, {call: call.call, key: `${number} ${here.since}`, back: call.back}, who, currentTarget.parentElement.querySelector('input'))},
-    what, key && ' ', key && make('kbd', key));
+    return make('button', {
+      class: service === 'answerCall' && 'main', 'data-service': service, 'aria-keyshortcuts': key || false,
+      hidden: !may.has(service), disabled: off.has(`${service} ${number}`), 'aria-label': say('button', {what, who}),
+      onclick: ({currentTarget}) => {
+        const typed = currentTarget.parentElement.querySelector('input');
+        act(service, {call: call.call, key: `${number} ${here.since}`, back: call.back}, who, typed);
+      },
+    }, what, key && ' ', key && make('kbd', key));
   });
-  const place = make('input', {list: 'destinations', 'aria-label': say('to'), placeholder: say('to'), autocomplete: 'off', spellcheck: 'false', hidden: !may.has('singleStepTransfer') && !may.has('deflectCall'),
-    onkeydown: ({key, target}) => { if (key === 'Enter') target.parentElement.querySelector('input ~ button:not([hidden], [data-service=clearConnection])')?.click(); }});
+  const place = make('input', {
+    list: 'destinations', 'aria-label': say('to'), placeholder: say('to'), autocomplete: 'off', spellcheck: 'false',
+    hidden: !may.has('singleStepTransfer') && !may.has('deflectCall'),
+    onkeydown: ({key, target}) => {
+      if (key === 'Enter') target.parentElement.querySelector('input ~ button:not([hidden], [data-service=clearConnection])')?.click();
+    },
+  });
+  const from = here.group ? group(here.group) : joined(say(dials ? 'byYou' : 'direct'), here.sent && group(here.sent));
+  const waited = call.queued && here.state === 'alerting' && say('hasWaited', {clock: clock(now - call.queued)});
+  const rings = left > 0 && say('ringsFor', {clock: clock(left)});
   return make('li', {'data-key': number, tabindex: -1, 'data-state': here.state},
-    make('p.line', `${sign} ${words} ${clock(now - here.since)} · ${here.group ? group(here.group) : joined(say(dials ? 'byYou' : 'direct'), here.sent && group(here.sent))}`),
+    make('p.line', `${sign} ${words} ${clock(now - here.since)} · ${from}`),
     make('p.number', other ? nameOf(other) : '…'),
-    make('p.soft', joined(call.queued && here.state === 'alerting' && say('hasWaited', {clock: clock(now - call.queued)}), left > 0 && say('ringsFor', {clock: clock(left)}), word('agents.call', {call: number}))),
+    make('p.soft', joined(waited, rings, word('agents.call', {call: number}))),
     make('div.buttons', ...buttons.slice(0, 6), place, ...buttons.slice(6)));
 };
 

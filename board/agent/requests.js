@@ -1,4 +1,5 @@
-// Sends requests in turn. One without an answer is kept in the browser and sent again as it is, for a minute of the same log-on; then the page asks.
+// Sends requests in turn. One without an answer is kept in the browser and sent again as it is, for a minute of the same
+// log-on; then the page asks.
 import {pause, post, requesterOf, sleep} from '../net.js';
 import {refusal, word} from '../words.js';
 
@@ -27,7 +28,8 @@ export class Requests {
 
   /** @type {Send} */
   send = (service, members, words, key) => {
-    if (!this.out.has(key)) this.keep(`${this.place}${Date.now()} ${this.requester} ${++this.invoke}`, {body: JSON.stringify({requester: this.requester, invoke: this.invoke, service, ...members}), words, key});
+    if (!this.out.has(key)) this.keep(`${this.place}${Date.now()} ${this.requester} ${++this.invoke}`,
+      {body: JSON.stringify({requester: this.requester, invoke: this.invoke, service, ...members}), words, key});
   };
 
   /** @type {Keep} */
@@ -41,7 +43,8 @@ export class Requests {
   queue = (place, one) => {
     const {key = ''} = one;
     this.out.add(key);
-    this.turn = this.turn.then(() => this.deliver(place, one)).catch(() => {}).then(() => { setTimeout(() => this.out.delete(key), SETTLES); });
+    this.turn = this.turn.then(() => this.deliver(place, one)).catch(() => {})
+      .then(() => { setTimeout(() => this.out.delete(key), SETTLES); });
   };
 
   /** @param {Kept} one */
@@ -71,6 +74,7 @@ export class Requests {
   answered({body, words, key}, status = 0, text = '') {
     // a gate takes a login's requesters only
     if (status === 403 && !body.includes(this.requester)) return this.page.show({kind: 'dropped', words});
-    this.page.show(status === 200 ? {kind: 'done', words, key, result: JSON.parse(text).result} : {kind: 'refused', key, words: `${words}: ${refusal(status, text)}`});
+    this.page.show(status === 200 ? {kind: 'done', words, key, result: JSON.parse(text).result}
+      : {kind: 'refused', key, words: `${words}: ${refusal(status, text)}`});
   }
 }

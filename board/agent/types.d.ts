@@ -7,9 +7,11 @@ declare global {
   type Side = {device: string, group?: string, sent?: string, since: number, state: ConnectionState};
   /** back: to whom it goes back; sent: the group that the caller came from, where no group gave the call to the agent */
   type MyCall = {back?: string, call: number, called?: string, caller?: string, connections: Side[], queued?: number, since: number};
-  type MyQueue = {calls: {call: number, caller?: string, queued?: number}[], device: string, loggedOn: number, name: string, ready: number, ring: number, wrap: number};
+  type MyQueue = {calls: {call: number, caller?: string, queued?: number}[], device: string, loggedOn: number, name: string,
+    ready: number, ring: number, wrap: number};
   /** logOn identifies a log-on */
-  type MyState = {agent: string, device?: string, groups?: string[], logOn?: number, name?: string, pending?: string, since?: number, state?: AgentState};
+  type MyState = {agent: string, device?: string, groups?: string[], logOn?: number, name?: string, pending?: string,
+    since?: number, state?: AgentState};
   /** the last offer that the desk withdrew */
   /** of a place for a call: of a group how many are logged on, of a station what the agent there does */
   type There = {device: string, loggedOn?: number, ready?: number, agent?: string, doing?: Doing};
@@ -18,17 +20,21 @@ declare global {
   type MyDay = {answered: number, begins: number, calls: DayCall[], missed: number, talking: number, talks?: number};
   type Names = {agents: {agent: string, device?: string, name: string}[], groups: {device: string, name: string}[], stations: string[]};
   /** lines: those of groups that were told, by their numbers; queues: which of them are the agent's */
-  type Mine = {agent: MyState, calls: MyCall[], day?: MyDay | null, doing: {doing: Doing, since: number, group?: string | null}, groups: MyQueue[], lines: Record<string, MyQueue>, live: boolean, missed?: Missed | null, names?: Names, queues: string[]};
+  type Mine = {agent: MyState, calls: MyCall[], day?: MyDay | null, doing: {doing: Doing, since: number, group?: string | null},
+    groups: MyQueue[], lines: Record<string, MyQueue>, live: boolean, missed?: Missed | null, names?: Names, queues: string[]};
   /** what GET /session answers */
-  type Who = {agent?: string, begun?: number, ends?: number, groups?: string[], login?: string, reads?: string, role?: string, stations?: string[], why?: string};
+  type Who = {agent?: string, begun?: number, ends?: number, groups?: string[], login?: string, reads?: string, role?: string,
+    stations?: string[], why?: string};
 
   // what is asked for
 
-  /** A request that has no answer yet: what it asks for in words, when it was asked for, and in which log-on; `key` names what was clicked. */
+  /** A request that has no answer yet: what it asks for in words, when it was asked for, and in which log-on; `key` names what was
+   *  clicked. */
   type Kept = {body: string, words: string, at?: number, logOn?: number | null, key?: string};
   type Outcome = {kind: 'sent' | 'waits' | 'done' | 'refused' | 'dropped', words: string, key?: string, result?: {pending?: string}};
   /** The page, as the requests need it. */
-  type Asking = {isLive: () => boolean | undefined, logOn: () => number | null, show: (outcome: Outcome) => void, ask: (kept: Kept, answer: (sends: boolean) => void) => void};
+  type Asking = {isLive: () => boolean | undefined, logOn: () => number | null, show: (outcome: Outcome) => void,
+    ask: (kept: Kept, answer: (sends: boolean) => void) => void};
 
   /** A place for a call; isEmpty: a station at which nobody is logged on. */
   type Goal = {to: string, name: string, isEmpty?: boolean};
@@ -41,8 +47,10 @@ declare global {
   type Namer = (device?: string) => string;
   type Rules = {
     taken(before: Mine | undefined, told: any, isWhole: boolean): Mine,
-    sideOf(mine: Mine, call: MyCall): Side | undefined, sides(mine: Mine): Side[], isFree(mine: Mine): boolean, states(mine: Mine): Set<string>, isOutside(mine: Mine, call: MyCall): boolean, services(mine: Mine, call: MyCall): Set<string>,
-    ringLeft(mine: Mine, side: Side, now: number): number | null, wrapLeft(mine: Mine, now: number): number | null, isOverdue(mine: Mine, now: number): boolean,
+    sideOf(mine: Mine, call: MyCall): Side | undefined, sides(mine: Mine): Side[], isFree(mine: Mine): boolean,
+    states(mine: Mine): Set<string>, isOutside(mine: Mine, call: MyCall): boolean, services(mine: Mine, call: MyCall): Set<string>,
+    ringLeft(mine: Mine, side: Side, now: number): number | null, wrapLeft(mine: Mine, now: number): number | null,
+    isOverdue(mine: Mine, now: number): boolean,
     placesOf(names: Names, office: OfficeNames): Places, meant(typed: string, known: Places, station?: string): Goal[] | null,
   };
   type Say = (key: string, values?: Record<string, string | number>) => string;

@@ -5,12 +5,14 @@ import {translate, word} from '../words.js';
 
 /** @type {Record<number, string>} */
 const WORDS = {401: 'wrong', 403: 'nothing', 429: 'wait'}, PATIENCE = 60000, GIVES_UP = 120000;
-const query = location.search, wanted = query.startsWith('?next=') ? query.slice('?next='.length) : '/board/', next = (/^\/board\/[^\\]*$/.test(wanted) ? wanted : '/board/') + location.hash;
+const query = location.search, wanted = query.startsWith('?next=') ? query.slice('?next='.length) : '/board/';
+const next = (/^\/board\/[^\\]*$/.test(wanted) ? wanted : '/board/') + location.hash;
 
 const show = (key = '') => put('told', key && word(`login.${key}`));
 
 // Agents get their page, if they wanted none.
-const goOn = (text = '') => location.replace(base + (JSON.parse(text).role === 'agent' && /^\/board\/(#|$)/.test(next) ? '/board/agent/' : next));
+const goOn = (text = '') =>
+  location.replace(base + (JSON.parse(text).role === 'agent' && /^\/board\/(#|$)/.test(next) ? '/board/agent/' : next));
 
 translate();
 document.title = word('login.title');

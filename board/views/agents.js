@@ -27,14 +27,19 @@ const days = table('agents-table', [
 
 /** @param {Drawn} drawn */
 export function draw(drawn) {
-  const {state, day, settings: {states, group, find, sort}, filter} = drawn, wanted = new Set(states.split(',').filter(Boolean)), counts = noCounts();
-  const among = search(people(drawn).filter(({id}) => !group || day.groupsOf(state.agent(id)).includes(group)), find, ({id, name}) => [id, name, state.agent(id).station ?? '']);
+  const {state, day, settings: {states, group, find, sort}, filter} = drawn;
+  const wanted = new Set(states.split(',').filter(Boolean)), counts = noCounts();
+  const among = search(people(drawn).filter(({id}) => !group || day.groupsOf(state.agent(id)).includes(group)), find,
+    ({id, name}) => [id, name, state.agent(id).station ?? '']);
   for (const one of among) counts[one.doing]++;
   const shown = arranged(among.filter(one => wanted.size ? wanted.has(one.doing) : one.doing !== 'null'), sort);
   redraw = drawn.redraw;
   put('agents-list', ...shown.map(one => tile(drawn, one)));
   for (const tile of byId('agents-list').children) watcher.observe(tile);
-  put('states', ...KINDS.map(doing => make('button', {'data-doing': doing, 'aria-pressed': `${wanted.has(doing)}`, onclick: () => filter({states: `${KINDS.filter(one => wanted.has(one) !== (one === doing))}`})}, `${does({doing})} ${counts[doing]}`)));
+  put('states', ...KINDS.map(doing => make('button', {
+    'data-doing': doing, 'aria-pressed': `${wanted.has(doing)}`,
+    onclick: () => filter({states: `${KINDS.filter(one => wanted.has(one) !== (one === doing))}`}),
+  }, `${does({doing})} ${counts[doing]}`)));
   drawn.empty(shown.length ? '' : word(find || wanted.size ? 'agents.none' : 'agents.nobody'));
   set('agents-details', {ontoggle: redraw});
   if (byId('agents-details').open && (shown.length < MANY || Date.now() - told > DAYS_EVERY)) {
@@ -47,7 +52,8 @@ export function draw(drawn) {
 const people = drawn => chosenAgents(drawn).map(({id, name, doing, since, group}) => ({id, name, doing, since, group}));
 
 /** @param {Drawn} drawn */
-const drawDays = (drawn, shown = people(drawn)) => days.draw(shown.map(one => ({...one, ...drawn.day.agent(one.id, drawn.now), counted: drawn.counted, key: one.id})));
+const drawDays = (drawn, shown = people(drawn)) =>
+  days.draw(shown.map(one => ({...one, ...drawn.day.agent(one.id, drawn.now), counted: drawn.counted, key: one.id})));
 
 // Others are sorted at once, by what they do each few seconds at most.
 /** @param {Shown[]} shown */
@@ -67,13 +73,17 @@ function arranged(shown, sort = '') {
 /** @param {Drawn} drawn @param {Shown} shown */
 function tile({state, now, settings, lead}, {id, doing, group, since}) {
   if (!seen.has(id)) return make('li', {'data-key': id}, AS_IT_IS);
-  const groupName = (id = '') => named(state.nameOf(id)), agent = state.agent(id), {name, station, groups, pending} = agent, who = named(name || word('agents.one', {id})), {sign, words} = DOING[doing];
+  const groupName = (id = '') => named(state.nameOf(id)), agent = state.agent(id), {name, station, groups, pending} = agent;
+  const who = named(name || word('agents.one', {id})), {sign, words} = DOING[doing];
   const isOff = doing === 'null', isLong = !isOff && doing !== 'ready' && now - since > settings[doing], calls = agent.calls.map(String);
   const place = station ? [word('agents.at', {id, station}), ...groups.map(id => groupName(id))] : [id];
-  return make('li', {'data-key': id, 'data-doing': doing, 'data-long': isLong, 'data-several': groups.length > 1}, make('strong', who), make('span.sign', {'aria-hidden': 'true'}, sign),
-    make('span.words', words + (group && groups.length > 1 ? `: ${groupName(group)}` : '')), make('time', !isOff && `${isLong ? '! ' : ''}${clock(now - since)}`),
+  return make('li', {'data-key': id, 'data-doing': doing, 'data-long': isLong, 'data-several': groups.length > 1},
+    make('strong', who), make('span.sign', {'aria-hidden': 'true'}, sign),
+    make('span.words', words + (group && groups.length > 1 ? `: ${groupName(group)}` : '')),
+    make('time', !isOff && `${isLong ? '! ' : ''}${clock(now - since)}`),
     make('small', place.join(', ')),
-    make('span.calls', pending !== null && make('span', word(`pending.${pending}`)), ...calls.map(call => make('button.link', {'data-press': 'calls', 'data-call': call}, word('agents.call', {call})))),
+    make('span.calls', pending !== null && make('span', word(`pending.${pending}`)),
+      ...calls.map(call => make('button.link', {'data-press': 'calls', 'data-call': call}, word('agents.call', {call})))),
     make('button', {'data-press': 'state', hidden: !lead.leads(agent), 'aria-label': word('act.state', {who})}, '⋯'));
 }
 

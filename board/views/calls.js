@@ -23,11 +23,13 @@ const calls = table('calls-table', [
 export function draw(drawn) {
   const {state, settings: {group, find}, now, lead, redraw} = drawn;
   const who = (device = '') => state.agentAt(device)?.name || office.names.stations[device] || device;
-  const found = search(callLines(drawn).filter(line => !group || line.group === group), find, line => [`${line.number}`, line.caller, who(line.at), state.nameOf(line.group ?? '')]);
+  const found = search(callLines(drawn).filter(line => !group || line.group === group), find,
+    line => [`${line.number}`, line.caller, who(line.at), state.nameOf(line.group ?? '')]);
   const shown = found.slice(0, most), rest = found.length - most;
   calls.draw(shown.map(line => {
     const {number, at, since, begun, queued} = line, id = line.group ?? '', inQueue = line.state === 'queued', waits = isMoved(line);
-    return {...line, counted: true, key: `${number}`, at: inQueue ? '' : who(at), groupName: state.nameOf(id), severity: waits ? severity(now - queued, limitsOf(id)) : '',
+    return {...line, counted: true, key: `${number}`, at: inQueue ? '' : who(at), groupName: state.nameOf(id),
+      severity: waits ? severity(now - queued, limitsOf(id)) : '',
       for: now - since, whole: now - begun, act: lead.may(line) && word(waits ? 'act.move' : 'act.end')};
   }));
   put('calls-rest', !found.length && word('calls.none'));

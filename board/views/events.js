@@ -25,7 +25,8 @@ export function draw({state, recent, settings: {group, groups}}, anew = false) {
   }
   last = recent[recent.length - 1]?.number ?? last;
   shown.splice(MOST);
-  put('events-list', ...shown.map(({moment, number, words}) => make('li', {'data-key': number}, make('time', timeOfDay(moment)), make('span', words))));
+  put('events-list', ...shown.map(({moment, number, words}) =>
+    make('li', {'data-key': number}, make('time', timeOfDay(moment)), make('span', words))));
 }
 
 // Whether it is of a call that was in one of these groups, or of an agent of one.
@@ -33,7 +34,8 @@ export function draw({state, recent, settings: {group, groups}}, anew = false) {
 const concerns = (state, {event, call, agent, group = '', device = '', to = ''}, chosen) => {
   const isIn = (/** @type {Agent|undefined} */ agent) => agent?.groups.some(chosen);
   if (agent) return chosen(group) || isIn(state.agents.get(agent));
-  const found = calls.has(call) || [group, device, to].some(place => (state.groups.has(place) && chosen(place)) || isIn(state.agentAt(place)));
+  const found = calls.has(call)
+    || [group, device, to].some(place => (state.groups.has(place) && chosen(place)) || isIn(state.agentAt(place)));
   calls[found && event !== 'callCleared' ? 'add' : 'delete'](call);
   return found;
 };
@@ -42,9 +44,12 @@ const concerns = (state, {event, call, agent, group = '', device = '', to = ''},
 /** @param {State} state @param {any} report */
 function sentence(state, {event, cause, agent, call, device, group, to, waited}) {
   const at = (device = '') => named(state.agentAt(device)?.name || state.nameOf(device, office.names.stations[device]));
-  const kind = /** @type {any} */ ({queued: cause, diverted: cause, established: waited !== undefined && 'waited', agentLoggedOn: ''})[event] ?? (group && 'group'), key = `event.${event}${kind ? `.${kind}` : ''}`;
+  const kinds = {queued: cause, diverted: cause, established: waited !== undefined && 'waited', agentLoggedOn: ''};
+  const kind = /** @type {any} */ (kinds)[event] ?? (group && 'group'), key = `event.${event}${kind ? `.${kind}` : ''}`;
   const who = agent ? named(state.agents.get(agent)?.name || word('agents.one', {id: agent})) : at(device);
-  return isWord(key) && word(key, {who, call: `${call}`, device, group: group ? at(group) : word('event.several'), to: at(to), clock: clock(waited ?? 0)});
+  const values = {who, call: `${call}`, device, group: group ? at(group) : word('event.several'), to: at(to), clock: clock(waited ?? 0)};
+  return isWord(key) && word(key, values);
 }
 
-export const file = () => [['time', 'event'].map(name => word(`head.${name}`)), ...shown.map(({moment, words}) => [timeOfDay(moment), plain(words)])];
+export const file = () => [['time', 'event'].map(name => word(`head.${name}`)),
+  ...shown.map(({moment, words}) => [timeOfDay(moment), plain(words)])];

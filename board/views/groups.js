@@ -9,15 +9,24 @@ const SORTED_EVERY = 5000, GROWS = 1.9, LEAST = 0.35;
 
 // A share of the day, and what it means.
 /** @type {Judged} */
-const judged = (head, name) => ({head, share: line => line[name], goal: ({limits: {goal, lost}}) => name === 'lost' ? lost : goal, severity: line => line.counted ? line[`${name}Severity`] : ''});
+const judged = (head, name) => ({
+  head, share: line => line[name], goal: ({limits: {goal, lost}}) => name === 'lost' ? lost : goal,
+  severity: line => line.counted ? line[`${name}Severity`] : '',
+});
 // What an office's rules do with a group's callers.
 /** @param {GroupLine & {goes?: string}} line */
-const ruled = ({rule, goes}) => [rule?.closed && word('rule.closed'), rule?.to && word('rule.to', {to: goes ?? rule.to})].filter(Boolean).join(' · ');
+const ruled = ({rule, goes}) =>
+  [rule?.closed && word('rule.closed'), rule?.to && word('rule.to', {to: goes ?? rule.to})].filter(Boolean).join(' · ');
 /** @type {(Column|string)[]} */
-const FIRST = [{head: 'state state', text: line => [waits(line), ruled(line)].filter(Boolean).join(' · ')}, 'waiting', {head: 'longest', text: line => clock(line.wait), file: line => line.wait && Math.round(line.wait)}];
+const FIRST = [
+  {head: 'state state', text: line => [waits(line), ruled(line)].filter(Boolean).join(' · ')},
+  'waiting',
+  {head: 'longest', text: line => clock(line.wait), file: line => line.wait && Math.round(line.wait)},
+];
 /** @type {Column[]} */
 const [READY, ON_CALLS] = [
-  {head: 'ready', text: line => `${line.counts.ready} / ${line.loggedOn}`, file: line => line.counts.ready, severity: line => line.waiting && !line.loggedOn ? 'bad' : ''},
+  {head: 'ready', text: line => `${line.counts.ready} / ${line.loggedOn}`, file: line => line.counts.ready,
+    severity: line => line.waiting && !line.loggedOn ? 'bad' : ''},
   {head: 'onCalls wide', text: ({counts}) => counts.busy + counts.hold},
 ];
 
@@ -47,14 +56,18 @@ const rows = table('queues-table', [
 /** @type {View} */
 export const queues = {
   file: rows.file,
-  draw({lines, lead, counted, state}) { rows.draw(lines.map(line => ({...line, counted, goes: goes(state, line), key: line.id, act: lead.groups.has(line.id) && word('head.priority')}))); },
+  draw({lines, lead, counted, state}) {
+    rows.draw(lines.map(line => (
+      {...line, counted, goes: goes(state, line), key: line.id, act: lead.groups.has(line.id) && word('head.priority')})));
+  },
 };
 
 // The name of where a group's callers go.
 /** @param {State} state @param {GroupLine} line */
 const goes = (state, {rule}) => rule?.to && named(state.nameOf(rule.to, office.names.stations[rule.to]));
 
-const wallRows = table('wall-table', [{head: 'group name', text: line => named(line.name)}, ...FIRST, READY, ON_CALLS, judged('inTime wide', 'level')]);
+const wallRows = table('wall-table',
+  [{head: 'group name', text: line => named(line.name)}, ...FIRST, READY, ON_CALLS, judged('inTime wide', 'level')]);
 let sorted = 0, shown = 0, place = 0, places = [''];
 
 // The groups whose callers wait longest, as many as fit.
@@ -65,7 +78,8 @@ export const wall = {
     const late = anew || Date.now() - sorted > SORTED_EVERY || places.length !== lines.length;
     if (late) {
       sorted = Date.now();
-      places = [...lines].sort((one, other) => (other.wait ?? -1) - (one.wait ?? -1) || other.waiting - one.waiting || order(one.id, other.id)).map(({id}) => id);
+      places = [...lines].sort((one, other) => (other.wait ?? -1) - (one.wait ?? -1) || other.waiting - one.waiting
+        || order(one.id, other.id)).map(({id}) => id);
     }
     const found = places.flatMap(key => lines.filter(({id}) => id === key).map(line => ({...line, counted, goes: goes(state, line), key})));
     wallRows.draw(found);
@@ -78,7 +92,8 @@ export const wall = {
 
 // Shows what has room; few rows grow, and more shrink where so many are wanted. A page that may be scrolled shows all.
 function fit(top = 0, least = 1) {
-  const whole = byId('wall-table'), rows = [...whole.tBodies[0].rows], scrolls = getComputedStyle(document.body).overflowY !== 'hidden', room = innerHeight - top - 8;
+  const whole = byId('wall-table'), rows = [...whole.tBodies[0].rows];
+  const scrolls = getComputedStyle(document.body).overflowY !== 'hidden', room = innerHeight - top - 8;
   const hide = () => rows.forEach((row, number) => set(row, {hidden: number >= shown}));
   whole.style.removeProperty('--grow');
   shown = rows.length;
@@ -86,7 +101,8 @@ function fit(top = 0, least = 1) {
   const measured = () => rows.map(row => row.getBoundingClientRect().bottom - top);
   let ends = measured();
   if (scrolls) return;
-  const last = ends[Math.min(least, rows.length) - 1], wanted = least < rows.length ? last + ends[0] : last, shrinks = least > 1 && wanted > room;
+  const last = ends[Math.min(least, rows.length) - 1], wanted = least < rows.length ? last + ends[0] : last;
+  const shrinks = least > 1 && wanted > room;
   if (shrinks) {
     whole.style.setProperty('--grow', Math.max(LEAST, room / wanted - 0.02).toFixed(2));
     ends = measured();
@@ -104,22 +120,30 @@ function fit(top = 0, least = 1) {
 }
 
 /** @param {Settings} settings */
-export const levelOf = settings => ({limit: Object.keys(settings).some(name => name.startsWith('limit.')) ? word('tile.limits') : word('tile.limit', {n: settings.limit}), what: word(`set.level.${settings.level}`)});
+export const levelOf = settings => {
+  const several = Object.keys(settings).some(name => name.startsWith('limit.'));
+  return {limit: several ? word('tile.limits') : word('tile.limit', {n: settings.limit}), what: word(`set.level.${settings.level}`)};
+};
 
 /** @param {Drawn} drawn */
 export function drawTotals({all, settings, counted}) {
   const {counts, lost, levelSeverity, lostSeverity} = all, none = all.waiting && !counts.ready, values = levelOf(settings);
   /** @type {Tile} */
-  const tile = (head, value, note = '', severity = 'none', formula = '') => make('div', {'data-severity': severity}, make('dt', word(head, values)), make('dd', make('b', value), make('small', note), make('small.formula', formula)));
+  const tile = (head, value, note = '', severity = 'none', formula = '') => make('div', {'data-severity': severity},
+    make('dt', word(head, values)), make('dd', make('b', value), make('small', note), make('small.formula', formula)));
   /** @type {Tile} */
   const day = (head, value, note, severity, formula) => tile(head, counted ? value : '…', note, counted ? severity : 'none', formula);
-  const judged = (severity = '', goal = 0, share = '') => counted && (severity === 'none' ? '' : `${SIGN[severity]} `) + share + word('tile.goal', {goal: percent(goal / 100)});
+  const judged = (severity = '', goal = 0, share = '') => counted
+    && (severity === 'none' ? '' : `${SIGN[severity]} `) + share + word('tile.goal', {goal: percent(goal / 100)});
   put('tiles',
     tile('head.waiting', all.waiting, all.ringing > 0 && word('tile.ringing', {n: all.ringing})),
     tile('head.longestWait', clock(all.wait), all.wait !== null && waits(all), all.severity),
     tile('tile.ready', counts.ready, `${none ? '▲ ' : ''}${word('tile.loggedOn', {n: all.loggedOn})}`, none ? 'long' : 'none'),
     day('tile.level', percent(all.level, settings.goal), judged(levelSeverity, settings.goal), levelSeverity, word('tile.of', values)),
-    day('head.abandoned', all.abandoned, [lost !== null && judged(lostSeverity, settings.lost, `${percent(lost, settings.lost)}, `), all.closed && word('tile.closed', {n: all.closed})].filter(Boolean).join(', '), lostSeverity),
+    day('head.abandoned', all.abandoned, [
+      lost !== null && judged(lostSeverity, settings.lost, `${percent(lost, settings.lost)}, `),
+      all.closed && word('tile.closed', {n: all.closed}),
+    ].filter(Boolean).join(', '), lostSeverity),
     day('head.answered', all.answered),
     day('head.average', clock(averageWait(all))),
     day('head.handling', clock(averageHandling(all))),
