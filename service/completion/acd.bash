@@ -15,7 +15,8 @@ _acd() {
             lines) offered='--file --reads --end-on-store-fault --help' ;;
             serve) offered='--file --port --socket --connections --endless --tick --patience --help' ;;
             import) offered='--file --plan --help' ;;
-            report | export) offered='--file --help' ;;
+            report) offered='--file --help' ;;
+            export) offered='--file --archive --help' ;;
             audit) offered='--file --archive --count --whole --help' ;;
             prune) offered='--file --archive --days --keep --quiet --help' ;;
             help) offered='lines serve import report export audit prune' ;;

@@ -1,13 +1,13 @@
 -- The task read from the matches of a command line, and the commands that the builders make.
 use Rattle.std.proofs.Common.{◌≡◌, ◌≢◌, ◌<◌, ◌^◌, ℕ, Bool, true, false, ◌||◌, List, Option, None, Some, Result, Ok, IfOk, inl, inr, refl, ap, ap₂, sym, subst, ◌∙◌, codes, true≢false}
-use Rattle.std.specs.Prelude.{find, is_some, option_and_then, option_map, unwrap_or}
+use Rattle.std.specs.Prelude.{find, is_some, map, option_and_then, option_map, slice_get, unwrap_or}
 use Rattle.std.specs.Option.{option_map_or}
 use Rattle.std.specs.Borrow.{Bor}
 use Rattle.std.specs.Str.{bytes_eq}
 use Rattle.std.specs.Str.Parse.{IsNumeral, ParsesBool, digits_value, true_text, without_leading_plus}
 use Rattle.std.proofs.lemmas.Slice.Eq.{bytes_eq-Decides}
 use Rattle.std.specs.declared.time.Duration.{Duration}
-use Rattle.clap.specs.Matches.{ReadsOne, first_value, matched_of, one_text}
+use Rattle.clap.specs.Matches.{ReadsOne, first_value, matched_of, one_text, raw_values}
 use Rattle.clap.specs.Built.{AddsArg, AddsSubcommand}
 use Rattle.clap.specs.Walk.{row_text}
 use Rattle.clap.specs.Words.{App, HasMatchesOf, Row, Rule, Text, app_of, first_of, is_simple, new_app, rows_of, rule_of, subcommand_of, subcommand_rows_of, takes, with_rule, with_subcommand}
@@ -20,18 +20,17 @@ use Rattle.clap.specs.declared.error.kind.ErrorKind.{ErrorKind}
 use Rattle.clap.specs.declared.error.kind.ErrorKind.TheVariants.{ArgumentConflict, MissingRequiredArgument, OutOfMemory}
 use Rattle.clap.specs.declared.parser.matches.ArgMatches.{ArgMatches}
 use Rattle.clap.specs.declared.parser.matches.Found.{Found}
-use Rattle.clap.proofs.WalkLemmas.{first_value-rows, one_text-rows, find_row}
+use Rattle.clap.proofs.WalkLemmas.{first_value-rows, one_text-rows, raw_values-rows, find_row}
 use Rattle.acd_http.specs.declared.serving.Span.{Span}
 use Rattle.acd_log.specs.declared.ending.Ending.TheVariants.{Plain}
-use Rattle.acd_program.specs.CommandLine.{HasApp, HasNone, HasRule, IsAddress, IsConnections, IsNumber, IsRefusedBy, IsRetention, IsSeconds, IsSpan, IsTaskIn, IsTaskWith, IsText, NamesNoTask, acd, command_of, has_option, is_given, required}
+use Rattle.acd_program.specs.CommandLine.{HasApp, HasNone, HasRule, IsAddress, IsConnections, IsNumber, IsRefusedBy, IsRetention, IsSeconds, IsSpan, AreTexts, IsTaskIn, IsTaskWith, IsText, NamesNoTask, acd, has_option, is_given, required}
 use Rattle.acd_program.specs.Statuses.{IsHelp}
 use Rattle.acd_program.specs.declared.asked.Address.{Address}
 use Rattle.acd_program.specs.declared.asked.Address.TheVariants.{Port, Socket}
 use Rattle.acd_program.specs.declared.asked.Retention.{Retention}
 use Rattle.acd_program.specs.declared.asked.Retention.TheVariants.{Days, Records}
 use Rattle.acd_program.specs.declared.asked.Task.{Task}
-use Rattle.acd_program.specs.declared.asked.Task.TheVariants.{Lines, Serve, Import, AuditWhole, AuditWithArchive, Prune, Read}
-use Rattle.acd_program.specs.declared.desk.Printout.{Printout}
+use Rattle.acd_program.specs.declared.asked.Task.TheVariants.{Lines, Serve, Import, AuditWhole, AuditWithArchive, Prune, ExportWithArchives, Read}
 use Rattle.acd_program.specs.declared.desk.Printout.TheVariants.{Report, Export}
 use Rattle.acd_program.specs.declared.desk.Work.TheVariants as kind
 
@@ -134,6 +133,18 @@ pub audit_read : (options : List Row) (file : Bor Text) (counts whole : Bool) (a
 audit_read options file counts true asked whole plain text none counted looked = subst (IsTaskWith (codes "audit") options) (sym (whole refl)) ((refl, text, counted, looked), none)
 audit_read options file counts false asked whole plain text none counted looked = subst (IsTaskWith (codes "audit") options) (sym (plain refl)) (text, (refl, none, counted, looked, refl))
 
+-- all texts of an option
+pub texts_read : (f : Found) (id : Text) (texts : Bor (List (Bor Text))) → Some (map (λ (t : Bor Text). t.now) texts.now) ≡ option_map raw_values (matched_of f id) → AreTexts id (rows_of f) texts
+texts_read f id texts read = sym (read ∙ raw_values-rows f id)
+
+-- none of an option that wasn't given
+pub texts_unread : (f : Found) (id : Text) → ◌≡◌ {A = Option (List Text)} None (option_map raw_values (matched_of f id)) → HasNone id (rows_of f)
+texts_unread f id none = no_first (find (λ (r : Row). bytes_eq r.id id) (rows_of f)) (none ∙ raw_values-rows f id)
+  where
+    no_first : (o : Option Row) → ◌≡◌ {A = Option (List Text)} None (option_map (λ (r : Row). r.values) o) → option_and_then (λ (r : Row). slice_get r.values 0) o ≡ None
+    no_first None e = refl
+    no_first (Some r) e = absurd (cc e)
+
 -- no text was read
 pub text_unread : (f : Found) (id : Text) → ◌≡◌ {A = Option Text} None (first_value f id) → (text : Bor Text) → ¬ IsText id (rows_of f) text
 text_unread f id none text h = none_is_some (none ∙ first_value-rows f id ∙ h)
@@ -156,8 +167,9 @@ module _ (options : List Row) where
   no_service none (AuditWhole file counts) h = apart (codes "serve") (codes "audit") refl h.0.0
   no_service none (AuditWithArchive file archive counts whole) h = apart (codes "serve") (codes "audit") refl h.0.0
   no_service none (Prune file archive retention quiet) h = apart (codes "serve") (codes "prune") refl h.0
+  no_service none (ExportWithArchives file archives) h = apart (codes "serve") (codes "export") refl h.0
   no_service none (Read file (kind.Print Report)) h = apart (codes "serve") (codes "report") refl h.1
-  no_service none (Read file (kind.Print Export)) h = apart (codes "serve") (codes "export") refl h.1
+  no_service none (Read file (kind.Print Export)) h = apart (codes "serve") (codes "export") refl h.1.0
   no_service none (Read file (kind.Audit counts ending)) h = apart (codes "serve") (codes "audit") refl h.1.0
   no_service none (Read file (kind.Import requests)) h = h.1
 
@@ -168,8 +180,9 @@ module _ (options : List Row) where
   no_import none (AuditWhole file counts) h = apart (codes "import") (codes "audit") refl h.0.0
   no_import none (AuditWithArchive file archive counts whole) h = apart (codes "import") (codes "audit") refl h.0.0
   no_import none (Prune file archive retention quiet) h = apart (codes "import") (codes "prune") refl h.0
+  no_import none (ExportWithArchives file archives) h = apart (codes "import") (codes "export") refl h.0
   no_import none (Read file (kind.Print Report)) h = apart (codes "import") (codes "report") refl h.1
-  no_import none (Read file (kind.Print Export)) h = apart (codes "import") (codes "export") refl h.1
+  no_import none (Read file (kind.Print Export)) h = apart (codes "import") (codes "export") refl h.1.0
   no_import none (Read file (kind.Audit counts ending)) h = apart (codes "import") (codes "audit") refl h.1.0
   no_import none (Read file (kind.Import requests)) h = h.1
 
@@ -181,8 +194,9 @@ module _ (options : List Row) where
   no_prune none (Import file plan) h = apart (codes "prune") (codes "import") refl h.0
   no_prune none (AuditWhole file counts) h = apart (codes "prune") (codes "audit") refl h.0.0
   no_prune none (AuditWithArchive file archive counts whole) h = apart (codes "prune") (codes "audit") refl h.0.0
+  no_prune none (ExportWithArchives file archives) h = apart (codes "prune") (codes "export") refl h.0
   no_prune none (Read file (kind.Print Report)) h = apart (codes "prune") (codes "report") refl h.1
-  no_prune none (Read file (kind.Print Export)) h = apart (codes "prune") (codes "export") refl h.1
+  no_prune none (Read file (kind.Print Export)) h = apart (codes "prune") (codes "export") refl h.1.0
   no_prune none (Read file (kind.Audit counts ending)) h = apart (codes "prune") (codes "audit") refl h.1.0
   no_prune none (Read file (kind.Import requests)) h = h.1
 
@@ -194,6 +208,7 @@ module _ (options : List Row) where
   no_file none command other (AuditWhole file counts) h = none file h.0.1
   no_file none command other (AuditWithArchive file archive counts whole) h = none file h.0.1
   no_file none command other (Prune file archive retention quiet) h = none file h.1
+  no_file none command other (ExportWithArchives file archives) h = none file h.1
   no_file none command other (Read file work) h = none file h.0
 
 -- a number is that of an option which was given
@@ -239,10 +254,6 @@ no_seconds id options number none None h = none h
 pub unnumbered : (bits : ℕ) (id : Text) (options : List Row) (n : ℕ) → has_option id options ≡ false → ¬ IsNumber bits id options n
 unnumbered bits id options n none h = true≢false (sym (number_given bits id options n h) ∙ none)
 
-pub printout_apart : (printout : Printout) → bytes_eq (command_of printout) (codes "lines") ≡ false
-printout_apart Report = refl
-printout_apart Export = refl
-
 -- a command that is none of the seven
 pub no_other : (command : Text) (options : List Row) → command ≢ codes "lines" → command ≢ codes "serve" → command ≢ codes "import" → command ≢ codes "report" → command ≢ codes "export" → command ≢ codes "audit"
     → command ≢ codes "prune" → (task : Task) → ¬ IsTaskWith command options task
@@ -252,8 +263,9 @@ no_other command options a b c d e f p (Import file plan) h = c h.0
 no_other command options a b c d e f p (AuditWhole file counts) h = f h.0.0
 no_other command options a b c d e f p (AuditWithArchive file archive counts whole) h = f h.0.0
 no_other command options a b c d e f p (Prune file archive retention quiet) h = p h.0
+no_other command options a b c d e f p (ExportWithArchives file archives) h = e h.0
 no_other command options a b c d e f p (Read file (kind.Print Report)) h = d h.1
-no_other command options a b c d e f p (Read file (kind.Print Export)) h = e h.1
+no_other command options a b c d e f p (Read file (kind.Print Export)) h = e h.1.0
 no_other command options a b c d e f p (Read file (kind.Audit counts ending)) h = f h.1.0
 no_other command options a b c d e f p (Read file (kind.Import requests)) h = h.1
 

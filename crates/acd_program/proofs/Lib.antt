@@ -22,6 +22,8 @@ pub mod Archives
 pub mod AuditsWithArchive
 pub mod ReadsOn
 pub mod Prunes
+pub mod Exports
 mod Reopening
 pub mod LineOf
 pub mod Occurs
+pub mod EachOnce

@@ -1,5 +1,5 @@
 -- A fault that ended a task, by its parts: what is left.
-use Rattle.std.proofs.Common.{◌≡◌, ◌⊎◌, inl, inr, ℕ, Bool, List, Option, Some, None, Result, Ok, Err, IfErr, MatchResult, refl, sym, subst}
+use Rattle.std.proofs.Common.{◌≡◌, ◌⊎◌, inl, inr, ℕ, Bool, List, length, Option, Some, None, Result, Ok, Err, IfErr, MatchResult, refl, sym, subst}
 use Rattle.sqlite_disk.specs.declared.Disk.{Ghosts}
 use Rattle.sqlite_store.specs.declared.store.FileStore.{FileStore}
 use Rattle.sqlite.specs.Held.{Held}
@@ -10,7 +10,7 @@ use Rattle.acd_program.specs.Ended.{IsOfClosing}
 use Rattle.acd_program.specs.Faults.{book_fault}
 use Rattle.acd_program.specs.Statuses.{fault_exit}
 use Rattle.acd_program.specs.Tasks.{TaskDone}
-use Rattle.acd_program.specs.TasksEnded.{EndedIn, InputEnded, AuditWithArchiveEnded, PruneEnded, TaskEnded}
+use Rattle.acd_program.specs.TasksEnded.{EndedIn, InputEnded, AuditWithArchiveEnded, PruneEnded, ExportEnded, TaskEnded}
 use Rattle.acd_program.specs.declared.fault.Fault.{Fault}
 use Rattle.acd_program.specs.declared.fault.Fault.TheVariants as ended_by
 use Rattle.acd_program.specs.declared.fault.WorkFault.{WorkFault}
@@ -65,6 +65,12 @@ module _ {D : Type 0} (disk : Ghosts D) (IsFresh : Bool → D → Type 0) where
   pruned_elsewhere quiet old_output new_output Unwritten (ended_by.Work why) is h = absurd (other_exit is)
   pruned_elsewhere quiet old_output new_output Unwritten (ended_by.Archive why) is h = h.3
 
+  exported_elsewhere : (count : ℕ) (old_output new_output : Option (List ℕ)) (Unwritten : Type 0) (fault : Fault) → fault_exit fault ≡ exit.OpenElsewhere → ExportEnded disk IsFresh count old_output new_output Unwritten fault
+      → Unwritten
+  exported_elsewhere count old_output new_output Unwritten (ended_by.Opening why) is h = h.0
+  exported_elsewhere count old_output new_output Unwritten (ended_by.Work why) is h = absurd (other_exit is)
+  exported_elsewhere count old_output new_output Unwritten (ended_by.Archive why) is h = h.3
+
   input_elsewhere : {Name : Type 0} (named : Option Name) (reads ends : Bool) (io : Streams) (fault : Fault) → InputEnded disk IsFresh named reads ends io fault → fault_exit fault ≡ exit.OpenElsewhere → io.unread × io.unwritten
   input_elsewhere None reads ends io fault h is = absurd (other_exit (subst (λ (x : Fault). fault_exit x ≡ exit.OpenElsewhere) h.1 is))
   input_elsewhere (Some file) reads ends io fault h is = opened_elsewhere fault (io.unread × io.unwritten) _ is h
@@ -76,6 +82,7 @@ module _ {D : Type 0} (disk : Ghosts D) (IsFresh : Bool → D → Type 0) where
   elsewhere (task.Read file work) io old_errors new_errors fault h is = (h.0, opened_elsewhere fault io.unwritten _ is h.2)
   elsewhere (task.AuditWithArchive file archive counts whole) io old_errors new_errors fault h is = (h.0, audited_elsewhere counts whole io.old_output io.new_output io.unwritten fault is h.2)
   elsewhere (task.Prune file archive retention quiet) io old_errors new_errors fault h is = (h.0, pruned_elsewhere quiet io.old_output io.new_output io.unwritten fault is h.2)
+  elsewhere (task.ExportWithArchives file archives) io old_errors new_errors fault h is = (h.0, exported_elsewhere (length archives.now) io.old_output io.new_output io.unwritten fault is h.2)
   elsewhere (task.AuditWhole file counts) io old_errors new_errors fault h is = (h.0, opened_elsewhere fault io.unwritten _ is h.2)
 
   pub err_elsewhere : (r : Result Status Fault) (asked : Task) (io : Streams) (old_errors new_errors : Option (List ℕ))

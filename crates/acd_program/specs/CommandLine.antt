@@ -1,15 +1,15 @@
 -- The commands with their options, and the task that the words of a command line name.
-use Rattle.std.specs.Prelude.{◌≡◌, ◌≢◌, ◌⊎◌, ◌<◌, ◌^◌, ◌*◌, ℕ, ◌∷◌, [], Bool, true, false, List, Option, Some, None, Result, IfOk, MatchOption, is_some, find, codes, option_map}
+use Rattle.std.specs.Prelude.{◌≡◌, ◌≢◌, ◌⊎◌, ◌<◌, ◌^◌, ◌*◌, ℕ, ◌∷◌, [], Bool, true, false, List, Option, Some, None, Result, IfOk, MatchOption, is_some, find, map, codes, option_map}
 use Rattle.std.specs.Option.{option_map_or}
 use Rattle.std.specs.Str.{bytes_eq}
 use Rattle.std.specs.Str.Parse.{IsNumeral, digits_value, without_leading_plus}
 use Rattle.std.specs.Borrow.{Bor}
 use Rattle.clap.specs.Simple.{new_shape}
-use Rattle.clap.specs.Words.{App, Row, Rule, Shape, Text, app_of, first_of, new_rule, one_of, rule_of, subcommand_of, takes, with_subcommand}
+use Rattle.clap.specs.Words.{App, Row, Rule, Shape, Text, all_of, app_of, first_of, new_rule, one_of, rule_of, subcommand_of, takes, with_subcommand}
 use Rattle.clap.specs.declared.builder.Arg.{Arg}
 use Rattle.clap.specs.declared.builder.Command.{Command}
 use Rattle.clap.specs.declared.builder.Command.TheViews.{out-Command as fields_of}
-use Rattle.clap.specs.declared.builder.action.ArgAction.TheVariants.{Set, SetTrue}
+use Rattle.clap.specs.declared.builder.action.ArgAction.TheVariants.{Set, Append, SetTrue}
 use Rattle.clap.specs.declared.builder.value_parser.ValueParser.TheVariants.{Unsigned}
 use Rattle.clap.specs.declared.error.kind.ErrorKind.{ErrorKind}
 use Rattle.clap.specs.declared.error.kind.ErrorKind.TheVariants.{OutOfMemory}
@@ -20,20 +20,23 @@ use Rattle.acd_log.specs.declared.ending.Ending.TheVariants.{Plain}
 use Rattle.acd_program.specs.Statuses.{IsHelp}
 use Rattle.acd_program.specs.declared.desk.Work.{Work}
 use Rattle.acd_program.specs.declared.desk.Work.TheVariants as kind
-use Rattle.acd_program.specs.declared.desk.Printout.{Printout}
 use Rattle.acd_program.specs.declared.desk.Printout.TheVariants.{Report, Export}
 use Rattle.acd_program.specs.declared.asked.Address.{Address}
 use Rattle.acd_program.specs.declared.asked.Address.TheVariants.{Port, Socket}
 use Rattle.acd_program.specs.declared.asked.Retention.{Retention}
 use Rattle.acd_program.specs.declared.asked.Retention.TheVariants.{Days, Records}
 use Rattle.acd_program.specs.declared.asked.Task.{Task}
-use Rattle.acd_program.specs.declared.asked.Task.TheVariants.{Lines, Serve, Import, AuditWhole, AuditWithArchive, Prune, Read}
+use Rattle.acd_program.specs.declared.asked.Task.TheVariants.{Lines, Serve, Import, AuditWhole, AuditWithArchive, Prune, ExportWithArchives, Read}
 
 -- ---- the commands
 
 -- an option with one value
 abbrev pub option_rule : Text → Rule
 option_rule name = record (new_rule name) { long = Some name; value_names = 1; action = Some Set }
+
+-- the same, which may be given again
+abbrev pub repeated : Rule → Rule
+repeated rule = record rule { action = Some Append }
 
 abbrev pub required : Rule → Rule
 required rule = record rule { required = true }
@@ -66,7 +69,7 @@ abbrev pub report_shape : Shape
 report_shape = with_rules (codes "report") (required file_rule ∷ [])
 
 abbrev pub export_shape : Shape
-export_shape = with_rules (codes "export") (required file_rule ∷ [])
+export_shape = with_rules (codes "export") (required file_rule ∷ repeated (option_rule (codes "archive")) ∷ [])
 
 abbrev pub audit_shape : Shape
 audit_shape = with_rules (codes "audit")
@@ -119,6 +122,10 @@ IsFileIfGiven options file = option_map (λ (f : Bor Text). f.now) file ≡ firs
 abbrev pub HasNone : Text → List Row → Type 0
 HasNone name options = first_of name options ≡ None
 
+-- the option was given with these texts, in their order
+abbrev pub AreTexts : Text → List Row → Bor (List (Bor Text)) → Type 0
+AreTexts name options texts = all_of name options ≡ Some (map (λ (t : Bor Text). t.now) texts.now)
+
 -- the option has a text that is this number, of so many bits at most
 abbrev pub IsNumber : ℕ → Text → List Row → ℕ → Type 0
 IsNumber bits name options n =
@@ -148,14 +155,10 @@ abbrev pub IsRetention : List Row → Retention → Type 0
 IsRetention options (Days n) = IsNumber 32 (codes "days") options n × (has_option (codes "keep") options ≡ false)
 IsRetention options (Records n) = IsNumber 32 (codes "keep") options n × (has_option (codes "days") options ≡ false)
 
--- the command that prints it
-abbrev pub command_of : Printout → Text
-command_of Report = codes "report"
-command_of Export = codes "export"
-
 -- the work that reads a file
 abbrev pub IsWork : Text → List Row → Work → Type 0
-IsWork command options (kind.Print printout) = command ≡ command_of printout
+IsWork command options (kind.Print Report) = command ≡ codes "report"
+IsWork command options (kind.Print Export) = (command ≡ codes "export") × HasNone (codes "archive") options
 IsWork command options (kind.Audit counts ending) =
     (command ≡ codes "audit") × HasNone (codes "archive") options × IsFlag (codes "count") options counts × IsFlag (codes "whole") options false × (ending ≡ Plain)
 IsWork command options (kind.Import requests) = ⊥
@@ -175,6 +178,8 @@ IsTaskWith command options (AuditWhole file counts) = IsAuditOf command options 
 IsTaskWith command options (AuditWithArchive file archive counts whole) = IsAuditOf command options file counts whole × IsText (codes "archive") options archive
 IsTaskWith command options (Prune file archive retention quiet) =
     (command ≡ codes "prune") × IsText (codes "file") options file × IsText (codes "archive") options archive × IsRetention options retention × IsFlag (codes "quiet") options quiet
+IsTaskWith command options (ExportWithArchives file archives) =
+    (command ≡ codes "export") × IsText (codes "file") options file × AreTexts (codes "archive") options archives
 IsTaskWith command options (Read file work) = IsText (codes "file") options file × IsWork command options work
 
 abbrev pub IsTaskIn : Option (Text × List Row) → Task → Type 0

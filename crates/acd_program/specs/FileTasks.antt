@@ -22,8 +22,8 @@ use Rattle.acd_program.specs.Over.{OverConnection}
 use Rattle.acd_program.specs.Pruning.{IsPruningInOrder, BookPruned, LeavesPruned}
 use Rattle.acd_program.specs.Serving.{Service}
 use Rattle.acd_program.specs.Statuses.{IsDone, status_number, exit_number, fault_exit}
-use Rattle.acd_program.specs.Tasks.{WorkedIn, ImportedIn, ServeDoneIn, FileAnswered, InputAnswered, WholeAudit, AuditedWith, PrunedWith, TaskDone}
-use Rattle.acd_program.specs.TasksEnded.{EndedIn, LinesLeft, WorkEndedIn, PlanEnded, AuditEnded, AuditWithArchiveEnded, PruneEnded, ServiceEnded, InputEnded, TaskEnded}
+use Rattle.acd_program.specs.Tasks.{WorkedIn, ImportedIn, ServeDoneIn, FileAnswered, InputAnswered, WholeAudit, AuditedWith, PrunedWith, Exported, TaskDone}
+use Rattle.acd_program.specs.TasksEnded.{EndedIn, LinesLeft, WorkEndedIn, PlanEnded, AuditEnded, AuditWithArchiveEnded, PruneEnded, ExportEnded, ServiceEnded, InputEnded, TaskEnded}
 use Rattle.acd_program.specs.WithArchive.{AskedWithArchive, AuditsWithArchive, AuditedWithArchive, BookAskedWithArchive}
 use Rattle.acd_program.specs.declared.asked.Task.{Task}
 use Rattle.acd_program.specs.declared.auditing.Finding.{Finding}
@@ -91,6 +91,12 @@ module _ {S : Type 0} {host : calls.Ghosts Host} {known : start.Ghosts S} (disk 
   -- and that of a file
   abbrev pub EndsPrune : Bool → Output → Result Status Fault → Type 0
   EndsPrune quiet out result = MatchResult result (PrunedWith disk IsFresh quiet out.before out.after) (PruneEnded disk IsFresh quiet out.before out.after out.unwritten)
+
+  -- ---- exports
+
+  -- so the events of so many archives and of a file were printed; or, where a fault ended that, so
+  abbrev pub EndsExport : ℕ → Output → Result Status Fault → Type 0
+  EndsExport count out result = MatchResult result (Exported disk IsFresh count out.before out.after) (ExportEnded disk IsFresh count out.before out.after out.unwritten)
 
   -- ---- lines
 

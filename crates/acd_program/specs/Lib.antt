@@ -9,6 +9,7 @@ pub mod Work
 pub mod InFiles
 pub mod WithArchive
 pub mod Pruning
+pub mod Exporting
 pub mod Files
 pub mod Plans
 pub mod Logs
@@ -27,3 +28,4 @@ pub mod Reopening
 pub mod PlanLines
 pub mod Reasons
 pub mod Rights
+pub mod EachOnce

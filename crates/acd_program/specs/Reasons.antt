@@ -6,7 +6,7 @@ use Rattle.std.specs.declared.io.ErrorKind.{ErrorKind}
 use Rattle.std.specs.declared.io.ErrorKind.TheVariants as kind
 use Rattle.acd_program.specs.Files.{new_page}
 use Rattle.acd_program.specs.declared.asked.Task.{Task}
-use Rattle.acd_program.specs.declared.asked.Task.TheVariants.{Lines, Serve, Import, AuditWhole, AuditWithArchive, Prune, Read}
+use Rattle.acd_program.specs.declared.asked.Task.TheVariants.{Lines, Serve, Import, AuditWhole, AuditWithArchive, Prune, ExportWithArchives, Read}
 use Rattle.acd_program.specs.declared.reason.Reason.{Reason}
 use Rattle.acd_program.specs.declared.reason.Reason.TheVariants.{Absent, BelowNoFolder, NoPermission, AnotherProgram, NoDatabase, NoDesk, NoVersion}
 use Rattle.acd_program.specs.declared.reasons.Owner.{Owner}
@@ -50,6 +50,7 @@ file_of (Import file plan) = Some file
 file_of (AuditWhole file counts) = Some file
 file_of (AuditWithArchive file archive counts whole) = None
 file_of (Prune file archive retention quiet) = None
+file_of (ExportWithArchives file archives) = None
 file_of (Read file work) = Some file
 
 -- a file that begins otherwise than each database does is none

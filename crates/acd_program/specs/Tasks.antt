@@ -1,5 +1,5 @@
 -- The work done, by what a command line asked for.
-use Rattle.std.specs.Prelude.{◌≡◌, ℕ, Bool, true, false, List, Option, Some, None, Ok}
+use Rattle.std.specs.Prelude.{◌≡◌, ℕ, Bool, true, false, List, length, Option, Some, None, Ok, string_bytes}
 use Rattle.std.specs.Io.KnownBytes.{Appends}
 use Rattle.sqlite_disk.specs.declared.Disk.{Ghosts}
 use Rattle.sqlite_store.specs.declared.store.FileStore.{FileStore}
@@ -24,12 +24,14 @@ use Rattle.acd_program.specs.Serving.{ServeDone}
 use Rattle.acd_program.specs.declared.auditing.Finding.{Finding}
 use Rattle.acd_program.specs.declared.desk.Work.{Work}
 use Rattle.acd_program.specs.declared.desk.Work.TheVariants as kind
+use Rattle.acd_program.specs.Exporting.{IsNewTable, AddsEvents, AddsArchives}
+use Rattle.acd_program.specs.declared.export.EventTable.{EventTable}
 use Rattle.acd_program.specs.Pruning.{BookPruned}
 use Rattle.acd_program.specs.declared.pruning.Pruning.{Pruning}
 use Rattle.acd_program.specs.declared.status.Status.{Status}
 use Rattle.acd_program.specs.declared.status.Status.TheVariants.{Success}
 use Rattle.acd_program.specs.declared.asked.Task.{Task}
-use Rattle.acd_program.specs.declared.asked.Task.TheVariants.{Lines, Serve, Import, AuditWhole, AuditWithArchive, Prune, Read}
+use Rattle.acd_program.specs.declared.asked.Task.TheVariants.{Lines, Serve, Import, AuditWhole, AuditWithArchive, Prune, ExportWithArchives, Read}
 
 -- Each line of the input was answered, over a desk in memory: the answers to the requests among them are the abstract desk's or, where lines may be reads too, each line was answered by the desk that
 -- the lines before it left
@@ -109,6 +111,17 @@ module _ {D : Type 0} (disk : Ghosts D) (IsFresh : Bool → D → Type 0) where
     pub printed : Appends old_output new_output (pruning_line quiet pruning)
     pub outcome : status ≡ pruning_status pruning
 
+  -- the events of so many archives, which were opened beside the file one after another and closed, and then those of the file were printed as one table
+  pub record Exported (count : ℕ) (old_output new_output : Option (List ℕ)) (status : Status) : Type 0 where
+    pub begun : EventTable
+    pub before : EventTable
+    pub whole : EventTable
+    pub header : IsNewTable begun
+    pub archives : AddsArchives disk IsFresh count begun before
+    pub done : InFile disk IsFresh (λ old new. WasAsked old (AddsEvents before whole) (tt {0}) new) false
+    pub printed : Appends old_output new_output (string_bytes whole.text)
+    pub outcome : status ≡ Success
+
   -- the task was done, from what was read to what was written, to what was printed on the stream of errors, and to the exit
   -- status
   abbrev pub TaskDone : Task → Streams → Option (List ℕ) → Option (List ℕ) → Status → Type 0
@@ -121,4 +134,5 @@ module _ {D : Type 0} (disk : Ghosts D) (IsFresh : Bool → D → Type 0) where
   TaskDone (Read file (kind.Audit counts ending)) io old_errors new_errors status = AuditedIn counts ending io.old_output io.new_output status
   TaskDone (AuditWithArchive file archive counts whole) io old_errors new_errors status = AuditedWith counts whole io.old_output io.new_output status
   TaskDone (Prune file archive retention quiet) io old_errors new_errors status = PrunedWith quiet io.old_output io.new_output status
+  TaskDone (ExportWithArchives file archives) io old_errors new_errors status = Exported (length archives.now) io.old_output io.new_output status
   TaskDone (AuditWhole file counts) io old_errors new_errors status = (ending : Ending) × IsSomeEnding ending × AuditedIn counts ending io.old_output io.new_output status

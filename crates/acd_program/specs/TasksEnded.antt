@@ -1,5 +1,5 @@
 -- A fault ended the task of a command line: what is left.
-use Rattle.std.specs.Prelude.{◌≡◌, ◌⊎◌, ℕ, Bool, true, false, List, Option, Some, None, Result}
+use Rattle.std.specs.Prelude.{◌≡◌, ◌⊎◌, ℕ, Bool, true, false, List, length, Option, Some, None, Result, string_bytes}
 use Rattle.sqlite_disk.specs.declared.Disk.{Ghosts}
 use Rattle.sqlite.specs.Files.{over_files, file_state}
 use Rattle.acd_lines.specs.Lines.{Streams, Untouched}
@@ -8,6 +8,7 @@ use Rattle.acd_log.specs.declared.ending.Ending.{Ending}
 use Rattle.acd_io.specs.Sent.{Begins}
 use Rattle.acd_program.specs.WithArchive.{IsFindingIn, BookAskedWithArchive, LeavesArchive}
 use Rattle.acd_program.specs.Ended.{EndsBy, TakesPlan, IsShut, WorkEnded}
+use Rattle.acd_program.specs.Exporting.{MakesTable, LeavesArchives}
 use Rattle.acd_program.specs.Faults.{lines_fault}
 use Rattle.acd_program.specs.Found.{HasCount, finding_line, pruning_line}
 use Rattle.acd_program.specs.InFiles.{OfFiles, IsOpenedFrom, LeavesUnopened}
@@ -18,6 +19,7 @@ use Rattle.acd_program.specs.Sessions.{DatabaseEnded, MemoryEnded}
 use Rattle.acd_program.specs.Tasks.{IsSomeEnding, IsReadEnding}
 use Rattle.acd_program.specs.Pruning.{BookPruned, LeftOver}
 use Rattle.acd_program.specs.declared.auditing.Finding.{Finding}
+use Rattle.acd_program.specs.declared.export.EventTable.{EventTable}
 use Rattle.acd_program.specs.declared.fault.Fault.{Fault}
 use Rattle.acd_program.specs.declared.fault.Fault.TheVariants.{Opening, Archive}
 use Rattle.acd_program.specs.declared.fault.Fault.TheVariants as ended_by
@@ -27,7 +29,7 @@ use Rattle.acd_program.specs.declared.desk.Work.TheVariants as kind
 use Rattle.acd_program.specs.declared.pruning.Pruning.{Pruning}
 use Rattle.acd_program.specs.declared.asked.Address.{Address}
 use Rattle.acd_program.specs.declared.asked.Task.{Task}
-use Rattle.acd_program.specs.declared.asked.Task.TheVariants.{Lines, Serve, Import, AuditWhole, AuditWithArchive, Prune, Read}
+use Rattle.acd_program.specs.declared.asked.Task.TheVariants.{Lines, Serve, Import, AuditWhole, AuditWithArchive, Prune, ExportWithArchives, Read}
 
 -- `IsFresh is_log file` says that a file is a log, or a database file, that was just opened
 module _ {D : Type 0} (disk : Ghosts D) (IsFresh : Bool → D → Type 0) where
@@ -83,6 +85,12 @@ module _ {D : Type 0} (disk : Ghosts D) (IsFresh : Bool → D → Type 0) where
     pub shut : IsShut last
     pub kept : LeftOver disk IsFresh (file_state conn) (file_state last)
 
+  -- a table of archives and the file was made, and a beginning of it was printed
+  pub record ExportCut (count : ℕ) (old_output new_output : Option (List ℕ)) (conn last : OfFiles disk) : Type 0 where
+    pub whole : EventTable
+    pub made : MakesTable disk IsFresh count (file_state conn) (file_state last) whole
+    pub printed : Begins old_output new_output (string_bytes whole.text)
+
   -- ---- by what was to be done, where `Unwritten` says that nothing was written
 
   abbrev pub WorkEndedIn : Bool → Work → Option (List ℕ) → Option (List ℕ) → Type 0 → Fault → Type 0
@@ -112,6 +120,13 @@ module _ {D : Type 0} (disk : Ghosts D) (IsFresh : Bool → D → Type 0) where
       (conn : OfFiles disk) × IsOpenedFrom disk IsFresh conn × (left : PruneShut conn) × (Unwritten ⊎ PruneCut quiet old_output new_output conn left.last)
   PruneEnded quiet old_output new_output Unwritten (Archive why) = (conn : OfFiles disk) × IsOpenedFrom disk IsFresh conn × AuditShut conn × Unwritten × LeavesArchive disk IsFresh why
 
+  -- The events of archives and a file were to be printed. No connection to the file was made; or work ended by a fault, before anything was printed or after; or that of an archive did, and this is left.
+  abbrev pub ExportEnded : ℕ → Option (List ℕ) → Option (List ℕ) → Type 0 → Fault → Type 0
+  ExportEnded count old_output new_output Unwritten (Opening why) = Unwritten × LeavesUnopened disk IsFresh why
+  ExportEnded count old_output new_output Unwritten (ended_by.Work why) =
+      (conn : OfFiles disk) × IsOpenedFrom disk IsFresh conn × (left : AuditShut conn) × (Unwritten ⊎ ExportCut count old_output new_output conn left.last)
+  ExportEnded count old_output new_output Unwritten (Archive why) = (conn : OfFiles disk) × IsOpenedFrom disk IsFresh conn × AuditShut conn × Unwritten × LeavesArchives disk IsFresh why
+
   abbrev pub ServiceEnded : Span → Address → Option (List ℕ) → Option (List ℕ) → Option (List ℕ) → Option (List ℕ) → Type 0 → Fault → Type 0
   ServiceEnded span address old_output new_output old_errors new_errors Unwritten fault = EndedIn fault (Unwritten × (new_errors ≡ old_errors)) (ServiceLeft span address old_output new_output old_errors new_errors)
 
@@ -129,4 +144,5 @@ module _ {D : Type 0} (disk : Ghosts D) (IsFresh : Bool → D → Type 0) where
   TaskEnded (Read file work) io old_errors new_errors fault = io.unread × (new_errors ≡ old_errors) × WorkEndedIn false work io.old_output io.new_output io.unwritten fault
   TaskEnded (AuditWithArchive file archive counts whole) io old_errors new_errors fault = io.unread × (new_errors ≡ old_errors) × AuditWithArchiveEnded counts whole io.old_output io.new_output io.unwritten fault
   TaskEnded (Prune file archive retention quiet) io old_errors new_errors fault = io.unread × (new_errors ≡ old_errors) × PruneEnded quiet io.old_output io.new_output io.unwritten fault
+  TaskEnded (ExportWithArchives file archives) io old_errors new_errors fault = io.unread × (new_errors ≡ old_errors) × ExportEnded (length archives.now) io.old_output io.new_output io.unwritten fault
   TaskEnded (AuditWhole file counts) io old_errors new_errors fault = io.unread × (new_errors ≡ old_errors) × AuditEnded counts io.old_output io.new_output io.unwritten fault

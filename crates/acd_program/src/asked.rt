@@ -21,9 +21,9 @@ pub(crate) enum Retention {
     Records(u32),
 }
 
-/// The task of a command line, with the paths that it names.
+/// The task of a command line, with the paths that it names; a list of them is lent by the matches.
 #[derive(Clone, Copy)]
-pub(crate) enum Task<'a> {
+pub(crate) enum Task<'m, 'a> {
     /// Answer the lines of standard input, requests alone or reads too, over a desk in memory or in a file; a storeFault
     /// may be what ends them.
     Lines {
@@ -62,6 +62,11 @@ pub(crate) enum Task<'a> {
         archive: &'a str,
         retention: Retention,
         quiet: bool,
+    },
+    /// Print all events of archives, which are named from the oldest on, and of the desk in a file, as one table.
+    ExportWithArchives {
+        file: &'a str,
+        archives: &'m [&'a str],
     },
     /// Print what a read of the desk in a file finds: the queue report, all event reports, or what an audit finds.
     Read {

@@ -1,6 +1,7 @@
 //! Laws of the definitions. Each law is the contract of a function, whose body names only the laws that it depends on.
 
 ghost use Rattle.sqlite_std_file.specs.File.{IsFresh};
+ghost use Rattle.acd_program.specs.EachOnce.{TablesTellOnce};
 ghost use Rattle.acd_program.specs.Reopening.{BooksMakeDesks, ClosedOpens, FreshAreSynced, LeftOpens};
 ghost use Rattle.acd_program.specs.Sessions.{LinesAreSessions, LinesAreFromNothing};
 
@@ -49,4 +50,10 @@ pub fn closed_opens<D: Disk, E: Disk>()
 /// Two files that were just opened read as what they held, and a crash leaves nothing else of them.
 pub fn fresh_are_synced<S: Start>()
     ensures { FreshAreSynced ⟦<FileFrom<S> as Disk>⟧ IsFresh S.Start }
+{}
+
+/// A table of contents is the export of the events that they have. Where these are a chain it has each event once, and
+/// none is missing.
+pub fn tables_tell_once()
+    ensures { TablesTellOnce }
 {}

@@ -11,6 +11,7 @@ mod auditing;
 mod connection;
 mod cut;
 mod desk;
+mod export;
 mod fault;
 mod file;
 pub mod laws;

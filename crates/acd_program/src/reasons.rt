@@ -299,7 +299,7 @@ fn of_plan(looks: Looks<'_>, path: &str, fault: PlanFault) -> Option<Told> {
 }
 
 // The plan that the task names.
-fn plan_of(task: Task<'_>) -> Option<&str>
+fn plan_of<'a>(task: Task<'_, 'a>) -> Option<&'a str>
     ensures { result ≡ plan_of task.entry }
 {
     match task {
@@ -309,7 +309,7 @@ fn plan_of(task: Task<'_>) -> Option<&str>
 }
 
 // The archive that the task names.
-fn archive_of(task: Task<'_>) -> Option<&str>
+fn archive_of<'a>(task: Task<'_, 'a>) -> Option<&'a str>
     ensures { result ≡ archive_of task.entry }
 {
     match task {
@@ -320,7 +320,7 @@ fn archive_of(task: Task<'_>) -> Option<&str>
 }
 
 // The file of a desk that the task names.
-fn file_of(task: Task<'_>) -> Option<&str>
+fn file_of<'a>(task: Task<'_, 'a>) -> Option<&'a str>
     ensures { result ≡ file_of task.entry }
 {
     match task {
@@ -331,12 +331,13 @@ fn file_of(task: Task<'_>) -> Option<&str>
         // of two files such a fault doesn't say which is at fault
         Task::AuditWithArchive { .. } => None,
         Task::Prune { .. } => None,
+        Task::ExportWithArchives { .. } => None,
         Task::Read { file, .. } => Some(file),
     }
 }
 
 // Why what is at a path isn't opened.
-fn of_path(looks: Looks<'_>, task: Task<'_>, fault: PathFault<'_>) -> Option<Reason> {
+fn of_path(looks: Looks<'_>, task: Task<'_, '_>, fault: PathFault<'_>) -> Option<Reason> {
     let PathFault::CannotOpen(path) = fault else {
         return None;
     };
@@ -349,7 +350,7 @@ fn of_path(looks: Looks<'_>, task: Task<'_>, fault: PathFault<'_>) -> Option<Rea
     of_opening(looks, path)
 }
 
-fn of_look(looks: Looks<'_>, task: Task<'_>, fault: LookFault<'_>) -> Option<Told> {
+fn of_look(looks: Looks<'_>, task: Task<'_, '_>, fault: LookFault<'_>) -> Option<Told> {
     match fault {
         LookFault::Path(fault) => of_path(looks, task, fault).map(Told::Why),
         LookFault::NoBytes => of_no_version(looks, file_of(task)?).map(Told::Why),
@@ -358,14 +359,14 @@ fn of_look(looks: Looks<'_>, task: Task<'_>, fault: LookFault<'_>) -> Option<Tol
     }
 }
 
-fn of_no_opening(looks: Looks<'_>, task: Task<'_>, fault: OpeningFault<'_>) -> Option<Told> {
+fn of_no_opening(looks: Looks<'_>, task: Task<'_, '_>, fault: OpeningFault<'_>) -> Option<Told> {
     match fault {
         OpeningFault::Look(fault) => of_look(looks, task, fault),
         OpeningFault::Files(fault) => of_path(looks, task, fault).map(Told::Why),
     }
 }
 
-fn of_work(looks: Looks<'_>, task: Task<'_>, fault: WorkFault) -> Option<Reason> {
+fn of_work(looks: Looks<'_>, task: Task<'_, '_>, fault: WorkFault) -> Option<Reason> {
     match fault {
         WorkFault::WrongVersion(0) => of_no_version(looks, file_of(task)?),
         WorkFault::Store => of_owner(owner_at(looks, file_of(task)?)),
@@ -374,7 +375,7 @@ fn of_work(looks: Looks<'_>, task: Task<'_>, fault: WorkFault) -> Option<Reason>
 }
 
 // Why a fault ended the task.
-fn of_fault(looks: Looks<'_>, task: Task<'_>, fault: Fault<'_>) -> Option<Told> {
+fn of_fault(looks: Looks<'_>, task: Task<'_, '_>, fault: Fault<'_>) -> Option<Told> {
     match fault {
         Fault::Opening(fault) => of_no_opening(looks, task, fault),
         Fault::Archive(ArchiveFault::Opening(fault)) => of_no_opening(looks, task, fault),
@@ -401,7 +402,7 @@ fn print(rt: &HostRuntime, told: Told) -> io::Result<()> {
 }
 
 /// Prints why, on the process's standard error, where that is a terminal.
-pub(crate) fn explain(rt: &HostRuntime, task: Task<'_>, fault: Fault<'_>) {
+pub(crate) fn explain(rt: &HostRuntime, task: Task<'_, '_>, fault: Fault<'_>) {
     if !rt.stderr().is_terminal() {
         return;
     }

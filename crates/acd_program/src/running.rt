@@ -1,12 +1,12 @@
 //! The program over three streams.
 
-ghost use Rattle.std.specs.Prelude.{◌≡◌, ◌≤◌, ◌⊎◌, false, map, IfOk, IfErr};
+ghost use Rattle.std.specs.Prelude.{◌≡◌, ◌≤◌, ◌⊎◌, false, length, map, IfOk, IfErr};
 ghost use Rattle.sqlite_std_file.specs.File.{IsFresh};
 ghost use Rattle.acd_lines.specs.Lines.{streams};
 ghost use Rattle.clap.specs.Words.{kind_of};
 ghost use Rattle.acd_program.specs.CommandLine.{IsRefused};
 ghost use Rattle.acd_program.specs.Ended.{EndsBoth, EndsWorkOn};
-ghost use Rattle.acd_program.specs.FileTasks.{EndsWorkIn, EndsImportIn, EndsWholeAudit, EndsAudit, EndsFileLines, EndsInput, EndsFileService, EndsPrune, EndsTask, ExitsTask, DoneOrHelp, FaultEnded};
+ghost use Rattle.acd_program.specs.FileTasks.{EndsWorkIn, EndsImportIn, EndsWholeAudit, EndsAudit, EndsFileLines, EndsInput, EndsFileService, EndsPrune, EndsExport, EndsTask, ExitsTask, DoneOrHelp, FaultEnded};
 ghost use Rattle.acd_program.specs.Output.{output};
 ghost use Rattle.acd_program.specs.Serving.{service};
 ghost use Rattle.acd_program.specs.Sessions.{EndsNewLines};
@@ -17,6 +17,7 @@ ghost use Rattle.acd_program.specs.Work.{EndsPrinting};
 use crate::asked::{Address, Retention, Task};
 use crate::connection::database_lines;
 use crate::desk::{Done, Work, over_database};
+use crate::export::{Starts, UnknownStarts, table_over};
 use crate::fault::{Fault, LookFault, WorkFault};
 use crate::file::{close_connection, connect, log_ending};
 use crate::laws::lines_are_from_nothing;
@@ -271,6 +272,30 @@ fn prune_file<'a, S: Start, W: Write>(
     }
 }
 
+// Prints the events of archives, and of the desk in a file, as one table. The file stays open while the archives are
+// read, so that none of them is the file itself.
+fn export_with_archives<'a, S: Start, O: Starts<S>, W: Write>(
+    rt: &HostRuntime,
+    start: S,
+    beside: &O,
+    file: &'a str,
+    archives: &[&'a str],
+    writer: &mut W,
+) -> Result<Status, Fault<'a>>
+    ensures { EndsExport ⟦<FileFrom<S> as Disk>⟧ (length archives.now)
+        (output W.contents writer.old writer.new) result }
+{
+    let (conn, _) = connect(rt, file, false, start)?;
+    let (made, conn) = table_over(rt, conn, beside, archives);
+    let closed = close_connection(conn);
+    let table = made?;
+    let left = Done::Text(table.text);
+    match print_done(&left, closed, writer) {
+        Ok(status) => Ok(status),
+        Err(fault) => Err(Fault::Work(fault)),
+    }
+}
+
 fn serve_file<'a, S: Start, W: Write, E: Write>(
     rt: &HostRuntime,
     start: S,
@@ -292,12 +317,12 @@ fn serve_file<'a, S: Start, W: Write, E: Write>(
     }
 }
 
-// Does it, and says how it ended where no fault ended it. A second file may be opened beside the desk's.
-fn execute<'a, S: Start, R: Read, W: Write, E: Write>(
+// Does it, and says how it ended where no fault ended it. Other files may be opened beside the desk's.
+fn execute<'a, S: Start, O: Starts<S>, R: Read, W: Write, E: Write>(
     rt: &HostRuntime,
     start: S,
-    beside: S,
-    task: Task<'a>,
+    beside: &O,
+    task: Task<'_, 'a>,
     reader: &mut R,
     writer: &mut W,
     errors: &mut E,
@@ -329,13 +354,34 @@ fn execute<'a, S: Start, R: Read, W: Write, E: Write>(
             archive,
             counts,
             whole,
-        } => audit_with_archive(rt, start, beside, file, archive, counts, whole, writer),
+        } => audit_with_archive(
+            rt,
+            start,
+            beside.start(),
+            file,
+            archive,
+            counts,
+            whole,
+            writer,
+        ),
         Task::Prune {
             file,
             archive,
             retention,
             quiet,
-        } => prune_file(rt, start, beside, file, archive, retention, quiet, writer),
+        } => prune_file(
+            rt,
+            start,
+            beside.start(),
+            file,
+            archive,
+            retention,
+            quiet,
+            writer,
+        ),
+        Task::ExportWithArchives { file, archives } => {
+            export_with_archives(rt, start, beside, file, archives, writer)
+        }
         Task::Read { file, work } => work_in(rt, start, file, false, work, writer),
     }
 }
@@ -349,7 +395,7 @@ fn fail<E: Write>(fault: Fault<'_>, errors: &mut E) -> Exit
 }
 
 // The same of a task that a fault ended; it says which address a service could not have.
-fn fail_task<E: Write>(task: Task<'_>, fault: Fault<'_>, errors: &mut E) -> Exit
+fn fail_task<E: Write>(task: Task<'_, '_>, fault: Fault<'_>, errors: &mut E) -> Exit
     ensures { result ≡ fault_exit fault.entry }
 {
     let Fault::Work(WorkFault::CannotListen) = fault else {
@@ -366,11 +412,11 @@ fn fail_task<E: Write>(task: Task<'_>, fault: Fault<'_>, errors: &mut E) -> Exit
 }
 
 // Does the task, says why where a fault ended it, and how the command ends.
-fn run<S: Start, R: Read, W: Write, E: Write>(
+fn run<S: Start, O: Starts<S>, R: Read, W: Write, E: Write>(
     rt: &HostRuntime,
     start: S,
-    beside: S,
-    task: Task<'_>,
+    beside: &O,
+    task: Task<'_, '_>,
     reader: &mut R,
     writer: &mut W,
     errors: &mut E,
@@ -455,8 +501,9 @@ pub fn program<S: AsStr, R: Read, W: Write, E: Write>(
     ensures elsewhere { result ≡ 4
         → (reader.new ≡ reader.old) × (writer.new ≡ writer.old) }
 {
-    match parse(rt.alloc(), words) {
-        Ok(task) => run(rt, Unknown, Unknown, task, reader, writer, errors).number(),
+    let mut matched = None;
+    match parse(rt.alloc(), words, &mut matched) {
+        Ok(task) => run(rt, Unknown, &UnknownStarts, task, reader, writer, errors).number(),
         Err(error) => print_error(rt.alloc(), &error, writer, errors).number(),
     }
 }

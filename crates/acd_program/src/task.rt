@@ -2,7 +2,7 @@
 
 ghost use Rattle.std.specs.Prelude.{◌≡◌, [], false, codes, map, IsTrue, IfOk, IfErr};
 ghost use Rattle.clap.specs.Words.{app_of, found_of, kind_of, rows_of, subcommand_rows_of};
-ghost use Rattle.acd_program.specs.CommandLine.{HasApp, HasRule, IsTaskWith, FindsTask, FindsTaskIn, FindsAddress, FindsConnections, FindsRetention, FindsSeconds, FindsSpan, IsTaskOf, IsRefusedBy, AddsCommand, acd, command_of, export_shape, file_rule, flag_rule, import_shape, is_given, lines_shape, number_rule, option_rule, report_shape, audit_shape, prune_shape, serve_shape};
+ghost use Rattle.acd_program.specs.CommandLine.{HasApp, HasRule, IsTaskWith, FindsTask, FindsTaskIn, FindsAddress, FindsConnections, FindsRetention, FindsSeconds, FindsSpan, IsTaskOf, IsRefusedBy, AddsCommand, acd, export_shape, file_rule, flag_rule, import_shape, is_given, lines_shape, number_rule, option_rule, repeated, report_shape, audit_shape, prune_shape, serve_shape};
 ghost use Rattle.acd_program.specs.Statuses.{IsHelp};
 
 use crate::asked::{Address, Retention, Task};
@@ -106,6 +106,17 @@ fn archive_option<'a>(alloc: Global) -> Arg<'a>
         .value_name("A")
         .help("The archive that the file goes on from, where it was carried over")
         .action(ArgAction::Set)
+}
+
+// The archives that an export begins with.
+fn archives_option<'a>(alloc: Global) -> Arg<'a>
+    ensures { HasRule (repeated (option_rule (codes "archive"))) result }
+{
+    Arg::new(alloc, ARCHIVE)
+        .long(ARCHIVE)
+        .value_name("A")
+        .help("An archive whose events come first; as often as there are some, the oldest first")
+        .action(ArgAction::Append)
 }
 
 fn socket_option<'a>(alloc: Global) -> Arg<'a>
@@ -244,8 +255,11 @@ fn export_command<'a>(alloc: Global) -> Result<Command<'a>, AllocError>
 {
     Command::new(alloc, "export")
         .about("Print all event reports as CSV")
-        .after_help("Example:\n  acd export --file desk.db > events.csv")
-        .arg(file_option(alloc).required(true))
+        .after_help(
+            "Example:\n  acd export --file desk.db --archive older.db --archive newer.db > events.csv\n\nOf each archive, and then of the file, it prints the events whose number is above the last\none of those before. So an event that several of them have is printed once.",
+        )
+        .arg(file_option(alloc).required(true))?
+        .arg(archives_option(alloc))
 }
 
 fn audit_command<'a>(alloc: Global) -> Result<Command<'a>, AllocError>
@@ -333,7 +347,7 @@ fn is_given(options: &ArgMatches<'_>, flag: &str) -> bool
     options.get_one(flag).unwrap_or(false)
 }
 
-fn lines_of<'a>(options: &ArgMatches<'a>) -> Task<'a>
+fn lines_of<'m, 'a>(options: &'m ArgMatches<'a>) -> Task<'m, 'a>
     ensures { IsTaskWith (codes "lines") (rows_of (found_of options.now)) result }
 {
     Task::Lines {
@@ -406,7 +420,7 @@ fn span_of(options: &ArgMatches<'_>) -> Option<Span>
     })
 }
 
-fn serve_of<'a>(options: &ArgMatches<'a>) -> Option<Task<'a>>
+fn serve_of<'m, 'a>(options: &'m ArgMatches<'a>) -> Option<Task<'m, 'a>>
     ensures { FindsTask (codes "serve") (rows_of (found_of options.now)) result }
 {
     Some(Task::Serve {
@@ -416,7 +430,7 @@ fn serve_of<'a>(options: &ArgMatches<'a>) -> Option<Task<'a>>
     })
 }
 
-fn import_of<'a>(options: &ArgMatches<'a>) -> Option<Task<'a>>
+fn import_of<'m, 'a>(options: &'m ArgMatches<'a>) -> Option<Task<'m, 'a>>
     ensures { FindsTask (codes "import") (rows_of (found_of options.now)) result }
 {
     Some(Task::Import {
@@ -426,7 +440,7 @@ fn import_of<'a>(options: &ArgMatches<'a>) -> Option<Task<'a>>
 }
 
 // An audit of the desk in a file, with no archive.
-fn audit_alone<'a>(file: &'a str, counts: bool, whole: bool) -> Task<'a>
+fn audit_alone<'m, 'a>(file: &'a str, counts: bool, whole: bool) -> Task<'m, 'a>
     ensures whole { IsTrue whole → result ≡ Task.AuditWhole file.entry counts }
     ensures plain { whole ≡ false
         → result ≡ Task.Read file.entry (Work.Audit counts Ending.Plain) }
@@ -444,7 +458,7 @@ fn audit_alone<'a>(file: &'a str, counts: bool, whole: bool) -> Task<'a>
 }
 
 // The audit of the desk in a file.
-fn audit_of<'a>(options: &ArgMatches<'a>) -> Option<Task<'a>>
+fn audit_of<'m, 'a>(options: &'m ArgMatches<'a>) -> Option<Task<'m, 'a>>
     ensures { FindsTask (codes "audit") (rows_of (found_of options.now)) result }
 {
     let file = options.get_str(FILE)?;
@@ -474,7 +488,7 @@ fn retention_of(options: &ArgMatches<'_>) -> Option<Retention>
     Some(Retention::Days(options.get_one(DAYS)?))
 }
 
-fn prune_of<'a>(options: &ArgMatches<'a>) -> Option<Task<'a>>
+fn prune_of<'m, 'a>(options: &'m ArgMatches<'a>) -> Option<Task<'m, 'a>>
     ensures { FindsTask (codes "prune") (rows_of (found_of options.now)) result }
 {
     Some(Task::Prune {
@@ -485,33 +499,46 @@ fn prune_of<'a>(options: &ArgMatches<'a>) -> Option<Task<'a>>
     })
 }
 
-// A text of the desk in a file.
-fn printout_of<'a>(options: &ArgMatches<'a>, printout: Printout) -> Option<Task<'a>>
-    ensures { FindsTask (command_of printout) (rows_of (found_of options.now)) result }
+fn report_of<'m, 'a>(options: &'m ArgMatches<'a>) -> Option<Task<'m, 'a>>
+    ensures { FindsTask (codes "report") (rows_of (found_of options.now)) result }
 {
     Some(Task::Read {
         file: options.get_str(FILE)?,
-        work: Work::Print(printout),
+        work: Work::Print(Printout::Report),
     })
 }
 
+// The export of the desk in a file, and of the archives that are named.
+fn export_of<'m, 'a>(options: &'m ArgMatches<'a>) -> Option<Task<'m, 'a>>
+    ensures { FindsTask (codes "export") (rows_of (found_of options.now)) result }
+{
+    let file = options.get_str(FILE)?;
+    match options.get_strs(ARCHIVE) {
+        Some(archives) => Some(Task::ExportWithArchives { file, archives }),
+        None => Some(Task::Read {
+            file,
+            work: Work::Print(Printout::Export),
+        }),
+    }
+}
+
 // The task of a command with these options.
-fn named<'a>(command: &str, options: &ArgMatches<'a>) -> Option<Task<'a>>
+fn named<'m, 'a>(command: &str, options: &'m ArgMatches<'a>) -> Option<Task<'m, 'a>>
     ensures { FindsTask command.now (rows_of (found_of options.now)) result }
 {
     match command {
         "lines" => Some(lines_of(options)),
         "serve" => serve_of(options),
         "import" => import_of(options),
-        "report" => printout_of(options, Printout::Report),
-        "export" => printout_of(options, Printout::Export),
+        "report" => report_of(options),
+        "export" => export_of(options),
         "audit" => audit_of(options),
         "prune" => prune_of(options),
         _ => None,
     }
 }
 
-fn task_in<'a>(matches: &ArgMatches<'a>) -> Option<Task<'a>>
+fn task_in<'m, 'a>(matches: &'m ArgMatches<'a>) -> Option<Task<'m, 'a>>
     ensures { FindsTaskIn (subcommand_rows_of matches.now) result }
 {
     let (command, options) = matches.subcommand()?;
@@ -582,32 +609,38 @@ fn refused(alloc: Global, matches: &ArgMatches<'_>) -> Result<Error, AllocError>
     refused_service(alloc, matches)
 }
 
-// The task of the words.
-fn chosen<'a, S: AsStr>(
+// The task of the words, which borrows what is matched.
+fn chosen<'a: 'm, 'm, S: AsStr>(
     alloc: Global,
     commands: &mut Command<'a>,
     words: &'a [S],
-) -> Result<Task<'a>, Error>
+    matched: &'m mut Option<ArgMatches<'a>>,
+) -> Result<Task<'m, 'a>, Error>
     ensures task { app_of commands.old ≡ acd
         → IfOk result (IsTaskOf (map S.text words.entry.now)) }
     ensures refused { app_of commands.old ≡ acd
         → IfErr result (λ error. IsRefusedBy (map S.text words.entry.now) (kind_of error)) }
 {
     let matches = commands.try_get_matches_from_mut(words)?;
-    match task_in(&matches) {
+    let found = &*matched.insert(matches);
+    match task_in(found) {
         Some(task) => Ok(task),
-        None => Err(refused(alloc, &matches)?),
+        None => Err(refused(alloc, found)?),
     }
 }
 
 /// The task of the words; the first is the program's name. The other outcome is a text to print, which may be the help
 /// that was asked for.
-pub(crate) fn parse<'a, S: AsStr>(alloc: Global, words: &'a [S]) -> Result<Task<'a>, Error>
+pub(crate) fn parse<'a: 'm, 'm, S: AsStr>(
+    alloc: Global,
+    words: &'a [S],
+    matched: &'m mut Option<ArgMatches<'a>>,
+) -> Result<Task<'m, 'a>, Error>
     ensures task { IfOk result (IsTaskOf (map S.text words.entry.now)) }
     // help and the version are printed only for words that ask for no task, and only those are refused
     ensures refused { IfErr result
         (λ error. IsRefusedBy (map S.text words.entry.now) (kind_of error)) }
 {
     let mut commands = all_commands(alloc)?;
-    chosen(alloc, &mut commands, words)
+    chosen(alloc, &mut commands, words, matched)
 }

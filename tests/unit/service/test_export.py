@@ -1,4 +1,4 @@
-"""Of export: each event of a file and its archives once, and what is told of those that are missing or differ."""
+"""Of export: each event of a file and its archives once, and what is told of those that are missing."""
 import subprocess
 import unittest
 
@@ -35,20 +35,23 @@ class Exports(ground.Case):
         first = int(done.out.splitlines()[1].partition(",")[0])
         self.assertEqual((done.status, done.faults), (3, f"acdctl export: events 1 to {first - 1} are missing\n"))
 
-    def test_an_event_that_differs(self):
+    def test_one_that_is_missing(self):
+        ground.changed(self.file, "DELETE FROM events WHERE number = 2")
+        lines = self.text.splitlines(keepends=True)
+        self.assertEqual(said("export", "--file", self.file), (3, "".join(lines[:2] + lines[3:]), "acdctl export: event 2 is missing\n"))
+
+    def test_an_event_of_both_is_the_archives(self):
         archive = self.pruned()
         ground.changed(self.file, "UPDATE events SET call = 1")
-        done = said("export", "--file", self.file, "--archive", archive)
-        self.assertEqual((done.status, done.out), (3, self.text))
-        self.assertRegex(done.faults, rf"\Aacdctl export: event \d+ is another one in {self.file} than in {archive}\n")
+        self.assertEqual(said("export", "--file", self.file, "--archive", archive), (0, self.text, ""))
 
     def test_faults(self):
         self.assertEqual(said("export", "--file", self.home / "none")[::2], (1, f"acdctl export: acd: cannot open {self.home}/none\n"))
         self.assertEqual(said("export").status, 2)
         self.assertRegex(said(by="acd-export").faults, r"\Ausage: acd-export .*")
-        self.program("acd", 'echo "$3"')
-        done = said("export", "--file", self.file, "--archive", self.home)
-        self.assertEqual((done.status, done.faults), (1, "acdctl export: acd prints other columns of one file than of another\n"))
+        archive = self.home / "archive"
+        self.assertEqual(said("export", "--file", self.file, "--archive", archive), (1, "", f"acdctl export: acd: cannot open {archive}\n"))
+        self.assertEqual(said("export", "--file", self.file, "--archive", self.file), (4, "", f"acdctl export: acd: {self.file} is open elsewhere\n"))
 
 
 if __name__ == "__main__":

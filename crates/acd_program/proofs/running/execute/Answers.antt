@@ -18,8 +18,8 @@ returns-in-Ok-clause-result g c =
     task_ends _ IsFresh (Ok _) c.args.task (streams g.R.Read.remaining g.W.Write.contents (c.args.reader.now, c.args.reader.now) (c.args.writer.now, c.serve_file.new.writer))
     (g.E.Write.contents c.args.errors.now) (g.E.Write.contents c.serve_file.new.errors) (task.Serve c.in-Serve.file c.in-Serve.address c.in-Serve.span) c.in-Serve.is (c.in-Ok.ensures, refl)
 
-pub returns-in-Serve-clause-result : goal.returns-in-Serve-clause-result
-returns-in-Serve-clause-result g c =
+pub returns-in-Err-clause-result : goal.returns-in-Err-clause-result
+returns-in-Err-clause-result g c =
     task_ends _ IsFresh (Err c.in-Err.fault) c.args.task (streams g.R.Read.remaining g.W.Write.contents (c.args.reader.now, c.args.reader.now) (c.args.writer.now, c.serve_file.new.writer))
     (g.E.Write.contents c.args.errors.now) (g.E.Write.contents c.serve_file.new.errors) (task.Serve c.in-Serve.file c.in-Serve.address c.in-Serve.span) c.in-Serve.is (refl, c.in-Err.ensures)
 
@@ -50,8 +50,14 @@ returns-in-Prune-clause-result g c =
     (task.Prune c.in-Prune.file c.in-Prune.archive c.in-Prune.retention c.in-Prune.quiet) c.in-Prune.is
     (match_so c.prune_file.result _ _ _ _ (λ status h. h) (λ fault h. (refl, refl, h)) c.prune_file.ensures)
 
-pub returns-clause-result : goal.returns-clause-result
-returns-clause-result g c =
+pub returns-in-ExportWithArchives-clause-result : goal.returns-in-ExportWithArchives-clause-result
+returns-in-ExportWithArchives-clause-result g c =
+    task_ends _ IsFresh c.export_with_archives.result c.args.task (streams g.R.Read.remaining g.W.Write.contents (c.args.reader.now, c.args.reader.now) (c.args.writer.now, c.export_with_archives.new.writer)) _ _
+    (task.ExportWithArchives c.in-ExportWithArchives.file c.in-ExportWithArchives.archives) c.in-ExportWithArchives.is
+    (match_so c.export_with_archives.result _ _ _ _ (λ status h. h) (λ fault h. (refl, refl, h)) c.export_with_archives.ensures)
+
+pub returns-in-Read-clause-result : goal.returns-in-Read-clause-result
+returns-in-Read-clause-result g c =
     let io : _ = streams g.R.Read.remaining g.W.Write.contents (c.args.reader.now, c.args.reader.now) (c.args.writer.now, c.work_in.new.writer) in
     task_ends _ IsFresh c.work_in.result c.args.task io _ _ (task.Read c.in-Read.file c.in-Read.work) c.in-Read.is
     (match_so c.work_in.result _ _ _ _ (λ status h. read_done _ IsFresh io (g.E.Write.contents c.args.errors.now) (g.E.Write.contents c.args.errors.now) c.in-Read.file c.in-Read.work status h) (λ fault h. (refl, refl, h)) c.work_in.ensures)
@@ -59,8 +65,8 @@ returns-clause-result g c =
 pub returns-in-Lines-clause-elsewhere : goal.returns-in-Lines-clause-elsewhere
 returns-in-Lines-clause-elsewhere g c = err_elsewhere _ IsFresh _ _ _ _ _ (returns-in-Lines-clause-result g c)
 
-pub returns-in-Serve-clause-elsewhere : goal.returns-in-Serve-clause-elsewhere
-returns-in-Serve-clause-elsewhere g c = err_elsewhere _ IsFresh (Err c.in-Err.fault) _ _ _ _ (returns-in-Serve-clause-result g c)
+pub returns-in-Err-clause-elsewhere : goal.returns-in-Err-clause-elsewhere
+returns-in-Err-clause-elsewhere g c = err_elsewhere _ IsFresh (Err c.in-Err.fault) _ _ _ _ (returns-in-Err-clause-result g c)
 
 pub returns-in-Import-clause-elsewhere : goal.returns-in-Import-clause-elsewhere
 returns-in-Import-clause-elsewhere g c = err_elsewhere _ IsFresh _ _ _ _ _ (returns-in-Import-clause-result g c)
@@ -74,5 +80,8 @@ returns-in-AuditWithArchive-clause-elsewhere g c = err_elsewhere _ IsFresh _ _ _
 pub returns-in-Prune-clause-elsewhere : goal.returns-in-Prune-clause-elsewhere
 returns-in-Prune-clause-elsewhere g c = err_elsewhere _ IsFresh _ _ _ _ _ (returns-in-Prune-clause-result g c)
 
-pub returns-clause-elsewhere : goal.returns-clause-elsewhere
-returns-clause-elsewhere g c = err_elsewhere _ IsFresh _ _ _ _ _ (returns-clause-result g c)
+pub returns-in-ExportWithArchives-clause-elsewhere : goal.returns-in-ExportWithArchives-clause-elsewhere
+returns-in-ExportWithArchives-clause-elsewhere g c = err_elsewhere _ IsFresh _ _ _ _ _ (returns-in-ExportWithArchives-clause-result g c)
+
+pub returns-in-Read-clause-elsewhere : goal.returns-in-Read-clause-elsewhere
+returns-in-Read-clause-elsewhere g c = err_elsewhere _ IsFresh _ _ _ _ _ (returns-in-Read-clause-result g c)

@@ -34,32 +34,32 @@ returns-in-Ok-clause-ended g c = task_ended _ (map g.S.AsStr.text c.args.words.n
 pub returns-in-Ok-clause-elsewhere : goal.returns-in-Ok-clause-elsewhere
 returns-in-Ok-clause-elsewhere g c = task_elsewhere (output g.E.Write.contents c.args.errors.now c.run.new.errors) c.number.result _ c.run.result c.number.ensures c.run.ensures.elsewhere
 
-pub returns-in-Err-clause-success : goal.returns-in-Err-clause-success
-returns-in-Err-clause-success g c = none_success (map g.S.AsStr.text c.args.words.now) _ c.in-Err.ensures.refused (streams g.R.Read.remaining g.W.Write.contents (c.args.reader.now, c.args.reader.now) (c.args.writer.now, c.print_error.new.writer)) refl (output g.W.Write.contents c.args.writer.now c.print_error.new.writer) (output g.E.Write.contents c.args.errors.now c.print_error.new.errors) (λ same. same) c.number-in-Err.result c.print_error.result c.number-in-Err.ensures c.print_error.ensures
+pub returns-clause-success : goal.returns-clause-success
+returns-clause-success g c = none_success (map g.S.AsStr.text c.args.words.now) _ c.in-Err.ensures.refused (streams g.R.Read.remaining g.W.Write.contents (c.args.reader.now, c.args.reader.now) (c.args.writer.now, c.print_error.new.writer)) refl (output g.W.Write.contents c.args.writer.now c.print_error.new.writer) (output g.E.Write.contents c.args.errors.now c.print_error.new.errors) (λ same. same) c.number-in-Err.result c.print_error.result c.number-in-Err.ensures c.print_error.ensures
 
-pub returns-in-Err-clause-differs : goal.returns-in-Err-clause-differs
-returns-in-Err-clause-differs g c = λ three. none_odd (map g.S.AsStr.text c.args.words.now) _ c.in-Err.ensures.refused (streams g.R.Read.remaining g.W.Write.contents (c.args.reader.now, c.args.reader.now) (c.args.writer.now, c.print_error.new.writer)) refl (output g.W.Write.contents c.args.writer.now c.print_error.new.writer) (output g.E.Write.contents c.args.errors.now c.print_error.new.errors) (λ same. same) c.number-in-Err.result _ c.print_error.result c.number-in-Err.ensures c.print_error.ensures (inl three)
+pub returns-clause-differs : goal.returns-clause-differs
+returns-clause-differs g c = λ three. none_odd (map g.S.AsStr.text c.args.words.now) _ c.in-Err.ensures.refused (streams g.R.Read.remaining g.W.Write.contents (c.args.reader.now, c.args.reader.now) (c.args.writer.now, c.print_error.new.writer)) refl (output g.W.Write.contents c.args.writer.now c.print_error.new.writer) (output g.E.Write.contents c.args.errors.now c.print_error.new.errors) (λ same. same) c.number-in-Err.result _ c.print_error.result c.number-in-Err.ensures c.print_error.ensures (inl three)
 
-pub returns-in-Err-clause-early : goal.returns-in-Err-clause-early
-returns-in-Err-clause-early g c = λ five. none_odd (map g.S.AsStr.text c.args.words.now) _ c.in-Err.ensures.refused (streams g.R.Read.remaining g.W.Write.contents (c.args.reader.now, c.args.reader.now) (c.args.writer.now, c.print_error.new.writer)) refl (output g.W.Write.contents c.args.writer.now c.print_error.new.writer) (output g.E.Write.contents c.args.errors.now c.print_error.new.errors) (λ same. same) c.number-in-Err.result _ c.print_error.result c.number-in-Err.ensures c.print_error.ensures (inr (inl five))
+pub returns-clause-early : goal.returns-clause-early
+returns-clause-early g c = λ five. none_odd (map g.S.AsStr.text c.args.words.now) _ c.in-Err.ensures.refused (streams g.R.Read.remaining g.W.Write.contents (c.args.reader.now, c.args.reader.now) (c.args.writer.now, c.print_error.new.writer)) refl (output g.W.Write.contents c.args.writer.now c.print_error.new.writer) (output g.E.Write.contents c.args.errors.now c.print_error.new.errors) (λ same. same) c.number-in-Err.result _ c.print_error.result c.number-in-Err.ensures c.print_error.ensures (inr (inl five))
 
-pub returns-in-Err-clause-again : goal.returns-in-Err-clause-again
-returns-in-Err-clause-again g c = λ six. none_odd (map g.S.AsStr.text c.args.words.now) _ c.in-Err.ensures.refused (streams g.R.Read.remaining g.W.Write.contents (c.args.reader.now, c.args.reader.now) (c.args.writer.now, c.print_error.new.writer)) refl (output g.W.Write.contents c.args.writer.now c.print_error.new.writer) (output g.E.Write.contents c.args.errors.now c.print_error.new.errors) (λ same. same) c.number-in-Err.result _ c.print_error.result c.number-in-Err.ensures c.print_error.ensures (inr (inr six))
+pub returns-clause-again : goal.returns-clause-again
+returns-clause-again g c = λ six. none_odd (map g.S.AsStr.text c.args.words.now) _ c.in-Err.ensures.refused (streams g.R.Read.remaining g.W.Write.contents (c.args.reader.now, c.args.reader.now) (c.args.writer.now, c.print_error.new.writer)) refl (output g.W.Write.contents c.args.writer.now c.print_error.new.writer) (output g.E.Write.contents c.args.errors.now c.print_error.new.errors) (λ same. same) c.number-in-Err.result _ c.print_error.result c.number-in-Err.ensures c.print_error.ensures (inr (inr six))
 
-pub returns-in-Err-clause-refused : goal.returns-in-Err-clause-refused
-returns-in-Err-clause-refused g c = none_refused (map g.S.AsStr.text c.args.words.now) _ c.in-Err.ensures.refused (streams g.R.Read.remaining g.W.Write.contents (c.args.reader.now, c.args.reader.now) (c.args.writer.now, c.print_error.new.writer)) refl (output g.W.Write.contents c.args.writer.now c.print_error.new.writer) (output g.E.Write.contents c.args.errors.now c.print_error.new.errors) (λ same. same) c.number-in-Err.result c.print_error.result c.number-in-Err.ensures c.print_error.ensures
+pub returns-clause-refused : goal.returns-clause-refused
+returns-clause-refused g c = none_refused (map g.S.AsStr.text c.args.words.now) _ c.in-Err.ensures.refused (streams g.R.Read.remaining g.W.Write.contents (c.args.reader.now, c.args.reader.now) (c.args.writer.now, c.print_error.new.writer)) refl (output g.W.Write.contents c.args.writer.now c.print_error.new.writer) (output g.E.Write.contents c.args.errors.now c.print_error.new.errors) (λ same. same) c.number-in-Err.result c.print_error.result c.number-in-Err.ensures c.print_error.ensures
 
-pub returns-in-Err-clause-untaken : goal.returns-in-Err-clause-untaken
-returns-in-Err-clause-untaken g c = none_untaken (map g.S.AsStr.text c.args.words.now) _ c.in-Err.ensures.refused (streams g.R.Read.remaining g.W.Write.contents (c.args.reader.now, c.args.reader.now) (c.args.writer.now, c.print_error.new.writer)) refl (output g.W.Write.contents c.args.writer.now c.print_error.new.writer) (output g.E.Write.contents c.args.errors.now c.print_error.new.errors) (λ same. same) c.number-in-Err.result c.print_error.result c.number-in-Err.ensures c.print_error.ensures
+pub returns-clause-untaken : goal.returns-clause-untaken
+returns-clause-untaken g c = none_untaken (map g.S.AsStr.text c.args.words.now) _ c.in-Err.ensures.refused (streams g.R.Read.remaining g.W.Write.contents (c.args.reader.now, c.args.reader.now) (c.args.writer.now, c.print_error.new.writer)) refl (output g.W.Write.contents c.args.writer.now c.print_error.new.writer) (output g.E.Write.contents c.args.errors.now c.print_error.new.errors) (λ same. same) c.number-in-Err.result c.print_error.result c.number-in-Err.ensures c.print_error.ensures
 
-pub returns-in-Err-clause-known : goal.returns-in-Err-clause-known
-returns-in-Err-clause-known g c = at_most_six c.number-in-Err.result c.print_error.result c.number-in-Err.ensures
+pub returns-clause-known : goal.returns-clause-known
+returns-clause-known g c = at_most_six c.number-in-Err.result c.print_error.result c.number-in-Err.ensures
 
-pub returns-in-Err-clause-done : goal.returns-in-Err-clause-done
-returns-in-Err-clause-done g c = none_done (map g.S.AsStr.text c.args.words.now) _ c.in-Err.ensures.refused (streams g.R.Read.remaining g.W.Write.contents (c.args.reader.now, c.args.reader.now) (c.args.writer.now, c.print_error.new.writer)) refl (output g.W.Write.contents c.args.writer.now c.print_error.new.writer) (output g.E.Write.contents c.args.errors.now c.print_error.new.errors) (λ same. same) c.number-in-Err.result _ c.print_error.result c.number-in-Err.ensures c.print_error.ensures
+pub returns-clause-done : goal.returns-clause-done
+returns-clause-done g c = none_done (map g.S.AsStr.text c.args.words.now) _ c.in-Err.ensures.refused (streams g.R.Read.remaining g.W.Write.contents (c.args.reader.now, c.args.reader.now) (c.args.writer.now, c.print_error.new.writer)) refl (output g.W.Write.contents c.args.writer.now c.print_error.new.writer) (output g.E.Write.contents c.args.errors.now c.print_error.new.errors) (λ same. same) c.number-in-Err.result _ c.print_error.result c.number-in-Err.ensures c.print_error.ensures
 
-pub returns-in-Err-clause-ended : goal.returns-in-Err-clause-ended
-returns-in-Err-clause-ended g c = none_ended (map g.S.AsStr.text c.args.words.now) _ c.in-Err.ensures.refused (streams g.R.Read.remaining g.W.Write.contents (c.args.reader.now, c.args.reader.now) (c.args.writer.now, c.print_error.new.writer)) refl (output g.W.Write.contents c.args.writer.now c.print_error.new.writer) (output g.E.Write.contents c.args.errors.now c.print_error.new.errors) (λ same. same) c.number-in-Err.result _ c.print_error.result c.number-in-Err.ensures c.print_error.ensures
+pub returns-clause-ended : goal.returns-clause-ended
+returns-clause-ended g c = none_ended (map g.S.AsStr.text c.args.words.now) _ c.in-Err.ensures.refused (streams g.R.Read.remaining g.W.Write.contents (c.args.reader.now, c.args.reader.now) (c.args.writer.now, c.print_error.new.writer)) refl (output g.W.Write.contents c.args.writer.now c.print_error.new.writer) (output g.E.Write.contents c.args.errors.now c.print_error.new.errors) (λ same. same) c.number-in-Err.result _ c.print_error.result c.number-in-Err.ensures c.print_error.ensures
 
-pub returns-in-Err-clause-elsewhere : goal.returns-in-Err-clause-elsewhere
-returns-in-Err-clause-elsewhere g c = none_elsewhere (map g.S.AsStr.text c.args.words.now) _ c.in-Err.ensures.refused (streams g.R.Read.remaining g.W.Write.contents (c.args.reader.now, c.args.reader.now) (c.args.writer.now, c.print_error.new.writer)) refl (output g.W.Write.contents c.args.writer.now c.print_error.new.writer) (output g.E.Write.contents c.args.errors.now c.print_error.new.errors) (λ same. same) c.number-in-Err.result _ c.print_error.result c.number-in-Err.ensures c.print_error.ensures
+pub returns-clause-elsewhere : goal.returns-clause-elsewhere
+returns-clause-elsewhere g c = none_elsewhere (map g.S.AsStr.text c.args.words.now) _ c.in-Err.ensures.refused (streams g.R.Read.remaining g.W.Write.contents (c.args.reader.now, c.args.reader.now) (c.args.writer.now, c.print_error.new.writer)) refl (output g.W.Write.contents c.args.writer.now c.print_error.new.writer) (output g.E.Write.contents c.args.errors.now c.print_error.new.errors) (λ same. same) c.number-in-Err.result _ c.print_error.result c.number-in-Err.ensures c.print_error.ensures

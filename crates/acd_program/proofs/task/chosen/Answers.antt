@@ -1,20 +1,20 @@
-use Rattle.std.proofs.Common.{subst, map, inl, inr}
+use Rattle.std.proofs.Common.{subst, map, inr, ap, ◌∙◌}
 use Rattle.clap.specs.Words.{kind_of, subcommand_rows_of}
 use Rattle.acd_program.specs.CommandLine.{IsTaskIn}
 use Rattle.acd_program.proofs.CommandLines.{matches_are, none_named, refused_by}
-use Rattle.acd_program.proofs.Ends.{err_follows, err_made}
+use Rattle.acd_program.proofs.Ends.{err_made}
 use Rattle.acd_program.proofs.task.chosen.Goals as goal
 
 pub returns-in-Some-clause-task : goal.returns-in-Some-clause-task
 returns-in-Some-clause-task g c is =
-    subst (λ o. IsTaskIn o c.in-Some.task) (matches_are _ (map g.S.AsStr.text c.args.words.now) c.in_ok-matches.matches is c.in_ok-matches.ensures.ok.2) c.in-Some.ensures
+    subst (λ o. IsTaskIn o c.in-Some.task) (ap subcommand_rows_of c.insert-found.ensures.value ∙ matches_are _ (map g.S.AsStr.text c.args.words.now) c.in_ok-matches.matches is c.in_ok-matches.ensures.ok.2) c.in-Some.ensures
 
-pub returns-clause-refused : goal.returns-clause-refused
-returns-clause-refused g c is =
+pub returns-in_ok-refused-in-None-clause-refused : goal.returns-in_ok-refused-in-None-clause-refused
+returns-in_ok-refused-in-None-clause-refused g c is =
     inr (inr (
       c.in_ok-refused-in-None.ensures,
-      none_named (subcommand_rows_of c.in_ok-matches.matches) (map g.S.AsStr.text c.args.words.now)
-          (matches_are _ (map g.S.AsStr.text c.args.words.now) c.in_ok-matches.matches is c.in_ok-matches.ensures.ok.2) c.in-None.ensures,
+      none_named (subcommand_rows_of c.insert-found.result.now) (map g.S.AsStr.text c.args.words.now)
+          (ap subcommand_rows_of c.insert-found.ensures.value ∙ matches_are _ (map g.S.AsStr.text c.args.words.now) c.in_ok-matches.matches is c.in_ok-matches.ensures.ok.2) c.in-None.ensures,
     ))
 
 pub returns-in_err-matches-clause-refused : goal.returns-in_err-matches-clause-refused

@@ -1,10 +1,9 @@
 use Rattle.std.proofs.Common.{rules, refl, codes}
 use Rattle.clap.specs.Matches.{found_of}
-use Rattle.acd_program.proofs.CommandLines.{no_file, printout_apart, text_read, text_unread}
 use Rattle.clap.specs.Words.{rows_of}
-use Rattle.acd_program.specs.CommandLine.{command_of}
+use Rattle.acd_program.proofs.CommandLines.{no_file, text_read, text_unread}
 use Rattle.acd_program.proofs.Ends.{match_none}
-use Rattle.acd_program.proofs.task.printout_of.Goals as goal
+use Rattle.acd_program.proofs.task.report_of.Goals as goal
 
 pub returns : goal.returns
 returns c = (text_read (found_of c.args.options.now) (codes "file") c.in_ok-get_str.field-0 c.in_ok-get_str.ensures, refl)
@@ -13,4 +12,4 @@ pub returns-in_err-get_str : goal.returns-in_err-get_str
 returns-in_err-get_str c =
     let f = found_of c.args.options.now in
     match_none c.from_residual.result _ _ (search rules)
-    (no_file (rows_of f) (λ file text. text_unread f (codes "file") c.in_err-get_str.ensures file text) (command_of c.args.printout) (printout_apart c.args.printout))
+    (no_file (rows_of f) (λ file text. text_unread f (codes "file") c.in_err-get_str.ensures file text) (codes "report") refl)
