@@ -104,7 +104,7 @@ fn archive_option<'a>(alloc: Global) -> Arg<'a>
     Arg::new(alloc, ARCHIVE)
         .long(ARCHIVE)
         .value_name("A")
-        .help("The archive that the file goes on from, where it was carried over")
+        .help("The archive that this file continues")
         .action(ArgAction::Set)
 }
 
@@ -115,7 +115,7 @@ fn archives_option<'a>(alloc: Global) -> Arg<'a>
     Arg::new(alloc, ARCHIVE)
         .long(ARCHIVE)
         .value_name("A")
-        .help("An archive whose events come first; as often as there are some, the oldest first")
+        .help("An archive whose events come first; give it once for each, oldest first")
         .action(ArgAction::Append)
 }
 
@@ -162,18 +162,18 @@ fn lines_command<'a>(alloc: Global) -> Result<Command<'a>, AllocError>
     Command::new(alloc, "lines")
         .about("Answer requests in lines: a moment, a space and the request as JSON")
         .after_help(
-            "Example:\n  acd lines --file desk.db < requests\n\nWithout --file the desk is in memory, and ends with the input. A file that isn't\nthere, or has no bytes, is made.",
+            "Example:\n  acd lines --file desk.db < requests\n\nWithout --file the desk is in memory, and is lost when the input ends. A file that isn't\nthere, or has no bytes, is made.",
         )
         .arg(file_option(alloc))?
         .arg(flag(
             alloc,
             READS,
-            "Answer reads too: a moment, a space, GET, a space and a target",
+            "Also answer reads: a moment, a space, GET, a space and a target",
         ))?
         .arg(flag(
             alloc,
             END_ON_STORE_FAULT,
-            "End with status 1 once a storeFault was answered",
+            "Exit with status 1 after the first answer storeFault",
         ))
 }
 
@@ -198,20 +198,20 @@ fn serve_command<'a>(alloc: Global) -> Result<Command<'a>, AllocError>
         alloc,
         TICK,
         "SECONDS",
-        "How often to look for what rings too long, and tick, from 1 to 3600",
+        "Look this often for overdue rings and after-call work, and end them: 1 to 3600",
         MOST_SECONDS,
     );
     let patience = number_option(
         alloc,
         PATIENCE,
         "SECONDS",
-        "How long to wait for a client's request, and for its reply to be read, from 1 to 3600",
+        "Wait this long for a client's request, and for it to read its reply: 1 to 3600",
         MOST_SECONDS,
     );
     Command::new(alloc, "serve")
         .about("Answer requests over HTTP on 127.0.0.1, or on a Unix socket")
         .after_help(
-            "Example:\n  acd serve --file desk.db --port 8080 --connections 1000\n\nConnections are served one after the other, each with one request; behind the last one\nthe command ends. With --endless in the place of --connections it ends, with status 1,\nonce its store has failed. A file that isn't there, or has no bytes, is made.\n\nWithout --tick nothing that rings is taken back unless a client sends tick. Without\n--patience a client that says nothing is waited for without end.",
+            "Example:\n  acd serve --file desk.db --port 8080 --connections 1000\n\nConnections are served one after the other, each with one request. It exits after the\nlast one. With --endless it exits only if its store fails (status 1). A file that isn't\nthere, or has no bytes, is made.\n\nWithout --tick, rings and after-call work end only if a client sends tick. Without\n--patience, a client that sends nothing stops the service for everybody.",
         )
         .override_usage(
             "acd serve --file <F> <--port <P>|--socket <PATH>> <--connections <N>|--endless> [--tick <SECONDS>] [--patience <SECONDS>]",
@@ -223,7 +223,7 @@ fn serve_command<'a>(alloc: Global) -> Result<Command<'a>, AllocError>
         .arg(flag(
             alloc,
             ENDLESS,
-            "Serve until the store fails, or the command is ended",
+            "Serve without end; exit only if the store fails",
         ))?
         .arg(tick)?
         .arg(patience)
@@ -256,7 +256,7 @@ fn export_command<'a>(alloc: Global) -> Result<Command<'a>, AllocError>
     Command::new(alloc, "export")
         .about("Print all event reports as CSV")
         .after_help(
-            "Example:\n  acd export --file desk.db --archive older.db --archive newer.db > events.csv\n\nOf each archive, and then of the file, it prints the events whose number is above the last\none of those before. So an event that several of them have is printed once.",
+            "Example:\n  acd export --file desk.db --archive older.db --archive newer.db > events.csv\n\nIt prints the events of each archive and then those of the file, without those that came\nbefore. So an event that several of them have is printed once.",
         )
         .arg(file_option(alloc).required(true))?
         .arg(archives_option(alloc))
@@ -268,19 +268,19 @@ fn audit_command<'a>(alloc: Global) -> Result<Command<'a>, AllocError>
     Command::new(alloc, "audit")
         .about("Run the kept requests again, and compare what they give with the file")
         .after_help(
-            "Example:\n  acd audit --file desk.db\n\nIt prints sound or, with status 3, the first request whose record or events differ.",
+            "Example:\n  acd audit --file desk.db\n\nIt prints sound. With status 3 it prints the first request whose record or events\ndiffer. With --archive it exits with status 6 if the file is sound, but a request was\nsent again after it had gone to the archive.",
         )
         .arg(file_option(alloc).required(true))?
         .arg(archive_option(alloc))?
         .arg(flag(
             alloc,
             COUNT,
-            "Behind sound, print how many requests were executed",
+            "After sound, also print how many requests were executed",
         ))?
         .arg(flag(
             alloc,
             WHOLE,
-            "Tell, with status 5, where the file's log is damaged in its middle",
+            "Exit with status 5 if the log of the file is damaged in the middle",
         ))
 }
 
@@ -304,7 +304,7 @@ fn prune_command<'a>(alloc: Global) -> Result<Command<'a>, AllocError>
     Command::new(alloc, "prune")
         .about("Remove old requests and events from the file, once its archive has them")
         .after_help(
-            "Example:\n  acd prune --file desk.db --archive copy.db --days 2\n\nThe file is audited with the archive first: if that finds anything but sound, or that\nrequests were sent again, its line and its status are those of the audit, and nothing\nis removed. A thousand requests and those of the last hour always stay.",
+            "Example:\n  acd prune --file desk.db --archive copy.db --days 2\n\nThe archive is a copy of this file, or of an earlier state of it. The file is audited with\nit first. If it isn't sound, nothing is removed, and the line and the status are those of\nthe audit. A thousand requests and those of the last hour always stay.",
         )
         .override_usage("acd prune --file <F> --archive <A> <--days <N>|--keep <N>> [--quiet]")
         .arg(file_option(alloc).required(true))?
