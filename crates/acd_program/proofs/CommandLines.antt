@@ -188,7 +188,7 @@ module _ (options : List Row) where
 
   pub no_prune : ((file archive : Bor Text) (retention : Retention) → IsText (codes "file") options file → IsText (codes "archive") options archive → IsRetention options retention → ⊥)
       → (task : Task) → ¬ IsTaskWith (codes "prune") options task
-  no_prune none (Prune file archive retention quiet) h = none file archive retention h.1 h.2 h.3
+  no_prune none (Prune file archive retention quiet) h = none file archive retention h.1 h.2.0 h.2.1
   no_prune none (Lines file reads ends) h = apart (codes "prune") (codes "lines") refl h.0
   no_prune none (Serve file address span) h = apart (codes "prune") (codes "serve") refl h.0
   no_prune none (Import file plan) h = apart (codes "prune") (codes "import") refl h.0

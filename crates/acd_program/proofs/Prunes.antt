@@ -36,12 +36,12 @@ use Rattle.acd_sqlbook.specs.declared.cache.Cache.{Cache}
 use Rattle.acd_terms.proofs.Results.{ok_err}
 use Rattle.acd_program.specs.declared.auditing.Finding.{Finding}
 use Rattle.acd_program.specs.declared.auditing.Finding.TheVariants.{Sound, Counted, SentAgain, SentAgainCounted, Differs}
-use Rattle.acd_program.specs.declared.cut.Cut.{Cut}
+use Rattle.acd_program.specs.declared.outcome.Cut.{Cut}
 use Rattle.acd_program.specs.declared.desk.Done.TheVariants as left
 use Rattle.acd_program.specs.declared.fault.Fault.{Fault}
 use Rattle.acd_program.specs.declared.fault.Fault.TheVariants as ended_by
-use Rattle.acd_program.specs.declared.pruning.Pruning.{Pruning}
-use Rattle.acd_program.specs.declared.pruning.Pruning.TheVariants as prune
+use Rattle.acd_program.specs.declared.outcome.Pruning.{Pruning}
+use Rattle.acd_program.specs.declared.outcome.Pruning.TheVariants as prune
 use Rattle.acd_program.specs.declared.status.Status.{Status}
 use Rattle.acd_program.specs.Ended.{IsShut, OnlyAsked}
 use Rattle.acd_program.specs.Found.{pruning_line}

@@ -155,6 +155,10 @@ abbrev pub IsRetention : List Row → Retention → Type 0
 IsRetention options (Days n) = IsNumber 32 (codes "days") options n × (has_option (codes "keep") options ≡ false)
 IsRetention options (Records n) = IsNumber 32 (codes "keep") options n × (has_option (codes "days") options ≡ false)
 
+-- a prune by an archive: what stays, and whether nothing is printed if nothing goes
+abbrev pub IsPruneBy : List Row → Bor Text → Retention → Bool → Type 0
+IsPruneBy options archive retention quiet = IsText (codes "archive") options archive × IsRetention options retention × IsFlag (codes "quiet") options quiet
+
 -- the work that reads a file
 abbrev pub IsWork : Text → List Row → Work → Type 0
 IsWork command options (kind.Print Report) = command ≡ codes "report"
@@ -177,7 +181,7 @@ IsTaskWith command options (Import file plan) = (command ≡ codes "import") × 
 IsTaskWith command options (AuditWhole file counts) = IsAuditOf command options file counts true × HasNone (codes "archive") options
 IsTaskWith command options (AuditWithArchive file archive counts whole) = IsAuditOf command options file counts whole × IsText (codes "archive") options archive
 IsTaskWith command options (Prune file archive retention quiet) =
-    (command ≡ codes "prune") × IsText (codes "file") options file × IsText (codes "archive") options archive × IsRetention options retention × IsFlag (codes "quiet") options quiet
+    (command ≡ codes "prune") × IsText (codes "file") options file × IsPruneBy options archive retention quiet
 IsTaskWith command options (ExportWithArchives file archives) =
     (command ≡ codes "export") × IsText (codes "file") options file × AreTexts (codes "archive") options archives
 IsTaskWith command options (Read file work) = IsText (codes "file") options file × IsWork command options work

@@ -30,7 +30,7 @@ use Rattle.acd_program.specs.declared.auditing.Finding.{Finding}
 use Rattle.acd_program.specs.declared.desk.Done.{Done}
 use Rattle.acd_program.specs.declared.desk.Work.{Work}
 use Rattle.acd_program.specs.declared.fault.Fault.{Fault}
-use Rattle.acd_program.specs.declared.pruning.Pruning.{Pruning}
+use Rattle.acd_program.specs.declared.outcome.Pruning.{Pruning}
 use Rattle.acd_program.specs.declared.status.Exit.{Exit}
 use Rattle.acd_program.specs.declared.status.Exit.TheVariants.{Done as ExitDone}
 use Rattle.acd_program.specs.declared.status.Status.{Status}

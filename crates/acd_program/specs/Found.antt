@@ -14,9 +14,9 @@ use Rattle.acd_log.specs.declared.ending.Ending.{Ending}
 use Rattle.acd_log.specs.declared.ending.Ending.TheVariants.{Plain, Early, Headless}
 use Rattle.acd_program.specs.declared.auditing.Finding.{Finding}
 use Rattle.acd_program.specs.declared.auditing.Finding.TheVariants.{Sound, Counted, SentAgain, SentAgainCounted, Differs}
-use Rattle.acd_program.specs.declared.cut.Cut.{Cut}
-use Rattle.acd_program.specs.declared.pruning.Pruning.{Pruning}
-use Rattle.acd_program.specs.declared.pruning.Pruning.TheVariants as prune
+use Rattle.acd_program.specs.declared.outcome.Cut.{Cut}
+use Rattle.acd_program.specs.declared.outcome.Pruning.{Pruning}
+use Rattle.acd_program.specs.declared.outcome.Pruning.TheVariants as prune
 
 -- an audit, without a count
 abbrev pub uncounted : Audit → Finding

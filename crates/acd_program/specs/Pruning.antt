@@ -22,8 +22,8 @@ use Rattle.acd_program.specs.declared.auditing.Finding.{Finding}
 use Rattle.acd_program.specs.declared.auditing.Finding.TheVariants.{Sound, Counted, SentAgain, SentAgainCounted, Differs}
 use Rattle.acd_program.specs.declared.fault.Fault.{Fault}
 use Rattle.acd_program.specs.declared.fault.Fault.TheVariants as fault
-use Rattle.acd_program.specs.declared.pruning.Pruning.{Pruning}
-use Rattle.acd_program.specs.declared.pruning.Pruning.TheVariants as prune
+use Rattle.acd_program.specs.declared.outcome.Pruning.{Pruning}
+use Rattle.acd_program.specs.declared.outcome.Pruning.TheVariants as prune
 use Rattle.acd_program.specs.Ended.{OnlyAsked}
 use Rattle.acd_program.specs.Over.{OverConnection, Unserved}
 use Rattle.acd_program.specs.WithArchive.{IsFindingWith, WasRead, WereAsked, OverArchive, InArchive, LeavesArchive}
@@ -93,10 +93,14 @@ pub record AskedBoth {A : Type 0} (IsAnswer : Content → Content → A → Type
   pub current : WasAsked old Anything found new
   pub answer : IfHonest old_archive new_archive (IfHonest old new (old_archive.is_open → IsAnswer old_archive.content old.content found))
 
--- whatever comes of it, a reopening finds nothing new in either
+-- a reopening finds nothing new in either
+abbrev pub OnlyAskedBoth : BookCall → BookCall → Type 0
+OnlyAskedBoth archive current = OnlyAsked archive.old archive.new × OnlyAsked current.old current.new
+
+-- so it is left, if there is no answer
 abbrev pub EndsAsking : {A F : Type 0} → (Content → Content → A → Type 0) → BookCall → BookCall → Result A F → Type 0
 EndsAsking IsAnswer archive current result =
-    MatchResult result (AskedBoth IsAnswer archive.old archive.new current.old current.new) (λ fault. OnlyAsked archive.old archive.new × OnlyAsked current.old current.new)
+    MatchResult result (AskedBoth IsAnswer archive.old archive.new current.old current.new) (λ fault. OnlyAskedBoth archive current)
 
 -- by the archive's content and a finding this is to go
 abbrev pub IsDecision : Ending → Finding → Content → Pruning → Type 0
@@ -112,7 +116,7 @@ pub record WasDecided (ending : Ending) (found : Finding) (old_archive new_archi
 
 abbrev pub EndsDeciding : {F : Type 0} → Ending → Finding → BookCall → BookCall → Result Pruning F → Type 0
 EndsDeciding ending found archive current result =
-    MatchResult result (WasDecided ending found archive.old archive.new current.old current.new) (λ fault. OnlyAsked archive.old archive.new × OnlyAsked current.old current.new)
+    MatchResult result (WasDecided ending found archive.old archive.new current.old current.new) (λ fault. OnlyAskedBoth archive current)
 
 -- what is to go goes, all or none
 abbrev pub CarriesOut : BookState → BookState → Result (Unit {0}) BookFault → Pruning → Type 0
@@ -136,13 +140,15 @@ pub record WasPruned (ending : Ending) (old_archive new_archive old new : BookSt
 
 -- ---- over the archive's connection, and its files
 
+-- the archive's book and the current one were asked what is to go
+abbrev pub ArePlanned : Ending → BookCall → Pruning → BookState → BookState → Type 0
+ArePlanned ending current pruning old new = WereAsked (IsPruningInOrder ending) old new current.old current.new pruning
+
 abbrev pub PlansOver : {F : Type 0} → Ending → State → State → BookCall → Result Pruning F → Type 0
-PlansOver ending s t current result =
-    IfOk result (λ (pruning : Pruning). OverConnection (λ (old new : BookState). WereAsked (IsPruningInOrder ending) old new current.old current.new pruning) false s t)
+PlansOver ending s t current result = IfOk result (λ (pruning : Pruning). OverConnection (ArePlanned ending current pruning) false s t)
 
 abbrev pub PlansIn : {D F : Type 0} {g : Ghosts D} → Ending → Held (FileStore D g) → BookCall → Result Pruning F → Type 0
-PlansIn ending conn current result =
-    IfOk result (λ (pruning : Pruning). OverArchive (λ (old new : BookState). WereAsked (IsPruningInOrder ending) old new current.old current.new pruning) conn)
+PlansIn ending conn current result = IfOk result (λ (pruning : Pruning). OverArchive (ArePlanned ending current pruning) conn)
 
 -- `IsFresh is_log file` says that a file is a log, or a database file, that was just opened
 module _ {D : Type 0} (disk : Ghosts D) (IsFresh : Bool → D → Type 0) where

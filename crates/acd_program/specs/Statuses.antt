@@ -8,8 +8,8 @@ use Rattle.acd_log.specs.declared.ending.Ending.TheVariants as log
 use Rattle.acd_program.specs.declared.auditing.Finding.{Finding}
 use Rattle.acd_program.specs.declared.auditing.Finding.TheVariants.{Sound, Counted, SentAgainCounted}
 use Rattle.acd_program.specs.declared.auditing.Finding.TheVariants as finding
-use Rattle.acd_program.specs.declared.pruning.Pruning.{Pruning}
-use Rattle.acd_program.specs.declared.pruning.Pruning.TheVariants as prune
+use Rattle.acd_program.specs.declared.outcome.Pruning.{Pruning}
+use Rattle.acd_program.specs.declared.outcome.Pruning.TheVariants as prune
 use Rattle.acd_program.specs.declared.fault.LookFault.{LookFault}
 use Rattle.acd_program.specs.declared.fault.LookFault.TheVariants as look
 use Rattle.acd_program.specs.declared.fault.OpeningFault.{OpeningFault}

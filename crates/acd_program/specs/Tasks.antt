@@ -27,7 +27,7 @@ use Rattle.acd_program.specs.declared.desk.Work.TheVariants as kind
 use Rattle.acd_program.specs.Exporting.{IsNewTable, AddsEvents, AddsArchives}
 use Rattle.acd_program.specs.declared.export.EventTable.{EventTable}
 use Rattle.acd_program.specs.Pruning.{BookPruned}
-use Rattle.acd_program.specs.declared.pruning.Pruning.{Pruning}
+use Rattle.acd_program.specs.declared.outcome.Pruning.{Pruning}
 use Rattle.acd_program.specs.declared.status.Status.{Status}
 use Rattle.acd_program.specs.declared.status.Status.TheVariants.{Success}
 use Rattle.acd_program.specs.declared.asked.Task.{Task}

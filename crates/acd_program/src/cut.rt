@@ -9,6 +9,7 @@ ghost use Rattle.acd_desk.specs.Overlap.{DecidesCleanCut, IsBefore};
 ghost use Rattle.acd_program.specs.Pruning.{DecidesPlace};
 
 use crate::asked::Retention;
+use crate::outcome::Cut;
 use acd_book::{Book, BookFault, Kept};
 use acd_terms::{Event, Rows};
 
@@ -24,15 +25,6 @@ const MOST_STAMPS: u64 = 100_000;
 
 // A search by halves takes no more steps.
 const STEPS: u32 = 64;
-
-/// A place: the last stamp and the last event number that go.
-#[derive(Clone, Copy)]
-pub(crate) struct Cut {
-    pub(crate) stamp: u64,
-    pub(crate) number: u64,
-    /// More may go than goes at once.
-    pub(crate) is_part: bool,
-}
 
 // ---- what may go ----
 

@@ -12,8 +12,8 @@ ghost use Rattle.acd_program.specs.Work.{text_left, status_left, IsPrintoutOf, P
 use crate::auditing::{Finding, audited};
 use crate::connection::book_over;
 use crate::fault::WorkFault;
+use crate::outcome::Pruning;
 use crate::progress::{Progress, Watched};
-use crate::pruning::Pruning;
 use crate::status::Status;
 use acd_book::Book;
 use acd_desk::{Desk, DeskFault};

@@ -19,6 +19,7 @@ mod logs;
 mod lone_log;
 mod looking;
 mod memory;
+mod outcome;
 mod paging;
 mod plan;
 mod plan_lines;

@@ -8,10 +8,9 @@ ghost use Rattle.acd_program.specs.Statuses.{sound_status, again_status, finding
 ghost use Rattle.acd_program.specs.Work.{text_left, status_left, PrintsAll, PrintsPart};
 
 use crate::auditing::Finding;
-use crate::cut::Cut;
 use crate::desk::Done;
 use crate::fault::WorkFault;
-use crate::pruning::Pruning;
+use crate::outcome::{Cut, Pruning};
 use crate::status::Status;
 use acd_io::{Stopped, send};
 use acd_log::Ending;

@@ -14,9 +14,10 @@ ghost use Rattle.acd_program.specs.WithArchive.{IsFindingInOrder, IsSparedIn, Le
 use crate::asked::Retention;
 use crate::auditing::{Finding, audited_with_archive};
 use crate::connection::{archive_over, book_over};
-use crate::cut::{Cut, find_cut, is_place};
+use crate::cut::{find_cut, is_place};
 use crate::fault::{ArchiveFault, Fault, WorkFault};
 use crate::file::{close_connection, connect_archive};
+use crate::outcome::Pruning;
 use crate::progress::{Progress, Watched};
 use crate::with_archive::found_and_closed;
 use acd_book::{Book, BookFault};
@@ -26,17 +27,6 @@ use acd_sqlbook::SqlBook;
 use sqlite::{Alter, Connection, FileFrom, FileStore};
 use sqlite_disk::{Disk, Start};
 use std::alloc::Global;
-
-/// What comes of a prune.
-#[derive(Clone, Copy)]
-pub(crate) enum Pruning {
-    /// Nothing goes, since the audit with the archive found this, and the log of the file ended so before.
-    Refused(Finding, Ending),
-    /// There is nothing to prune.
-    Nothing,
-    /// All up to this place goes.
-    UpTo(Cut),
-}
 
 // ---- what is to go ----
 

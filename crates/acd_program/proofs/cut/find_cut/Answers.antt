@@ -1,5 +1,5 @@
 use Rattle.std.proofs.Common.{ℕ, Option, Ok, rules}
-use Rattle.acd_program.specs.declared.cut.Cut.{Cut}
+use Rattle.acd_program.specs.declared.outcome.Cut.{Cut}
 use Rattle.acd_program.specs.declared.cut.Mark.{Mark}
 use Rattle.acd_program.proofs.ReadsOn.{fault_any, fault_on, read_any, read_on, read_so, read_with}
 use Rattle.acd_terms.specs.declared.rows.Rows.{Rows}

@@ -1,6 +1,6 @@
 use Rattle.std.proofs.Common.{Err, subst}
 use Rattle.acd_program.specs.declared.fault.WorkFault.{WorkFault}
-use Rattle.acd_program.specs.declared.pruning.Pruning.{Pruning}
+use Rattle.acd_program.specs.declared.outcome.Pruning.{Pruning}
 use Rattle.acd_desk.specs.Pairs.{across}
 use Rattle.acd_program.specs.Pruning.{EndsAsking, IsPruningInOrder}
 use Rattle.acd_program.proofs.Ends.{match_err, match_is_err, match_is_ok, match_so}

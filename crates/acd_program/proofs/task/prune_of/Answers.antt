@@ -25,7 +25,5 @@ returns c =
     let f = found_of c.args.options.now in (
       refl,
       text_read f (codes "file") c.in_ok-get_str.field-0 c.in_ok-get_str.ensures,
-      text_read f (codes "archive") c.in_ok-get_str-2.field-0 c.in_ok-get_str-2.ensures,
-      c.in_ok-retention_of.ensures,
-      c.is_given.ensures,
+      (text_read f (codes "archive") c.in_ok-get_str-2.field-0 c.in_ok-get_str-2.ensures, c.in_ok-retention_of.ensures, c.is_given.ensures),
     )
