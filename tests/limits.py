@@ -123,9 +123,9 @@ class Quick(Switch):
 class Noting(Desk):
     """A desk over the quick switch that notes the moment of each executed request, and its last event."""
 
-    def __init__(self):
+    def __init__(self, limits=None):
         super().__init__()
-        self.switch, self.moments, self.last_events = Quick(), [], []
+        self.switch, self.moments, self.last_events = Quick(limits), [], []
 
     def take(self, moment, requester, invoke, service, **members):
         reply = super().take(moment, requester, invoke, service, **members)

@@ -1,18 +1,15 @@
 #!/usr/bin/python3
 """A day in an office of working size, and a morning in a small one: input lines for `acd lines`, and what has to come.
 
-usage: office.py given | wanted | seen | scene | try [PROGRAM] | limits [PROGRAM]
+usage: office.py given | wanted | seen | try [PROGRAM] | limits [PROGRAM]
 
 given prints the day's input lines, wanted its answer lines and then all event reports, seen how often each situation came
 up. 12 groups of three priorities, 40 stations, 40 agents of one to eight groups, some 60 live calls, 3000 requests of eight
 requesters; then 300 repeats, other requests under keys that are used, and a last call. try has PROGRAM (release/acd) answer
 the day over memory and over a file, and export the file's event reports: it counts the lines that weren't foreseen.
-limits tries PROGRAM with as many of everything as there may be (tests/limits.py), over memory, files and HTTP.
-scene prints the morning as crates/acd_test_scenes has it in src/scenes/morning.rt: each request with its answer and its event
-reports, and what the rows then hold.
+limits tries PROGRAM with as many of everything as there may be (tests/limits.py), over memory, files and HTTP. The morning
+is played by tests/trials/try-scenes.
 What has to come is foreseen by tests/switch.py, which knows nothing of the verified program. The same lines come at each run."""
-import csv
-import io
 import json
 import random
 import subprocess
@@ -22,6 +19,7 @@ from collections import Counter, namedtuple
 from pathlib import Path
 
 import limits
+import tables
 from switch import REFUSALS, Desk, compact
 
 GROUPS = [("100", 20, 30), ("101", 20, 30), ("0100", 15, 20), ("110", 30, 45), ("9", 20, 0), ("120", 0, 30), ("00", 25, 40),
@@ -51,7 +49,6 @@ SELDOM = {"rejected call offered at once": 0}  # where so few agents are ready
 MORNING = Size(543, 300, 5, 2, 8, 8, "'/", GROUPS[2:6], STATIONS[::5], AGENTS[::5], dict.fromkeys(WANTED, 1) | SELDOM, DAY.named, False)
 PRIORITIES = [0, 5, 9]
 RELEASE = Path(__file__).resolve().parent.parent / "release/acd"
-COLUMNS = "number,moment,event,call,device,agent,group,to,cause,waited".split(",")
 
 
 class Office:
@@ -401,79 +398,6 @@ class Office:
         self.check()
         return self
 
-    # what the rows then hold
-
-    def held(self):
-        """In lines of a scene's transcript."""
-        switch = self.switch
-        for agent, record in switch.agents.items():
-            pending = f", pending {record.pending}" if record.pending else ""
-            yield f"agent {agent} {record.state}{pending}, stamp {record.stamp}, since {record.since}"
-        for device, group in switch.groups.items():
-            yield (f"figures of {device}: entered {group.entered}, answered {group.answered}, abandoned {group.abandoned}, "
-                   f"moved {group.moved}, waited {group.waited}")
-        for number, call in switch.calls.items():
-            yield f"call {number} since {call.since}"
-            for device, connection in call.connections.items():
-                yield f"call {number} at {device} {connection.state}" + (f" of group {connection.group}" if connection.group else "")
-                if connection.place is not None:
-                    yield f"entry of call {number} at {device}: place {connection.place}, queued {connection.queued}"
-        for number, monitor in switch.monitors.items():
-            yield f"monitor {number} at {monitor.device} after event {monitor.after}"
-        ends = sum(len(call.connections) for call in switch.calls.values())
-        yield f"{len(switch.monitors)} monitors"
-        yield f"{len(switch.groups)} groups, {len(switch.stations)} stations, {len(switch.agents)} agents"
-        yield f"{len(switch.calls)} calls, {ends} connections"
-        yield f"last stamp {switch.stamp}, moment {switch.moment}, event {len(switch.events)}"
-
-
-def asked(given, reply):
-    """A request and its answer, in lines of a scene's script."""
-    (moment, request), (status, body) = given.split(" ", 1), reply.split(" ", 1)
-    told = json.loads(body)
-    if status == "200":
-        return f"+ {moment} {compact(told['result'])} {request}"
-    if status == "409":
-        return f"- {moment} {told['error']['code']} {told['error']['name']} {request}"
-    return f"> {given}\n< {reply}"
-
-
-SCENE = """\
-//! A morning in a small office, as tests/office.py foresees it.
-
-/// The first lines of a [script](crate::script).
-pub fn first_lines() -> &'static [u8] {
-    br#"part morning
-%s
-"#
-}
-
-/// The lines behind them: in two texts each takes less to prove.
-pub fn last_lines() -> &'static [u8] {
-    br#"%s
-
-scene morning: morning
-"#
-}"""
-
-
-def scene(office):
-    lines = []
-    for given, reply, made in zip(office.given, office.wanted, office.made):
-        lines += [asked(given, reply), *(f"! {compact(event)}" for event in made)]
-    lines += [f"= {line}" for line in office.held()]
-    half = len(lines) // 2
-    print(SCENE % ("\n".join(lines[:half]), "\n".join(lines[half:])))
-
-
-def records(office):
-    """The export of all event reports."""
-    text = io.StringIO()
-    writer = csv.DictWriter(text, COLUMNS, lineterminator="\n")
-    writer.writeheader()
-    writer.writerows(office.switch.events)
-    return text.getvalue().splitlines()
-
 
 def tried(office, program):
     """How many lines the program writes otherwise than foreseen."""
@@ -485,13 +409,11 @@ def tried(office, program):
 
     with tempfile.TemporaryDirectory() as folder:
         file = ["--file", f"{folder}/desk.db"]
-        return wrong(["lines"], office.wanted) + wrong(["lines", *file], office.wanted) + wrong(["export", *file], records(office))
+        return wrong(["lines"], office.wanted) + wrong(["lines", *file], office.wanted) + wrong(["export", *file], tables.export(office.switch).splitlines())
 
 
 def main():
     what, rest = sys.argv[1:2], sys.argv[2:]
-    if what == ["scene"]:
-        return scene(Office(MORNING).day())
     office = Office(DAY).day()
     if what == ["given"]:
         print(*office.given, sep="\n")

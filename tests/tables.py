@@ -3,9 +3,11 @@
 `rows` gives each table's rows with the numbers that stand for states, kinds, causes, devices and agents; `lay` makes a
 database of them with texts of its own, by stock SQLite, and `held` reads such rows out of a file. `told` is the text of a
 read, and `report` that of the queue report. Nothing here is taken from the verified program."""
+import csv
+import io
 import sqlite3
 
-from switch import GREATEST, compact, order
+from switch import compact, order
 
 AGENT_STATES = {"null": 0, "notReady": 1, "ready": 2, "busy": 3, "workingAfterCall": 4}
 PENDING = {"loggedOff": 0, "notReady": 1, "ready": 2, "workingAfterCall": 4}
@@ -81,7 +83,7 @@ def rows(desk):
     """The rows of each table, in ascending key."""
     switch = desk.switch
     found = {
-        "meta": [(1, 2, *GREATEST.values(), switch.stamp, switch.moment, switch.last_call, switch.last_monitor, len(switch.events))],
+        "meta": [(1, 2, *switch.limits.values(), switch.stamp, switch.moment, switch.last_call, switch.last_monitor, len(switch.events))],
         "acd_groups": [(number(device), it.name, it.ring, it.wrap, it.entered, it.answered, it.abandoned, it.moved, it.waited)
                        for device, it in switch.groups.items()],
         "stations": [(number(device),) for device in switch.stations],
@@ -122,6 +124,36 @@ def change(file, sql):
         changed = database.execute(sql).rowcount
     database.close()
     return changed
+
+
+def held_lines(switch):
+    """What the rows hold, in lines of transcripts (tests/trials/scenes)."""
+    for agent, it in switch.agents.items():
+        pending = f", pending {it.pending}" if it.pending else ""
+        yield f"agent {agent} {it.state}{pending}, stamp {it.stamp}, since {it.since}"
+    for device, it in switch.groups.items():
+        yield f"figures of {device}: entered {it.entered}, answered {it.answered}, abandoned {it.abandoned}, moved {it.moved}, waited {it.waited}"
+    for number, call in switch.calls.items():
+        yield f"call {number} since {call.since}"
+        for device, it in call.connections.items():
+            yield f"call {number} at {device} {it.state}" + (f" of group {it.group}" if it.group else "")
+            if it.place is not None:
+                yield f"entry of call {number} at {device}: place {it.place}, queued {it.queued}"
+    for number, it in switch.monitors.items():
+        yield f"monitor {number} at {it.device} after event {it.after}"
+    yield f"{len(switch.monitors)} monitors"
+    yield f"{len(switch.groups)} groups, {len(switch.stations)} stations, {len(switch.agents)} agents"
+    yield f"{len(switch.calls)} calls, {sum(len(call.connections) for call in switch.calls.values())} connections"
+    yield f"last stamp {switch.stamp}, moment {switch.moment}, event {len(switch.events)}"
+
+
+def export(switch):
+    """The export of all event reports."""
+    text = io.StringIO()
+    writer = csv.DictWriter(text, "number,moment,event,call,device,agent,group,to,cause,waited".split(","), lineterminator="\n")
+    writer.writeheader()
+    writer.writerows(switch.events)
+    return text.getvalue()
 
 
 # what is told

@@ -149,15 +149,15 @@ put(LAWS + "Names/UnnamedServices.antt", ("  unnamed_retrieve_call : ", """\
 
   unnamed_retrieve_call : """))
 
-# ---- tests in Rattle
+# ---- tests in Rattle, and scenes
 
 after("crates/acd_test_desk/src/codec/read.rt", ('\n{"agent":"7","invoke":9,"name":"Anna","requester":"plan","service":"changeAgent"}\n', '{"call":1,"device":"201","invoke":9,"requester":"desk","service":"parkHere"}\n'))
 after("crates/acd_test_desk/src/codec/faulty.rt", ('call {"requester":"pbx","invoke":1,"service":"holdCall","call":1000000001,"device":"201"}\n', 'call {"requester":"pbx","invoke":1,"service":"parkHere","call":1000000001,"device":"201"}\n'))
-SCENES = "crates/acd_test_scenes/src/"
-after(SCENES + "scenes/refusals.rt", *[(line, line.replace("holdCall", "parkHere").replace(f"{invoke},", f"{invoke + 800},")) for invoke, line in [
+SCENES = "tests/trials/scenes/"
+after(SCENES + "refusals.txt", *[(line, line.replace("holdCall", "parkHere").replace(f"{invoke},", f"{invoke + 800},")) for invoke, line in [
     (131, '- 50 3 unknownCall {"call":9,"device":"999","invoke":131,"requester":"sup","service":"holdCall"}\n'), (132, '- 50 4 unknownConnection {"call":1,"device":"100","invoke":132,"requester":"sup","service":"holdCall"}\n'),
     (133, '- 50 9 notStation {"call":1,"device":"0301234","invoke":133,"requester":"sup","service":"holdCall"}\n'), (150, '- 50 5 wrongConnectionState {"call":1,"device":"201","invoke":150,"requester":"sup","service":"holdCall"}\n')]])
-put(SCENES + "scenes/calls.rt", ("part hold_and_pending\n", """\
+put(SCENES + "calls.txt", ("part hold_and_pending\n", """\
 part parked_and_retrieved
 > 30 {"call":1,"device":"201","invoke":4,"requester":"desk","service":"parkHere"}
 < 200 {"invoke":4,"requester":"desk","result":{}}
@@ -168,8 +168,7 @@ part parked_and_retrieved
 
 part hold_and_pending
 """))
-after(SCENES + "scenes/calls.rt", ("scene hold_and_pending: plan call_arrives ana_becomes_ready ana_answers hold_and_pending\n", "scene parked_and_retrieved: plan call_arrives ana_becomes_ready ana_answers parked_and_retrieved\n"))
-after(SCENES + "scenes.rt", ("\nhold_and_pending\n", "parked_and_retrieved\n"))
+after(SCENES + "calls.txt", ("scene hold_and_pending: plan call_arrives ana_becomes_ready ana_answers hold_and_pending\n", "scene parked_and_retrieved: plan call_arrives ana_becomes_ready ana_answers parked_and_retrieved\n"))
 
 # ---- pages
 
@@ -202,7 +201,7 @@ put("tests/switch.py", ("    def retrieve_call(self", """\
 put("tests/trials/try-sizes", ("all twenty services", "all twenty-one services"), ("\"rejectCall\", \"holdCall\", \"retrieveCall\"]],", "\"rejectCall\", \"holdCall\", \"parkHere\", \"retrieveCall\"]],"),
     ("\"holdCall\": [\"connected\"],", "\"holdCall\": [\"connected\"], \"parkHere\": [\"connected\"],"), ("(\"holdCall\", self.some(answered, 25)),", "(\"holdCall\", self.some(answered, 25)), (\"parkHere\", self.some(answered, 5)),"),
     ("[\"answerCall\", \"holdCall\", \"retrieveCall\"]:", "[\"answerCall\", \"holdCall\", \"retrieveCall\", \"parkHere\", \"retrieveCall\"]:"))
-# in the mixed office alone, so that the morning, which is the scene of scenes/morning.rt, stays as it is drawn; its day with a seed that shows all that is wanted
+# in the mixed office alone, so that the morning stays as it is drawn; its day with a seed that shows all that is wanted
 put("tests/office.py", ("DAY = Size(3004,", "DAY = Size(3006,"), ("\"singleStepTransfer\", \"rejectCall\"])", "\"singleStepTransfer\", \"rejectCall\"] + [\"parkHere\"] * self.size.mixed)"),
     ("            (1, self.set_priority, self", "            (1, self.act(\"parkHere\"), self.at_stations(\"connected\") if self.size.mixed else []),\n            (1, self.set_priority, self"))
 put("tests/limits.py", ("        for call, device in self.some(self.at_agents(\"hold\"), 100):\n", "        for call, device in self.some(self.at_agents(\"connected\"), 20):\n            self.by_desk(\"parkHere\", call=call, device=device)\n        for call, device in self.some(self.at_agents(\"hold\"), 100):\n"))

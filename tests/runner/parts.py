@@ -52,6 +52,7 @@ OF_THE_PROGRAM = {
     "sizes": Part("try-sizes", (), ("try-sizes",)),
     "serving": Part("try-serving", (), ("try-serving",)),
     "runs": Part("try-runs", (), ("try-runs",)),
+    "scenes": Part("try-scenes", (), ("try-scenes",)),
     "statuses": Part("try-statuses", (), ("try-statuses",)),
     "untouched": Part("try-untouched", (), ("try-untouched",)),
     "logs": Part("try-logs", (), ("try-logs",)),
