@@ -83,7 +83,7 @@ function take({told, kind, ahead: clock, received}) {
   counting.take(told, isWhole);
   if (counting.share === 1 && !counted) performance.mark('counted');
   counted = counting.share === 1;
-  if (!told.live) return lose(word('error.gatewayTimeout'));
+  if (!told.live) return lose(word('error.noDesk'));
   if (course.kind !== 'live') performance.mark('live');
   answered = received;
   course = {kind: 'live'};

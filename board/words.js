@@ -84,8 +84,9 @@ storeFault: the desk has stopped (storeFault)
 forbidden: this login may not do that
 unauthorized: nobody is logged in
 tooManyRequests: it was asked too often
-badGateway: the desk does not run
-gatewayTimeout: the desk does not answer
+badGateway: the gate does not run
+gatewayTimeout: the gate does not answer
+noDesk: the desk does not answer
 unknownAgent: no such agent is planned
 [csv]
 save: CSV

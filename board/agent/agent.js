@@ -191,7 +191,7 @@ function drawLogOn({device, groups}, may = false) {
 }
 
 function draw() {
-  const why = lost?.status ? refusal(lost.status, lost.text) : word(lost ? `lost.${lost.text}` : 'error.gatewayTimeout');
+  const why = lost?.status ? refusal(lost.status, lost.text) : word(lost ? `lost.${lost.text}` : 'error.noDesk');
   const status = lost || (mine && !mine.live) ? 'lost' : !known ? 'begins' : age() > OLD ? 'late' : 'live';
   drawStatus(status, known, why, (Date.now() + ahead) / 1000);
   if (!mine) return;

@@ -5,7 +5,7 @@ import json
 import re
 from typing import NamedTuple
 
-from acd_service.gate.exchanges import Answer, error
+from acd_service.gate.exchanges import NO_DESK, Answer
 
 # seconds: for the desk's answer to a request, and to a question of the gate itself, so that pages learn that a desk
 # hangs
@@ -61,20 +61,21 @@ class Desk:
         self.where, self.places = where, asyncio.Semaphore(MOST_OUT)
 
     async def ask(self, method: str, path: str, body: bytes | None = None) -> Answer:
-        """The desk's answer to a client's request, byte for byte; 502 where none came within PATIENCE."""
+        """The desk's answer to a client's request, byte for byte; NO_DESK where none came within PATIENCE."""
         try:
             async with asyncio.timeout(PATIENCE), self.places:
                 return await self.exchange(method, path, body)
         except FAILS:
-            return error(502)
+            return NO_DESK
 
     async def ask_soon(self, method: str, path: str) -> Answer:
-        """The answer to a question of the gate itself, which waits for no client's; 502 where none came within SOON."""
+        """The answer to a question of the gate itself, which waits for no client's; NO_DESK where none came within
+        SOON."""
         try:
             async with asyncio.timeout(SOON):
                 return await self.exchange(method, path, None)
         except FAILS:
-            return error(502)
+            return NO_DESK
 
     async def exchange(self, method: str, path: str, body: bytes | None) -> Answer:
         reader, writer = await self.connected()

@@ -35,6 +35,10 @@ def error(status: int) -> Answer:
     return Answer(status, "application/json", f'{{"error":{{{ERRORS[status]}}}}}'.encode())
 
 
+# the desk doesn't answer the gate: another name than where nginx finds no gate, so that a page says which one is gone
+NO_DESK = Answer(502, "application/json", b'{"error":{"code":46,"name":"noDesk"}}')
+
+
 class Refused(Exception):
     """Nothing more is done for this question; the gate answers so."""
 

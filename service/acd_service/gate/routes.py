@@ -19,7 +19,7 @@ from acd_service.gate import files
 from acd_service.gate.boards import TooMany, sight_of
 from acd_service.gate.desk import Away, Desk
 from acd_service.gate.door import Door, is_page, token_of
-from acd_service.gate.exchanges import Answer, Question, Refused, error
+from acd_service.gate.exchanges import NO_DESK, Answer, Question, Refused, error
 from acd_service.gate.following import Following, as_json
 from acd_service.gate.health import WELL
 from acd_service.gate.judging import Logins, Look, Seen, Twice, looks_at, may, once, owner
@@ -219,7 +219,7 @@ class Gate:
             after, names, hold = map(int, numbers)
             page = await self.following.mine(agent, groups, after, names, hold, question.has_left, asked.get("to"))
         if page is None:
-            raise Refused(error(502))
+            raise Refused(NO_DESK)
         return Answer(200, "application/json", page)
 
     async def stream(self, question: Question) -> Answer:
@@ -240,7 +240,7 @@ class Gate:
         state = await self.following.known()
         question.stay()
         if state is None:
-            raise Refused(error(502))
+            raise Refused(NO_DESK)
         try:
             streams.look(stream, state)
         except TooMany:
@@ -311,7 +311,7 @@ class Gate:
         try:
             seen = await self.seen(login, body)
         except Away:
-            raise Refused(error(502)) from None
+            raise Refused(NO_DESK) from None
         if not may(self.role_of(login), login, self.logins(), body, seen):
             raise Refused(error(403))
         reply = await self.desk.ask("POST", "/csta", body)

@@ -102,9 +102,9 @@ export class Front {
     const text = (await readFile(conf, 'utf8')).replace(new RegExp(Object.keys(places).join('|'), 'g'), named => places[named]).replace(/(listen .* ssl) http2;/, http2 ? '$&' : '$1;');
     await writeFile(`${file}/nginx.conf`, `daemon off; user root; pid ${file}/pid; error_log ${file}/errors; worker_processes 1; events {}
 http { include /etc/nginx/mime.types; access_log off; ${['client_body', 'proxy', 'fastcgi', 'uwsgi', 'scgi'].map(kind => `${kind}_temp_path ${file};`).join(' ')} ${text} }\n`);
-    const told = [];
-    Object.assign(front, {file, gate, address: `https://127.0.0.1:${site}`, children: [
-      spawn('/usr/bin/python3', ['-B', join(TOP, 'service/bin/acd-gate'), '--port', gate, '--desk', desk.port, '--roles', `${file}/roles`, '--users', `${file}/users`, '--secret', `${file}/nginx-secret.conf`].map(String), {stdio: ['ignore', 'ignore', 'inherit']}),
+    const told = [], words = ['--port', `${gate}`, '--desk', `${desk.port}`, '--roles', `${file}/roles`, '--users', `${file}/users`, '--secret', `${file}/nginx-secret.conf`];
+    Object.assign(front, {file, gate, words, address: `https://127.0.0.1:${site}`, children: [
+      front.asGate(words),
       spawn('nginx', ['-c', `${file}/nginx.conf`], {stdio: ['ignore', 'ignore', 'pipe']}),
     ]});
     front.children[1].stderr.on('data', part => told.push(part));
@@ -114,6 +114,18 @@ http { include /etc/nginx/mime.types; access_log off; ${['client_body', 'proxy',
     // all that nginx said where it says of nothing that it ended it
     const said = Buffer.concat(told).toString().trim().split('\n');
     throw new Error(`the gate or nginx doesn't start: ${(said.find(line => line.includes('[emerg]')) ?? said.join(' ')) || 'nginx said nothing'}`);
+  }
+
+  asGate(words) { return spawn('/usr/bin/python3', ['-B', join(TOP, 'service/bin/acd-gate'), ...words], {stdio: ['ignore', 'ignore', 'inherit']}); }
+
+  async stopGate() {
+    const [gate] = this.children;
+    await new Promise(done => { gate.on('exit', done); gate.kill(); });
+  }
+
+  async startGate(login) {
+    this.children[0] = this.asGate(this.words);
+    return until(async () => (await this.ask(login, '/who')).status === 200, 60);
   }
 
   /** The address of a page, with a login in it. */

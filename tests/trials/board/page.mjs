@@ -267,6 +267,23 @@ export async function alarm(see, browser, desk, address) {
   see('and none behind a tick', Boolean(await until(async () => await shown() === '', 5)), await shown());
 }
 
+/** Which of the two is gone is said, of a page that is open and of one that is opened then: the gate, while the desk serves, or the desk. */
+export async function gone(see, browser, front, desk, address) {
+  const says = async words => Boolean(await until(async () => (await browser.text('#status-text')).includes(words), 15));
+  await front.stopGate();
+  see('that the gate is gone is said', await says('the gate does not run'), await browser.text('#status-text'));
+  await front.startGate('sup');
+  see('and the page goes on', Boolean(await until(async () => await browser.text('#status-text') === 'Live', 20)), await browser.text('#status-text'));
+  await desk.stop();
+  see('that the desk is gone is said', await says('the desk does not answer'), await browser.text('#status-text'));
+  await front.stopGate();
+  await front.startGate('sup');
+  await browser.open(address);
+  see('also by a gate that never reached it', await says('No desk: the desk does not answer'), await browser.text('#status-text'));
+  await desk.serve();
+  see('and it begins by itself', Boolean(await until(async () => await browser.text('#status-text') === 'Live', 30)), await browser.text('#status-text'));
+}
+
 /** Gate and nginx hang, one after the other: the page that is open says so within ten seconds, and its clocks stand. */
 export async function hangs(see, browser, front, clock) {
   const status = () => browser.text('#status-text'), worker = Number(await run('pgrep', ['-P', front.children[1].pid]));

@@ -52,7 +52,7 @@ export async function owners({see, browser, desk, front, text: shown, ...hands})
   ]) {
     const server = await plain(desk, {'/session': who}, stream);
     await browser.open(server.page(`${words}station=208&groups=100`));
-    if (what.endsWith('late')) see(`${what} is told`, Boolean(await until(async () => await said() === '▲ Who is logged in? the desk does not run', 10)), await said());
+    if (what.endsWith('late')) see(`${what} is told`, Boolean(await until(async () => await said() === '▲ Who is logged in? the gate does not run', 10)), await said());
     const found = await requester();
     see(`the requester with ${what}`, wanted.test(found), found);
     await until(() => browser.find('#log-on-button:enabled'), 20);

@@ -15,7 +15,7 @@ import {alarms, nothing, troubles} from './alarms.mjs';
 import {days, overMidnight, zones} from './days.mjs';
 import {lead, office, session} from './lead.mjs';
 import {lines} from './lines.mjs';
-import {alarm, clockAhead, hangs, live, looks, losses, numbers, ownEvents, people, settings, still, ways} from './page.mjs';
+import {alarm, clockAhead, gone, hangs, live, looks, losses, numbers, ownEvents, people, settings, still, ways} from './page.mjs';
 import {shape} from './shape.mjs';
 import {callers, sheets} from './sheets.mjs';
 import {olderConf, tenTabs} from './tabs.mjs';
@@ -157,6 +157,7 @@ class Trial {
     await browser.fresh(front.page('sup', '/board/?since=0#queues'));
     await live(browser);
     await hangs(this.see, browser, front, () => browser.text('#queues-table [data-key="101"] td:nth-child(4)'));
+    await gone(this.see, browser, front, desk, front.page('sup', '/board/?since=0#queues'));
     await nothing(this.see, browser, await this.front(await this.desk('nothing.db', PLAN.slice(3, 4))), await this.front(await this.desk('nobody.db', PLAN)));
   }
 

@@ -2,7 +2,7 @@
 import json
 
 import standing  # noqa: F401: where the modules are
-from acd_service.gate.exchanges import Answer, error
+from acd_service.gate.exchanges import NO_DESK, Answer, error
 
 
 def event(number, **members):
@@ -24,7 +24,7 @@ class InMemory:
     async def ask(self, _, path):
         self.asked.append(path)
         if not self.answers:
-            return error(502)
+            return NO_DESK
         route, _, after = path.partition("?after=")
         if route in self.texts:
             return Answer(200, "application/json", json.dumps(self.texts[route]).encode())

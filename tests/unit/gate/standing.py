@@ -48,6 +48,8 @@ PROXYS, SESSIONS = "0f" * 32, "1e" * 32
 USERS = "".join(f"{login}:{SECRET}\n" for login in ("pbx", "planner", "sup", "ana", "ana-b", "nobody", "Jürgen", "Copy.2"))
 FORBIDDEN = (403, b'{"error":{"code":41,"name":"forbidden"}}')
 BAD_GATEWAY = (502, b'{"error":{"code":44,"name":"badGateway"}}')
+# where the gate runs, and the desk doesn't answer it
+NO_DESK = (502, b'{"error":{"code":46,"name":"noDesk"}}')
 REPLY = b'{"error":{"code":3,"name":"unknownCall"},  "odd":1}'
 PAGE = b'{"last":0,  "requests":[]}'
 

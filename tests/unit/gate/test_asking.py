@@ -9,7 +9,7 @@ import unittest
 from pathlib import Path
 from unittest import mock
 
-from standing import BAD_GATEWAY
+from standing import NO_DESK
 
 from acd_service.gate import desk
 from acd_service.gate.desk import Desk, Place, place
@@ -53,7 +53,7 @@ class AskingTest(unittest.IsolatedAsyncioTestCase):
     async def test_what_is_no_whole_answer(self):
         for sends in (b"", b"HTTP/1.1 200", WHOLE[:-1], b"HTTP/1.1 OK\r\n\r\n", b"garbage\r\n\r\n", WHOLE.replace(b": 9", b": x"), b"x" * 3 * desk.AHEAD):
             self.sends = sends
-            self.assertEqual((await self.desk.ask("GET", "/"))[:3:2], BAD_GATEWAY, sends[:20])
+            self.assertEqual((await self.desk.ask("GET", "/"))[:3:2], NO_DESK, sends[:20])
 
     async def test_one_without_a_length_ends_with_the_connection(self):
         self.sends = b"HTTP/1.0 200 OK\r\n\r\n" + b"x" * 3 * desk.AHEAD
@@ -61,13 +61,13 @@ class AskingTest(unittest.IsolatedAsyncioTestCase):
 
     async def test_nobody_there(self):
         for where in (Place(1), Place(path=str(self.folder / "none"))):
-            self.assertEqual((await Desk(where).ask("GET", "/"))[:3:2], BAD_GATEWAY)
+            self.assertEqual((await Desk(where).ask("GET", "/"))[:3:2], NO_DESK)
 
     async def test_a_desk_that_hangs(self):
         self.sends, self.ends = b"HTTP/1.1 200 OK\r\n", False
         with mock.patch.multiple(desk, PATIENCE=0.2, SOON=0.1):
             for ask in (self.desk.ask, self.desk.ask_soon):
-                self.assertEqual((await ask("GET", "/"))[:3:2], BAD_GATEWAY)
+                self.assertEqual((await ask("GET", "/"))[:3:2], NO_DESK)
 
     async def test_no_more_at_a_time_than_the_kernel_keeps(self):
         """The gate's own questions wait for no place."""

@@ -13,7 +13,7 @@ from unittest import mock
 from standing import PATIENCE, Named
 
 from acd_service.gate import days, following, texts
-from acd_service.gate.exchanges import Answer, Left, error
+from acd_service.gate.exchanges import NO_DESK, Answer, Left, error
 from acd_service.gate.state import State
 from in_memory import InMemory, event, logged_on
 
@@ -241,7 +241,7 @@ class FollowingTest(Named, unittest.IsolatedAsyncioTestCase):
         self.assertEqual(await self.following.look(), following.AGAIN)
 
     async def test_a_desk_that_is_away(self):
-        for broken in (Answer(200, "", b"no json"), error(502), error(404)):
+        for broken in (Answer(200, "", b"no json"), NO_DESK, error(404)):
             with mock.patch.object(self.following, "ask", mock.AsyncMock(return_value=broken)), self.assertRaises(following.Away):
                 await self.following.catch_up()
 

@@ -10,7 +10,7 @@ import time
 import unittest
 from unittest import mock
 
-from standing import BAD_GATEWAY, FORBIDDEN, PAGE, REPLY, ROLES, DoorTest, basic
+from standing import FORBIDDEN, NO_DESK, PAGE, REPLY, ROLES, DoorTest, basic
 
 from acd_service.gate import files, following, limits
 from acd_service.gate.desk import Place
@@ -59,7 +59,7 @@ class RouteTest(DoorTest):
 
     def test_no_desk(self):
         self.gate.desk.where = Place(1)
-        self.assertEqual(self.ask("pbx", {"requester": "pbx", "service": "tick"}), BAD_GATEWAY)
+        self.assertEqual(self.ask("pbx", {"requester": "pbx", "service": "tick"}), NO_DESK)
         self.assertEqual(self.ask("ana", {"requester": "ana", "service": "holdCall", "device": "201"}), FORBIDDEN)
 
     def test_an_agents_own_page(self):
@@ -84,8 +84,8 @@ class RouteTest(DoorTest):
     def test_an_agents_page_without_a_desk(self):
         self.gate.desk.where = Place(1)
         with mock.patch.object(following, "AWAY", 0.1):
-            self.assertEqual(self.ask("ana", None, "GET", "/mine"), BAD_GATEWAY)
-        self.assertEqual(self.ask("lea", {"requester": "lea", "service": "setGroupPriority", "device": "100", "priority": 1}), BAD_GATEWAY)
+            self.assertEqual(self.ask("ana", None, "GET", "/mine"), NO_DESK)
+        self.assertEqual(self.ask("lea", {"requester": "lea", "service": "setGroupPriority", "device": "100", "priority": 1}), NO_DESK)
 
     def test_a_leads_request(self):
         """Judged by the desk as it is; sent again it gets its reply again, though it wouldn't be allowed any more."""

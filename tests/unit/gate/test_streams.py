@@ -12,7 +12,7 @@ import time
 import unittest
 from unittest import mock
 
-from standing import BAD_GATEWAY, FORBIDDEN, PATIENCE, ROLES, SECRET, USERS, DoorTest, Named, basic
+from standing import FORBIDDEN, NO_DESK, PATIENCE, ROLES, SECRET, USERS, DoorTest, Named, basic
 
 from acd_service.gate import boards, door, following, server, streams
 from acd_service.gate.boards import Sight
@@ -383,7 +383,7 @@ class RouteTest(DoorTest):
     def test_without_a_desk(self):
         self.gate.desk.where = Place(1)
         with mock.patch.object(following, "AWAY", 0.1):
-            self.assertEqual(self.ask("sup", None, "GET", "/stream"), BAD_GATEWAY)
+            self.assertEqual(self.ask("sup", None, "GET", "/stream"), NO_DESK)
 
     def test_there_is_room_for_so_many(self):
         with mock.patch.object(streams, "MOST", 1):
