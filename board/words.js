@@ -325,6 +325,7 @@ allTheSame: {what} all the same
 no: No
 missed: You did not answer {who}, {group} (it rang {clock}, until {time}){so}.
 missed.so: , so you are not ready
+changed: {who} changed your state at {time}: {state}.
 somebody: a caller
 read: Read
 again: {what}: no answer yet, it is sent again

@@ -230,6 +230,7 @@ function draw() {
   })));
   drawDay(moment);
   showMissed(moment);
+  showChanged();
   if (leaves && isLiving && !device) end();
 }
 
@@ -281,6 +282,15 @@ function showMissed(moment = 0) {
   const mute = acts && agent.device && byId('tone').checked && !isHeard();
   const is = {'alarm.ticks': isLive() && isOverdue(mine, moment), sound: mute, 'agent.leaves': leaves};
   for (const [key, so] of Object.entries(is)) if (so) notice(key, word(key)); else drop(key);
+}
+
+// Who lost a state to somebody else is told by whom.
+function showChanged() {
+  const {changed} = mine, place = `acd-changed-${id}`, key = `${changed?.by} ${changed?.moment}`;
+  if (!changed || !acts || localStorage[place] === key) return drop('changed');
+  const {sign, words} = DOING[changed.requested === 'loggedOff' ? 'null' : changed.requested];
+  const told = say('changed', {who: named(changed.by), state: `${sign} ${words}`, time: timeOfDay(changed.moment)});
+  notice('changed', told, [[say('read'), () => { localStorage[place] = key; }]]);
 }
 
 function end() {

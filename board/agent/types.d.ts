@@ -16,12 +16,15 @@ declare global {
   /** of a place for a call: of a group how many are logged on, of a station what the agent there does */
   type There = {device: string, loggedOn?: number, ready?: number, agent?: string, doing?: Doing};
   type Missed = {call: number, caller?: string, group?: string, moment: number, since: number};
+  /** who else asked for the last change of the agent's state, and for which one */
+  type Changed = {by: string, moment: number, requested: 'ready' | 'notReady' | 'workingAfterCall' | 'loggedOff'};
   type DayCall = {call: number, caller?: string, group?: string, moment: number, talked: number};
   type MyDay = {answered: number, begins: number, calls: DayCall[], missed: number, talking: number, talks?: number};
   type Names = {agents: {agent: string, device?: string, name: string}[], groups: {device: string, name: string}[], stations: string[]};
   /** lines: those of groups that were told, by their numbers; queues: which of them are the agent's */
   type Mine = {agent: MyState, calls: MyCall[], day?: MyDay | null, doing: {doing: Doing, since: number, group?: string | null},
-    groups: MyQueue[], lines: Record<string, MyQueue>, live: boolean, missed?: Missed | null, names?: Names, queues: string[]};
+    groups: MyQueue[], lines: Record<string, MyQueue>, live: boolean, missed?: Missed | null, changed?: Changed | null,
+    names?: Names, queues: string[]};
   /** what GET /session answers */
   type Who = {agent?: string, begun?: number, ends?: number, groups?: string[], login?: string, reads?: string, role?: string,
     stations?: string[], why?: string};

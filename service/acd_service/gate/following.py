@@ -12,6 +12,7 @@ from pathlib import Path
 
 from acd_service import command
 from acd_service.gate import lines
+from acd_service.gate.asked import Asked
 from acd_service.gate.days import EARLIER, Days, beginning
 from acd_service.gate.desk import Away
 from acd_service.gate.exchanges import Answer, Left
@@ -19,7 +20,7 @@ from acd_service.gate.parts import Text
 from acd_service.gate.ruled import FILE as RULES, Ruled
 from acd_service.gate.state import State
 from acd_service.gate.streams import Streams
-from acd_service.gate.texts import agent_text, groups_of, names_text, place_text, without_nothing
+from acd_service.gate.texts import agent_text, as_json, groups_of, names_text, place_text, without_nothing
 
 # seconds: between two looks at the desk, at least and without a request in between, two snapshots, two tries of a desk
 # that is away; until pages learn that the desk is away, until the gate answers a question without news, and for how
@@ -60,10 +61,6 @@ class Waiter:
             self.woken.set_result(None)
 
 
-def as_json(text: Text) -> bytes:
-    return json.dumps(text, separators=(",", ":"), sort_keys=True).encode()
-
-
 def begun(snapshot: Text, before: State | None, has_boards: bool) -> tuple[State, dict[str, dict[str, str]]]:
     """The state that a snapshot shows, and with boards all of their lines."""
     state = State(snapshot, before)
@@ -87,7 +84,7 @@ class Following:
         # whether something was asked for that no report tells
         self.seen: Text | None = None
         self.is_other = self.is_stale = False
-        self.days = Days(clock())
+        self.days, self.asked = Days(clock()), Asked()
         # numbers that no earlier gate gave, unless the clock was set back; the epoch is another one for another desk
         self.number = self.epoch = int(clock() * 1000)
         self.all_changed = self.names_changed = self.number
@@ -241,7 +238,7 @@ class Following:
                 self.change_all(names=False)
 
     def forget(self) -> None:
-        self.state, self.seen, self.days = None, None, Days(self.clock())
+        self.state, self.seen, self.days, self.asked = None, None, Days(self.clock()), Asked()
         self.epoch += 1
         self.streams.forget()
         self.change_all()
@@ -301,17 +298,14 @@ class Following:
         if self.task is None:
             self.task = asyncio.get_running_loop().create_task(self.run())
 
-    def nudge(self, body: bytes, reply: bytes) -> None:
-        """The desk has answered somebody's request: the reply has the pending state, which no event names."""
+    def nudge(self, body: bytes, reply: bytes, by: str = "") -> None:
+        """The desk has answered a request, which may have done what no event tells. `by` as for Asked."""
         if self.task is None:
             return
         # names, priorities and new groups have no event
         self.is_stale |= any(service in body for service in PLANS) and b'"error"' not in reply
-        if b'"pending"' in reply and self.state is not None:
-            with contextlib.suppress(ValueError, KeyError, TypeError, AttributeError):
-                agent = self.state.agents[json.loads(body)["agent"]]
-                agent.pending = json.loads(reply)["result"]["pending"]
-                self.state.touched.add(agent.id)
+        if self.state is not None:
+            self.asked.take(self.state, body, reply, by, int(self.clock()))
         self.nudged.set()
 
     async def run(self) -> None:
@@ -393,7 +387,8 @@ class Following:
     def text_of(self, state: State, waiter: Waiter) -> Text:
         text = agent_text(state, waiter.agent, waiter.groups)
         text |= {"live": self.is_live(), "moment": int(self.answered), "number": self.number}
-        return text | without_nothing(day=self.days.text(waiter.agent), missed=self.days.missed_offer(waiter.agent))
+        return text | without_nothing(day=self.days.text(waiter.agent), missed=self.days.missed_offer(waiter.agent),
+                                      changed=self.asked.changed.get(waiter.agent))
 
     def names_now(self, state: State) -> bytes:
         """The names as JSON, made once for all pages."""

@@ -20,7 +20,7 @@ from acd_service.gate.boards import TooMany, sight_of
 from acd_service.gate.desk import Away, Desk
 from acd_service.gate.door import Door, is_page, token_of
 from acd_service.gate.exchanges import NO_DESK, Answer, Question, Refused, error
-from acd_service.gate.following import Following, as_json
+from acd_service.gate.following import Following
 from acd_service.gate.health import WELL
 from acd_service.gate.judging import Logins, Look, Seen, Twice, looks_at, may, once, owner
 from acd_service.gate.limits import Held, Rates, Replies
@@ -30,6 +30,7 @@ from acd_service.gate.roles import MEMBERS, NO_KEYS, NOTHING, Role, Watched, has
 from acd_service.gate.ruled import FILE as RULES
 from acd_service.gate.sessions import Secrets, Session, Sessions, cookie_field
 from acd_service.gate.streams import Stream
+from acd_service.gate.texts import as_json
 from acd_service.gate.traces import Traces
 from acd_service.rules.reading import REQUESTER
 
@@ -317,7 +318,7 @@ class Gate:
         reply = await self.desk.ask("POST", "/csta", body)
         if leads and reply.status in (200, 409):
             self.replies.keep(login, body, reply)
-        self.following.nudge(body, reply.body)
+        self.following.nudge(body, reply.body, login if leads else "")
         return reply
 
     def logins(self) -> Logins:

@@ -193,7 +193,8 @@ class Streams:
         days, queues = self.following.days, groups_of(state, stream.agent, stream.groups)
         agent = state.agents.get(stream.agent)
         text = own_text(state, stream.agent) | {"queues": queues, "day": days.text(stream.agent),
-                                                "missed": days.missed_offer(stream.agent)}
+                                                "missed": days.missed_offer(stream.agent),
+                                                "changed": self.following.asked.changed.get(stream.agent)}
         if agent is not None:
             text["doing"] = state.doing(agent)._asdict()
         new = queues if is_whole else [queue for queue in queues if queue not in stream.queues]

@@ -1,10 +1,15 @@
 """What an agent's page is told of the desk: the agent, own calls whole, queues with shortened callers, names.
 Unproved."""
+import json
 from collections.abc import Iterable
 from typing import Any
 
 from acd_service.gate.parts import Call, Connection, Group, Text, in_order
 from acd_service.gate.state import State
+
+
+def as_json(text: Text) -> bytes:
+    return json.dumps(text, separators=(",", ":"), sort_keys=True).encode()
 
 
 def without_nothing(**members: Any) -> Text:

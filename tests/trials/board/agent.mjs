@@ -9,7 +9,7 @@ import {AGENT, button, Hands, refused, requested, shift, STATION} from './shift.
 const F2 = '\uE032', F8 = '\uE038';
 
 /** In their order; from the second on up to the console they need an agent who is logged on. */
-export const PARTS = {shift, lastLogOn, byKeys, rings, hidden, secondClicks, missedOffer, places, sentOn, day, lost, lostReply, tooOld, otherLogOn, olderPage, quiet, owners, words, layout, session};
+export const PARTS = {shift, atBoard, lastLogOn, byKeys, rings, hidden, secondClicks, missedOffer, changed, places, sentOn, day, lost, lostReply, tooOld, otherLogOn, olderPage, quiet, owners, words, layout, session};
 
 export async function agentsPage(see, browser, desk, front, folder, only = Object.keys(PARTS)) {
   const hands = new Hands(see, browser, desk, front);
@@ -21,6 +21,13 @@ export async function agentsPage(see, browser, desk, front, folder, only = Objec
 async function quiet({see, browser}) {
   const said = (await browser.said()).filter(line => !/(status of (401|403|409|50[24])|ERR_FAILED|Failed to fetch)/.test(line));
   see('the console is empty', !said.length, said[0]);
+}
+
+/** An agent who opens the board, which this login may not read, is sent to the own page. */
+async function atBoard({see, browser, front}) {
+  await browser.open(front.page('ana', '/board/?x=1'));
+  const place = () => browser.run('return location.pathname');
+  see('an agent at the board comes to the own page', Boolean(await until(async () => await place() === '/board/agent/', 10)), await place());
 }
 
 /** One button logs on as the last time, where the station is free. */
@@ -197,6 +204,27 @@ async function missedOffer(hands, folder) {
   await hands.ask('tick');
   await hands.sees('then it is', '#state', 'ready', 5);
   return call;
+}
+
+/** A state that a lead takes is told with who did it, after a new load too, until that is read or the agent asks for another one. */
+async function changed(hands) {
+  const {see, front} = hands, nothing = /^(Click here once.*)?$/;
+  const lead = (requested, invoke) => front.ask('max', '/csta', {requester: 'max', invoke, service: 'setAgentState', agent: AGENT, requested});
+  const told = state => new RegExp(`^max changed your state at \\d\\d:\\d\\d:\\d\\d: ${state}\\.Read$`);
+  see('a lead takes the state', (await lead('notReady', 1)).status === 200);
+  await hands.sees('the agent is told by whom', '#notices [data-key=changed]', told('■ not ready'), 5);
+  await hands.open();
+  await hands.sees('after a new load too', '#notices [data-key=changed]', told('■ not ready'), 10);
+  await hands.click('#notices [data-key=changed] button');
+  await hands.sees('it is gone once it is read', '#notices', nothing, 5);
+  await hands.open();
+  await sleep(500);
+  await hands.sees('for good', '#notices', nothing, 1);
+  see('the lead gives it back', (await lead('ready', 2)).status === 200);
+  await hands.sees('which is told too', '#notices [data-key=changed]', told('● ready'), 5);
+  await hands.click(requested('notReady'), '✓ Not ready');
+  await hands.sees('until the agent asks for another one', '#notices', nothing, 5);
+  await hands.click(requested('ready'), '✓ Ready');
 }
 
 /** A place by its number or a name; where nobody is logged on it is asked first. */

@@ -312,9 +312,7 @@ class FollowingTest(Named, unittest.IsolatedAsyncioTestCase):
         self.following.nudge(b"{}", b"{}")  # while nobody follows
         self.desk.events.append(logged_on(1))
         first = await self.mine()
-        for body, reply in ((b'{"agent":"7"}', b'{"error":"pending"}'), (b'["pending"]', b'{"result":{"pending":"x"}}'), (b'{"agent":"9"}', b'{"result":{"pending":"x"}}')):
-            self.following.nudge(body, reply)
-        self.following.nudge(b'{"agent":"7"}', b'{"result":{"pending":"notReady"}}')
+        self.following.nudge(b'{"service":"setAgentState","agent":"7","requested":"notReady"}', b'{"result":{"pending":"notReady"}}')
         self.assertEqual((await self.mine(after=first["number"], names=first["number"]))["agent"]["pending"], "notReady")
         await self.ends()
 

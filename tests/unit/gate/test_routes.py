@@ -14,7 +14,7 @@ from standing import FORBIDDEN, NO_DESK, PAGE, REPLY, ROLES, DoorTest, basic
 
 from acd_service.gate import files, following, limits
 from acd_service.gate.desk import Place
-from acd_service.gate.exchanges import Left, Question
+from acd_service.gate.exchanges import Answer, Left, Question
 
 # a desk with an agent who is logged off
 SNAPSHOT = {"/snapshot": {"last": 0, "moment": 5, "groups": [], "stations": [], "calls": [], "agents": [{"agent": "7", "name": "Ana", "state": "null", "since": 0, "stamp": 1}]},
@@ -95,6 +95,19 @@ class RouteTest(DoorTest):
         self.roles.write_text(ROLES.replace("groups=110,100", "groups=110"))
         self.assertEqual((self.ask("lea", body), len(self.desk.got)), ((409, REPLY), 1))
         self.assertFalse(self.passes("lea", {**body, "invoke": 2}))
+
+    def test_a_lead_who_changes_an_agents_state(self):
+        """The agent's page says who did it, until the agent asks for a state."""
+        plan = {"groups": [{"device": "100", "name": "G", "ring": 1, "wrap": 1}], "stations": [{"device": "201", "agent": "7"}],
+                "agents": [{"agent": "7", "name": "Ana", "state": "ready", "since": 0, "device": "201", "group": "100"}]}
+        self.desk.known = {**SNAPSHOT, "/snapshot": {**SNAPSHOT["/snapshot"], **plan}}
+        told = [json.loads(self.ask("ana", None, "GET", "/mine")[1]).get("changed")]
+        for login, requested in (("lea", "notReady"), ("lea", "loggedOff"), ("ana", "ready")):
+            with mock.patch.object(self.gate.desk, "ask", mock.AsyncMock(return_value=Answer(200, body=b'{"result":{},"status":200}'))):
+                self.assertEqual(self.ask(login, {"requester": login, "service": "setAgentState", "agent": "7", "requested": requested})[0], 200)
+            told.append(json.loads(self.ask("ana", None, "GET", "/mine")[1]).get("changed"))
+        self.assertEqual([one and (one["by"], one["requested"], abs(one["moment"] - time.time()) < 600) for one in told],
+                         [None, ("lea", "notReady", True), ("lea", "loggedOff", True), None])
 
     def test_who_loses_a_right_while_the_desk_is_asked(self):
         """The roles as they are when the desk has answered count."""
