@@ -49,7 +49,8 @@ export async function tooOld(hands) {
   await sleep(450);
   await answer(browser, 'Ready', true);
   see('who wants it still sends it', Boolean(await until(async () => String(await hands.events(last)) === 'agentNotReady,agentReady', 5)), String(await hands.events(last)));
-  see('and nothing is kept any more', (await left(browser)).length === 0 && !/you asked/.test(await hands.text('#notices')), String(await left(browser)));
+  const isOver = async () => (await left(browser)).length === 0 && !/you asked/.test(await hands.text('#notices'));
+  see('and nothing is kept any more', Boolean(await until(isOver, 5)), String(await left(browser)));
   await expires(hands);
 }
 
@@ -100,7 +101,8 @@ export async function olderPage(hands) {
   see('neither was done', (await hands.events(last)).length === 0, String(await hands.events(last)));
   await answer(browser, 'After-call work, kept', true);
   see('but by a click', Boolean(await until(async () => String(await hands.events(last)) === 'agentWorkingAfterCall', 5)), String(await hands.events(last)));
-  see('and nothing is kept any more', (await left(browser)).length === 0, String(await left(browser)));
+  // the page has its answer a moment after the desk's event
+  see('and nothing is kept any more', Boolean(await until(async () => (await left(browser)).length === 0, 5)), String(await left(browser)));
   await hands.open();
   await sleep(1000);
   await hands.sees('it is told once', '#notices', /^(Click here once.*)?$/, 3);
