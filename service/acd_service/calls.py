@@ -16,7 +16,7 @@ from acd_service.command import Fault, report
 from acd_service.figures import STEP, Figures, Reached
 from acd_service.leaving.records import Call, Records
 from acd_service.office import FILE, Office, counting
-from acd_service.record_days import APART, KINDS, Days, Writer, wanted_from
+from acd_service.record_days import APART, BEFORE, KINDS, Days, Writer, wanted_from
 from acd_service.rules.reading import REQUESTER
 
 CALLS = ["number", "caller", "called", "entered", "groups", "rings", "agent", "station", "waited", "talked", "held",
@@ -41,7 +41,7 @@ BESIDE = ("-wal", "-shm", "-journal", ".archive", AGAIN)
 MISSING = 3
 # an archive is read if its last request is of this many days before the first day that is wanted, or later: who was
 # logged on then is known so
-BEFORE = datetime.timedelta(days=2)
+ENDS_BEFORE = datetime.timedelta(days=2)
 
 
 Row = list[Any]
@@ -160,7 +160,7 @@ def archives_of(file: Path, since: datetime.date | None) -> list[Path]:
     folders = [file.parent, chain.copies_of(file.parent.parent)]
     for note in chain.chain(file, folders):
         last_day = re.search(r"-([0-9]{4}-[0-9]{2}-[0-9]{2})-[0-9]+$", note.name)
-        if since and last_day and datetime.date.fromisoformat(last_day[1]) < since - BEFORE:
+        if since and last_day and datetime.date.fromisoformat(last_day[1]) < since - ENDS_BEFORE:
             break
         try:
             found.insert(0, chain.place(note, *folders))
@@ -262,11 +262,12 @@ def is_whole(book: Book, since: datetime.date | None) -> bool:
 
 
 def book_of(file: Path, options: argparse.Namespace, folder: Path, since: datetime.date | None) -> Book:
-    """A file, with its archives if it hasn't all of the days from this one on."""
+    """A file, with its archives if it hasn't all of the days from this one on, and of the one before, by which it is
+    known who was logged on."""
     earlier = options.archive
     if not earlier:
         book = opened(file, folder, options.live)
-        earlier = [] if is_whole(book, since) else archives_of(file, since)
+        earlier = [] if is_whole(book, since and since - BEFORE) else archives_of(file, since)
         if not earlier:
             return book
         book.close()

@@ -18,6 +18,8 @@ KINDS = ("records", "agents", "groups")
 # that ended so many days ago at most are written anew where they differ: a call that went on is over by now, say. Older
 # ones stay as they are, also removed: callers' numbers are in them, and somebody may have to remove them in time
 AGAIN = 7
+# who was logged on as a day began, and for which groups, is known by the requests of the day before
+BEFORE = datetime.timedelta(days=1)
 # the last column of a file: by which formulas it was counted. Files without it are by the first ones, which count each
 # stay in a queue as a wait
 COLUMN, FORMULAS = "formulas", "2"
@@ -99,8 +101,11 @@ class Days:
         return self.folder / APART / kind
 
     def wants(self, kind: str, day: datetime.date) -> bool:
-        return self.first <= day < self.today and ((self.today - day).days <= AGAIN or str(day) > self.newest[kind]
-                                                   or str(day) in self.others[kind])
+        is_new = str(day) > self.newest[kind] or str(day) in self.others[kind]
+        # what was written may have been of a file that knew more
+        knows_less = kind == "agents" and day < self.first + BEFORE and self.place(kind, day).exists()
+        is_again = (self.today - day).days <= AGAIN and not knows_less
+        return self.first <= day < self.today and (is_new or is_again)
 
     def write(self, kind: str, day: datetime.date, row: Iterable[object]) -> None:
         """Rows come day by day; those of a day that needs no file are dropped."""

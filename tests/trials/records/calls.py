@@ -518,7 +518,8 @@ class Calls(Records):
     def without_archives(self, place, archives, begin, zone):
         """An archive isn't opened where the file has all of the days; one that isn't there is told else, and so is one whose own archive isn't."""
         first = datetime.datetime.fromtimestamp(begin, zoneinfo.ZoneInfo(zone)).date()
-        whole = ("--since", str(first + datetime.timedelta(days=1)))
+        # by the requests of the day before it is known who was logged on
+        whole = ("--since", str(first + datetime.timedelta(days=2)))
         with contextlib.closing(sqlite3.connect(archives[1])) as book:
             begins, = book.execute("SELECT moment FROM kept ORDER BY stamp LIMIT 1").fetchone()
         archives[0].unlink()

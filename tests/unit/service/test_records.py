@@ -267,6 +267,29 @@ class Files(Copies):
         out = self.run_it(3, "acdctl records: days before 1970-01-03 aren't there as a whole: name the archives, by --archive, where they are wanted\n")
         self.assertEqual(out, "0 files written\n")
 
+    def test_agents_who_logged_on_before_the_file(self):
+        """A file that begins the day before doesn't know their groups: what is written of that day stays, and comes out of the archive else."""
+        self.run_it()
+        file = self.copies / "1970-01-03T000500Z/desk.db"
+        archive, written = shutil.copy(file, self.folder / f"desk.db-{FIRST}-12"), (self.days / "agents" / f"{SECOND}.csv").read_bytes()
+        on = ground.rows(file, "SELECT min(moment) FROM events WHERE kind = 13")[0][0]
+        last, event = (ground.rows(file, f"SELECT max({column}) FROM {table} WHERE moment <= {on}")[0][0] for column, table in (("stamp", "kept"), ("number", "events")))
+        ground.changed(file, f"DELETE FROM kept WHERE stamp <= {last}", f"DELETE FROM events WHERE number <= {event}")
+        self.assertEqual(self.run_it(), "0 files written\n")
+        self.assertEqual((self.days / "agents" / f"{SECOND}.csv").read_bytes(), written)
+        for kind in record_days.KINDS:
+            (self.days / kind / f"{SECOND}.csv").unlink()
+        self.run_it()
+        self.assertNotEqual((self.days / "agents" / f"{SECOND}.csv").read_bytes(), written)
+        # with its note the archive is read, though the file has all requests of that day
+        chain.put_note(file, chain.Note(Path(archive).name, last, chain.digest(archive)))
+        chain.copies_of(self.copies).mkdir()
+        shutil.copy(archive, chain.copies_of(self.copies))
+        for kind in record_days.KINDS:
+            (self.days / kind / f"{SECOND}.csv").unlink()
+        self.run_it()
+        self.assertEqual((self.days / "agents" / f"{SECOND}.csv").read_bytes(), written)
+
     def test_command_lines(self):
         for words in ((), (self.days,), ("--file", "F", "--copies", "C", self.days), ("--file", "F"), ("--file", "F", "--live", self.days)):
             self.assertEqual(said("records", *words).status, 2)
