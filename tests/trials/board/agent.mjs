@@ -9,7 +9,8 @@ import {AGENT, button, Hands, refused, requested, shift, STATION} from './shift.
 const F2 = '\uE032', F8 = '\uE038';
 
 /** In their order; from the second on up to the console they need an agent who is logged on. */
-export const PARTS = {shift, atBoard, lastLogOn, byKeys, rings, hidden, secondClicks, missedOffer, changed, places, sentOn, day, lost, lostReply, tooOld, otherLogOn, olderPage, quiet, owners, words, layout, session};
+export const PARTS = {shift, atBoard, lastLogOn, byKeys, rings, hidden, secondClicks, missedOffer, changed, places, sentOn, day, lost,
+  lostReply, tooOld, otherLogOn, olderPage, quiet, owners, words, layout, session};
 
 export async function agentsPage(see, browser, desk, front, folder, only = Object.keys(PARTS)) {
   const hands = new Hands(see, browser, desk, front);
@@ -26,8 +27,8 @@ async function quiet({see, browser}) {
 /** An agent who opens the board, which this login may not read, is sent to the own page. */
 async function atBoard({see, browser, front}) {
   await browser.open(front.page('ana', '/board/?x=1'));
-  const place = () => browser.run('return location.pathname');
-  see('an agent at the board comes to the own page', Boolean(await until(async () => await place() === '/board/agent/', 10)), await place());
+  const place = () => browser.run('return location.pathname'), isThere = async () => await place() === '/board/agent/';
+  see('an agent at the board comes to the own page', Boolean(await until(isThere, 10)), await place());
 }
 
 /** One button logs on as the last time, where the station is free. */
@@ -209,7 +210,8 @@ async function missedOffer(hands, folder) {
 /** A state that a lead takes is told with who did it, after a new load too, until that is read or the agent asks for another one. */
 async function changed(hands) {
   const {see, front} = hands, nothing = /^(Click here once.*)?$/;
-  const lead = (requested, invoke) => front.ask('max', '/csta', {requester: 'max', invoke, service: 'setAgentState', agent: AGENT, requested});
+  const asked = {requester: 'max', service: 'setAgentState', agent: AGENT};
+  const lead = (requested, invoke) => front.ask('max', '/csta', {...asked, invoke, requested});
   const told = state => new RegExp(`^max changed your state at \\d\\d:\\d\\d:\\d\\d: ${state}\\.Read$`);
   see('a lead takes the state', (await lead('notReady', 1)).status === 200);
   await hands.sees('the agent is told by whom', '#notices [data-key=changed]', told('■ not ready'), 5);

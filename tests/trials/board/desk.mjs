@@ -102,7 +102,8 @@ export class Front {
     const text = (await readFile(conf, 'utf8')).replace(new RegExp(Object.keys(places).join('|'), 'g'), named => places[named]).replace(/(listen .* ssl) http2;/, http2 ? '$&' : '$1;');
     await writeFile(`${file}/nginx.conf`, `daemon off; user root; pid ${file}/pid; error_log ${file}/errors; worker_processes 1; events {}
 http { include /etc/nginx/mime.types; access_log off; ${['client_body', 'proxy', 'fastcgi', 'uwsgi', 'scgi'].map(kind => `${kind}_temp_path ${file};`).join(' ')} ${text} }\n`);
-    const told = [], words = ['--port', `${gate}`, '--desk', `${desk.port}`, '--roles', `${file}/roles`, '--users', `${file}/users`, '--secret', `${file}/nginx-secret.conf`];
+    const told = [], files = ['--roles', `${file}/roles`, '--users', `${file}/users`, '--secret', `${file}/nginx-secret.conf`];
+    const words = ['--port', `${gate}`, '--desk', `${desk.port}`, ...files];
     Object.assign(front, {file, gate, words, address: `https://127.0.0.1:${site}`, children: [
       front.asGate(words),
       spawn('nginx', ['-c', `${file}/nginx.conf`], {stdio: ['ignore', 'ignore', 'pipe']}),
@@ -116,7 +117,9 @@ http { include /etc/nginx/mime.types; access_log off; ${['client_body', 'proxy',
     throw new Error(`the gate or nginx doesn't start: ${(said.find(line => line.includes('[emerg]')) ?? said.join(' ')) || 'nginx said nothing'}`);
   }
 
-  asGate(words) { return spawn('/usr/bin/python3', ['-B', join(TOP, 'service/bin/acd-gate'), ...words], {stdio: ['ignore', 'ignore', 'inherit']}); }
+  asGate(words) {
+    return spawn('/usr/bin/python3', ['-B', join(TOP, 'service/bin/acd-gate'), ...words], {stdio: ['ignore', 'ignore', 'inherit']});
+  }
 
   async stopGate() {
     const [gate] = this.children;

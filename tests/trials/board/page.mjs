@@ -267,21 +267,22 @@ export async function alarm(see, browser, desk, address) {
   see('and none behind a tick', Boolean(await until(async () => await shown() === '', 5)), await shown());
 }
 
-/** Which of the two is gone is said, of a page that is open and of one that is opened then: the gate, while the desk serves, or the desk. */
+/** Which of the two is gone is said, of an open page and of one that is opened then: the gate, while the desk serves, or the desk. */
 export async function gone(see, browser, front, desk, address) {
-  const says = async words => Boolean(await until(async () => (await browser.text('#status-text')).includes(words), 15));
+  const status = () => browser.text('#status-text');
+  const says = async (what, words) => see(what, Boolean(await until(async () => words.test(await status()), 30)), await status());
   await front.stopGate();
-  see('that the gate is gone is said', await says('the gate does not run'), await browser.text('#status-text'));
+  await says('that the gate is gone is said', /the gate does not run$/);
   await front.startGate('sup');
-  see('and the page goes on', Boolean(await until(async () => await browser.text('#status-text') === 'Live', 20)), await browser.text('#status-text'));
+  await says('and the page goes on', /^Live$/);
   await desk.stop();
-  see('that the desk is gone is said', await says('the desk does not answer'), await browser.text('#status-text'));
+  await says('that the desk is gone is said', /the desk does not answer$/);
   await front.stopGate();
   await front.startGate('sup');
   await browser.open(address);
-  see('also by a gate that never reached it', await says('No desk: the desk does not answer'), await browser.text('#status-text'));
+  await says('also by a gate that never reached it', /^No desk: the desk does not answer$/);
   await desk.serve();
-  see('and it begins by itself', Boolean(await until(async () => await browser.text('#status-text') === 'Live', 30)), await browser.text('#status-text'));
+  await says('and it begins by itself', /^Live$/);
 }
 
 /** Gate and nginx hang, one after the other: the page that is open says so within ten seconds, and its clocks stand. */
@@ -300,7 +301,10 @@ export async function hangs(see, browser, front, clock) {
   }
 }
 
-/** In the place of the desk another one, which took a request while the clock was ahead. It comes once the gate has missed the old one: no event tells of that request, and a gate that missed nothing reads anew each half a minute. */
+/**
+ * In the place of the desk another one, which took a request while the clock was ahead. It comes once the gate has missed the old
+ * one: no event tells of that request, and a gate that missed nothing reads anew each half a minute.
+ */
 export async function clockAhead(see, browser, desk, early, address) {
   const shown = () => browser.run('return document.querySelector("#alarm").hidden ? "" : document.querySelector("#alarm").textContent');
   const stop = async one => {

@@ -184,7 +184,8 @@ class Trial {
   }
 
   async agent() {
-    const desk = await this.desk('shift.db', PLAN), front = await this.front(desk, [...ROLES, ['max', 'lead', 'groups=130']]), browser = await this.browser();
+    const desk = await this.desk('shift.db', PLAN), front = await this.front(desk, [...ROLES, ['max', 'lead', 'groups=130']]);
+    const browser = await this.browser();
     await agentsPage(this.see, browser, desk, front, this.pictures);
   }
 
