@@ -38,7 +38,7 @@ class Page:
 
     def merge(self, members):
         for name, value in members.items():
-            if isinstance(value, dict) and name not in ("agent", "day", "names", "missed") or name == "day" and "agent" not in self.sees:
+            if isinstance(value, dict) and name not in ("agent", "day", "names", "missed", "changed") or name == "day" and "agent" not in self.sees:
                 table = self.picture.setdefault(name, {})
                 table.update(value)
                 self.picture[name] = {key: line for key, line in table.items() if line is not None}
