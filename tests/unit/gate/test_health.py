@@ -9,7 +9,7 @@ import time
 import unittest
 from unittest import mock
 
-from standing import DoorTest
+from standing import PATIENCE, DoorTest
 from test_routes import SNAPSHOT
 
 import acd_due
@@ -97,6 +97,8 @@ class HealthTest(DoorTest):
     def test_a_picture_that_is_behind(self):
         """The desk answers, and the gate gets no picture of what it says."""
         self.desk.known = {**SNAPSHOT, "/snapshot": {"last": 0}}
+        # however busy the machine is, it did so a moment ago
+        self.enterContext(mock.patch.object(health, "DESK", PATIENCE))
         with mock.patch.object(following, "AWAY", 0.1), contextlib.redirect_stderr(io.StringIO()):
             self.assertEqual(self.asked(), (503, "text/plain", b"behind\n"))
 
