@@ -331,7 +331,7 @@ class Meanwhile(Copies):
             self.assertIsNone(copy.settled(self.folder / "none"))
             slept.assert_called_once()
 
-    def tried(self, desk, outcomes, seconds=20, last=None):
+    def tried(self, desk, outcomes, seconds=20, last=None, patience=60):
         """What comes of tries with these outcomes, and of the last one with this; for how many seconds each try may halt the desk for all of it; and what is told."""
         halts, outcomes = [], iter(outcomes)
 
@@ -344,7 +344,7 @@ class Meanwhile(Copies):
             return outcome
 
         out = mock.Mock()
-        with mock.patch.multiple(copy, tried=tried, say=out, PATIENCE=0.2, desks_over=lambda _: [desk] if desk else []):
+        with mock.patch.multiple(copy, tried=tried, say=out, PATIENCE=patience, desks_over=lambda _: [desk] if desk else []):
             try:
                 return copy.taken(self.file, self.new, seconds), halts, [call.args[0] for call in out.call_args_list]
             except copy.Fault as fault:
@@ -359,13 +359,13 @@ class Meanwhile(Copies):
     def test_the_last_try_halts_it_for_all(self):
         desk = types.SimpleNamespace(process=1, moved=None)
         for last, told in ((5, ["the desk was halted for 5 ms, for all of the copy: why, N times"]), (halt.Missed("late"), [])):
-            found, halts, lines = self.tried(desk, itertools.repeat(halt.Missed("why")), last=last)
+            found, halts, lines = self.tried(desk, itertools.repeat(halt.Missed("why")), last=last, patience=0.2)
             self.assertEqual((halts[-1], set(halts[:-1])), (20, {None}))
             self.assertEqual([re.sub(r"\d+ times", "N times", line) for line in lines], told)
         self.assertRegex(found, r"\Alate, \d+ times, at last with the desk halted for up to 20 s \(ACD_HALT\); no copy is kept\Z")
 
     def test_where_it_may_not_be_halted_for_all(self):
-        found, halts, _ = self.tried(types.SimpleNamespace(process=1, moved=None), itertools.repeat(halt.Missed("why")), 0)
+        found, halts, _ = self.tried(types.SimpleNamespace(process=1, moved=None), itertools.repeat(halt.Missed("why")), 0, patience=0.2)
         self.assertRegex(found, r"\Awhy, \d+ times, and ACD_HALT=0 says that the desk isn't halted for all of it; no copy is kept\Z")
         self.assertEqual(set(halts), {None})
 
