@@ -6,13 +6,17 @@ line each. If there was no log, the note says 'log none'.
 
 A stop adds how the desk left them: 'left 20480 1800000002000000000 8416' are the file's size and time, in nanoseconds,
 and the log's size. The next start takes that line away. So a log that was removed in between is seen, unless somebody's
-program wrote it into the file before."""
+program wrote it into the file before.
+
+Each start adds how long it took: 'opened 105500 1.12' are the requests that the file had, and the seconds until the
+desk answered."""
 import contextlib
 import os
 import re
 import subprocess
 from collections.abc import Iterator
 from pathlib import Path
+from typing import NamedTuple
 
 from acd_service import put
 
@@ -20,6 +24,13 @@ from acd_service import put
 EMPTY = 41
 NONE = "none"
 LEFT = "left"
+OPENED = "opened"
+
+
+class Opening(NamedTuple):
+    """How many requests a start had to read, and the seconds that it took."""
+    kept: int
+    seconds: float
 
 
 def log_of(file: Path) -> Path:
@@ -67,11 +78,29 @@ def left(file: Path) -> tuple[int, int, int]:
 def remember(file: Path, is_left: bool = False) -> None:
     """Writes the note of the file and the log that are there now, in place of the last one; it is the file's owner's,
     and on the disk before this returns."""
-    owner, lines = os.stat(file), pair(file)
+    opened, lines = read_note(file).get(OPENED), pair(file)
     if is_left:
         lines[LEFT] = " ".join(map(str, left(file)))
+    write(file, lines | ({OPENED: opened} if opened else {}))
+
+
+def write(file: Path, lines: dict[str, str]) -> None:
+    owner = os.stat(file)
     put.put(note_of(file), "".join(f"{what} {which}\n" for what, which in lines.items()),
             owner=(owner.st_uid, owner.st_gid) if os.geteuid() == 0 else None)
+
+
+def remember_opening(file: Path, opening: Opening) -> None:
+    """Adds to the note how long the start took, if there is a note."""
+    lines = read_note(file)
+    if lines:
+        write(file, lines | {OPENED: f"{opening.kept} {opening.seconds:.2f}"})
+
+
+def last_opening(file: Path) -> Opening | None:
+    """That of the last start, if this user may read the note, and it says so."""
+    said = re.fullmatch(r"(\d{1,15}) (\d{1,9}\.\d\d)", read_note(file).get(OPENED, ""), re.ASCII)
+    return Opening(int(said[1]), float(said[2])) if said else None
 
 
 def read_note(file: Path) -> dict[str, str]:
@@ -81,6 +110,11 @@ def read_note(file: Path) -> dict[str, str]:
     except (OSError, ValueError):
         return {}
     return dict(line.partition(" ")[::2] for line in lines)
+
+
+def is_noted(file: Path) -> bool:
+    """Whether the note is that of a start with the two that are there now."""
+    return {what: which for what, which in read_note(file).items() if what != OPENED} == pair(file)
 
 
 def is_split(file: Path) -> bool:

@@ -288,7 +288,7 @@ def look_at_copies(file: Path) -> None:
 
 def write_note(file: Path, is_left: bool = False) -> None:
     """Writes the note anew. A note that isn't true any more mustn't stay, and a full disk has no room for another."""
-    if not is_left and pair.read_note(file) == pair.pair(file):
+    if not is_left and pair.is_noted(file):
         return
     try:
         pair.remember(file, is_left)

@@ -22,7 +22,7 @@ from typing import Any, NamedTuple
 
 from acd_client import Client
 
-from acd_service import VERSION, certificate, chain, command, held, pair, reach, settings
+from acd_service import VERSION, certificate, chain, command, held, pair, reach, settings, watch
 from acd_service.command import Fault
 from acd_service.follow import note_of as followed_note
 
@@ -33,8 +33,9 @@ BEYOND = 999_999_999_999_999
 GOOD_COPY = "%Y-%m-%dT%H%M%SZ"
 FOLLOWED = re.compile(r"has the requests up to (\d+); the last that the desk told of is (\d+), at (\S+ \S+) UTC")
 UNITS = ("acd*", "nginx.service")
-# seconds that a kept request adds to a start, as PERFORMANCE.md has them
-OPENING = 9e-6
+# seconds that a kept request adds to a start, as PERFORMANCE.md has them, where no start has told; one that read fewer
+# requests tells how long a program takes to begin
+OPENING, MEASURED = 9e-6, 50_000
 LOGGED_OFF = "null"
 SPANS = ((86400, "day"), (3600, "hour"), (60, "minute"), (1, "second"))
 
@@ -145,8 +146,7 @@ class Desk:
     def kept(self) -> Found:
         """How many requests the file has, whose numbers follow one another, and what a start takes for them."""
         try:
-            page = self.read("/requests?after=0")
-            count = page["last"] + 1 - page["requests"][0]["stamp"] if page["requests"] else 0
+            count = watch.kept_by(self.read("/requests?after=0"))
         except Fault:
             with contextlib.suppress(OSError, sqlite3.Error, TypeError), self.idle() as book:
                 return self.opened(*book.execute("SELECT count(*) FROM kept").fetchone())
@@ -154,8 +154,13 @@ class Desk:
         return self.opened(count)
 
     def opened(self, count: int) -> Found:
-        seconds = round(count * OPENING, 1)
-        return Found({"count": count, "opening": seconds}, f"{count}, which take some {seconds} s of the next start")
+        last = pair.last_opening(self.file)
+        each = last.seconds / last.kept if last and last.kept >= MEASURED else OPENING
+        seconds = round(count * each, 1)
+        said = f"; the last start took {last.seconds:.1f} s with {last.kept}" if last else ""
+        before = {"count": last.kept, "seconds": last.seconds} if last else None
+        return Found({"count": count, "opening": seconds, "lastStart": before},
+                     f"{count}, which take some {seconds} s of the next start{said}")
 
     def waiting(self) -> Found:
         since = [one["queued"] for call in self.read("/snapshot")["calls"] for one in call["connections"]

@@ -9,11 +9,12 @@ import os
 import select
 import time
 from pathlib import Path
+from typing import Any
 
 import acd_notify
 from acd_client import Client, Unanswered
 
-from acd_service import command, held
+from acd_service import command, held, pair
 
 MINUTE, HOUR = 60, 3600
 # the last moment that a desk accepts
@@ -100,6 +101,11 @@ def moment_of(snapshot: bytes) -> int:
     return moment if type(moment) is int and moment <= LAST else 0
 
 
+def kept_by(page: Any) -> int:
+    """How many requests a file has, by the first page of them: their numbers follow one another."""
+    return int(page["last"] + 1 - page["requests"][0]["stamp"] if page["requests"] else 0)
+
+
 def report_opening(seconds: float) -> None:
     if seconds > SLOW:
         command.report(f"the desk took {seconds:.0f} s to open its file: the more requests it has, the longer it takes "
@@ -137,10 +143,19 @@ class Beside:
         while not self.ends_within(PAUSE):
             with contextlib.suppress(Unanswered):
                 self.answer("/", SOON)
-                report_opening(time.monotonic() - began)
+                seconds = time.monotonic() - began
                 acd_notify.tell("READY=1")
+                report_opening(seconds)
+                self.note_opening(seconds)
                 return True
         return False
+
+    def note_opening(self, seconds: float) -> None:
+        """For `acdctl status`, which says by it how long the next start takes. Where the desk doesn't show its
+        requests, or the disk is full, the last note stays."""
+        with contextlib.suppress(Unanswered, OSError, ValueError, LookupError, TypeError, RecursionError):
+            count = kept_by(json.loads(self.answer("/requests?after=0", SOON)))
+            pair.remember_opening(self.file, pair.Opening(count, seconds))
 
     def turn(self) -> None:
         """Asks the desk once, and once a minute looks at what may be wrong."""

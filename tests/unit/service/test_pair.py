@@ -50,6 +50,27 @@ class Pairs(ground.Case):
         pair.remember(self.file)
         self.assertEqual(pair.read_note(self.file)["log"], "none")
 
+    def test_how_long_a_start_took(self):
+        """It stays in the note over later starts and stops, and counts for nothing else."""
+        pair.remember_opening(self.file, pair.Opening(5, 1.0))
+        self.assertEqual((pair.note_of(self.file).exists(), pair.last_opening(self.file)), (False, None))
+        pair.remember(self.file)
+        self.assertTrue(pair.is_noted(self.file))
+        pair.remember_opening(self.file, pair.Opening(105_500, 1.126))
+        self.assertEqual(pair.note_of(self.file).read_text().splitlines()[2:], ["opened 105500 1.13"])
+        for is_left in (False, True, False):
+            pair.remember(self.file, is_left)
+            self.assertEqual((pair.last_opening(self.file), pair.is_noted(self.file)), ((105_500, 1.13), not is_left))
+        self.exchange(self.log)
+        self.assertEqual((pair.is_noted(self.file), pair.is_split(self.file)), (False, True))
+
+    def test_a_note_of_no_start_that_took_long(self):
+        pair.remember(self.file)
+        before = pair.note_of(self.file).read_text()
+        for line in ("opened 5", "opened 5 1", "opened -5 1.00", "opened 5 nan", "opened 5 1.00 x", "opened \u0665 1.00", "opened"):
+            pair.note_of(self.file).write_text(f"{before}{line}\n")
+            self.assertEqual(pair.last_opening(self.file), None, line)
+
     def test_the_note_is_the_owners(self):
         if os.geteuid():
             self.skipTest("only root gives a file away")

@@ -82,6 +82,9 @@ class Served(Starts):
                 try:
                     self.assertEqual(told.recv(100), b"READY=1")
                     self.assertEqual((held.is_desk(desk.pid), held.holders(self.file)), (True, [desk.pid]))
+                    while not pair.last_opening(self.file):
+                        time.sleep(0.05)
+                    self.assertEqual(pair.last_opening(self.file).kept, 3)
                 finally:
                     desk.kill()
                 self.assertEqual(desk.stderr.read(), b"")

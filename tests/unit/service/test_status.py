@@ -18,7 +18,7 @@ from unittest import mock
 
 TOP = Path(__file__).resolve().parents[3]
 sys.path.append(str(TOP / "service"))
-from acd_service import VERSION, command, settings, status  # noqa: E402
+from acd_service import VERSION, command, pair, settings, status  # noqa: E402
 
 ACD = os.environ.get("ACD", str(TOP / "release/acd"))
 NOW = 1_800_000_000
@@ -136,13 +136,24 @@ class Served(Machine):
         """Whether the desk serves or not, and also where the first ones are in an archive alone."""
         self.plan(*REQUESTS)
         with self.served():
-            self.assertEqual(self.found()["kept"], {"count": EXECUTED, "opening": 0.0})
+            self.assertEqual(self.found()["kept"], {"count": EXECUTED, "opening": 0.0, "lastStart": None})
         self.assertEqual(self.lines()["kept requests"], f"{EXECUTED}, which take some 0.0 s of the next start")
         answers = {"/requests?after=0": {"last": 650_000, "requests": [{"stamp": 50_001}]}, f"/requests?after={status.BEYOND}": {"last": 650_000, "requests": []}}
         with mock.patch.object(status.Client, "attempt", side_effect=lambda _, path: mock.Mock(status=200, body=answers.get(path, {}))):
-            self.assertEqual(self.found()["kept"], {"count": 600_000, "opening": 5.4})
+            self.assertEqual(self.found()["kept"], {"count": 600_000, "opening": 5.4, "lastStart": None})
             answers["/requests?after=0"] = {"last": 0, "requests": []}
-            self.assertEqual(self.found()["kept"], {"count": 0, "opening": 0.0})
+            self.assertEqual(self.found()["kept"], {"count": 0, "opening": 0.0, "lastStart": None})
+
+    def test_what_the_next_start_takes_by_the_last_one(self):
+        """By its seconds for each request; one that read few tells nothing of that."""
+        self.plan()
+        pair.remember(self.file)
+        page = mock.Mock(status=200, body={"last": 600_000, "requests": [{"stamp": 1}]})
+        with mock.patch.object(status.Client, "attempt", lambda _, method, path: page):
+            for last, seconds in (((50_000, 1.0), 12.0), ((400_000, 2.0), 3.0), ((49_999, 9.0), 5.4), ((0, 0.2), 5.4)):
+                pair.remember_opening(self.file, pair.Opening(*last))
+                self.assertEqual(self.found()["kept"], {"count": 600_000, "opening": seconds, "lastStart": {"count": last[0], "seconds": last[1]}})
+                self.assertEqual(self.lines()["kept requests"], f"600000, which take some {seconds} s of the next start; the last start took {last[1]} s with {last[0]}")
 
     def test_a_plan_alone(self):
         self.plan()

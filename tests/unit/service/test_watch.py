@@ -9,7 +9,7 @@ import unittest
 from unittest import mock
 
 import service_ground as ground
-from acd_service import command, held, watch
+from acd_service import command, held, pair, watch
 
 NOON = 1_800_000_000
 
@@ -78,6 +78,12 @@ class Lines(Watched):
                              (b'{"error":{}}', 0), (b"", 0), (b"[" * 100000, 0)):
             with self.subTest(text[:30]):
                 self.assertEqual(watch.moment_of(text), moment)
+
+
+    def test_how_many_requests_a_page_tells_of(self):
+        """Their numbers follow one another; the first ones may be in an archive alone."""
+        for page, count in (({"last": 0, "requests": []}, 0), ({"last": 7, "requests": [{"stamp": 1}, {"stamp": 2}]}, 7), ({"last": 650_000, "requests": [{"stamp": 50_001}]}, 600_000)):
+            self.assertEqual(watch.kept_by(page), count)
 
 
 class Besides(Watched):
@@ -161,6 +167,26 @@ class Besides(Watched):
         self.assertTrue(self.beside(f"unix:{path}").begin())
         desk.join()
         self.assertEqual(self.heard(), ["READY=1"])
+
+    def test_how_long_the_start_took_is_noted(self):
+        """Once systemd knows; a desk that doesn't show its requests leaves the note as it was."""
+        self.file.write_bytes(b"a desk's file")
+        pair.remember(self.file)
+        page = {"last": 120_000, "requests": [{"stamp": 20_001}, {"stamp": 20_002}]}
+        for status, answer, noted in ((404, {"error": {"code": 35, "name": "notFound"}}, None), (200, "no JSON", None), (200, [], None), (200, page, 100_000), (200, {"last": 1}, 100_000)):
+            address, got = self.answers({"/": (404, ""), "/requests?after=0": (status, answer)})
+            self.assertTrue(self.beside(address).begin())
+            found = pair.last_opening(self.file)
+            self.assertEqual((self.heard(), [path for _, path, _ in got], found and found.kept), (["READY=1"], ["/", "/requests?after=0"], noted))
+        self.assertTrue(0.1 <= found.seconds < 60, found)
+        with mock.patch.object(pair, "remember_opening", side_effect=OSError):
+            self.assertTrue(self.beside(address).begin())
+        self.assertEqual((self.heard(), self.lines), (["READY=1"], []))
+
+    def test_a_slow_start_is_told(self):
+        for seconds, lines in ((5.0, []), (5.1, ["the desk took 5 s to open its file: the more requests it has, the longer it takes ('Leaving old requests behind' in OPERATING.md)"])):
+            watch.report_opening(seconds)
+            self.assertEqual(self.lines, lines)
 
     def test_it_ends_with_the_desk(self):
         """Whether that has begun to answer or not."""
