@@ -36,7 +36,8 @@ def history():
 
 class Pruned(Office):
     def try_days(self):
-        """Days that are over, as the desk's user feeds them."""
+        """Days that are over, as the desk's user feeds them; two of them stay."""
+        self.set("ACD_CARRY_DAYS", "2")
         self.done("systemctl", "stop", "acd")
         self.container.put("/history", history())
         said = self.typed(f"runuser -u acd -- acd lines --file {FILE} </history >/dev/null")
