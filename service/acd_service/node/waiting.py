@@ -66,7 +66,9 @@ class Waiting:
                 self.tell(token, b"")
 
     def next_ones(self) -> list[tuple[bytes, bytes]]:
-        """Waits until there is one. Who has given up by now isn't put."""
+        """Waits until there is one. Who has given up by now isn't put, not even where others were put before: so no
+        request goes into the log later than its client was told of no answer."""
+        self.taken = [one for one in self.taken if one[0] in self.waiters]
         while not self.taken or not self.unput.empty():
             one = self.unput.get()
             if one[0] in self.waiters:

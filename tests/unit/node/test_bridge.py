@@ -8,6 +8,7 @@ import threading
 import time
 import unittest
 from pathlib import Path
+from unittest import mock
 
 sys.path.insert(0, str(Path(__file__).resolve().parent))
 
@@ -274,6 +275,18 @@ class Feeding(Bridging):
         bridge.waiting.patience = PATIENCE
         self.begin(bridge)
         self.assertEqual((self.answer(bridge, b"z"), self.fed()[0].partition(" ")[2], len(self.store.changes)), (b"200 z\n", "z", 1))
+
+    def test_who_gives_up_while_others_are_put_is_not_put(self):
+        """Of 250 a hundred are put, and then whoever still waits: nothing goes into the log that its client may have asked for a day ago."""
+        self.member()
+        waiting = self.bridge(feeds=False).waiting
+        for number in range(250):
+            waiting.waiters[b"%d" % number] = mock.Mock()
+            waiting.unput.put((b"%d" % number, b"entry"))
+        self.assertEqual([token for token, _ in waiting.next_ones()], [b"%d" % number for number in range(100)])
+        for number in set(range(250)) - {101, 249}:
+            del waiting.waiters[b"%d" % number]
+        self.assertEqual([token for token, _ in waiting.next_ones()], [b"101", b"249"])
 
     def test_nothing_without_its_entry(self):
         self.member()
