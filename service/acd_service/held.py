@@ -55,28 +55,36 @@ def processes() -> list[int]:
     return sorted(int(name) for name in os.listdir(PROCESSES) if name.isdigit())
 
 
-def opened(process: int) -> list[Open]:
-    """The files that a process has open to read and write them, in the order of their descriptors; none of one that
-    isn't there, or that this user mayn't look at."""
+def opened(process: int, of: Which | None = None) -> list[Open]:
+    """The files, or the one file, that a process has open to read and write them, in the order of their descriptors;
+    none of one that isn't there, or that this user mayn't look at."""
+    folder = f"{PROCESSES}/{process}/fd"
     try:
-        numbers = sorted(map(int, os.listdir(PROCESSES / f"{process}/fd")))
+        numbers = sorted(map(int, os.listdir(folder)))
     except OSError:
         return []
     found = []
     for number in numbers:
-        at = PROCESSES / f"{process}/fd/{number}"
         # a connection that is closed just now is none of them
         with contextlib.suppress(OSError):
-            file, flags = os.stat(at), (PROCESSES / f"{process}/fdinfo/{number}").read_text().split()[3]
-            if stat.S_ISREG(file.st_mode) and int(flags, 8) & os.O_ACCMODE == os.O_RDWR:
-                found.append(Open(at, (file.st_dev, file.st_ino), os.readlink(at)))
+            at = f"{folder}/{number}"
+            file = os.stat(at)
+            known = file.st_dev, file.st_ino
+            # a machine has thousands of others: nothing more is asked of these
+            if stat.S_ISREG(file.st_mode) and of in (None, known) and is_read_and_written(process, number):
+                found.append(Open(Path(at), known, os.readlink(at)))
     return found
+
+
+def is_read_and_written(process: int, number: int) -> bool:
+    flags = (PROCESSES / f"{process}/fdinfo/{number}").read_text().split()[3]
+    return int(flags, 8) & os.O_ACCMODE == os.O_RDWR
 
 
 def holders(path: Path) -> list[int]:
     """The processes that have the file at this path open."""
     file = which(path)
-    return [process for process in processes() if file and any(one.which == file for one in opened(process))]
+    return [process for process in processes() if file and opened(process, file)]
 
 
 def is_desk(process: int) -> bool:
