@@ -55,6 +55,17 @@ def instructions(words, blocks, folder, tell=None):
     return counts, told, [tell(dump) for dump in dumps] if tell else None
 
 
+def totals(words, folder, act=None):
+    """Those of a whole run, and what it wrote; `act` is done once the program has written its first line."""
+    out = Path(folder) / "callgrind"
+    with subprocess.Popen(["valgrind", "-q", "--tool=callgrind", f"--callgrind-out-file={out}", *map(str, words)], stdin=subprocess.DEVNULL, stdout=subprocess.PIPE) as program:
+        if act:
+            program.stdout.readline()
+            act()
+        told = program.stdout.read()
+    return int(re.search(r"^(?:totals|summary): (\d+)", out.read_text(), re.M)[1]), told
+
+
 def by_crate(dump):
     """Instructions of a dump by crate, or by file of a library; what was under way all the time (main) is told with all, and left out."""
     words = ["callgrind_annotate", "--threshold=100", "--auto=no", dump]

@@ -2,7 +2,7 @@
 // and one transaction a request. It proves nothing, and believes its file.
 //
 //   g++ -O2 -std=c++20 -o ordinary_store bench/ordinary_store.cc -lsqlite3
-//   ordinary_store lines|report|audit --file F | import --file F --plan C | serve --file F --port P --connections N
+//   ordinary_store lines|report|export|audit --file F | import --file F --plan C | serve --file F --port P --connections N
 //
 // The file is in WAL with synchronous FULL, as the desk's is: one fdatasync for each commit, before the answer. It is locked EXCLUSIVE, for the
 // desk too lets nobody else in, so nothing is shared; foreign keys are on, and a new file has pages of 1,024 bytes, as the desk's (--page N
@@ -171,11 +171,12 @@ static Event event_of(sqlite3_stmt *s) {
 // Without the digit 1 that begins the number of a device or an agent.
 static string digits(uint64_t n) { return std::to_string(n).substr(1); }
 
+static const char *const kinds[] = {"", "serviceInitiated", "originated", "queued", "delivered", "diverted", "established", "held", "retrieved",
+    "transferred", "failed", "connectionCleared", "callCleared", "agentLoggedOn", "agentLoggedOff", "agentNotReady", "agentReady",
+    "agentBusy", "agentWorkingAfterCall"};
+static const char *const causes[] = {"", "newCall", "distributed", "deflected", "transferred", "noAnswer", "busy"};
+
 static void write_event(string &out, const Event &e) {
-    static const char *const kinds[] = {"", "serviceInitiated", "originated", "queued", "delivered", "diverted", "established", "held", "retrieved",
-        "transferred", "failed", "connectionCleared", "callCleared", "agentLoggedOn", "agentLoggedOff", "agentNotReady", "agentReady",
-        "agentBusy", "agentWorkingAfterCall"};
-    static const char *const causes[] = {"", "newCall", "distributed", "deflected", "transferred", "noAnswer", "busy"};
     out += "{";
     if (e.agent) out.append("\"agent\":\"").append(digits(e.agent)).append("\",");
     if (e.call) out.append("\"call\":").append(std::to_string(e.call)).append(",");
@@ -437,6 +438,29 @@ class Store : Switch<Changes> {
         return same && !more ? 0 : stamp + 1;
     }
     uint64_t executed() const { return stamp; }
+
+    // All event reports as CSV; `write` gets some lines at a time.
+    template <typename Write> void export_events(Write write) {
+        string out = "number,moment,event,call,device,agent,group,to,cause,waited\n";
+        auto put = [&](const string &cell) { out.append(",").append(cell); };
+        auto number = [](uint64_t n) { return n ? digits(n) : string(); };
+        db.each("SELECT " EVENT_COLUMNS " FROM events ORDER BY number", [&](sqlite3_stmt *s) {
+            Event e = event_of(s);
+            out.append(std::to_string(e.number));
+            put(std::to_string(e.moment));
+            put(kinds[int(e.kind)]);
+            put(e.call ? std::to_string(e.call) : string());
+            for (uint64_t n : {e.device, e.agent, e.group, e.to}) put(number(n));
+            put(causes[int(e.cause)]);
+            put(sqlite3_column_type(s, 9) == SQLITE_NULL ? string() : std::to_string(e.waited));
+            out += "\n";
+            if (out.size() > 60000) {
+                write(out);
+                out.clear();
+            }
+        });
+        write(out);
+    }
 };
 
 // The commands.
@@ -556,6 +580,7 @@ int main(int argc, char **argv) {
     else if (command == "serve") serve(store, atoi(words["--port"]), atol(words["--connections"]));
     else if (command == "import") import(store, words["--plan"]);
     else if (command == "report") write_whole(1, store.report(0));
+    else if (command == "export") store.export_events([](const string &out) { write_whole(1, out); });
     else if (command == "audit") {
         uint64_t differs = store.audit();
         if (differs) printf("differs at request %lu\n", differs);
