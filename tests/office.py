@@ -15,7 +15,7 @@ import random
 import subprocess
 import sys
 import tempfile
-from collections import Counter, namedtuple
+from collections import Counter, defaultdict, namedtuple
 from pathlib import Path
 
 import limits
@@ -52,14 +52,15 @@ RELEASE = Path(__file__).resolve().parent.parent / "release/acd"
 
 
 class Office:
-    def __init__(self, size):
+    def __init__(self, size, desk=None):
+        """Over the plain switch unless another desk is given."""
         self.size, self.rng = size, random.Random(size.seed)
         self.group_names, self.station_names, self.agent_names = [each[0] for each in size.groups], size.stations, size.agents
-        self.desk = Desk()
+        self.desk = desk or Desk()
         self.switch = self.desk.switch
         self.now, self.given, self.wanted, self.made, self.asked, self.seen = 0, [], [], [], [], Counter()
         self.invokes = dict.fromkeys([PLANNER, EXCHANGE, CLOCK, WATCHER, *DESKS], 0)
-        self.pace = 1
+        self.pace, self.known_at, self.known = 1, None, {}
 
     # lines
 
@@ -146,10 +147,20 @@ class Office:
 
     # what is there to act on
 
+    def ends(self):
+        """By its state each connection's place among all, its call and device, and whether it was distributed: gone over once behind each executed request."""
+        if self.known_at != self.switch.stamp:
+            self.known_at, self.known = self.switch.stamp, defaultdict(list)
+            all_ends = ((number, device, connection) for number, call in self.switch.calls.items() for device, connection in call.connections.items())
+            for place, (number, device, connection) in enumerate(all_ends):
+                self.known[connection.state].append((place, (number, device), self.switch.distributed(device, connection)))
+        return self.known
+
     def connections(self, *states, distributed=None):
         """Call and device of the connections in these states."""
-        return [(number, device) for number, call in self.switch.calls.items() for device, connection in call.connections.items()
-                if connection.state in states and distributed in (None, self.switch.distributed(device, connection))]
+        known = self.ends()
+        found = known[states[0]] if len(states) == 1 else sorted(one for state in states for one in known[state])
+        return [end for _, end, is_distributed in found if distributed in (None, is_distributed)]
 
     def agents(self, *states):
         return [agent for agent, record in self.switch.agents.items() if record.state in states]
@@ -250,9 +261,10 @@ class Office:
 
     def beside_agents(self):
         """The ends at stations of calls whose other end was distributed and answered."""
-        answered = self.connections("connected", "hold", distributed=True)
-        return [(call, device) for call, device in self.at_stations("connected")
-                if any(other == call and station != device for other, station in answered)]
+        answered = defaultdict(list)
+        for call, station in self.connections("connected", "hold", distributed=True):
+            answered[call].append(station)
+        return [(call, device) for call, device in self.at_stations("connected") if any(station != device for station in answered[call])]
 
     def transfer_to_group(self, end):
         to = self.pick([group for group in self.group_names if self.switch.eligible(group)], self.group_names)
@@ -328,6 +340,7 @@ class Office:
     def ways(self):
         """Weight, request and what it may act on. The pace decides how soon calls that ring are answered."""
         own_calls = [end for end in self.connections("connected") if end[1] not in self.switch.stations]
+        beside, answered = self.beside_agents(), set(self.connections("connected", distributed=True))
         return [
             (6 * self.pace, self.act("answerCall"), self.connections("alerting", distributed=True)),
             (4, self.act("answerCall"), self.connections("alerting", distributed=False)),
@@ -338,8 +351,8 @@ class Office:
             (2, self.clear, self.connections("fail")),
             (1, self.clear, self.connections("queued")), (1, self.clear, self.connections("alerting")),
             (2, self.deflect, self.connections("queued")), (3, self.deflect, self.connections("alerting")),
-            (3, self.transfer, self.at_stations("connected")), (6, self.transfer_to_group, self.beside_agents()),
-            (4, self.clear, [end for end in self.beside_agents() if end in self.connections("connected", distributed=True)]),
+            (3, self.transfer, self.at_stations("connected")), (6, self.transfer_to_group, beside),
+            (4, self.clear, [end for end in beside if end in answered]),
             (5, lambda agent: self.set_state(agent, "ready"), self.agents("notReady", "workingAfterCall")),
             (2, lambda agent: self.set_state(agent, self.rng.choice(STATES)), self.agents("ready", "busy")),
             (2, lambda agent: self.set_state(agent, self.rng.choice(STATES)), self.agents("notReady", "workingAfterCall")),
@@ -414,10 +427,11 @@ def tried(office, program):
 
 def main():
     what, rest = sys.argv[1:2], sys.argv[2:]
-    office = Office(DAY).day()
     if what == ["given"]:
-        print(*office.given, sep="\n")
-    elif what == ["wanted"]:
+        # over the quick switch, which answers this day as the plain one does: limits.check_quick
+        return print(*Office(DAY, limits.Noting()).day().given, sep="\n")
+    office = Office(DAY).day()
+    if what == ["wanted"]:
         print(*office.wanted, *map(compact, office.switch.events), sep="\n")
     elif what == ["seen"]:
         print(*(f"{count:6} {what}" for what, count in sorted(office.seen.items())), sep="\n")

@@ -1,5 +1,6 @@
 """What try-follow stands on: desks that serve, the script that follows them, what stands between, and what files hold by an independent reader."""
 import contextlib
+import functools
 import itertools
 import json
 import re
@@ -18,6 +19,7 @@ from shipped import shipped
 from trial import Connection, Desk, Trial, ran, until
 from trial.files import copied, held
 
+import limits
 import office
 import switch
 import tables
@@ -218,12 +220,13 @@ def certificate(folder):
 
 def day(seed, requests, repeats=0):
     """The lines of an office's day, refusals among them; at its end are repeats, and other requests under keys that are used."""
-    return office.Office(office.DAY._replace(seed=seed, requests=requests, repeats=repeats, reused=repeats // 10, wanted={}, named=set())).day().given
+    size = office.DAY._replace(seed=seed, requests=requests, repeats=repeats, reused=repeats // 10, wanted={}, named=set())
+    return office.Office(size, limits.Noting()).day().given
 
 
 def endless_day(seed):
     """Such lines, as many as are asked for."""
-    busy, told = office.Office(office.DAY._replace(seed=seed)), 0
+    busy, told = office.Office(office.DAY._replace(seed=seed), limits.Noting()), 0
     busy.open()
     while True:
         yield from busy.given[told:]
@@ -276,11 +279,17 @@ def last_of(file):
 
 def foreseen(kept):
     """The rows of a file that has executed these requests, as the switch in Python has them."""
+    return rows_of(tuple(row[1:5] for row in kept))
+
+
+@functools.cache
+def rows_of(requests):
+    """Each with its requester, invoke, moment and text. Most copies of a trial have the same ones."""
     desk = switch.Desk()
-    for _, requester, invoke, moment, request, *_ in kept:
+    for requester, invoke, moment, request in requests:
         members = {name: value for name, value in json.loads(request).items() if name not in ("requester", "invoke")}
         desk.take(moment, requester, invoke, members.pop("service"), **members)
-    desk.moments = [row[3] for row in kept]
+    desk.moments = [moment for _, _, moment, _ in requests]
     return tables.rows(desk)
 
 
