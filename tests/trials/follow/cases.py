@@ -78,7 +78,9 @@ def page_with(body, change):
     return json.dumps(page, separators=(",", ":"), sort_keys=True).encode()
 
 
-class Cases(Ground):
+class OfADesk(Ground):
+    """What the cases share: a desk that has answered a day."""
+
     @classmethod
     def setUpClass(cls):
         super().setUpClass()
@@ -96,6 +98,24 @@ class Cases(Ground):
         cls.feed(cls.folder / name, lines)
         return Served(cls, cls.folder / name).start()
 
+    def odd(self, how, at):
+        program = self.folder / "odd"
+        program.write_text(ODD_PROGRAM)
+        program.chmod(0o755)
+        note = Path(tempfile.mkdtemp(dir=self.folder)) / "note"
+        return ("--desk", program), {"ODD_HOW": how, "ODD_AT": str(at), "ODD_NOTE": str(note), "ODD_REAL": str(self.program)}
+
+    def pruned(self, name):
+        """A desk's file of a day and of ticks two hours later, and a copy that was pruned: 90 requests of the day stay, with the ticks the thousand that stay in any case."""
+        whole, new = self.folder / name / "whole.db", self.folder / name / "desk.db"
+        whole.parent.mkdir()
+        later = int(self.lines[-1].partition(" ")[0]) + 7200
+        self.feed(whole, [*self.lines, *(f'{later + number} {{"requester":"late","invoke":{number},"service":"tick"}}' for number in range(1, 911))])
+        shutil.copy(whole, new)
+        done = self.ran(self.program, "prune", "--file", new, "--archive", whole, "--keep", 1000)
+        self.expect(f"acd prune: {done}", (done[0], done[1].startswith("pruned up to request ")), (0, True))
+        return whole, new
+
     def whole(self):
         """A copy that has all."""
         return self.new_file(of=self.desk.file)
@@ -109,6 +129,8 @@ class Cases(Ground):
             self.expect(f"{what}: how many it has by its own account, {said}", state[0], last_of(file))
         return told, state
 
+
+class Cases(OfADesk):
     # all is well
 
     def try_anew(self):
@@ -221,26 +243,6 @@ class Cases(Ground):
 
     # another history
 
-    def try_told_otherwise(self):
-        """What the desk tells of a request in the middle isn't what the copy answers: it has that one then, and none behind it."""
-        place = 150
-
-        def told(what, change, *texts):
-            def alter(number, path, status, body):
-                return status, page_with(body, lambda records: [record | change(record) if record["stamp"] == place else record for record in records])
-
-            file = self.new_file()
-            self.follow(f"another {what}", Between(self.desk, alter).address, file, DIFFERS, f"the desk: request number {place}", *texts)
-            has = held(file)["kept"]
-            self.expect(f"another {what}: a beginning", is_beginning(has, shown))
-            return len(has)
-
-        shown = self.desk.rows()["kept"]
-        changes = {"reply": lambda record: {"reply": {**record["reply"], "result": {"call": 77}}}, "status": lambda record: {"status": 609 - record["status"]}}
-        for what, change in changes.items():
-            self.expect(f"another {what}: what it has", told(what, change, f"copy.db: request number {place}"), place)
-        self.expect("an earlier moment: what it has", told("moment", lambda record: {"moment": 1}, "moment", f"copy.db: request number {place - 1}"), place - 1)
-
     def try_told_twice(self):
         """A request in another one's place, as that is answered."""
         def twice(records):
@@ -282,24 +284,6 @@ class Cases(Ground):
             self.expect(f"another {column} at the desk: nothing was fed", held(file), before)
             spoilt.kill()
 
-    def try_shorter(self):
-        """An older copy was put back: with fewer requests, with as many, with more."""
-        desk = Served(self, self.folder / "older.db")
-        self.feed(desk.file, self.lines[:60])
-        short = len(held(desk.file)["kept"])
-        file = self.new_file(of=desk.file)
-        # one that has three more than the desk has
-        self.feed(file, [f'9999 {{"requester":"more","invoke":{number},"service":"tick"}}' for number in (1, 2, 3)])
-        for number in range(5):
-            desk.start()
-            if number:
-                ask(desk.port, "/csta", b'{"requester":"other","invoke":%d,"service":"tick"}' % number)
-            before = held(file)
-            texts = [f"up to {short + number}", f"up to {short + 3}"] if number < 3 else ["the desk: request number", f"{file}: request number"]
-            self.follow(f"a copy put back, and {number} requests", desk.address, file, DIFFERS, *texts)
-            self.expect(f"a copy put back, and {number} requests: nothing was fed", held(file), before)
-            desk.kill()
-
     def try_clocks(self):
         """Nobody learns the ticks' requester."""
         desk = Served(self, self.folder / "clock.db")
@@ -313,38 +297,6 @@ class Cases(Ground):
         desk.kill()
 
     # a file that was pruned
-
-    def pruned(self, name):
-        """A desk's file of a day and of ticks two hours later, and a copy that was pruned: 90 requests of the day stay, with the ticks the thousand that stay in any case."""
-        whole, new = self.folder / name / "whole.db", self.folder / name / "desk.db"
-        whole.parent.mkdir()
-        later = int(self.lines[-1].partition(" ")[0]) + 7200
-        self.feed(whole, [*self.lines, *(f'{later + number} {{"requester":"late","invoke":{number},"service":"tick"}}' for number in range(1, 911))])
-        shutil.copy(whole, new)
-        done = self.ran(self.program, "prune", "--file", new, "--archive", whole, "--keep", 1000)
-        self.expect(f"acd prune: {done}", (done[0], done[1].startswith("pruned up to request ")), (0, True))
-        return whole, new
-
-    def try_pruned(self):
-        whole, new = self.pruned("pruned")
-        up_to_date = self.new_file(of=whole)
-        self.feed(whole.with_name("behind.db"), self.lines[:70])
-        behind = self.new_file(of=whole.with_name("behind.db"))
-        first = held(new)["kept"][0][0]
-        desk = Served(self, new).start()
-        self.follow("pruned, up to date", desk.address, up_to_date, 0)
-        needed = len(held(behind)["kept"])
-        for what, file, number in (("behind", behind, needed), ("anew", self.new_file(), 1)):
-            self.follow(f"pruned, {what}", desk.address, file, LACKS, f"request {number} is needed", f"is {first}: ")
-            self.expect(f"pruned, {what}: nothing was fed", len(held(file)["kept"]), number if what == "behind" else 0)
-        for number in range(20):
-            ask(desk.port, "/csta", b'{"requester":"later","invoke":%d,"service":"tick"}' % (number + 1))
-        for what, file in (("up to date", up_to_date), ("of the archive", self.new_file(of=whole)), ("of the new file", self.new_file(of=new))):
-            self.follow(f"pruned, {what}, later", desk.address, file, 0)
-            has, wanted = held(file), desk.rows()
-            kept = {table: rows[-len(wanted[table]):] if table in ("kept", "events") else rows for table, rows in has.items()}
-            self.expect(f"pruned, {what}, later: row for row", [table for table in wanted if kept[table] != wanted[table]], [])
-        desk.kill()
 
     def try_pruned_up_to_its_last(self):
         """A copy whose last request is the last one that was pruned: it continues; one with another history, whose next replies are others, doesn't."""
@@ -401,23 +353,6 @@ class Cases(Ground):
         desk.kill()
 
     # the copy's desk
-
-    def odd(self, how, at):
-        program = self.folder / "odd"
-        program.write_text(ODD_PROGRAM)
-        program.chmod(0o755)
-        note = Path(tempfile.mkdtemp(dir=self.folder)) / "note"
-        return ("--desk", program), {"ODD_HOW": how, "ODD_AT": str(at), "ODD_NOTE": str(note), "ODD_REAL": str(self.program)}
-
-    def try_its_desk(self):
-        """Refuses memory, fails, is killed before or behind a line."""
-        for how in ("33", "34", "before", "behind"):
-            for at in (1, 50, self.last):
-                file = self.new_file()
-                words, more = self.odd(how, at)
-                told, _ = self.follow(f"its desk, {how} at {at}", self.desk.address, file, 0, words=words, more=more)
-                self.expect(f"its desk, {how} at {at}: it says so once, {told}", told.count("it is opened and asked again"), 1)
-                self.judge(f"its desk, {how} at {at}", file, self.desk)
 
     def try_signals(self):
         """One that comes while a line is on its way waits for the answer: what it says that it has is what it has."""
@@ -502,3 +437,76 @@ class Cases(Ground):
                       (here, *file, "--ca", "a"), (here, *file, "--on"), (here, *file, "more")):
             status, said, told = self.script("acd-follow", *words)
             self.expect(f"{words}: {told}", (status, said, "acd-follow: error: " in told), (REFUSED, "", True))
+
+
+class More(OfADesk):
+    """Those that follow a desk most often, each time by a process of its own."""
+
+    def try_told_otherwise(self):
+        """What the desk tells of a request in the middle isn't what the copy answers: it has that one then, and none behind it."""
+        place = 150
+
+        def told(what, change, *texts):
+            def alter(number, path, status, body):
+                return status, page_with(body, lambda records: [record | change(record) if record["stamp"] == place else record for record in records])
+
+            file = self.new_file()
+            self.follow(f"another {what}", Between(self.desk, alter).address, file, DIFFERS, f"the desk: request number {place}", *texts)
+            has = held(file)["kept"]
+            self.expect(f"another {what}: a beginning", is_beginning(has, shown))
+            return len(has)
+
+        shown = self.desk.rows()["kept"]
+        changes = {"reply": lambda record: {"reply": {**record["reply"], "result": {"call": 77}}}, "status": lambda record: {"status": 609 - record["status"]}}
+        for what, change in changes.items():
+            self.expect(f"another {what}: what it has", told(what, change, f"copy.db: request number {place}"), place)
+        self.expect("an earlier moment: what it has", told("moment", lambda record: {"moment": 1}, "moment", f"copy.db: request number {place - 1}"), place - 1)
+
+    def try_shorter(self):
+        """An older copy was put back: with fewer requests, with as many, with more."""
+        desk = Served(self, self.folder / "older.db")
+        self.feed(desk.file, self.lines[:60])
+        short = len(held(desk.file)["kept"])
+        file = self.new_file(of=desk.file)
+        # one that has three more than the desk has
+        self.feed(file, [f'9999 {{"requester":"more","invoke":{number},"service":"tick"}}' for number in (1, 2, 3)])
+        for number in range(5):
+            desk.start()
+            if number:
+                ask(desk.port, "/csta", b'{"requester":"other","invoke":%d,"service":"tick"}' % number)
+            before = held(file)
+            texts = [f"up to {short + number}", f"up to {short + 3}"] if number < 3 else ["the desk: request number", f"{file}: request number"]
+            self.follow(f"a copy put back, and {number} requests", desk.address, file, DIFFERS, *texts)
+            self.expect(f"a copy put back, and {number} requests: nothing was fed", held(file), before)
+            desk.kill()
+
+    def try_pruned(self):
+        whole, new = self.pruned("pruned")
+        up_to_date = self.new_file(of=whole)
+        self.feed(whole.with_name("behind.db"), self.lines[:70])
+        behind = self.new_file(of=whole.with_name("behind.db"))
+        first = held(new)["kept"][0][0]
+        desk = Served(self, new).start()
+        self.follow("pruned, up to date", desk.address, up_to_date, 0)
+        needed = len(held(behind)["kept"])
+        for what, file, number in (("behind", behind, needed), ("anew", self.new_file(), 1)):
+            self.follow(f"pruned, {what}", desk.address, file, LACKS, f"request {number} is needed", f"is {first}: ")
+            self.expect(f"pruned, {what}: nothing was fed", len(held(file)["kept"]), number if what == "behind" else 0)
+        for number in range(20):
+            ask(desk.port, "/csta", b'{"requester":"later","invoke":%d,"service":"tick"}' % (number + 1))
+        for what, file in (("up to date", up_to_date), ("of the archive", self.new_file(of=whole)), ("of the new file", self.new_file(of=new))):
+            self.follow(f"pruned, {what}, later", desk.address, file, 0)
+            has, wanted = held(file), desk.rows()
+            kept = {table: rows[-len(wanted[table]):] if table in ("kept", "events") else rows for table, rows in has.items()}
+            self.expect(f"pruned, {what}, later: row for row", [table for table in wanted if kept[table] != wanted[table]], [])
+        desk.kill()
+
+    def try_its_desk(self):
+        """Refuses memory, fails, is killed before or behind a line."""
+        for how in ("33", "34", "before", "behind"):
+            for at in (1, 50, self.last):
+                file = self.new_file()
+                words, more = self.odd(how, at)
+                told, _ = self.follow(f"its desk, {how} at {at}", self.desk.address, file, 0, words=words, more=more)
+                self.expect(f"its desk, {how} at {at}: it says so once, {told}", told.count("it is opened and asked again"), 1)
+                self.judge(f"its desk, {how} at {at}", file, self.desk)
