@@ -1,5 +1,6 @@
 """What the gate follows of a desk, against the desk's own snapshots, over an office's day at its own moments."""
 import asyncio
+import functools
 import json
 import sys
 
@@ -56,6 +57,7 @@ class Followed(Trial):
             self.expect("and followed from its begin", shape_of_state(follower.state), shape_of_snapshot(json.loads(desk.told("/snapshot")[1])))
 
 
+@functools.cache
 def office():
     """The lines of the day of tests/office.py."""
     return ran(sys.executable, "-B", TOP / "tests/office.py", "given").output.splitlines()
