@@ -213,9 +213,16 @@ def entries_and_deletes(machines):
     goes_on(machines, "entries of all forms, and deletes")
 
 
-def forget(machines):
-    """Lets the log forget all that it has, as anybody may who reaches etcd."""
+def read_up_to(machines, n):
+    """The revision up to which a machine has read the log, by its folder."""
+    said = (machines.folder / f"m{n}/at").read_text().split()
+    return max(int(said[0]), int(said[3]))
+
+
+def forget(machines, readers=(1, 2, 3)):
+    """Lets the log forget all that it has, as anybody may who reaches etcd, once these machines have read that: one that lags behind would lack it, and says so."""
     revision = machines.etcd_call(1, "/v3/kv/range", kv("desk/line"), "m1")["header"]["revision"]
+    machines.see("all of it is read", wait_until(lambda: all(read_up_to(machines, n) >= int(revision) for n in readers)), [read_up_to(machines, n) for n in readers])
     machines.see("all is compacted", "header" in machines.etcd_call(1, "/v3/kv/compaction", {"revision": revision, "physical": True}, "m1"))
 
 
@@ -225,7 +232,6 @@ def deleted_and_compacted(machines):
     goes_on(machines, "all that they have is forgotten", 8)
     machines.etcd_call(1, "/v3/kv/deleterange", kv("desk/line"), "m1")
     put(machines, "desk/line/place/m1", b"0", "m1")
-    time.sleep(1)
     forget(machines)
     time.sleep(8)
     machines.kill_node(2)
@@ -237,7 +243,7 @@ def compacted_while_one_was_away(machines):
     machines.kill_node(3)
     put_ticks(machines, "away", 20)
     wait_until(lambda: machines.places()[0] == machines.places()[1] != machines.places()[2], 30)
-    forget(machines)
+    forget(machines, (1, 2))
     machines.start_node(3)
     machines.see("what it needs is forgotten: it answers nothing, and says why", machines.refuses(3, "copy the folder of another machine"), machines.said(3)[-300:])
     put_ticks(machines, "away and back", 20)
