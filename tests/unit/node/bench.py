@@ -54,7 +54,9 @@ class Bench(unittest.TestCase):
             self.store.put(LINE, b"%s 5 line %d" % (token(number), number))
 
     def until(self, so, seconds=PATIENCE):
-        end = time.monotonic() + seconds
+        end, pause = time.monotonic() + seconds, 0.01
         while not so():
             self.assertLess(time.monotonic(), end, self.said.getvalue())
-            time.sleep(0.01)
+            time.sleep(pause)
+            # a machine that is busy has what it looks at come later
+            pause = min(1.3 * pause, 0.2)

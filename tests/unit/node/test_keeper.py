@@ -11,6 +11,9 @@ from collections import deque  # noqa: E402
 from acd_service.node.folder import UNCHECKED, Checked, Reached, State  # noqa: E402
 from acd_service.node.keeper import Keeper  # noqa: E402
 
+# hours after which a machine is gone
+GONE = 0.5
+
 
 class Machine:
     """How far a machine came, as its bridge and its folder say."""
@@ -38,12 +41,17 @@ class Keeping(Bench):
         self.member()
         self.entries(40)                                   # at 2 to 41
         self.machines = {name: Machine() for name in ("m1", "m2", "m3")}
-        self.keepers = {name: Keeper(name, list(self.machines), 2, self.log(), machine, self.journal, lambda: self.now) for name, machine in self.machines.items()}
+        self.keepers = {name: Keeper(name, list(self.machines), GONE, self.log(), machine, self.journal, lambda: self.now) for name, machine in self.machines.items()}
 
     def look(self, *names, after=60):
         self.now += after
         for name in names:
             self.keepers[name].look()
+
+    def pass_by(self, minutes, *names):
+        """A look counts for two minutes at most."""
+        for after in [120] * (minutes // 2) + [60] * (minutes % 2):
+            self.look(*names, after=after)
 
     def at(self, **places):
         for name, place in places.items():
@@ -93,14 +101,13 @@ class Keeping(Bench):
     def test_one_that_is_gone_is_named_each_hour_and_not_waited_for(self):
         self.at(m1=20, m2=30, m3=10)
         self.look("m1", "m2", "m3")
-        for minute in range(120):                          # the first of which finds the place of m3
-            self.look("m1", "m2")
+        self.look("m1", "m2")                              # which finds the place of m3
+        self.pass_by(29, "m1", "m2")
         self.assertEqual((self.store.compacted, self.said.getvalue()), (10, ""))
         self.look("m1", "m2")
         self.assertEqual(self.store.compacted, 20)
-        self.assertEqual(self.said.getvalue().count("m3 has told no place for 2.0 hours"), 1)  # both write it into one journal here
-        for minute in range(59):
-            self.look("m1", "m2")
+        self.assertEqual(self.said.getvalue().count("m3 has told no place for 0.5 hours"), 1)  # both write it into one journal here
+        self.pass_by(59, "m1", "m2")
         self.assertEqual(self.said.getvalue().count("m3 has told no place"), 1)
         self.look("m1", "m2")
         self.assertEqual(self.said.getvalue().count("m3 has told no place"), 2)
@@ -108,8 +115,7 @@ class Keeping(Bench):
     def test_one_that_comes_back_is_waited_for_again(self):
         self.at(m1=20, m2=30, m3=10)
         self.look("m1", "m2", "m3")
-        for minute in range(121):
-            self.look("m1", "m2")
+        self.pass_by(32, "m1", "m2")
         self.at(m1=35, m2=35, m3=22)                       # with a copied folder
         self.look("m3")
         self.look("m1", "m2")
@@ -119,16 +125,14 @@ class Keeping(Bench):
     def test_one_whose_folder_is_too_old_is_not_waited_for(self):
         self.at(m1=20, m2=30, m3=10)
         self.look("m1", "m2", "m3")
-        for minute in range(121):
-            self.look("m1", "m2")
+        self.pass_by(32, "m1", "m2")
         before = self.keepers["m1"].log.places()[b"m3"]
         self.look("m3")                                    # it is started with the folder that it had
         self.assertEqual(self.keepers["m1"].log.places()[b"m3"], before)
 
     def test_one_that_never_published_is_waited_for_as_long(self):
         self.at(m1=20, m2=30)
-        for minute in range(119):
-            self.look("m1", "m2")
+        self.pass_by(29, "m1", "m2")
         self.assertEqual(self.store.compacted, 0)
         self.look("m1", "m2")
         self.assertEqual(self.store.compacted, 20)
@@ -137,8 +141,7 @@ class Keeping(Bench):
         self.at(m1=20, m2=30, m3=10)
         self.look("m1", "m2", "m3")
         self.members[0].away = True
-        for minute in range(600):
-            self.look("m1")
+        self.pass_by(90, "m1")
         self.members[0].away = False
         self.look("m1")
         self.assertEqual(self.store.compacted, 10)
@@ -149,8 +152,7 @@ class Keeping(Bench):
         self.look("m1", "m2", "m3")
         self.at(m1=41, m2=41)
         self.store.full = True                             # so they can't publish that
-        for minute in range(121):
-            self.look("m1", "m2")
+        self.pass_by(32, "m1", "m2")
         self.assertIn(self.store.compacted, range(20, 42))  # and the log forgets nothing that the others need
 
     def test_a_full_etcd_forgets_all_the_same(self):

@@ -1,5 +1,7 @@
 """The command as a process: with which status it ends, and what it waits out."""
+import contextlib
 import http.client
+import io
 import os
 import signal
 import socket
@@ -15,6 +17,7 @@ from pathlib import Path
 sys.path.insert(0, str(Path(__file__).resolve().parent))
 
 from bench import HERE, LINE, PATIENCE, SERVICE, Bench, token  # noqa: E402
+from acd_service import main  # noqa: E402
 
 NODE = str(SERVICE / "bin/acd-node")
 NEEDED = ["--name", "m1", "--folder", "/nonexistent/folder", "--etcd", "127.0.0.1:9"]
@@ -164,9 +167,15 @@ class Processes(Bench):
 
 class CommandLines(unittest.TestCase):
     def refused(self, *words):
-        done = subprocess.run([NODE, *words], stderr=subprocess.PIPE, stdout=subprocess.PIPE, text=True, timeout=PATIENCE)
-        self.assertEqual(done.returncode, 2, (words, done.stderr))
-        return done.stderr
+        """In this process: a start of its own would cost more than all else here."""
+        with contextlib.redirect_stderr(io.StringIO()) as faults, self.assertRaises(SystemExit) as end:
+            main.main(["acdctl", "node", *words])
+        self.assertEqual(end.exception.code, 2, (words, faults.getvalue()))
+        return faults.getvalue()
+
+    def test_the_command(self):
+        done = subprocess.run([NODE, *NEEDED[:2]], stderr=subprocess.PIPE, text=True, timeout=PATIENCE)
+        self.assertEqual((done.returncode, "acd-node: " in done.stderr), (2, True))
 
     def test_an_address_that_strangers_reach(self):
         for address in ["10.0.0.1", "0.0.0.0", "desk.example", "128.0.0.1", ""]:
