@@ -2,7 +2,6 @@
 
 PRUNE_UP_TO is the last request that goes where the archive has it, and PRUNE_STEP how many go at once; PRUNE_SAYS is a line that is printed in place of pruning,
 with the status PRUNE_ENDS. Its words are noted in PRUNE_NOTED, a line each time."""
-import argparse
 import contextlib
 import os
 import signal
@@ -33,17 +32,15 @@ def pruned(file, last):
 
 
 def main():
-    parser = argparse.ArgumentParser()
-    parser.add_argument("--file", type=Path, required=True)
-    parser.add_argument("--archive", type=Path, required=True)
-    much = parser.add_mutually_exclusive_group(required=True)
-    much.add_argument("--days", type=int)
-    much.add_argument("--keep", type=int)
-    options = parser.parse_args(sys.argv[2:])
+    # each option has a value; by hand, since this is started a hundred times
+    options = dict(zip(sys.argv[2::2], sys.argv[3::2], strict=True))
+    if len(options) != 3 or not {"--file", "--archive"} < set(options) <= {"--file", "--archive", "--days", "--keep"}:
+        sys.exit(2)
+    file, archive = Path(options["--file"]), Path(options["--archive"])
     with open(os.environ["PRUNE_NOTED"], "a") as noted:
         print(*sys.argv[1:], file=noted)
     # as the program does beside an archive without a log
-    log = Path(f"{options.archive}-wal")
+    log = Path(f"{archive}-wal")
     if not log.exists():
         log.write_bytes(b"\0" * 41)
     if os.environ.get("PRUNE_SAYS") == "kill":
@@ -51,7 +48,7 @@ def main():
     if "PRUNE_SAYS" in os.environ:
         print(os.environ["PRUNE_SAYS"])
         sys.exit(int(os.environ["PRUNE_ENDS"]))
-    print(pruned(options.file, min(int(os.environ["PRUNE_UP_TO"]), last_of(options.archive))))
+    print(pruned(file, min(int(os.environ["PRUNE_UP_TO"]), last_of(archive))))
 
 
 main()

@@ -15,6 +15,7 @@ TOP = Path(__file__).resolve().parents[3]
 SERVICE = TOP / "service"
 sys.path.append(str(SERVICE))
 from acd_service import VERSION, main  # noqa: E402
+import service_ground as ground  # noqa: E402
 
 # the commands of 1.14, and that of 1.15 which came before acdctl
 OLD = {"acd-calls", "acd-carry", "acd-copy", "acd-export", "acd-follow", "acd-forget", "acd-gate", "acd-local", "acd-node", "acd-plan", "acd-ready", "acd-tick", "acd-trail", "acd-certificate"}
@@ -34,7 +35,7 @@ class CommandsTest(unittest.TestCase):
         self.assertEqual(named, sorted(main.COMMANDS))
         for name in named:
             with self.subTest(name):
-                status, out, faults = said(SERVICE / "bin/acdctl", name, "--help")
+                status, out, faults = ground.said(name, "--help")
                 self.assertEqual((status, faults), (0, ""))
                 self.assertIn(f"acdctl {name}", out)
                 self.assertNotIn(f"acd-{name} ", out)
@@ -83,11 +84,13 @@ class RecordsTest(unittest.TestCase):
 
 class OldNamesTest(unittest.TestCase):
     def test_each_says_its_own_name(self):
-        programs = {program.name for program in (SERVICE / "bin").glob("acd*")}
-        self.assertEqual((programs - {"acdctl"}, set(main.OLD)), (OLD, OLD))
+        """Each is the same program, which goes by its own name."""
+        programs = {program.name: program.read_bytes() for program in (SERVICE / "bin").glob("acd*")}
+        self.assertEqual((set(programs) - {"acdctl"}, set(main.OLD)), (OLD, OLD))
+        self.assertEqual((len(set(programs.values())), said(SERVICE / "bin/acd-copy", "--help")), (1, (0, ground.said("--help", by="acd-copy").out, "")))
         for name in sorted(OLD):
             with self.subTest(name):
-                status, out, faults = said(SERVICE / "bin" / name, "--help")
+                status, out, faults = ground.said("--help", by=name)
                 self.assertEqual((status, faults), (0, ""))
                 self.assertIn(name, out)
                 self.assertNotIn("acdctl", out)

@@ -7,6 +7,8 @@ import tempfile
 import unittest
 from pathlib import Path
 
+import service_ground as ground
+
 TOP = Path(__file__).resolve().parents[3]
 SERVICE = TOP / "service"
 OLD_PAGES = {"acd-calls.1", "acd-plan.1", "acd-trail.1", "acd-export.1", "acd-ready.8", "acd-tick.8", "acd-gate.8", "acd-copy.8", "acd-carry.8", "acd-follow.8", "acd-forget.8",
@@ -17,9 +19,9 @@ def told(*words, **how):
     return subprocess.run(words, stdout=subprocess.PIPE, text=True, check=True, timeout=60, **how).stdout
 
 
-def options_of(*words):
+def options_of(*words, by="acdctl"):
     """The long options that --help names."""
-    return set(re.findall(r"^  (?:-h, )?(--[\w-]+)", told(*words, "--help"), re.MULTILINE))
+    return set(re.findall(r"^  (?:-h, )?(--[\w-]+)", ground.said(*words, "--help", by=by).out, re.MULTILINE))
 
 
 class Made(unittest.TestCase):
@@ -29,9 +31,9 @@ class Made(unittest.TestCase):
         cls.addClassCleanup(held.cleanup)
         cls.folder = Path(held.name)
         told("/usr/bin/python3", "-B", SERVICE / "man/make", cls.folder, env={**os.environ, "PYTHONPATH": f"{SERVICE}:{TOP / 'client'}"})
-        cls.names = re.findall(r"^  ([a-z]+)  ", told(SERVICE / "bin/acdctl", "--help"), re.MULTILINE)
-        cls.wanted = {f"acdctl {name}": options_of(SERVICE / "bin/acdctl", name) for name in cls.names}
-        cls.wanted |= {link.name: options_of(link) for link in (SERVICE / "bin").glob("acd-*")}
+        cls.names = re.findall(r"^  ([a-z]+)  ", ground.said("--help").out, re.MULTILINE)
+        cls.wanted = {f"acdctl {name}": options_of(name) for name in cls.names}
+        cls.wanted |= {link.name: options_of(by=link.name) for link in (SERVICE / "bin").glob("acd-*")}
 
     def completed(self, *words):
         """What the completion offers for the last word."""

@@ -31,7 +31,7 @@ class Pruning(ground.Case):
         self.noted = self.folder / "noted"
         self.enterContext(mock.patch.dict(os.environ, {"PRUNE_NOTED": str(self.noted), "PRUNE_UP_TO": "5"}))
         self.enterContext(mock.patch.object(settings, "FILE", self.folder / "acd.env"))
-        self.program("acd", f'[ "$1" != prune ] || exec /usr/bin/python3 {STAND_IN} "$@"\nexec {ground.ACD} "$@"')
+        self.program("acd", f'[ "$1" != prune ] || exec /usr/bin/python3 -S {STAND_IN} "$@"\nexec {ground.ACD} "$@"')
         self.words = ("prune", "--file", self.file)
         self.copies = self.home / "copies"
 
