@@ -116,16 +116,16 @@ def run_proof(options: argparse.Namespace, total: Total) -> bool:
     return run([one("rt ci", "proof/gate-cost", "rt", "ci")], total)
 
 
-def tests(stages: list[str], acd: Path) -> list[Job]:
-    """The jobs of `program` and `python`: they run side by side."""
+def tests(stages: list[str], acd: Path, words: list[str]) -> list[Job]:
+    """The jobs of `program` and `python` that these words choose: they run side by side."""
     of_program = parts.trials(acd, parts.OF_THE_PROGRAM) if "program" in stages else []
-    of_python = [*parts.lint(), *parts.types(), *parts.trials(acd, parts.OF_THE_SERVICE), *parts.unit(acd)] if "python" in stages else []
-    return of_program + of_python
+    of_python = [*parts.lint(), *parts.types(), *parts.trials(acd, parts.OF_THE_SERVICE)] if "python" in stages else []
+    return chosen(words, of_program + of_python) + (parts.unit(acd, words) if "python" in stages else [])
 
 
 def run_tests(options: argparse.Namespace, total: Total) -> bool:
     """Whatever fails, the stages that follow can run."""
-    run(chosen(options.words, tests(options.only, program(options.only))), total)
+    run(tests(options.only, program(options.only), options.words), total)
     return True
 
 
@@ -139,7 +139,7 @@ def run_release(options: argparse.Namespace, total: Total) -> bool:
 
 def run_coverage(options: argparse.Namespace, total: Total) -> bool:
     with tempfile.TemporaryDirectory(prefix="acd-coverage-") as folder:
-        is_good = run(chosen(options.words, parts.unit(program(options.only), branches.variables(Path(folder)))), total)
+        is_good = run(parts.unit(program(options.only), options.words, branches.variables(Path(folder))), total)
         say("\n" + "\n".join(branches.table(branches.counted(Path(folder)))))
     return is_good
 
@@ -156,9 +156,8 @@ RUN: dict[tuple[str, ...], Callable[[argparse.Namespace, Total], bool]] = {
 
 def needed(options: argparse.Namespace) -> list[str]:
     """The packages of the jobs that are to run."""
-    jobs = tests(options.only, Path()) + (parts.unit(Path()) if "coverage" in options.only else [])
-    jobs += parts.trials(Path(), parts.BY_HAND) if "trials" in options.only else []
-    jobs = chosen(options.words, jobs)
+    jobs = tests(options.only, Path(), options.words) + (parts.unit(Path(), options.words) if "coverage" in options.only else [])
+    jobs += chosen(options.words, parts.trials(Path(), parts.BY_HAND)) if "trials" in options.only else []
     helpers = set(parts.HELPERS if jobs else ())
     jobs += of_release() if "release" in options.only else []
     found = helpers | {package for job in jobs for package in job.packages}

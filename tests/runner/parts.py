@@ -5,7 +5,7 @@ import ast
 import functools
 import importlib.util
 import subprocess
-from collections.abc import Iterator
+from collections.abc import Iterator, Sequence
 from pathlib import Path
 from typing import NamedTuple
 
@@ -21,6 +21,7 @@ HELPERS = ("python3-pytest", "python3-pytest-timeout")      # unittest takes the
 NGINX = ("nginx-light", "openssl", "python3-aiohttp", "python3-bcrypt", "python3-passlib")
 SPACES = ("iproute2", "openssl", "strace", "util-linux")
 LONGEST = 4 * 3600      # seconds that a trial may take
+TOGETHER = 8            # so many files of unit tests at most are run by one process, whose start costs as much as the tests of a file
 
 
 class Part(NamedTuple):
@@ -49,7 +50,7 @@ MARKS = {
 }
 # of the process itself; the greatest comes first, so that it ends with the others
 OF_THE_PROGRAM = {
-    "sizes": Part("try-sizes", (), ("try-sizes",)),
+    "sizes": Part("try-sizes", ("--some",), ("try-sizes",)),
     "serving": Part("try-serving", (), ("try-serving",)),
     "runs": Part("try-runs", (), ("try-runs",)),
     "scenes": Part("try-scenes", (), ("try-scenes",)),
@@ -67,7 +68,7 @@ OF_THE_SERVICE = {
     "rules": Part("try-rules", ("--only", "days"), ("rules/drawn_days.py",)),
     "figures": Part("try-figures", ("--days", "4"), ("try-figures",)),
     "certificates": Part("try-certificates", (), ("try-certificates",), ("openssl",)),
-    "follow cases": Part("try-follow", ("--only", "cases"), ("follow/cases.py",), SPACES, ("alone",)),
+    "follow cases": Part("try-follow", ("--only", "cases"), ("follow/cases.py:Cases",), SPACES, ("alone",)),
     "copies": Part("try-copies", ("--some", "--only", "copies,again"), ("copies/copying.py", "copies/again.py"), ("strace", "util-linux"), ("alone",)),
 }
 # what takes long, or needs what few machines have: `./test --trials` runs them one after the other
@@ -93,6 +94,7 @@ BY_HAND = {
     "release": Part("try-release", (), ("try-release",), ("binutils",), (), False),
     "rules nodes": Part("try-rules", ("--only", "nodes"), ("try-rules:Nodes",), (), ("etcd",)),
     "rules whole": Part("try-rules", ("--days", "1000", "--only", "days,process,served"), ("rules/drawn_days.py", "try-rules:Process", "try-rules:Served"), NGINX),
+    "sizes whole": Part("try-sizes", (), ("try-sizes",)),
     "standby": Part("try-standby", (), ("try-standby",), (*NGINX, *SPACES, "curl", "gcc"), ("root",)),
     "stops": Part("try-stops", (), ("try-stops",)),
     "ticks": Part("try-ticks", (), ("try-ticks",)),
@@ -146,17 +148,32 @@ def has_pytest() -> bool:
     return importlib.util.find_spec("pytest") is not None
 
 
-def unit_job(file: Path, program: Path, by_pytest: bool, needed: tuple[str, ...] = (), variables: dict[str, str] | None = None) -> Job:
-    run = ("-m", "pytest", "-q", "-p", "no:cacheprovider", "--junit-xml={place}", str(file)) if by_pytest else (str(PLAIN), str(file), "{place}")
-    name = str(file.relative_to(TOP)) if file.is_relative_to(TOP) else file.name
-    return Job(name, (PYTHON, *run), counts.of_pytest if by_pytest else counts.of_unittest, needed, functools.partial(cases_in, (str(file),)),
+def name_of(file: Path) -> str:
+    return str(file.relative_to(TOP)) if file.is_relative_to(TOP) else file.name
+
+
+def unit_job(name: str, files: Sequence[Path], program: Path, by_pytest: bool, needed: tuple[str, ...] = (), variables: dict[str, str] | None = None) -> Job:
+    run = ("-m", "pytest", "-q", "-p", "no:cacheprovider", "--continue-on-collection-errors", "--junit-xml={place}") if by_pytest else (str(PLAIN), "--note", "{place}")
+    places = tuple(map(str, files))
+    return Job(name, (PYTHON, *run, *places), counts.of_pytest if by_pytest else counts.of_unittest, needed, functools.partial(cases_in, places),
                variables={"ACD": str(program), **(variables or {})})
 
 
-def unit(program: Path, variables: dict[str, str] | None = None) -> list[Job]:
-    """A job for each file of unit tests."""
+def groups_of(files: list[Path]) -> Iterator[tuple[str, list[Path]]]:
+    """The files of each folder in groups of about one size, each with a name."""
+    for folder in UNIT_PACKAGES:
+        inside = [file for file in files if file.is_relative_to(TOP / UNIT / folder)]
+        many = -(-len(inside) // TOGETHER)
+        for number in range(many):
+            group = inside[number::many]
+            yield name_of(group[0]) if len(group) == 1 else f"{UNIT}/{folder}{f' {number + 1} of {many}' if many > 1 else ''}", group
+
+
+def unit(program: Path, words: Sequence[str] = (), variables: dict[str, str] | None = None) -> list[Job]:
+    """The files of unit tests that have one of these words in their name, or all where there is none."""
     by_pytest = has_pytest()
-    return [unit_job(file, program, by_pytest, UNIT_PACKAGES[file.relative_to(TOP / UNIT).parts[0]], variables) for file in unit_files()]
+    files = [file for file in unit_files() if not words or any(word in name_of(file) for word in words)]
+    return [unit_job(name, group, program, by_pytest, UNIT_PACKAGES[group[0].relative_to(TOP / UNIT).parts[0]], variables) for name, group in groups_of(files)]
 
 
 def trials(program: Path, of: dict[str, Part]) -> list[Job]:

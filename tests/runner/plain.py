@@ -1,9 +1,10 @@
 #!/usr/bin/python3
-"""Runs the tests of a file by unittest alone, where there is no pytest.
+"""Runs the tests of some files by unittest alone, where there is no pytest.
 
-usage: tests/runner/plain.py FILE [NOTE]      (NOTE: a file for the count, as JSON)"""
+usage: tests/runner/plain.py [--note NOTE] FILE ..      (NOTE: a file for the count, as JSON)"""
 from __future__ import annotations
 
+import argparse
 import json
 import sys
 import tomllib
@@ -25,8 +26,8 @@ def names(result: unittest.TestResult) -> tuple[set[str], set[str]]:
     return {getattr(test, "test_case", test).id() for test in failed}, {test.id() for test, _ in result.skipped}
 
 
-def run(file: Path) -> dict[str, object]:
-    found = unittest.TestLoader().discover(str(file.parent), file.name)
+def run(files: list[Path]) -> dict[str, object]:
+    found = unittest.TestSuite(unittest.TestLoader().discover(str(file.parent), file.name) for file in files)
     result = unittest.TextTestRunner(verbosity=0).run(found)
     failed, skipped = names(result)
     if not result.testsRun and not failed:
@@ -39,8 +40,12 @@ def run(file: Path) -> dict[str, object]:
 
 if __name__ == "__main__":
     find_modules()
-    noted = run(Path(sys.argv[1]).resolve())
-    if len(sys.argv) > 2:
-        Path(sys.argv[2]).write_text(json.dumps(noted))
+    parser = argparse.ArgumentParser(usage=(__doc__ or "").partition("usage: ")[2], description=__doc__)
+    parser.add_argument("--note", type=Path)
+    parser.add_argument("files", nargs="+", type=Path)
+    options = parser.parse_args()
+    noted = run([file.resolve() for file in options.files])
+    if options.note:
+        options.note.write_text(json.dumps(noted))
     else:
         sys.exit(1 if noted["failed"] else 0)

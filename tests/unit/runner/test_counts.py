@@ -19,30 +19,35 @@ WAYS = (True, False) if parts.has_pytest() else (False,)
 
 
 class Counts(unittest.TestCase):
-    def counted(self, text: str, by_pytest: bool) -> Count:
+    """A process runs several files: what failed in one of them counts beside what passed in the others."""
+
+    def counted(self, by_pytest: bool, **texts: str) -> Count:
         with tempfile.TemporaryDirectory() as folder, Jobs() as jobs:
-            file = Path(folder) / "test_it.py"
-            file.write_text(text)
-            return jobs.run(parts.unit_job(file, TOP / "release/acd", by_pytest)).count
+            files = [Path(folder) / f"test_{name}.py" for name in texts]
+            for file, text in zip(files, texts.values()):
+                file.write_text(text)
+            return jobs.run(parts.unit_job("it", files, TOP / "release/acd", by_pytest)).count
 
     def test_files(self) -> None:
         for by_pytest in WAYS:
-            for text, passed, failed, skipped in ((GOOD, 2, 0, 0), (BAD, 2, 1, 0), (PARTS, 2, 1, 0), (SKIPPED, 2, 0, 1)):
-                with self.subTest(text=text, by_pytest=by_pytest):
-                    count = self.counted(text, by_pytest)
-                    self.assertEqual((count.passed, len(count.failed), len(count.skipped)), (passed, failed, skipped))
+            with self.subTest(by_pytest=by_pytest):
+                count = self.counted(by_pytest, good=GOOD, bad=BAD, parts=PARTS, skipped=SKIPPED)
+                self.assertEqual((count.passed, [name.split(".")[-3:] for name in count.failed], [name.split(".")[-3:] for name in count.skipped]),
+                                 (8, [["test_bad", "T", "test_c"], ["test_parts", "T", "test_c"]], [["test_skipped", "T", "test_c"]]))
 
     def test_files_that_cannot_be_run(self) -> None:
         for by_pytest in WAYS:
-            for text in (CLASS, ENDED, "import nothing_of_this_name\n", "", "def broken(:\n"):
-                with self.subTest(text=text, by_pytest=by_pytest):
-                    count = self.counted(text, by_pytest)
-                    self.assertEqual((count.passed, bool(count.failed)), (0, True))
-
-    def test_what_failed_is_named(self) -> None:
-        for by_pytest in WAYS:
             with self.subTest(by_pytest=by_pytest):
-                self.assertEqual([name.rpartition(".")[2] for name in self.counted(BAD, by_pytest).failed], ["test_c"])
+                count = self.counted(by_pytest, good=GOOD, whole=CLASS, lacks="import nothing_of_this_name\n", broken="def broken(:\n")
+                self.assertEqual((count.passed, {name for name in ("whole", "lacks", "broken") if any(f"test_{name}" in failed for failed in count.failed)}),
+                                 (2, {"whole", "lacks", "broken"}))
+
+    def test_a_process_that_comes_to_no_end_and_one_without_a_test(self) -> None:
+        for by_pytest in WAYS:
+            for texts in ({"good": GOOD, "ended": ENDED}, {"none": ""}):
+                with self.subTest(by_pytest=by_pytest, texts=texts):
+                    count = self.counted(by_pytest, **texts)
+                    self.assertEqual((count.passed, len(count.failed)), (0, 1))
 
     def test_a_trial(self) -> None:
         failed = "   0.2 s  failed  Days.try_noon\n"

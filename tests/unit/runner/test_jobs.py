@@ -215,10 +215,17 @@ class Chosen(unittest.TestCase):
         self.assertEqual({file.relative_to(TOP / parts.UNIT).parts[0] for file in (TOP / parts.UNIT).rglob("test_*.py")}, set(parts.UNIT_PACKAGES))
 
     def test_words(self) -> None:
-        jobs = [*parts.unit(Path("/bin/true")), *parts.trials(Path("/bin/true"), parts.OF_THE_PROGRAM), *parts.lint()]
-        self.assertEqual({job.name.split("/")[2] for job in command.chosen(["unit/node", "unit/gate"], jobs)}, {"node", "gate"})
-        self.assertEqual([job.name for job in command.chosen(["lint", "trial docs"], jobs)], ["trial docs", "lint"])
-        self.assertEqual((command.chosen([], jobs), command.chosen(["no such job"], jobs)), (jobs, []))
+        def names(*words: str) -> list[str]:
+            return [job.name for job in command.tests(["program", "python"], Path("/bin/true"), list(words))]
+
+        self.assertEqual(names("unit/node", "unit/gate"), ["tests/unit/gate 1 of 3", "tests/unit/gate 2 of 3", "tests/unit/gate 3 of 3", "tests/unit/node"])
+        self.assertEqual((names("lint", "trial docs"), names("test_status"), names("no such job")), (["trial docs", "lint"], ["tests/unit/service/test_status.py"], []))
+        self.assertLess({"types", "trial sizes", "trial rules", "tests/unit/client/test_client.py", "tests/unit/runner"}, set(names()))
+
+    def test_each_file_of_unit_tests_is_run_once_and_has_tests(self) -> None:
+        run = [word for job in parts.unit(Path("/bin/true")) for word in job.words if word.endswith(".py") and "/test_" in word]
+        self.assertEqual(sorted(run), sorted(map(str, parts.unit_files())))
+        self.assertEqual([file for file in run if not parts.cases_in((file,))], [])
 
     def test_cases_of_trials(self) -> None:
         """Each part of a trial has cases, so that what is left out is counted."""
