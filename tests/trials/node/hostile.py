@@ -256,10 +256,11 @@ def compacted_while_one_was_away(machines):
 
 
 def alarms(machines):
-    for alarm, ends in (("NOSPACE", lambda: machines.upkeep()[0] == 0), ("CORRUPT", lambda: machines.etcdctl("alarm", "disarm"))):
+    for alarm, ends in (("NOSPACE", lambda: machines.upkeep()[0] == 0), ("CORRUPT", lambda: wait_until(lambda: machines.etcdctl("alarm", "disarm")))):
         found = machines.etcd_call(1, "/v3/maintenance/alarm", {"action": "ACTIVATE", "alarm": alarm, "memberID": "1"}, "m1")
         machines.see(f"it raises {alarm}", "alarms" in found, found)
         machines.see("then a request is 503", machines.ask(2, '{"requester":"alarm","invoke":1,"service":"tick"}')[0] == 503)
+        # etcdctl itself gives up after five seconds
         machines.see(f"{alarm} is ended", ends())
         goes_on(machines, f"an alarm {alarm} that is no more")
 

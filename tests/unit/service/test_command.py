@@ -173,7 +173,9 @@ class Settings(unittest.TestCase):
     def test_defaults_are_those_of_the_example(self):
         shown = dict(line.split("=", 1) for line in (TOP / "service/settings/acd.env").read_text().splitlines() if line.startswith("ACD_"))
         self.assertEqual(shown.pop("ACD_COPY_FOLDER"), "/var/lib/acd/copies")
-        self.assertEqual({name: value for name, value in settings.DEFAULTS.items() if value}, shown)
+        # a new installation keeps seven days; an older file that doesn't say it keeps two, as before
+        self.assertEqual((shown.pop("ACD_CARRY_DAYS"), settings.DEFAULTS["ACD_CARRY_DAYS"]), ("7", "2"))
+        self.assertEqual({name: value for name, value in settings.DEFAULTS.items() if value and name != "ACD_CARRY_DAYS"}, shown)
 
     def test_one_default_of_the_file_in_all_commands(self):
         from acd_service import copy, forget, ready, restore, tick

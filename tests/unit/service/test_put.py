@@ -85,7 +85,8 @@ class Put(unittest.TestCase):
                 with self.subTest(what, number=number):
                     found = self.steps(lambda: write(number))
                     self.assertTrue(path.read_text())
-                    self.assertEqual(found, [path.read_text(), "name", "folder"])
+                    # a day has three files of records
+                    self.assertEqual((found[0], set(found[1::3]), set(found[2::3])), (path.read_text(), {"name"}, {"folder"}))
 
     def test_mode_is_as_asked_for_whatever_the_umask(self):
         for umask in (0o000, 0o027, 0o077):

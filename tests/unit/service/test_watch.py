@@ -79,7 +79,6 @@ class Lines(Watched):
             with self.subTest(text[:30]):
                 self.assertEqual(watch.moment_of(text), moment)
 
-
     def test_how_many_requests_a_page_tells_of(self):
         """Their numbers follow one another; the first ones may be in an archive alone."""
         for page, count in (({"last": 0, "requests": []}, 0), ({"last": 7, "requests": [{"stamp": 1}, {"stamp": 2}]}, 7), ({"last": 650_000, "requests": [{"stamp": 50_001}]}, 600_000)):
