@@ -50,7 +50,7 @@ MARKS = {
 }
 # of the process itself; the greatest comes first, so that it ends with the others
 OF_THE_PROGRAM = {
-    "sizes": Part("try-sizes", ("--some",), ("try-sizes",)),
+    "sizes": Part("try-sizes", (), ("try-sizes",)),
     "serving": Part("try-serving", (), ("try-serving",)),
     "runs": Part("try-runs", (), ("try-runs",)),
     "scenes": Part("try-scenes", (), ("try-scenes",)),
@@ -94,7 +94,6 @@ BY_HAND = {
     "release": Part("try-release", (), ("try-release",), ("binutils",), (), False),
     "rules nodes": Part("try-rules", ("--only", "nodes"), ("try-rules:Nodes",), (), ("etcd",)),
     "rules whole": Part("try-rules", ("--days", "1000", "--only", "days,process,served"), ("rules/drawn_days.py", "try-rules:Process", "try-rules:Served"), NGINX),
-    "sizes whole": Part("try-sizes", (), ("try-sizes",)),
     "standby": Part("try-standby", (), ("try-standby",), (*NGINX, *SPACES, "curl", "gcc"), ("root",)),
     "stops": Part("try-stops", (), ("try-stops",)),
     "ticks": Part("try-ticks", (), ("try-ticks",)),
