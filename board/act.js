@@ -91,7 +91,7 @@ function show(text = '') {
 
 // Asks for a yes, and a choice; null for no.
 /** @type {Asks} */
-const ask = (question, choices = [], chosen = choices[0]?.[0], what = 'act.to') => {
+export const ask = (question, choices = [], chosen = choices[0]?.[0], what = 'act.to') => {
   const dialog = byId('act'), options = choices.map(([value, text]) => make('option', {value}, text));
   put(dialog.firstElementChild, make('p', question),
     make('label', {hidden: !choices.length}, make('span', word(what)), ' ', make('select', ...options)),

@@ -225,6 +225,7 @@ useSettings();
 show();
 openSession(logOut).then(who => {
   if (who.role === 'agent' && who.reads === 'own') location.replace(`agent/${location.search}`);
+  set('office', {hidden: who.role !== 'admin'});
   lead.begin(who);
   if (usualGroups([...lead.groups].join(','))) {
     useSettings();

@@ -1,6 +1,7 @@
 // The answers of desk and gate to a login, and the session of a browser.
 import {set} from './draw.js';
 import * as net from './net.js';
+import {offerPassword} from './password.js';
 import {refusal, word} from './words.js';
 
 const USED_EVERY = 60000, AGAIN = 5000;
@@ -38,5 +39,6 @@ export const openSession = async (leave, late) => {
     fetch(`${net.base}/session`, {method: 'POST'}).catch(() => { used = 0; });
   }, {capture: true, passive: true});
   set('log-off', {hidden: !who.begun, onclick: leave});
+  offerPassword(who);
   return who;
 };

@@ -88,6 +88,16 @@ badGateway: the gate does not run
 gatewayTimeout: the gate does not answer
 noDesk: the desk does not answer
 unknownAgent: no such agent is planned
+deviceExists: that number is planned already
+agentExists: that agent is planned already
+planFull: the plan is full
+wrongPassword: the password of now is wrong
+passwordForm: a password has 10 signs at least and 72 at most, and is neither the login nor the one before
+loginExists: there is such a login already
+rootsLogin: that login belongs to the machine's files, or begins as one of theirs
+unknownLogin: there is no such login any more
+tooManyLogins: there are as many logins as there may be
+notWritten: it could not be written: the disk of the gate is full, say
 [csv]
 save: CSV
 [agents]
@@ -347,6 +357,98 @@ who: Who is logged in? {why}
 noNumber: The login {login} has no agent of its own.
 board: The board
 looks: The login {login} looks at agent {number} here, and asks for nothing.
+# the office's page
+[office]
+title: Office
+person: A new person
+changes: Another role for {login}
+role: Role
+role.agent: agent
+role.lead: lead
+role.supervisor: supervisor
+name: Name, in any script
+number: Number of the agent
+number.any: Number
+login: Login: small letters, digits, -
+login.head: Login
+login.of: Login of {who}
+password: First password
+groups: Groups; if none is ticked, all
+groups.lead: Groups of the lead, one at least
+stations: Only at these stations, with commas
+give: Give the login
+change: Change
+planned: Agent {who} is planned already. Call this agent {name}?
+at: Log in at
+told: Write it down or print it: nobody can see the password again.
+print: Print
+renew: New password
+renew.sure: Give {login} a new first password? Who is logged in by it is logged out.
+end: End
+end.sure: End the login {login}? Who is logged in by it is logged out. The agent stays in the plan.
+logins: Logins
+here: These logins are this machine's. A standby has none of them, and of three machines each has its own. Logins of the machine's
+  files are changed there alone.
+of: Agent, groups
+state: State
+first: first password
+roots: of the machine's files
+plan: Plan
+kind: Kind
+kind.group: group
+kind.station: station
+kind.agent: agent
+ring: Ring, s
+wrap: After-call work, s
+doPlan: Plan it
+asPlanned: It is planned so.
+csv: A plan as CSV
+save: Save as CSV
+csv.faulty: The file has faults, and nothing was changed:
+csv.line: line {n}: {what}
+csv.header: the first line must be kind,number,name,ring,wrap
+csv.fields: it must have five fields
+csv.kind: the kind must be group, station or agent
+csv.number: the number must be of digits, 15 at most, an agent's 9
+csv.name: a group and an agent have a name, of 80 signs at most, and a station has none
+csv.ring: a group has a ring, from 0 to 3600 seconds, and nothing else has one
+csv.wrap: a group has after-call work, from 0 to 3600 seconds, and nothing else has it
+csv.twice: the number is there twice
+csv.crossed: These are of another kind in the plan, and are left as they are:
+csv.changes.one: {n} change
+csv.changes.other: {n} changes
+csv.beyond: The plan has these besides. They stay:
+csv.at: {n} of {all}
+csv.done.one: {n} change was made
+csv.done.other: {n} changes were made
+csv.refused.one: {n} change was refused
+csv.refused.other: {n} changes were refused
+acts: What was done last
+when: When
+who: Who
+what: What
+did.giveLogin: gave the login {of}
+did.changeRole: gave {of} another role
+did.givePassword: gave {of} a new first password
+did.changePassword: changed the own password
+did.endLogin: ended the login {of}
+did.giveName: called {of} {name}
+did.takeName: took the name in another script from {of}
+did.notDone: number {number} was not done: it could not be written
+old: nginx does not pass this page's questions on: the machine's administrator has to take the nginx.conf of this version.
+[password]
+own: Password
+rule: Another password, of {n} signs at least
+first: Your password was given to you. Choose one of your own, of {n} signs at least.
+roots: The password of this login is in the machine's files: ask the machine's administrator.
+old: Password of now
+new: New password
+again: The new one again
+differs: The two new ones differ.
+change: Change it
+later: Later
+leave: Leave it
+done: Your password is another one now. Other pages of this login are logged out.
 [login]
 title: Log in
 name: Name

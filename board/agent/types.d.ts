@@ -25,9 +25,9 @@ declare global {
   type Mine = {agent: MyState, calls: MyCall[], day?: MyDay | null, doing: {doing: Doing, since: number, group?: string | null},
     groups: MyQueue[], lines: Record<string, MyQueue>, live: boolean, missed?: Missed | null, changed?: Changed | null,
     names?: Names, queues: string[]};
-  /** what GET /session answers */
-  type Who = {agent?: string, begun?: number, ends?: number, groups?: string[], login?: string, reads?: string, role?: string,
-    stations?: string[], why?: string};
+  /** what GET /session answers; own: the login may change its password here; first: it has one that it was given */
+  type Who = {agent?: string, begun?: number, ends?: number, first?: boolean, groups?: string[], login?: string, own?: boolean,
+    reads?: string, role?: string, stations?: string[], why?: string};
 
   // what is asked for
 

@@ -10,9 +10,10 @@ const next = (/^\/board\/[^\\]*$/.test(wanted) ? wanted : '/board/') + location.
 
 const show = (key = '') => put('told', key && word(`login.${key}`));
 
-// Agents get their page, if they wanted none.
-const goOn = (text = '') =>
-  location.replace(base + (JSON.parse(text).role === 'agent' && /^\/board\/(#|$)/.test(next) ? '/board/agent/' : next));
+// Agents and administrators get their page, if they wanted none.
+/** @type {Record<string, string>} */
+const PAGES = {agent: '/board/agent/', admin: '/board/office/'};
+const goOn = (text = '') => location.replace(base + (/^\/board\/(#|$)/.test(next) && PAGES[JSON.parse(text).role] || next));
 
 translate();
 document.title = word('login.title');

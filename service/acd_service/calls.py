@@ -15,7 +15,7 @@ from acd_service.book import Book, opened
 from acd_service.command import Fault, report
 from acd_service.figures import STEP, Figures, Reached
 from acd_service.leaving.records import Call, Records
-from acd_service.office import FILE, Office, counting
+from acd_service.office import FILE, Office, counting, put_names
 from acd_service.record_days import APART, BEFORE, KINDS, Days, Writer, wanted_from
 from acd_service.rules.reading import REQUESTER
 
@@ -362,8 +362,7 @@ def do(options: argparse.Namespace, folder: Path) -> bool:
     book = book_of(file, options, folder, since)
     names = book.names()
     if options.names or options.days:
-        for kind in names:
-            names[kind] |= office.names[kind]
+        put_names(names, file, office)
     if options.days:
         has_all = write_days(options.days, book, office, Form(names, True, True), names, made)
     else:

@@ -13,7 +13,7 @@ from collections.abc import Callable, Iterator
 from pathlib import Path
 from typing import Any
 
-from acd_service import certificate, command, office, settings
+from acd_service import certificate, command, gate_state, office, settings
 from acd_service.command import Fault
 
 # least and greatest value of a setting
@@ -121,6 +121,19 @@ def of_logins(roles: Path, users: Path) -> Iterator[str]:
         yield f"{roles}: {login} has no line in {users}, and can't log in"
 
 
+def of_own(folder: Path, roles: Path, users: Path) -> Iterator[str]:
+    """What the gate refuses of the logins, roles and names that the office gave. There may be none."""
+    from acd_service.gate.accounts import Accounts
+    if not folder.is_dir():
+        return
+    with command.reports_into() as reports:
+        found = Accounts(roles, users, folder)
+        found.both()
+        found.names()
+    # what is said of root's own files was said before
+    yield from (line for line in reports if line.startswith(str(folder)))
+
+
 # Names
 
 def of_board(file: Path) -> Iterator[str]:
@@ -199,6 +212,8 @@ def of_nginx(folder: Path, env: Path) -> Iterator[str]:
             yield f"{WARNING}{file} is of before 1.16: nginx asks the gate twice for each request"
         elif re.search(rf"{PROXY}\s+\$acd_session_secret\b", text):
             yield f"{WARNING}{file} is of 1.16: nginx tells the gate the secret that signs sessions"
+        elif not re.search(r"location[^{]*\boffice\b", text):
+            yield f"{WARNING}{file} is of before 1.18: nginx passes on neither /office nor /password"
         yield from of_certificates(file, text)
 
 
@@ -249,10 +264,11 @@ def of_certificate(place: Path, key: Path, now: datetime.datetime) -> Iterator[s
 
 # The command
 
-def findings(folder: Path, nginx: Path) -> Iterator[str]:
-    env = folder / "acd.env"
+def findings(folder: Path, nginx: Path, gate: Path) -> Iterator[str]:
+    env, roles, users = folder / "acd.env", folder / "roles", folder / "users"
     judges: tuple[tuple[Path, Callable[[], Iterator[str]]], ...] = (
-        (env, lambda: of_settings(env)), (folder / "roles", lambda: of_logins(folder / "roles", folder / "users")),
+        (env, lambda: of_settings(env)), (roles, lambda: of_logins(roles, users)),
+        (gate, lambda: of_own(gate, roles, users)),
         (folder / "board.json", lambda: of_board(folder / "board.json")), (nginx, lambda: of_nginx(nginx, env)))
     for file, judge in judges:
         try:
@@ -266,6 +282,8 @@ def parser() -> command.Parser:
                            "It starts nothing, and prints a line for each fault and each warning.")
     found.add_argument("--folder", type=Path, default=settings.FILE.parent, metavar="FOLDER",
                        help=f"where the first four are; {settings.FILE.parent} unless given")
+    found.add_argument("--gate", type=Path, default=gate_state.FOLDER, metavar="FOLDER",
+                       help=f"where the logins are that the office gave by its page; {gate_state.FOLDER} unless given")
     found.add_argument("--nginx", type=Path, default=Path("/etc/nginx"), metavar="FOLDER",
                        help="where nginx's configuration is; /etc/nginx unless given")
     return found
@@ -273,7 +291,7 @@ def parser() -> command.Parser:
 
 def do(options: argparse.Namespace) -> int:
     """Its status."""
-    found = list(findings(options.folder, options.nginx))
+    found = list(findings(options.folder, options.nginx, options.gate))
     for line in found:
         command.say(line)
     if all(line.startswith(WARNING) for line in found):

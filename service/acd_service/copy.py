@@ -19,7 +19,7 @@ from collections.abc import Iterator
 from pathlib import Path
 from typing import NoReturn
 
-from acd_service import audit, chain, command, held, last_copy, put, restoring, settings
+from acd_service import audit, chain, command, gate_state, held, last_copy, put, restoring, settings
 from acd_service.command import Fault, report, say
 from acd_service.halt import Desk, Missed, desks_over, halted
 from acd_service.pair import identity, log_of
@@ -363,8 +363,9 @@ def old_proxies() -> Iterator[Path]:
                 yield file
 
 
-def copy(file: Path, folder: Path, keep: int, halt: int) -> bool:
-    """Whether all is as it should be."""
+def copy(file: Path, folder: Path, keep: int, halt: int, own: Path | None = None, has_own: bool = False) -> bool:
+    """Whether all is as it should be. `own` is the folder of the gate's own files, which have to be there if `has_own`
+    says so."""
     found = desks_over(file)
     looked_for(file, found)
     for proxy in old_proxies():
@@ -381,13 +382,14 @@ def copy(file: Path, folder: Path, keep: int, halt: int) -> bool:
     new = Path(tempfile.mkdtemp(prefix=".new.", dir=folder))
     try:
         desk = taken(file, new, halt)
+        is_whole = gate_state.copied(own, new, has_own)
         sync(*new.iterdir(), new)
         made = judged(new, folder, file, desk)
     finally:
         shutil.rmtree(new, ignore_errors=True)
     if not broken:
         clear_away(folder, keep, made)
-    return not wrong + broken
+    return is_whole and not wrong + broken
 
 
 # The command
@@ -396,7 +398,7 @@ def copied_and_told(options: argparse.Namespace) -> bool:
     """A copy, about which a line is left where one is wanted."""
     verdict = "failed"
     try:
-        is_well = copy(options.file, options.folder, options.keep, options.halt)
+        is_well = copy(options.file, options.folder, options.keep, options.halt, options.own, options.has_own)
         verdict = "sound" if is_sound(good_copies(options.folder)[-1]) else "again"
         return is_well
     except Aside as fault:
@@ -424,6 +426,7 @@ def halt_seconds(text: str) -> int:
 def parser() -> command.Parser:
     found = command.Parser(ABOUT)
     add_places(found)
+    add_own(found)
     found.add_argument("--keep", type=number, metavar="DAYS",
                        help="of how many days to keep the last good copy; ACD_COPIES, else 7")
     found.add_argument("--halt", type=halt_seconds, metavar="SECONDS",
@@ -436,6 +439,9 @@ def parser() -> command.Parser:
         does.add_argument("--undo", action="store_true", help="take the last restore back")
     does.add_argument("--continue", dest="continues", action="store_true",
                       help="let a halted desk continue, and copy nothing")
+    does.add_argument("--hand-over", type=Path, metavar="TO",
+                      help="as root copy the gate's own files into this folder, for a copy by its owner, and copy "
+                           "nothing else")
     found.set_defaults(restore=None, undo=False)
     return found
 
@@ -449,6 +455,12 @@ def add_places(found: argparse.ArgumentParser) -> None:
                        help="the folder of the copies; that of ACD_COPY_FOLDER, else copies beside the file")
 
 
+def add_own(found: argparse.ArgumentParser) -> None:
+    """Where the gate's own files are, which a copy has too."""
+    found.add_argument("--own", type=Path, metavar="GATE",
+                       help=f"the folder of the gate's own files; {gate_state.FOLDER} if no --file is given")
+
+
 def read(words: list[str]) -> argparse.Namespace:
     return with_settings(parser().parse_args(words))
 
@@ -456,6 +468,8 @@ def read(words: list[str]) -> argparse.Namespace:
 def with_settings(options: argparse.Namespace) -> argparse.Namespace:
     """The options, with what the settings give where they don't."""
     has = settings.current() if not options.file else settings.DEFAULTS
+    own = getattr(options, "own", None)
+    options.own, options.has_own = own or (None if options.file else gate_state.FOLDER), own is not None
     options.file = held.place(options.file or has["ACD_FILE"])
     options.folder = Path(os.path.abspath(options.folder or has.get("ACD_COPY_FOLDER") or
                                           options.file.parent / "copies"))
@@ -467,6 +481,23 @@ def with_settings(options: argparse.Namespace) -> argparse.Namespace:
     return options
 
 
+def put_back(options: argparse.Namespace, now: gate_state.Files | None) -> gate_state.Files | None:
+    """Restores, or undoes that. Returns the gate's files that belong to it, and keeps those of now with what is put
+    away."""
+    found: list[gate_state.Files | None] = []
+
+    def keep(put_away: Path) -> None:
+        if now is not None:
+            gate_state.saved(put_away / gate_state.BESIDE, now)
+
+    if options.undo:
+        restoring.undo(options.file, say, lambda put_away: found.append(gate_state.of_copy(put_away)), keep)
+    else:
+        keep(restoring.restore(options.file, options.folder, options.restore, say))
+        found.append(gate_state.of_copy(options.folder / options.restore))
+    return found[0]
+
+
 def do(options: argparse.Namespace) -> int:
     """Does what was asked for; the status, 0 where all is as it should be."""
     command.end_on_signals()
@@ -474,10 +505,10 @@ def do(options: argparse.Namespace) -> int:
     if options.continues:
         for desk in desks_over(options.file):
             desk.go_on()
-    elif options.restore is not None:
-        restoring.restore(options.file, options.folder, options.restore, say)
-    elif options.undo:
-        restoring.undo(options.file, say)
+    elif options.hand_over:
+        gate_state.hand_over(options.own or gate_state.FOLDER, options.hand_over)
+    elif options.restore is not None or options.undo:
+        gate_state.beside(options.own, lambda now: put_back(options, now))
     elif not copied_and_told(options):
         return command.FAILED
     return 0

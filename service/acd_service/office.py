@@ -1,5 +1,6 @@
 """The settings of the office in /etc/acd/board.json, as far as records use them: names in any script, limits of the
-service level, the zone. Tested, not proved."""
+service level, the zone; and below its names those that the office gives by its page. Tested, not proved."""
+import contextlib
 import json
 import os
 import time
@@ -7,6 +8,10 @@ import zoneinfo
 from collections.abc import Callable
 from dataclasses import dataclass, field
 from pathlib import Path
+
+from acd_service import gate_state, settings
+from acd_service.command import Fault
+from acd_service.spelling import KINDS, Names, shown_names
 
 FILE = Path("/etc/acd/board.json")
 # seconds, where nobody says otherwise, and the most; the most letters of a name. The board has the same
@@ -68,6 +73,26 @@ def counting(file: Path | None, report: Callable[[str], object]) -> Office:
         os.environ["TZ"] = found.zone
         time.tzset()
     return found
+
+
+def given_names(file: Path | str | None) -> Names:
+    """The names that the office gave by its page: beside a copy those that it has, and with the machine's own desk, or
+    without a file, those of the gate, where this user reads them."""
+    folders = [Path(file).parent / gate_state.BESIDE] if file else []
+    if file is None or str(file) == settings.desk_file():
+        folders.append(gate_state.FOLDER)
+    for folder in folders:
+        with contextlib.suppress(OSError, ValueError, Fault):
+            said = json.loads(gate_state.content(folder / "names.json"))
+            return {kind: texts(said.get(kind)) for kind in KINDS} if isinstance(said, dict) else {}
+    return {}
+
+
+def put_names(names: Names, file: Path | str | None, found: Office) -> None:
+    """Puts the office's names in the place of the desk's, those of board.json before all."""
+    given = given_names(file)
+    for kind in names:
+        names[kind] |= shown_names(names[kind], given.get(kind, {})) | found.names[kind]
 
 
 def is_zone(name: str) -> bool:

@@ -11,11 +11,12 @@ ABOUT = ("Puts a copy in the place of the desk's file, or takes the last restore
 def parser() -> command.Parser:
     found = command.Parser(ABOUT)
     copy.add_places(found)
+    copy.add_own(found)
     does = found.add_mutually_exclusive_group(required=True)
     does.add_argument("restore", nargs="?", metavar="MOMENT",
                       help="the name of the copy to put back, 2026-11-26T031500Z say")
     does.add_argument("--undo", action="store_true", help="take the last restore back")
-    found.set_defaults(continues=False, keep=None, halt=None)
+    found.set_defaults(continues=False, keep=None, halt=None, hand_over=None)
     return found
 
 

@@ -433,8 +433,9 @@ def prepared(file: Path, copy: Path, number: int, say: Callable[[str], object]) 
     return named.load(json.loads(named.state().read_text()))
 
 
-def restore(file: Path, copies: Path, moment: str, say: Callable[[str], object]) -> None:
-    """Puts a copy in the place of the file, or finishes that if it was broken off."""
+def restore(file: Path, copies: Path, moment: str, say: Callable[[str], object]) -> Path:
+    """Puts a copy in the place of the file, or finishes that if it was broken off. Returns the folder of what was put
+    away."""
     with alone(file):
         copy = copy_of(file, copies, moment)
         known = put_away(file)
@@ -450,10 +451,13 @@ def restore(file: Path, copies: Path, moment: str, say: Callable[[str], object])
             "acdctl restore --undo brings them back")
         one.new.home.rmdir()
         sync(one.folder)
+        return one.folder
 
 
-def undo(file: Path, say: Callable[[str], object]) -> None:
-    """Undoes the last restore, or the one that was broken off, or finishes an undo."""
+def undo(file: Path, say: Callable[[str], object], leaves: Callable[[Path], object] = lambda put_away: None,
+         takes: Callable[[Path], object] = lambda taken_back: None) -> None:
+    """Undoes the last restore, or the one that was broken off, or finishes an undo. `leaves` is told of the folder of
+    what was put away before that goes, `takes` of that in which the files of meanwhile are."""
     with alone(file):
         known = put_away(file)
         one = next((one for one in known if not one.is_ended()), known[-1] if known else None)
@@ -466,6 +470,8 @@ def undo(file: Path, say: Callable[[str], object]) -> None:
         if one.was_in_place and any(one.new.home.iterdir()):
             taken = unused_name(file, "taken-back")
             move(one.new.home, taken)
+            takes(taken)
             was = f". The files of meanwhile are in {taken}"
         say(f"Took the restore of {one.moment} back: {file} is as before{was}")
+        leaves(one.folder)
         one.forget()

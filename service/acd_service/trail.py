@@ -1,5 +1,6 @@
 """Prints who asked a desk for what, when, and with which result: a line for each request that it has executed, from its
-file and archives, or from a running desk.
+file and archives, or from a running desk; and between them, in their order, what was given and taken by the office's
+page.
 
 A requester is what the sender wrote. The gate lets a login use its requesters only. It is tested, not proved."""
 import argparse
@@ -16,11 +17,12 @@ from typing import Any, NamedTuple, NoReturn
 
 from acd_client import Client
 
-from acd_service import command, reach, sheets
+from acd_service import command, reach, sheets, trail_acts
 from acd_service.archives import opened
 from acd_service.book import Book
 from acd_service.command import Fault, report
-from acd_service.office import FILE, counting
+from acd_service.office import FILE, counting, put_names
+from acd_service.trail_acts import Act
 
 # the status if other files have some of the requests that the user asked for
 MISSING = 3
@@ -31,12 +33,15 @@ MEMBERS = ["agent", "requested", "call", "caller", "called", "device", "to", "gr
 DEVICES = ("caller", "called", "device", "to", "groups")
 # the members of a result: numbers, printed in the columns of these members, and states
 GIVEN, STATES = ("call", "monitor"), ("state", "pending")
+# those that a table has besides where it has acts
+ACTS = ["act", "of", "role", "stations"]
 COLUMNS = ["stamp", "when", "requester", "invoke", "service", *MEMBERS, "outcome"]
 # the columns that --names adds, and of what their names are
 NAMED = {"agent": ("agent_name", "agents"), "called": ("called_name", "groups"), "device": ("device_name", "groups"),
          "to": ("to_name", "groups"), "groups": ("group_names", "groups")}
 # columns of numbers that aren't to be reckoned with, and of what a spreadsheet may take for a date
-NUMBERED, LIKE_NAMES = {"agent", *DEVICES}, {"requester", "name", *(column for column, _ in NAMED.values())}
+NUMBERED = {"agent", "stations", *DEVICES}
+LIKE_NAMES = {"requester", "name", "of", *(column for column, _ in NAMED.values())}
 KEPT = "stamp, moment, request, status, body"
 # what each request has
 KEY = (("requester", str), ("invoke", int), ("service", str))
@@ -221,6 +226,18 @@ def fits(record: Record, options: argparse.Namespace) -> bool:
                 not options.device or not devices.isdisjoint(options.device)))
 
 
+def fits_act(act: Act, options: argparse.Namespace) -> bool:
+    """The same of an act, which has no key, no stamp and no call."""
+    has = act.given
+    devices = {*map(str, has.get("groups", ())), *map(str, has.get("stations", ())), str(has.get("device"))}
+    return all((not options.requester or any(is_of(name, one) for name in (act.login, str(has.get("of")))
+                                             for one in options.requester),
+                not options.service or act.act in options.service,
+                not (options.invoke or options.stamp or options.call),
+                not options.agent or has.get("agent") in options.agent,
+                not options.device or not devices.isdisjoint(options.device)))
+
+
 def number(text: str) -> int:
     if not re.fullmatch("[1-9][0-9]{0,9}", text):
         raise argparse.ArgumentTypeError(f"'{text}' is no number from 1 on")
@@ -256,6 +273,9 @@ def parser() -> command.Parser:
     for name, kind, about in filters:
         found.add_argument(f"--{name}", action="append", type=kind, metavar=name[0].upper(),
                            help=f"{about}; as often as there are some")
+    found.add_argument("--own", type=Path, metavar="GATE",
+                       help="the folder with the journal of what the office's page gave and took; a copy's own, or the "
+                            "gate's, unless given")
     found.add_argument("--names", action="store_true", help="names beside numbers")
     found.add_argument("--csv", action="store_true", help="CSV in place of lines to read")
     found.add_argument("--excel", action="store_true", help="CSV with ' before what a spreadsheet would change")
@@ -314,6 +334,11 @@ class Lines:
         print(f"{moment_text(record.moment)}  {record.requester()}  {asked_for}: {record.outcome()}  (#{record.stamp}, "
               f"invoke {request['invoke']})")
 
+    def put_act(self, act: Act) -> None:
+        words = act.words()
+        what = f"{act.act} {words}" if words else act.act
+        print(f"{moment_text(act.moment)}  {act.login}  {what}: done  (act {act.number})")
+
     def words(self, name: str, value: object) -> str:
         """A member, and the names of those whose numbers it has."""
         shown = json.dumps(value) if name == "name" else field(value)
@@ -324,9 +349,9 @@ class Lines:
 class Sheet:
     """CSV, a column for each member."""
 
-    def __init__(self, names: Names, is_guarded: bool) -> None:
+    def __init__(self, names: Names, is_guarded: bool, has_acts: bool = False) -> None:
         self.names, self.is_guarded, self.writer = names, is_guarded, csv.writer(sys.stdout, lineterminator="\n")
-        self.columns = COLUMNS + [column for column, _ in NAMED.values() if names]
+        self.columns = COLUMNS + [column for column, _ in NAMED.values() if names] + (ACTS if has_acts else [])
 
     def begin(self) -> None:
         if self.is_guarded:
@@ -338,6 +363,12 @@ class Sheet:
         has |= {column: names_of(self.names, name, has.get(name, "")) for name, (column, _) in NAMED.items()}
         has |= {"stamp": record.stamp, "when": moment_text(record.moment), "requester": record.requester(),
                 "invoke": record.request["invoke"], "service": record.request["service"], "outcome": record.outcome()}
+        self.writer.writerow([self.guarded(column, has.get(column, "")) for column in self.columns])
+
+    def put_act(self, act: Act) -> None:
+        has = {name: field(value) for name, value in act.members().items()}
+        has |= {"when": moment_text(act.moment), "requester": act.login, "service": act.act, "outcome": "done",
+                "act": str(act.number)}
         self.writer.writerow([self.guarded(column, has.get(column, "")) for column in self.columns])
 
     def guarded(self, column: str, text: Any) -> Any:
@@ -375,6 +406,16 @@ def are_missing(found: Sequence[FileRequests | DeskRequests], since: int, option
     return missing
 
 
+def in_order(requests: Iterator[Record], acts: Sequence[Act]) -> Iterator[Record | Act]:
+    """By their moments; the requests keep their own order, and those of a moment come before its acts."""
+    left = list(reversed(acts))
+    for request in requests:
+        while left and left[-1].moment < request.moment:
+            yield left.pop()
+        yield request
+    yield from reversed(left)
+
+
 def do(options: argparse.Namespace, folder: Path) -> bool:
     """Whether all is there that was asked for."""
     office = counting(options.office, report)
@@ -382,14 +423,18 @@ def do(options: argparse.Namespace, folder: Path) -> bool:
     since, until = since.first() if since else NEVER, until.last() if until else EVER
     found = sources(options, folder)
     names: Names = found[-1].names() if options.names else {}
-    for kind in names:
-        names[kind] |= office.names[kind]
-    put: Sheet | Lines = Sheet(names, options.excel) if options.csv or options.excel else Lines(names)
+    put_names(names, options.file, office)
+    desk = next((one.desk for one in found if isinstance(one, DeskRequests)), None)
+    acts = [act for act in trail_acts.found(options.file, options.address, desk, options.own)
+            if since <= act.moment <= until and fits_act(act, options)]
+    put: Sheet | Lines = Sheet(names, options.excel, bool(acts)) if options.csv or options.excel else Lines(names)
     put.begin()
-    for source in found:
-        for record in source.records(since, until):
-            if fits(record, options):
-                put.put(record)
+    requests = (one for source in found for one in source.records(since, until) if fits(one, options))
+    for one in in_order(requests, acts):
+        if isinstance(one, Act):
+            put.put_act(one)
+        else:
+            put.put(one)
     sys.stdout.flush()
     return not are_missing(found, since, options)
 

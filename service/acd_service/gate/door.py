@@ -12,6 +12,7 @@ from acd_service.command import report
 from acd_service.gate.exchanges import Answer, Question, Refused, error
 from acd_service.gate.limits import Rates
 from acd_service.gate.passwords import RIGHT, TOO_MANY, WRONG, Passwords, text
+from acd_service.gate.accounts import Below
 from acd_service.gate.roles import NOTHING, Role, Watched
 from acd_service.gate.sessions import Secrets, Sessions, cookie_of
 from acd_service.gate.traces import Traces
@@ -82,8 +83,8 @@ def verdict(question: Question, shut: Shut) -> Answer:
 class Door:
     """`secrets` are what the gate and the proxy know."""
 
-    def __init__(self, roles: Watched[Role], passwords: Passwords, sessions: Sessions, rates: Rates, traces: Traces,
-                 secrets: Secrets) -> None:
+    def __init__(self, roles: Watched[Role] | Below[Role], passwords: Passwords, sessions: Sessions, rates: Rates,
+                 traces: Traces, secrets: Secrets) -> None:
         self.roles, self.passwords, self.sessions, self.rates = roles, passwords, sessions, rates
         self.traces, self.told = traces, set[str]()
         # an nginx.conf of 1.16 sends the secret of sessions in the place of its own

@@ -69,11 +69,12 @@ def begun(snapshot: Text, before: State | None, has_boards: bool) -> tuple[State
 
 class Following:
     """Follows the desk while somebody wants to know. `ask` is the desk's: a method and a path; `is_rules` says whether
-    a requester is that of an office's rules, and `rules` is their file."""
+    a requester is that of an office's rules, `rules` is their file, and `shown` puts names into a snapshot."""
 
     def __init__(self, ask: Callable[[str, str], Awaitable[Answer]], clock: Callable[[], float] = time.time,
-                 is_rules: Callable[[str], bool] = lambda requester: False, rules: Path | str = RULES) -> None:
-        self.ask, self.clock, self.asking = ask, clock, asyncio.Lock()
+                 is_rules: Callable[[str], bool] = lambda requester: False, rules: Path | str = RULES,
+                 shown: Callable[[Text], Text] = lambda snapshot: snapshot) -> None:
+        self.ask, self.clock, self.asking, self.shown = ask, clock, asyncio.Lock(), shown
         self.is_rules, self.rules = is_rules, rules
         # `answered` is by the clock; `renewed`, `began` and `heard`, when it began to catch up and had caught up last,
         # and `spoke`, when the desk last answered a question, are by one that is never set back
@@ -160,7 +161,7 @@ class Following:
         self.is_stale = False
         while before is not None and await self.take_page(before):
             pass
-        snapshot = await self.page("/snapshot")
+        snapshot = self.shown(await self.page("/snapshot"))
         if before is not None and snapshot["last"] < before.last:
             raise Another
         # what the desk did meanwhile: no report is left out

@@ -108,12 +108,22 @@ def may(role: Role, login: str, logins: Container[object], body: bytes, seen: Se
 
 
 def may_ask(role: Role, request: Request, seen: Seen) -> bool:
-    """The rules of office and agent."""
-    if role.name == "office":
+    """The rules of office, admin and agent."""
+    if role.name in ("office", "admin"):
         return isinstance(request.get("service"), str) and request["service"] in PLAN
     if request.get("service") == "setAgentState":
         return request.get("agent") == role.agent and logs_on_within(role, request)
     return is_call_within(role, request) and seen.agent == role.agent and request["device"] == seen.station
+
+
+def may_administer(role: Role) -> bool:
+    """Whether it may give and take logins, roles, first passwords and names."""
+    return role.name == "admin"
+
+
+def may_read_acts(role: Role) -> bool:
+    """Whether it may read who did that."""
+    return role.reads_requests or may_administer(role)
 
 
 def is_call_within(role: Role, request: Request) -> bool:

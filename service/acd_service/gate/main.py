@@ -34,6 +34,9 @@ def parser() -> command.Parser:
     found.add_argument("--users", default="/etc/acd/users", metavar="FILE",
                        help="the logins with their passwords, as htpasswd makes them; /etc/acd/users unless given")
     found.add_argument("--sessions", metavar="FILE", help="where sessions are kept; in memory alone unless given")
+    found.add_argument("--own", metavar="FOLDER",
+                       help="where the logins and roles that the office gives are, and its names; it gives none unless "
+                            "given")
     found.add_argument("--records", default="/var/lib/acd-records", metavar="FOLDER",
                        help="the files of records; /var/lib/acd-records unless given")
     found.add_argument("--secret", default="/etc/acd/nginx-secret.conf", metavar="FILE",
@@ -54,7 +57,7 @@ async def serve(options: argparse.Namespace) -> None:
         raise Fault(f"cannot listen on {settings.place(options.port, options.socket)}") from None
     desk = Desk(options.desk or Place(path=options.desk_socket))
     gate = Gate(desk, options.roles, options.users, options.sessions, options.records, secrets_of(options.secret),
-                options.copy)
+                options.copy, own=options.own)
     acd_notify.ready()
     await Server(gate.answer).listen(listening)
 

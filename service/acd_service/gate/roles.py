@@ -7,7 +7,7 @@ from typing import Generic, NamedTuple, TypeVar
 from acd_service.command import report
 from acd_service.gate.passwords import FORMS
 
-ROLES = {"supervisor", "lead", "agent", "office", "exchange", "follow", "rules"}
+ROLES = {"supervisor", "lead", "agent", "office", "exchange", "follow", "rules", "admin"}
 MEMBERS = {
     "agent": r"[0-9]{1,9}", "stations": r"[0-9]{1,15}(,[0-9]{1,15})*", "groups": r"[0-9]{1,15}(,[0-9]{1,15})*",
     "reads": "none|own|all"
@@ -22,13 +22,17 @@ NO_KEYS = ("it only reads: to ask for services a login is 1 to 15 of a-z, 0-9 an
 Content = TypeVar("Content")
 
 
+def refuses_nobody(login: str, role: "Role | None" = None) -> str | None:
+    """Why a line of this login doesn't count; None where it does."""
+
+
 class Watched(Generic[Content]):
     """The content of a file, read again when the file changes. A file that can't be read counts as empty, or, where it
-    `keeps`, as what it was."""
+    `keeps`, as what it was. One that `may_lack` is empty before it is there."""
 
     def __init__(self, file: Path | str, read: Callable[[Path, list[str]], dict[str, Content]],
-                 keeps: bool = False) -> None:
-        self.file, self.read, self.keeps = Path(file), read, keeps
+                 keeps: bool = False, may_lack: bool = False) -> None:
+        self.file, self.read, self.keeps, self.may_lack = Path(file), read, keeps, may_lack
         self.stamp: tuple[int, int, int] | None = None
         self.said: dict[str, Content] = {}
         self.fault: str | None = None
@@ -41,9 +45,12 @@ class Watched(Generic[Content]):
                 lines = self.file.read_bytes().removeprefix(b"\xef\xbb\xbf").decode("utf-8", "replace").split("\n")
                 self.said, self.stamp, self.fault = self.read(self.file, lines), stamp, None
         except OSError as fault:
-            if fault.strerror != self.fault:
+            is_lacking = self.may_lack and isinstance(fault, FileNotFoundError)
+            if fault.strerror != self.fault and not is_lacking:
                 report(f"{self.file} can't be read: {fault.strerror}")
-            self.said, self.stamp, self.fault = self.said if self.keeps else {}, None, fault.strerror
+            if self.said and not self.keeps:
+                self.said = {}
+            self.stamp, self.fault = None, fault.strerror
         return self.said
 
 
@@ -68,7 +75,7 @@ class Role(NamedTuple):
     @property
     def asks(self) -> bool:
         """Whether it may ask for any service."""
-        return self.name in ("lead", "agent", "office", "exchange", "rules")
+        return self.name in ("lead", "agent", "office", "exchange", "rules", "admin")
 
 
 NOTHING = Role("nothing")
@@ -105,8 +112,9 @@ def role_of(words: Iterable[str]) -> Role:
                 members.get("reads"))
 
 
-def roles_of(file: Path, lines: list[str]) -> dict[str, Role]:
-    """The role of each login that has a line."""
+def roles_of(file: Path, lines: list[str],
+             refusal: Callable[[str, Role], str | None] = refuses_nobody) -> dict[str, Role]:
+    """The role of each login that has a line; `refusal` says why one doesn't count."""
     found: dict[str, Role] = {}
     for number, line in enumerate(lines, 1):
         login, *words = line.partition("#")[0].split() or [""]
@@ -114,6 +122,8 @@ def roles_of(file: Path, lines: list[str]) -> dict[str, Role]:
             continue
         try:
             role = role_of(words)
+            if why := refusal(login, role):
+                raise ValueError(why)
             if found.get(login, role) != role:
                 raise ValueError("another line of it says something else")
         except ValueError as fault:
@@ -125,8 +135,9 @@ def roles_of(file: Path, lines: list[str]) -> dict[str, Role]:
     return found
 
 
-def hashes_of(file: Path, lines: list[str]) -> dict[str, str]:
-    """The hash of each login's password."""
+def hashes_of(file: Path, lines: list[str],
+              refusal: Callable[[str], str | None] = refuses_nobody) -> dict[str, str]:
+    """The hash of each login's password; `refusal` says why one doesn't count."""
     found: dict[str, str] = {}
     for number, line in enumerate(lines, 1):
         login, colon, rest = line.rstrip("\r").partition(":")
@@ -137,6 +148,8 @@ def hashes_of(file: Path, lines: list[str]) -> dict[str, str]:
             report(f"{file}, line {number}: it isn't LOGIN:HASH")
         elif not FORMS.identify(hashed):
             report(f"{file}, line {number}: {login} has no hash of htpasswd, by bcrypt, say")
+        elif why := refusal(login):
+            report(f"{file}, line {number}: {login} is refused: {why}")
         else:
             found.setdefault(login, hashed)
     return found

@@ -4,7 +4,8 @@ The door finds out who asks. POST /csta goes to the desk byte for byte, as its r
 through, and is 403 else; GET /who and /session say who it is; POST /login, /logout and /session begin, end and use a
 session; GET /mine is an agent's own state, calls and queues; GET /stream tells what changes, as /mine?stream does for
 who has an nginx.conf that knows no other route; GET /records/ files of records for office and lead; GET /requests the
-desk's own page for office and follow. GET /auth/any and /auth/reads are the proxy's own questions.
+desk's own page for office and follow. GET /auth/any and /auth/reads are the proxy's own questions. `administering` has
+the routes of an office's administrator, and everybody's own password.
 docs/USING.md says what they answer. The proxy's own address is in X-Site: a page of another site may ask for nothing
 (Origin, Sec-Fetch-Site)."""
 import asyncio
@@ -16,6 +17,8 @@ from pathlib import Path
 
 from acd_service import last_copy
 from acd_service.gate import files
+from acd_service.gate.accounts import Accounts
+from acd_service.gate.administering import Office
 from acd_service.gate.boards import TooMany, sight_of
 from acd_service.gate.desk import Away, Desk
 from acd_service.gate.door import Door, is_page, token_of
@@ -26,7 +29,7 @@ from acd_service.gate.judging import Logins, Look, Seen, Twice, looks_at, may, o
 from acd_service.gate.limits import Held, Rates, Replies
 from acd_service.gate.metrics import KIND, Metrics
 from acd_service.gate.passwords import RIGHT, TOO_MANY, Passwords, network
-from acd_service.gate.roles import MEMBERS, NO_KEYS, NOTHING, Role, Watched, has_keys, hashes_of, roles_of
+from acd_service.gate.roles import MEMBERS, NO_KEYS, NOTHING, Role, has_keys
 from acd_service.gate.ruled import FILE as RULES
 from acd_service.gate.sessions import Secrets, Session, Sessions, cookie_field
 from acd_service.gate.streams import Stream
@@ -71,16 +74,18 @@ def form_of(body: bytes) -> tuple[str, str, str]:
 
 
 class Gate:
-    """The roles and users are files, and so are the sessions, if their file is named."""
+    """The roles and users are files, and so are the sessions, if their file is named. `own` is the folder of the logins
+    that the office gives."""
 
     def __init__(self, desk: Desk, roles: Path | str, users: Path | str, sessions: Path | str | None = None,
                  records: Path | str = "/var/lib/acd-records", secrets: Secrets = Secrets(),
-                 copy: Path | str = last_copy.FILE, rules: Path | str = RULES) -> None:
+                 copy: Path | str = last_copy.FILE, rules: Path | str = RULES, own: Path | str | None = None) -> None:
         self.desk, self.records = desk, records
-        self.roles, self.users = Watched(Path(roles), roles_of, keeps=True), Watched(Path(users), hashes_of)
+        self.accounts = Accounts(roles, users, own)
+        self.roles, self.users = self.accounts.roles, self.accounts.users
         self.passwords, self.sessions = Passwords(self.users), Sessions(sessions, self.users, secret=secrets.session)
         self.rates, self.replies, self.held = Rates(), Replies(), Held()
-        self.following = Following(desk.ask_soon, is_rules=self.is_rules, rules=rules)
+        self.following = Following(desk.ask_soon, is_rules=self.is_rules, rules=rules, shown=self.accounts.shown)
         self.reading = asyncio.Semaphore(READ_AT_ONCE)
         self.traces = Traces()
         self.door = Door(self.roles, self.passwords, self.sessions, self.rates, self.traces, secrets)
@@ -91,6 +96,10 @@ class Gate:
             "/requests": self.requests, "/basic": self.basic, "/health": self.health, "/metrics": self.measured}
         self.posts: dict[str, Body] = {"/csta": self.ask_desk, "/login": self.log_in, "/logout": self.log_out,
                                        "/session": self.use_session}
+        office = Office(self.accounts, self.door, self.sessions, self.traces, self.ask_desk, self.role_of,
+                        self.following.nudge, desk.ask_soon)
+        self.gets |= office.gets
+        self.posts |= office.posts
         self.roles.now()
 
     async def answer(self, question: Question) -> Answer:
@@ -160,6 +169,7 @@ class Gate:
             found["reads"] = role.reading
         if session and session.login == login:
             found |= {"begun": session.begun, "ends": session.ends}
+        found |= {"own": self.accounts.is_own(login), "first": self.accounts.is_first(login)}
         body = as_json({name: value for name, value in found.items() if value})
         return Answer(200, "application/json", body, fields)
 
@@ -255,9 +265,12 @@ class Gate:
         hashed = self.users.now().get(login)
 
         def may_go_on() -> bool:
+            if self.role_of(login) != role:
+                return False
+            # a session ends with its password, but for that in which somebody changes it
             session = self.sessions.of(token) if token is not None else None
-            has_session = token is None or session is not None and session.login == login
-            return has_session and self.role_of(login) == role and self.users.now().get(login) == hashed
+            return self.users.now().get(login) == hashed if token is None else \
+                session is not None and session.login == login
 
         return may_go_on
 

@@ -2,12 +2,13 @@
 Unproved."""
 import asyncio
 import base64
+import contextlib
 import hashlib
 import json
 import re
 import secrets
 import time
-from collections.abc import Callable, Iterable
+from collections.abc import AsyncIterator, Callable, Iterable
 from dataclasses import dataclass
 from pathlib import Path
 from typing import Any, NamedTuple
@@ -98,6 +99,8 @@ class Sessions:
         self.writing = asyncio.Lock()
         self.changes = self.written = 0
         self.found = self.kept()
+        # of sessions whose login is about to get another password, by which they go on, what that will bind them to
+        self.coming: dict[str, str] = {}
 
     def kept(self) -> dict[str, Session]:
         """The sessions of the file; it reports a line that can't be read, and passes over it."""
@@ -143,8 +146,8 @@ class Sessions:
     def is_current(self, session: Session) -> bool:
         return session.begun - 60 <= self.clock() < session.ends
 
-    def is_good(self, session: Session | None) -> bool:
-        return session is not None and self.is_current(session) and session.bound == self.bound(session.login)
+    def is_good(self, session: Session, coming: str | None) -> bool:
+        return self.is_current(session) and self.bound(session.login) in (session.bound, coming or session.bound)
 
     async def begin(self, login: str) -> str:
         """The token of a new session. Others end by time alone: who isn't among the users now may be in a moment, when
@@ -160,8 +163,9 @@ class Sessions:
 
     def of(self, token: str | None) -> Session | None:
         """The session of a token, where it is good."""
-        session = self.found.get(digest(token)) if token else None
-        return session if self.is_good(session) else None
+        name = digest(token or "")
+        session = self.found.get(name) if token else None
+        return session if session and self.is_good(session, self.coming.get(name)) else None
 
     async def use(self, token: str | None) -> Session | None:
         """Somebody clicked."""
@@ -173,4 +177,25 @@ class Sessions:
 
     async def end(self, token: str | None) -> None:
         if token and self.found.pop(digest(token), None):
+            await self.keep()
+
+    @contextlib.asynccontextmanager
+    async def changing(self, login: str, hashed: str, token: str | None) -> AsyncIterator[None]:
+        """While this lasts the login gets a password of this hash. The session of the token goes on all the while, and
+        where that was done the login's others have ended."""
+        name, bound = digest(token or ""), digest(f"{login}:{hashed}")
+        self.coming[name] = bound
+        try:
+            yield
+            if name in self.found:
+                self.found[name].bound = bound
+            await self.end_all(login, name)
+        finally:
+            del self.coming[name]
+
+    async def end_all(self, login: str, but: str = "") -> None:
+        """Ends the sessions of a login, but for that of this digest."""
+        left = {name: one for name, one in self.found.items() if one.login != login or name == but}
+        if len(left) < len(self.found) or but:
+            self.found = left
             await self.keep()

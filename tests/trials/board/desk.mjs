@@ -95,6 +95,7 @@ export class Front {
     // files of its own, so that a trial may put some beside them
     await cp(join(TOP, 'board'), join(file, 'share/board'), {recursive: true});
     execFileSync('openssl', ['req', '-x509', '-newkey', 'rsa:2048', '-nodes', '-subj', '/CN=desk', '-days', '2', '-keyout', `${file}/desk.key`, '-out', `${file}/desk.crt`], {stdio: 'ignore'});
+    await mkdir(`${file}/own`);
     await writeFile(`${file}/roles`, roles.map(([login, ...role]) => `${login} ${role.join(' ')}\n`).join(''));
     await writeFile(`${file}/nginx-secret.conf`, ['session', 'proxy'].map(name => `map "" $acd_${name}_secret { default "${randomBytes(32).toString('hex')}"; }\n`).join(''));
     await writeFile(`${file}/users`, roles.map(([login]) => `${login}:{SHA}5en6G6MezRroT3XKqkdPOmY/BfQ=\n`).join(''));
@@ -102,7 +103,7 @@ export class Front {
     const text = (await readFile(conf, 'utf8')).replace(new RegExp(Object.keys(places).join('|'), 'g'), named => places[named]).replace(/(listen .* ssl) http2;/, http2 ? '$&' : '$1;');
     await writeFile(`${file}/nginx.conf`, `daemon off; user root; pid ${file}/pid; error_log ${file}/errors; worker_processes 1; events {}
 http { include /etc/nginx/mime.types; access_log off; ${['client_body', 'proxy', 'fastcgi', 'uwsgi', 'scgi'].map(kind => `${kind}_temp_path ${file};`).join(' ')} ${text} }\n`);
-    const told = [], files = ['--roles', `${file}/roles`, '--users', `${file}/users`, '--secret', `${file}/nginx-secret.conf`];
+    const told = [], files = ['--roles', `${file}/roles`, '--users', `${file}/users`, '--own', `${file}/own`, '--secret', `${file}/nginx-secret.conf`];
     const words = ['--port', `${gate}`, '--desk', `${desk.port}`, ...files];
     Object.assign(front, {file, gate, words, address: `https://127.0.0.1:${site}`, children: [
       front.asGate(words),

@@ -15,6 +15,7 @@ import {alarms, nothing, troubles} from './alarms.mjs';
 import {days, overMidnight, zones} from './days.mjs';
 import {lead, office, session} from './lead.mjs';
 import {lines} from './lines.mjs';
+import {office as officesPage, tables} from './office.mjs';
 import {alarm, clockAhead, gone, hangs, live, looks, losses, numbers, ownEvents, people, settings, still, ways} from './page.mjs';
 import {shape} from './shape.mjs';
 import {callers, sheets} from './sheets.mjs';
@@ -24,7 +25,7 @@ import {agentsPage} from './agent.mjs';
 import {PLAN} from './shift.mjs';
 
 const NEEDED = {chromedriver: 'chromium-driver', chromium: 'chromium', nginx: 'nginx-light', tsc: 'node-typescript', openssl: 'openssl', curl: 'curl', python3: 'python3'};
-const PARTS = ['files', 'gate', 'show', 'lines', 'buttons', 'board', 'alarms', 'words', 'shape', 'days', 'lead', 'agent', 'tabs', 'full'], MOST_CALLS = 2000, ROUNDS = 50;
+const PARTS = ['files', 'gate', 'show', 'lines', 'buttons', 'board', 'alarms', 'words', 'shape', 'days', 'lead', 'agent', 'office', 'tabs', 'full'], MOST_CALLS = 2000, ROUNDS = 50;
 const ROLES = [['pbx', 'exchange'], ['planner', 'office'], ['sup', 'supervisor'], ['ana', 'agent', '7'], ['lea', 'lead', 'groups=101,102']];
 // an agent who may look at boards too, so that one session does for both
 const READS_ALL = [['ana', 'agent', 'agent=7', 'reads=all']];
@@ -187,6 +188,14 @@ class Trial {
     const desk = await this.desk('shift.db', PLAN), front = await this.front(desk, [...ROLES, ['max', 'lead', 'groups=130']]);
     const browser = await this.browser();
     await agentsPage(this.see, browser, desk, front, this.pictures);
+  }
+
+  async office() {
+    await this.modules();
+    const [plan, person] = await Promise.all(['office/plan.js', 'office/person.js'].map(name => import(pathToFileURL(join(this.folder, 'modules', name)))));
+    tables(this.see, plan, person);
+    const desk = await this.desk('office.db', PLAN), front = await this.front(desk, [...ROLES, ['chef', 'admin']]);
+    await officesPage(this.see, await this.browser(), desk, front, this.pictures);
   }
 
   async tabs() {

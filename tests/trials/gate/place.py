@@ -43,6 +43,7 @@ class Place(Trial):
         planned = cls.acd("lines", "--file", cls.folder / "desk.db", given=cls.given()).output
         cls.see("the plan is taken", all(line.startswith("200 ") for line in planned.splitlines()), planned[:300])
         (cls.folder / "roles").write_text("".join(f"{login} {role}\n" for login, role in cls.ROLES.items() if role))
+        (cls.folder / "own").mkdir()
         cls.write_users()
         cls.write_secret()
         cls.start_desk()
@@ -75,7 +76,7 @@ class Place(Trial):
     @classmethod
     def start_gate(cls):
         words = ["/usr/bin/python3", "-B", TOP / "service/bin/acd-gate", "--port", cls.gate_port, "--desk", cls.desk_port, "--roles", cls.folder / "roles",
-                 "--users", cls.folder / "users", "--sessions", cls.folder / "sessions", "--records", cls.folder / "records", "--secret", cls.folder / "nginx-secret.conf", "--copy", cls.folder / "copy"]
+                 "--users", cls.folder / "users", "--own", cls.folder / "own", "--sessions", cls.folder / "sessions", "--records", cls.folder / "records", "--secret", cls.folder / "nginx-secret.conf", "--copy", cls.folder / "copy"]
         with (cls.folder / "gate-errors").open("a") as errors:
             cls.gate = cls.enterClassContext(running(*words, port=cls.gate_port, stderr=errors))
 

@@ -69,7 +69,7 @@ def roles(content):
 
 
 class StandIn(BaseHTTPRequestHandler):
-    """Agent 7 is logged on at 201, and agent 07 nowhere; a service is answered by odd bytes with status 409."""
+    """Agent 7 is logged on at 201, and agent 07 nowhere; a service is answered by odd bytes with status 409, unless it is granted."""
     protocol_version = "HTTP/1.1"
 
     def log_message(self, *_):
@@ -93,6 +93,8 @@ class StandIn(BaseHTTPRequestHandler):
 
     def do_POST(self):
         self.server.got.append((self.path, self.rfile.read(int(self.headers["Content-Length"]))))
+        if self.server.status == 200:
+            return self.answer(200, b'{"invoke":1}')
         self.answer(409, REPLY)
 
 
@@ -103,7 +105,7 @@ class StandInDesk(ThreadingHTTPServer):
         if path:
             self.address_family = socket.AF_UNIX
         super().__init__(path or ("127.0.0.1", 0), StandIn)
-        self.got, self.station, self.known = [], "201", {}
+        self.got, self.station, self.known, self.status = [], "201", {}, 409
 
     def server_bind(self):
         """Without the name of its own host, which a socket has none of."""
@@ -152,13 +154,14 @@ class GateTest(Named):
     def setUp(self):
         super().setUp()
         folder = Path(self.enterContext(tempfile.TemporaryDirectory()))
-        self.roles, self.users, self.records = folder / "roles", folder / "users", folder / "records"
+        self.roles, self.users, self.records, self.own = folder / "roles", folder / "users", folder / "records", folder / "own"
+        self.own.mkdir()
         self.roles.write_text(ROLES)
         self.users.write_text(USERS)
         self.desk = self.enterContext(StandInDesk())
         threading.Thread(target=self.desk.serve_forever, args=(0.02,), daemon=True).start()
         self.addCleanup(self.desk.shutdown)
-        self.gate = Gate(Desk(Place(self.desk.server_port)), self.roles, self.users, records=self.records, secrets=Secrets(SESSIONS, PROXYS))
+        self.gate = Gate(Desk(Place(self.desk.server_port)), self.roles, self.users, records=self.records, secrets=Secrets(SESSIONS, PROXYS), own=self.own)
         self.standing = self.enterContext(Standing(self.gate))
         self.port = self.standing.port
 

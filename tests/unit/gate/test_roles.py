@@ -35,7 +35,7 @@ class RoleTest(DoorTest):
 
     def test_what_a_line_reads(self):
         for words, wanted in (("supervisor", "all"), ("office reads=none", "none"), ("agent 7", "own"), ("reads=all agent 7", "all"), ("agent reads=none agent=7", "none"), ("lead groups=1", "all"),
-                              ("exchange reads=all", "all"), ("follow", "none")):
+                              ("exchange reads=all", "all"), ("follow", "none"), ("admin", "all"), ("admin reads=none", "none")):
             found, printed = roles(f"ana {words}")
             self.assertEqual((found["ana"].reading, printed), (wanted, ""), words)
 

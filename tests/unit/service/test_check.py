@@ -58,7 +58,7 @@ class Office(unittest.TestCase):
     def said(self):
         """The status, and the lines."""
         with contextlib.redirect_stdout(io.StringIO()) as out, contextlib.redirect_stderr(io.StringIO()) as faults, self.assertRaises(SystemExit) as end:
-            check.main(["--folder", str(self.folder), "--nginx", str(self.nginx)])
+            check.main(["--folder", str(self.folder), "--nginx", str(self.nginx), "--gate", str(self.folder / "gate")])
         self.assertEqual(faults.getvalue(), "")
         return end.exception.code, out.getvalue().splitlines()
 
@@ -155,6 +155,28 @@ class Logins(Office):
         self.assertTrue(faults.getvalue().endswith(": here\n"))
 
 
+class OfficesLogins(Office):
+    def setUp(self):
+        super().setUp()
+        (self.folder / "gate").mkdir()
+
+    def test_what_the_office_may_give(self):
+        self.put("roles", "ana agent agent=7\npbx exchange\nchef admin\n")
+        self.put("users", f"ana:{HASHED}\npbx:{HASHED}\nchef:{HASHED}\n")
+        self.put("gate/roles", "anna agent agent=12\nlena lead groups=100\n")
+        self.put("gate/users", f"anna:{HASHED}:first\nlena:{HASHED}\n")
+        self.put("gate/names.json", '{"agents":{"7":"Jürgen"}}')
+        self.assertEqual(self.said(), (0, [NOTHING]))
+
+    def test_what_not(self):
+        self.put("gate/roles", "anna agent agent=12\neve admin\npbx supervisor\n")
+        self.put("gate/users", f"anna:{HASHED}\neve:{HASHED}\npbx-1:{HASHED}\n")
+        self.put("gate/names.json", "7")
+        of_root = f"pbx is a login of {self.folder}/roles or {self.folder}/users, which come first"
+        self.finds(f"gate/roles, line 2: eve is refused: the role admin is given by {self.folder}/roles alone", f"gate/roles, line 3: pbx is refused: {of_root}",
+                   f"gate/users, line 3: pbx-1 is refused: {of_root}", "gate/names.json has no names: it must be a JSON object")
+
+
 class Names(Office):
     def test_members(self):
         for changed, end in (({"titel": "x"}, "no member is called titel"), ({"zone": "Europe/Berln"}, "there is no zone Europe/Berln"), ({"zone": 3}, "zone must be a text"),
@@ -217,6 +239,10 @@ class Proxy(Office):
     def test_of_the_secret_of_sessions(self):
         self.put("nginx/conf.d/desk.conf", self.proxy.replace("acd_proxy_secret", "acd_session_secret"))
         self.assertEqual(self.said(), (0, [f"warning: {self.nginx}/conf.d/desk.conf is of 1.16: nginx tells the gate the secret that signs sessions", NOTHING]))
+
+    def test_of_before_the_offices_page(self):
+        self.put("nginx/conf.d/desk.conf", self.proxy.replace("(office(/|$)|acts$|password$)", "(acts$)"))
+        self.assertEqual(self.said(), (0, [f"warning: {self.nginx}/conf.d/desk.conf is of before 1.18: nginx passes on neither /office nor /password", NOTHING]))
 
     def test_certificates(self):
         for old, new, wanted in ((".crt", ".crte", f"{self.keys}/desk.crte can't be read: No such file or directory"), (".key", ".keys", f"{self.keys}/desk.keys can't be read: No such file or directory"),
