@@ -19,6 +19,7 @@ declare global {
   type Column = types.Column;
   type ConnectionState = types.ConnectionState;
   type Course = types.Course;
+  type Customer = types.Customer;
   type Day = import('./figures.js').Day;
   type Doing = types.Doing;
   type Drawn = types.Drawn;

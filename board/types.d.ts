@@ -73,6 +73,8 @@ export type Alarm = {key: string, kind: string, group: string, since: number, we
 /** since: when it began, as far as is known; last: when it was there for the last time, in milliseconds; seen: whether somebody
  *  said so in this browser */
 export type Known = {since: number, last: number, seen: boolean};
+/** of the office's file of a customer: its address, with {caller} in it, and the schemes that it may have */
+export type Customer = {address: string, schemes: string[]};
 /** what a word has values for */
 export type Values = Record<string, string | number>;
 /** of a line */

@@ -1,6 +1,7 @@
 // What is said in words, in English. Other languages have the same keys in words/, de.js say; what they lack is in English.
 //   word('alarms.rest', {n: 3})   "and 3 more alarms": of a word with forms `n` chooses one. {n} is a value: Intl writes a number
 //   <b data-word="view.wall"></b> translate() writes it; data-label an aria-label
+import {customerOf} from './customer.js';
 import {ask} from './net.js';
 
 const ENGLISH = keyed(`
@@ -317,6 +318,7 @@ retrieveCall: Retrieve
 singleStepTransfer: Transfer
 deflectCall: Pass on
 clearConnection: Hang up
+customer: Customer file
 button: {what}: {who}
 moved: {what}: {who}, to {to}
 byYou: your own
@@ -502,15 +504,18 @@ function officeOf(text = '') {
   const given = texts(said), {names, limits} = said, drop = (name = '') => { delete given[name]; faults.push(name); };
   const kinds = ['groups', 'agents', 'stations'], ofText = (_ = '', /** @type {any} */ value) => isText(value);
   const isOf = (name = '', /** @type {any} */ value) =>
-    ['title', 'language', 'zone'].includes(name) ? isText(value) : ['names', 'limits'].includes(name);
+    ['title', 'language', 'zone'].includes(name) ? isText(value) : ['names', 'limits', 'customer'].includes(name);
   faults.push(
     ...strange(said, '', isOf),
     ...strange(limits, 'limits.', ofText), ...strange(names, 'names.', name => kinds.includes(name)),
     ...kinds.flatMap(name => strange(names?.[name], `names.${name}.`, ofText)));
   if (!/^[a-z]{2,3}$/.test(given.language ?? 'en')) drop('language');
   try { new Intl.DateTimeFormat('en', {timeZone: given.zone}); } catch { drop('zone'); }
+  const {customer, faults: ofCustomer} = customerOf(said.customer);
+  faults.push(...ofCustomer);
   const allNames = {groups: texts(names?.groups), agents: texts(names?.agents), stations: texts(names?.stations)};
-  return {office: {title: given.title, language: given.language, zone: given.zone, limits: texts(limits), names: allNames}, faults};
+  const {title, language, zone} = given;
+  return {office: {title, language, zone, limits: texts(limits), names: allNames, customer}, faults};
 }
 
 const reply = await ask('/board/board.json', {cache: 'no-cache'}, PATIENCE).catch(() => null), isTold = reply?.status === 200;

@@ -1,8 +1,9 @@
 // The calls at the agent's station: who calls, the services, and the signs of an offer.
+import {customerFile} from '../customer.js';
 import {byId, make, put} from '../draw.js';
 import {isHeard, notify, tone} from '../sound.js';
-import {clock, CONNECTION, word} from '../words.js';
-import {ringLeft, services, sideOf} from './mine.js';
+import {clock, CONNECTION, office, word} from '../words.js';
+import {isOutside, ringLeft, services, sideOf} from './mine.js';
 
 // in their order, with their keys: before the seventh the field for a place, the last one apart
 const SERVICES = {
@@ -52,9 +53,12 @@ const card = ({mine, now, acts, off, who: nameOf, group, act}, call) => {
   const from = here.group ? group(here.group) : joined(say(dials ? 'byYou' : 'direct'), here.sent && group(here.sent));
   const waited = call.queued && here.state === 'alerting' && say('hasWaited', {clock: clock(now - call.queued)});
   const rings = left > 0 && say('ringsFor', {clock: clock(left)});
+  const file = !dials && isOutside(mine, call) ? customerFile(office.customer, call.caller) : undefined;
   return make('li', {'data-key': number, tabindex: -1, 'data-state': here.state},
     make('p.line', `${sign} ${words} ${clock(now - here.since)} · ${from}`),
     make('p.number', other ? nameOf(other) : '…'),
+    // in a tab of its own, which knows nothing of this one
+    file && make('p.customer', make('a', {href: file, target: '_blank', rel: 'noopener noreferrer'}, say('customer'))),
     make('p.soft', joined(waited, rings, word('agents.call', {call: number}))),
     make('div.buttons', ...buttons.slice(0, 6), place, ...buttons.slice(6)));
 };

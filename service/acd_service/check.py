@@ -22,11 +22,13 @@ NUMBERS = {"ACD_PORT": (1024, 65535), "ACD_GATE_PORT": (1024, 65535), "ACD_TLS_P
 PATHS = ("ACD_FILE", "ACD_COPY_FOLDER", "ACD_SOCKET", "ACD_GATE_SOCKET")
 # days before the end of a certificate from which on it is a fault
 SOON = 14
-MEMBERS = {"title": str, "language": str, "zone": str, "names": dict, "limits": dict}
-NAMED = ("groups", "agents", "stations")
+MEMBERS = {"title": str, "language": str, "zone": str, "names": dict, "limits": dict, "customer": dict}
+NAMED, LONGEST_ADDRESS = ("groups", "agents", "stations"), 1000
 # the settings of pages that are numbers, each with its greatest value, those of one group among them, and those that
 # are texts
 DAY = 86400
+# schemes of a customer's file that would run in the page, or show what is the machine's own
+NEVER = {"javascript", "data", "vbscript", "blob", "file", "filesystem", "about", "view-source", "ws", "wss"}
 MOST = {"limit": DAY, "goal": 100, "lost": 100, "long": DAY, "bad": DAY, "ringing": DAY, "busy": DAY, "hold": DAY,
         "own": DAY, "workingAfterCall": DAY, "notReady": DAY}
 OF_GROUP = r"(limit|goal|lost|long|bad)\.[0-9]{1,15}"
@@ -155,7 +157,8 @@ def of_board(file: Path) -> Iterator[str]:
         elif not isinstance(value, MEMBERS[name]):
             wrong.add(name)
             yield f"{file}: {name} must be {'a text' if MEMBERS[name] is str else 'an object'}"
-    judges: dict[str, Callable[[Path, Any], Iterator[str]]] = {"zone": of_zone, "names": of_names, "limits": of_limits}
+    judges: dict[str, Callable[[Path, Any], Iterator[str]]] = {
+        "zone": of_zone, "names": of_names, "limits": of_limits, "customer": of_customer}
     for name, judge in judges.items():
         if name in said and name not in wrong:
             yield from judge(file, said[name])
@@ -186,6 +189,23 @@ def of_limits(file: Path, limits: dict[str, Any]) -> Iterator[str]:
                 yield f"{file}: limits.{name} must be a number above 0, up to {MOST[plain]}"
         elif name not in TEXTS:
             yield f"{file}: no limit is called {name}"
+
+
+def of_customer(file: Path, said: dict[str, Any]) -> Iterator[str]:
+    for name in sorted(said.keys() - {"address", "schemes"}):
+        yield f"{file}: customer has address and schemes, and not {name}"
+    schemes = said.get("schemes", ["https"])
+    if not isinstance(schemes, list) or not schemes or not all(map(is_scheme, schemes)):
+        yield f"{file}: customer.schemes must be a list such as [\"https\"], without those that a browser runs"
+        schemes = ["https"]
+    address = said.get("address")
+    is_text = isinstance(address, str) and "{caller}" in address and len(address) <= LONGEST_ADDRESS
+    if not is_text or str(address).partition(":")[0].lower() not in schemes:
+        yield f"{file}: customer.address must be an address with {{caller}} in it, of {' or '.join(schemes)}"
+
+
+def is_scheme(name: object) -> bool:
+    return isinstance(name, str) and re.fullmatch("[a-z][a-z0-9+.-]*", name) is not None and name not in NEVER
 
 
 # nginx

@@ -10,6 +10,7 @@ import {gzipSync} from 'node:zlib';
 import {Browser, sleep} from './browser.mjs';
 import {aDay, Desk, Front, missing, run, TOP} from './desk.mjs';
 import {buttons} from './buttons.mjs';
+import {addresses, customers} from './customer.mjs';
 import {full} from './full.mjs';
 import {alarms, nothing, troubles} from './alarms.mjs';
 import {days, overMidnight, zones} from './days.mjs';
@@ -25,7 +26,7 @@ import {agentsPage} from './agent.mjs';
 import {PLAN} from './shift.mjs';
 
 const NEEDED = {chromedriver: 'chromium-driver', chromium: 'chromium', nginx: 'nginx-light', tsc: 'node-typescript', openssl: 'openssl', curl: 'curl', python3: 'python3'};
-const PARTS = ['files', 'gate', 'show', 'lines', 'buttons', 'board', 'alarms', 'words', 'shape', 'days', 'lead', 'agent', 'office', 'tabs', 'full'], MOST_CALLS = 2000, ROUNDS = 50;
+const PARTS = ['files', 'gate', 'show', 'lines', 'buttons', 'board', 'alarms', 'words', 'shape', 'days', 'lead', 'customer', 'agent', 'office', 'tabs', 'full'], MOST_CALLS = 2000, ROUNDS = 50;
 const ROLES = [['pbx', 'exchange'], ['planner', 'office'], ['sup', 'supervisor'], ['ana', 'agent', '7'], ['lea', 'lead', 'groups=101,102']];
 // an agent who may look at boards too, so that one session does for both
 const READS_ALL = [['ana', 'agent', 'agent=7', 'reads=all']];
@@ -68,7 +69,7 @@ class Trial {
 
   /** The types, and how much a page loads at most, as nginx sends it. */
   async files() {
-    const board = join(TOP, 'board'), shared = ['board.css', 'draw.js', 'desk.js', 'session.js', 'sound.js', 'words.js', 'net.js', 'hear.js', 'stream.js'];
+    const board = join(TOP, 'board'), shared = ['board.css', 'draw.js', 'desk.js', 'session.js', 'sound.js', 'words.js', 'customer.js', 'net.js', 'hear.js', 'stream.js'];
     const ofAgent = [...readdirSync(join(board, 'agent')).map(name => `agent/${name}`), ...shared], ofBoard = [...readdirSync(board), ...readdirSync(join(board, 'views')).map(name => `views/${name}`)];
     for (const [page, names, most] of [['a board', ofBoard, 60000], ["an agent's page", ofAgent, 40000]]) {
       const files = names.filter(name => /(?<!\.d)\.(js|css|html)$/.test(name)), bytes = files.reduce((sum, name) => sum + gzipSync(readFileSync(join(board, name))).length, 0);
@@ -105,7 +106,7 @@ class Trial {
       await cp(join(TOP, 'board'), copy, {recursive: true});
       await writeFile(join(copy, 'package.json'), '{"type":"module"}');
     }
-    return Object.assign({}, ...await Promise.all(['desk.js', 'figures.js', 'agent/mine.js'].map(name => import(pathToFileURL(join(copy, name))))));
+    return Object.assign({}, ...await Promise.all(['desk.js', 'figures.js', 'customer.js', 'agent/mine.js'].map(name => import(pathToFileURL(join(copy, name))))));
   }
 
   async lines() {
@@ -182,6 +183,12 @@ class Trial {
     const desk = await this.desk('lead.db', office(Math.floor(Date.now() / 1000))), front = await this.front(desk);
     await lead(this.see, await this.browser(), desk, front);
     await session(this.see, await this.browser(), front);
+  }
+
+  async customer() {
+    addresses(this.see, await this.modules());
+    const desk = await this.desk('customer.db', PLAN);
+    await customers(this.see, await this.browser(), desk, await this.front(desk));
   }
 
   async agent() {

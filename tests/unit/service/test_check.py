@@ -185,10 +185,22 @@ class Names(Office):
                              ({"names": {"agents": {"7": "x" * 81}}}, "names.agents: 7 must be a number, and its name a text of 80 letters at most"),
                              ({"limits": {"limits": 3}}, "no limit is called limits"), ({"limits": {"title.100": "x"}}, "no limit is called title.100"),
                              ({"limits": {"limit": 0}}, "limits.limit must be a number above 0, up to 86400"), ({"limits": {"long.100": "x"}}, "limits.long.100 must be a number above 0, up to 86400"),
+                             ({"customer": "https://crm.example/{caller}"}, "customer must be an object"),
+                             ({"customer": {"address": "https://crm.example/{caller}", "tab": 1}}, "customer has address and schemes, and not tab"),
+                             *(({"customer": {"address": address}}, "customer.address must be an address with {caller} in it, of https")
+                               for address in ("http://crm.example/{caller}", "https://crm.example/", "javascript:alert({caller})", "//crm.example/{caller}", "https://x/{caller}" + "x" * 1000, 7)),
+                             *(({"customer": {"address": "https://crm.example/{caller}", "schemes": schemes}},
+                                'customer.schemes must be a list such as ["https"], without those that a browser runs') for schemes in ([], "https", ["https", "javascript"], ["data"], [7], ["HTTPS"])),
+                             ({"customer": {"address": "data:text/html,{caller}", "schemes": ["http", "https"]}}, "customer.address must be an address with {caller} in it, of http or https"),
                              ({"limits": {"goal": 101}}, "limits.goal must be a number above 0, up to 100"), ({"limits": {"busy": True}}, "limits.busy must be a number above 0, up to 86400")):
             with self.subTest(changed):
                 self.put("board.json", json.dumps({**BOARD, **changed}))
                 self.finds(f"board.json: {end}")
+
+    def test_a_customers_file(self):
+        for customer in ({"address": "https://crm.example/find?tel={caller}"}, {"address": "http://crm/{caller}", "schemes": ["http", "https"]}, {"address": "crm-app:{caller}", "schemes": ["crm-app"]}):
+            self.put("board.json", json.dumps({**BOARD, "customer": customer}))
+            self.assertEqual(self.said(), (0, [NOTHING]))
 
     def test_no_object(self):
         self.put("board.json", "[]")
