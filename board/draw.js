@@ -118,9 +118,9 @@ export function table(id = '', given) {
       lines = now;
       const heads = columns.map(({head, kind}) => make('th', {scope: 'col', class: kind}, word(`head.${head}`)));
       const cells = (/** @type {any} */ line) => columns.map((column, place) => {
-        const {kind, press, severity} = column, text = textOf(column, line);
+        const {kind, press, severity} = column, text = textOf(column, line), leads = typeof press === 'function' ? press(line) : press;
         return make(place ? 'td' : 'th', {scope: !place && 'row', class: kind, 'data-severity': severity?.(line)},
-          press && text ? make('button', {'data-press': press}, text) : text);
+          leads && text ? make('button', {'data-press': leads}, text) : text);
       });
       const rows = lines.map(line => make('tr', {'data-key': line.key, 'data-severity': line.severity ?? ''}, ...cells(line)));
       put(id, make('thead', make('tr', ...heads)), make('tbody', ...rows));

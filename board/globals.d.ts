@@ -22,6 +22,7 @@ declare global {
   type Customer = types.Customer;
   type Day = import('./figures.js').Day;
   type Doing = types.Doing;
+  type Figure = types.Figure;
   type Drawn = types.Drawn;
   type Group = types.Group;
   type HalfHour = types.HalfHour;

@@ -227,6 +227,7 @@ openSession(logOut).then(who => {
   if (who.role === 'agent' && who.reads === 'own') location.replace(`agent/${location.search}`);
   set('office', {hidden: who.role !== 'admin'});
   lead.begin(who);
+  set('records', {hidden: !['office', 'lead'].includes(who.role ?? '') || who.reads === 'none'});
   if (usualGroups([...lead.groups].join(','))) {
     useSettings();
     count();

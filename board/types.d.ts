@@ -84,7 +84,8 @@ export type Figure = (line: any) => number | null;
  *  has been counted; text: a line's cell, else the line's member of that name, or a figure of seconds or a share; file: the cell in
  *  a file; press: the name of the button that it is */
 export type Column = {head: string, kind?: string, day?: boolean, text?: Cell, seconds?: Figure, share?: Figure,
-  file?: (line: any) => string | number | null, severity?: (line: any) => string, press?: string,
+  file?: (line: any) => string | number | null, severity?: (line: any) => string,
+  press?: string | ((line: any) => string | false),
   /** of a share, in percent */ goal?: (line: any) => number};
 /** look: first, second or third, by which the style distinguishes them, with colour and without; a bar, or a line */
 export type Series = {name: string, look: string, value: Figure, isLine?: boolean};
@@ -128,11 +129,14 @@ export type OpenSession = (leave: () => void, late?: (why: string) => void) => P
 export type Judged = (head: string, name: 'level' | 'lost') => Column;
 /** and, where there is one, the first of another day */
 export type Besides = (first: Series, ...more: Series[]) => Series[];
-export type Shows = (one: Series, step: Quarter) => number | null;
+export type Shows = (one: Series, step: any) => number | null;
 /** then: of which day the line beside is */
 export type Charts = (steps: Quarter[], then: string | undefined, settings: Settings) => Part[];
+/** of a step what is written below it, where each has so much room, and what it is called */
+export type Steps = {under: (each: number) => (step: any, place: number) => string | false, called: (step: any) => string,
+  /** at its middle, and not where it begins */ isMiddle?: boolean};
 /** times: what is shown of a value; top: the greatest value; goal: a line across */
-export type Chart = (steps: Quarter[], title: string, series: Series[], times?: number, top?: number, goal?: number) => Part;
+export type Chart = (how: Steps, steps: any[], title: string, series: Series[], times?: number, top?: number, goal?: number) => Part;
 export type SettingsOf = (said: Iterable<[string, string]>, before?: Settings) => Settings;
 export type Labelled = (setting: string[], attributes?: Attributes) => Part;
 /** what: the word for what is chosen */

@@ -1,12 +1,12 @@
 // The day by quarters of an hour, as tables and charts; yesterday and the same weekday beside it.
-import {byId, make, put, table} from '../draw.js';
+import {chart, WIDE} from '../chart.js';
+import {put, table} from '../draw.js';
 import {abandonment, averageHandling, averageWait, level, levelByStay, STEP, sumOf} from '../figures.js';
 import {shown} from '../settings.js';
-import {dayOf, number, timeOfDay, word} from '../words.js';
+import {dayOf, timeOfDay, word} from '../words.js';
 import {levelOf} from './groups.js';
 
-// WIDE: what an hour's time takes
-const EVERY = 10000, HEIGHT = 220, LEFT = 44, BELOW = 24, ABOVE = 12, WIDE = 46;
+const EVERY = 10000;
 let drawn = 0, answered = false;
 
 /** @type {OfSums} */
@@ -54,6 +54,15 @@ export function draw({day, counted, settings, now, past, lines}, anew = false) {
   quarters.draw(steps.map(step => ({...step, counted, key: `${step.at}`})));
 }
 
+// The time of whole hours, as many as have room.
+const BY_TIME = {
+  under(each = 0) {
+    const apart = 3600 * ([1, 2, 3, 4, 6, 8, 12].find(hours => hours * 4 * each >= WIDE) ?? 24);
+    return ({at = 0}) => shown(at) % apart === 0 && timeOfDay(at, 'short');
+  },
+  called: ({at = 0}) => timeOfDay(at, 'short'),
+};
+
 /** @type {Charts} */
 const charts = (steps, then, settings) => {
   /** @type {Charted} */
@@ -65,56 +74,13 @@ const charts = (steps, then, settings) => {
     ...then ? [{...first, name: `${first.name}, ${then}`, look: 'third', isLine: true,
       value: (/** @type {Quarter} */ step) => step.beside && first.value(step.beside)}] : []];
   return [
-    chart(steps, word('chart.calls'), beside(bar('answered', 'first', step => step.answered),
+    chart(BY_TIME, steps, word('chart.calls'), beside(bar('answered', 'first', step => step.answered),
       bar('abandoned', 'second', step => step.abandoned), bar('moved', 'third', step => step.moved))),
-    chart(steps, word('chart.level', levelOf(settings)), beside(line('inTime', 'first', inTime)), 100, 100, settings.goal),
-    chart(steps, word('chart.wait'), beside(line('average', 'first', averageWait), line('longestWait', 'second', longest)), 1 / 60),
-    chart(steps, word('chart.peak'), [bar('waiting', 'first', step => step.peak)]),
+    chart(BY_TIME, steps, word('chart.level', levelOf(settings)), beside(line('inTime', 'first', inTime)), 100, 100, settings.goal),
+    chart(BY_TIME, steps, word('chart.wait'),
+      beside(line('average', 'first', averageWait), line('longestWait', 'second', longest)), 1 / 60),
+    chart(BY_TIME, steps, word('chart.peak'), [bar('waiting', 'first', step => step.peak)]),
   ];
-};
-
-// Bars, one on the other, and lines; shown is so many times a value.
-/** @type {Chart} */
-const chart = (steps, title, series, times = 1, top, goal) => {
-  /** @type {Shows} */
-  const shows = ({value}, step) => { const is = value(step); return is && times * is; };
-  const room = byId('charts').clientWidth || 900, width = room > 1100 ? (room - 24) / 2 : room;
-  const each = (width - LEFT - 8) / steps.length, x = (place = 0) => LEFT + place * each;
-  const bars = series.filter(one => !one.isLine), values = steps.flatMap(step =>
-    [bars.reduce((sum, one) => sum + (shows(one, step) ?? 0), 0), ...series.map(one => shows(one, step) ?? 0)]);
-  const most = top ?? Math.max(5, ...values), unit = 10 ** Math.floor(Math.log10(most));
-  const tick = [0.2, 0.5, 1].map(part => part * unit).find(part => most / part <= 5) ?? 2 * unit;
-  const high = top ?? Math.ceil(most / tick) * tick;
-  const y = (value = 0) => HEIGHT - BELOW - (HEIGHT - BELOW - ABOVE) * value / high;
-  const rounded = (value = 0) => number(Math.round(100 * value) / 100);
-  const across = (look = '', value = 0) => make(`line.${look}`, {x1: LEFT, x2: width - 8, y1: y(value), y2: y(value)});
-  const ticks = Array.from({length: Math.floor(high / tick + 1e-9) + 1}, (_, place) => place * tick);
-  const apart = 3600 * ([1, 2, 3, 4, 6, 8, 12].find(hours => hours * 4 * each >= WIDE) ?? 24);
-  return make('figure', make('figcaption', title), make('svg', {viewBox: `0 0 ${width} ${HEIGHT}`, role: 'img', 'aria-label': title},
-    ...ticks.flatMap(value => [across('grid', value), make('text', {x: LEFT - 8, y: y(value) + 4, 'text-anchor': 'end'}, rounded(value))]),
-    ...steps.map(({at}, place) => shown(at) % apart === 0
-      && make('text', {x: x(place), y: HEIGHT - 6, 'text-anchor': 'middle'}, timeOfDay(at, 'short'))),
-    ...steps.flatMap((step, place) => {
-      let below = 0;
-      return bars.map(one => {
-        const value = shows(one, step) ?? 0, bottom = y(below);
-        below += value;
-        return value > 0 && make('rect', {class: one.look + (step.running ? ' running' : ''), x: x(place) + 1,
-          width: Math.max(1, each - 2), y: y(below), height: bottom - y(below)});
-      });
-    }),
-    ...series.map(one => one.isLine && make(`path.${one.look}`, {d: steps.map((step, place) => {
-      const value = shows(one, step), goesOn = place > 0 && shows(one, steps[place - 1]) !== null;
-      return value === null ? '' : `${goesOn ? 'L' : 'M'}${x(place + 0.5).toFixed(1)} ${y(value).toFixed(1)}`;
-    }).join('')})),
-    // values under the pointer
-    ...steps.map((step, place) => make('rect.area', {x: x(place), width: each, y: ABOVE, height: HEIGHT - ABOVE - BELOW},
-      make('title', [timeOfDay(step.at, 'short'), ...series.flatMap(one => {
-      const value = shows(one, step);
-      return value === null ? [] : `${one.name} ${rounded(value)}`;
-    })].join('\n')))),
-    ...goal === undefined ? [] : [across('goal', goal), make('text.halo', {x: LEFT + 6, y: y(goal) - 5}, word('tile.goal', {goal}))]),
-  make('ul.key', ...series.map(({name, look, isLine}) => make('li', {class: look + (isLine ? ' line' : '')}, name))));
 };
 
 export const file = () => [...days.file(), [], ...quarters.file()];

@@ -77,6 +77,32 @@ export default {
     onCalls: 'Im Gespräch', call: 'Anruf', for: 'Seit', at: 'Bei', caller: 'Anrufer',
     whole: 'Insgesamt', time: 'Zeit', number: 'Nummer', event: 'Ereignis', longestWait: 'Längstes Warten',
     peak: 'Höchstens wartend', day: 'Tag', calls: 'Anrufe', agent: 'Agent', talk: 'Gespräch', missed: 'Verpasst',
+    days: 'Tage', week: 'Woche', month: 'Monat', weekday: 'Wochentag', hour: 'Stunde', occupancy: 'Auslastung',
+    ownCalls: 'Eigene Anrufe', rings: 'Geklingelt', notAnswered: 'Nicht angenommen', refused: 'Abgelehnt', hungUp: 'Aufgelegt',
+  },
+  records: {
+    title: 'Aufzeichnungen', kind: 'Wovon', 'kind.groups': 'Gruppen', 'kind.agents': 'Agenten', of: 'Welche', all: 'Zusammen',
+    'all.groups': 'alle Gruppen', 'all.agents': 'alle Agenten', period: 'Zeitraum', 'period.day': 'ein Tag', 'period.week': 'eine Woche',
+    'period.month': 'ein Monat', 'period.own': 'von .. bis', by: 'Eine Zeile je', 'by.each': 'Gruppe oder Agent', 'by.day': 'Tag',
+    'by.week': 'Woche', 'by.month': 'Monat', 'by.weekday': 'Wochentag', 'by.hour': 'Stunde', 'by.weekday-hour': 'Stunde und Wochentag',
+    figure: 'Zahl', 'figure.entered': 'Gekommen', 'figure.answered': 'Angenommen', 'figure.abandoned': 'Aufgegeben',
+    'figure.lost': 'Verlust', 'figure.level': 'Rechtzeitig', 'figure.average_wait': 'Wartezeit Ø', within: 'Ein Tag darin', since: 'Von',
+    until: 'Bis', before: 'Der Zeitraum davor', after: 'Der nächste Zeitraum', week: '{n}, ab {day}',
+    missing: {one: '{n} Tag ohne Aufzeichnung: {days}', other: '{n} Tage ohne Aufzeichnung: {days}'},
+    others: {
+      one: '{n} Tag ist nach anderen Formeln gezählt und nicht in den Summen: {days}',
+      other: '{n} Tage sind nach anderen Formeln gezählt und nicht in den Summen: {days}',
+    },
+    unread: {
+      one: '{n} Tag ist nicht lesbar und nicht in den Summen: {days}',
+      other: '{n} Tage sind nicht lesbar und nicht in den Summen: {days}',
+    },
+    none: 'Von diesen Tagen gibt es keine Aufzeichnungen.', reading: 'Wird gelesen ..', 'file.records': 'Die Anrufe, als Datei',
+    'file.agents': 'Der Tag der Agenten, als Datei', 'file.groups': 'Die Viertelstunden der Gruppen, als Datei',
+    old: 'nach anderen Formeln',
+    counted: 'Nur von einer einzelnen Gruppe ist bekannt, wie viele höchstens warteten. '
+      + 'Eine Stunde und ein Wochentag haben die Summen all ihrer Tage, mit deren Zahl.',
+    'chart.calls': 'Anrufe', 'chart.hours': 'Stunden im Gespräch, in Nacharbeit und bereit',
   },
   tile: {
     ringing: 'und {n} klingeln', ready: 'Bereite Agenten', loggedOn: 'von {n} angemeldeten', level: 'Rechtzeitig: {limit}',

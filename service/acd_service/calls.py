@@ -10,7 +10,7 @@ from collections.abc import Callable, Iterator, Mapping
 from pathlib import Path
 from typing import Any, NoReturn, TextIO
 
-from acd_service import archives, chain, command, sheets
+from acd_service import archives, chain, command, reports, sheets
 from acd_service.book import Book, opened
 from acd_service.command import Fault, report
 from acd_service.figures import STEP, Figures, Reached
@@ -303,7 +303,8 @@ def write_days(folder: Path, book: Book, office: Office, form: Form, names: Name
             days.write("groups", datetime.date.fromtimestamp(begin), form.row(GROUPS, row))
     if days.set_apart:
         report(f"{days.set_apart} files by other formulas are in {folder / APART} now: their events aren't there")
-    print(f"{days.written} files written")
+    written = days.written + reports.write(folder, office, datetime.date.fromtimestamp(end))
+    print(f"{written} files written")
     return not lacks
 
 

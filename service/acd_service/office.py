@@ -1,8 +1,10 @@
 """The settings of the office in /etc/acd/board.json, as far as records use them: names in any script, limits of the
-service level, the zone; and below its names those that the office gives by its page. Tested, not proved."""
+service level, the zone, the language; and below its names those that the office gives by its page. Tested, not
+proved."""
 import contextlib
 import json
 import os
+import re
 import time
 import zoneinfo
 from collections.abc import Callable
@@ -41,10 +43,17 @@ class Office:
     names: dict[str, dict[str, str]] = field(default_factory=lambda: {"groups": {}, "agents": {}})
     limits: dict[str, str] = field(default_factory=dict)
     zone: str | None = None
+    language: str = "en"
+    title: str = ""
 
     def limit_of(self, group: str) -> float:
         """Of the group, else of all."""
         return seconds(self.limits.get(f"limit.{group}")) or seconds(self.limits.get("limit")) or LIMIT
+
+    @property
+    def counts_answered_alone(self) -> bool:
+        """Whether the service level is of the answered alone."""
+        return self.limits.get("level") == "answered"
 
 
 def office(file: Path, report: Callable[[str], object]) -> Office:
@@ -56,12 +65,14 @@ def office(file: Path, report: Callable[[str], object]) -> Office:
     if not isinstance(said, dict):
         report(f"{file} is not a JSON object; ignored")
         return Office()
-    zone, names = texts(said).get("zone"), said.get("names")
+    given, names = texts(said), said.get("names")
+    zone, language = given.get("zone"), given.get("language", "en")
     if zone is not None and not is_zone(zone):
         report(f"{file}: there is no zone {zone}")
         zone = None
     return Office({kind: texts(names.get(kind) if isinstance(names, dict) else None) for kind in ("groups", "agents")},
-                  texts(said.get("limits")), zone)
+                  texts(said.get("limits")), zone, language if re.fullmatch("[a-z]{2,3}", language) else "en",
+                  given.get("title", ""))
 
 
 def counting(file: Path | None, report: Callable[[str], object]) -> Office:

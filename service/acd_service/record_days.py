@@ -20,6 +20,8 @@ KINDS = ("records", "agents", "groups")
 AGAIN = 7
 # who was logged on as a day began, and for which groups, is known by the requests of the day before
 BEFORE = datetime.timedelta(days=1)
+# days in which nothing was have files too, with a head alone, as far back as this: a day without a file is missing
+BACK = 366
 # the last column of a file: by which formulas it was counted. Files without it are by the first ones, which count each
 # stay in a queue as a wait
 COLUMN, FORMULAS = "formulas", "2"
@@ -32,7 +34,7 @@ def formulas_of(file: Path) -> str:
         rows = csv.reader(stream)
         head: list[str] = next(rows, [])
         first: list[str] = next(rows, [])
-    return first[-1] if head[-1:] == [COLUMN] and first else "1"
+    return "1" if head[-1:] != [COLUMN] else first[-1] if first else FORMULAS
 
 
 def others_of(folder: Path, kind: str) -> set[str]:
@@ -80,6 +82,8 @@ class Days:
         self.newest: dict[str, str] = {}
         self.others: dict[str, set[str]] = {}
         self.written = self.set_apart = 0
+        # the days of which rows came
+        self.came: dict[str, set[datetime.date]] = {kind: set() for kind in KINDS}
         for kind in KINDS:
             (folder / kind).mkdir(mode=0o750, exist_ok=True)
             # the remains of a run that was killed
@@ -117,6 +121,7 @@ class Days:
             writer.writerow([*row, FORMULAS])
 
     def begin(self, kind: str, day: datetime.date) -> None:
+        self.came[kind].add(day)
         stream = writer = None
         if self.wants(kind, day):
             stream = put.opened(self.place(kind, day), 0o640)
@@ -147,6 +152,16 @@ class Days:
         apart.unlink(missing_ok=True)
         self.others[kind].discard(place.stem)
 
+    def write_empty(self) -> None:
+        """The days since the first one in which nothing was."""
+        first = min((day for days in self.came.values() for day in days), default=self.today)
+        number = max(first.toordinal(), self.today.toordinal() - BACK)
+        for day in map(datetime.date.fromordinal, range(number, self.today.toordinal())):
+            for kind in KINDS:
+                if day not in self.came[kind]:
+                    self.begin(kind, day)
+                    self.end(kind)
+
     def put_apart(self) -> None:
         """Files of other formulas that weren't written anew."""
         for kind in KINDS:
@@ -168,6 +183,7 @@ class Days:
             else:
                 self.drop(each)
         if kind is None:
+            self.write_empty()
             self.put_apart()
 
     def drop(self, kind: str) -> None:

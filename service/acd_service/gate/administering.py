@@ -20,12 +20,12 @@ from acd_service.gate import accounts, acts
 from acd_service.gate.accounts import GIVEN, Accounts
 from acd_service.gate.door import Door, token_of
 from acd_service.gate.exchanges import Answer, Question, Refused, error
-from acd_service.gate.following import as_json
 from acd_service.gate.judging import Twice, may_administer, may_read_acts, once
 from acd_service.gate.limits import Replies
 from acd_service.gate.passwords import RIGHT, TOO_MANY
 from acd_service.gate.roles import NOTHING, Role, has_keys, role_of
 from acd_service.gate.sessions import Sessions
+from acd_service.gate.texts import as_json
 from acd_service.gate.traces import Traces
 from acd_service.spelling import is_shown, spelled
 
@@ -308,7 +308,7 @@ class Office:
         login, old, new = question.login, given["old"], given["new"]
         self.refuse_not_own(login)
         refuse_form(new, login)
-        verdict = await self.door.judged(login.encode(), old.encode(), question)
+        verdict = await self.door.judged(login.encode(), old.encode("utf-8", "replace"), question)
         if verdict == TOO_MANY:
             raise Refused(error(429))
         if verdict != RIGHT:

@@ -29,6 +29,7 @@ from acd_service.gate.judging import Logins, Look, Seen, Twice, looks_at, may, o
 from acd_service.gate.limits import Held, Rates, Replies
 from acd_service.gate.metrics import KIND, Metrics
 from acd_service.gate.passwords import RIGHT, TOO_MANY, Passwords, network
+from acd_service.gate.recorded import Recorded, asked_of
 from acd_service.gate.roles import MEMBERS, NO_KEYS, NOTHING, Role, has_keys
 from acd_service.gate.ruled import FILE as RULES
 from acd_service.gate.sessions import Secrets, Session, Sessions, cookie_field
@@ -86,7 +87,7 @@ class Gate:
         self.passwords, self.sessions = Passwords(self.users), Sessions(sessions, self.users, secret=secrets.session)
         self.rates, self.replies, self.held = Rates(), Replies(), Held()
         self.following = Following(desk.ask_soon, is_rules=self.is_rules, rules=rules, shown=self.accounts.shown)
-        self.reading = asyncio.Semaphore(READ_AT_ONCE)
+        self.reading, self.recorded = asyncio.Semaphore(READ_AT_ONCE), Recorded(records)
         self.traces = Traces()
         self.door = Door(self.roles, self.passwords, self.sessions, self.rates, self.traces, secrets)
         self.metrics = Metrics(self, self.following, desk, copy)
@@ -299,6 +300,8 @@ class Gate:
         role = self.role_of(question.login)
         if role.name not in ("office", "lead") or role.reading == "none":
             raise Refused(error(403))
+        if name == "sums":
+            return await self.sums(question, role)
         async with self.reading:
             question.stay()
             if not name:
@@ -311,6 +314,17 @@ class Gate:
             self.traces.download(question.login, question.address, name)
         given = f'attachment; filename="{name.replace("/", "-")}"'
         return Answer(200, "text/csv; charset=utf-8", content, (("Content-Disposition", given),))
+
+    async def sums(self, question: Question, role: Role) -> Answer:
+        """Files of records of several days, added up."""
+        asked = asked_of(question.query, role.groups)
+        async with self.reading:
+            question.stay()
+            answer = await self.recorded.answer(question, asked)
+        if question.method == "GET":
+            what = f"sums of {asked.kind}, {asked.since} to {asked.until},"
+            self.traces.download(question.login, question.address, what)
+        return answer
 
     # services
 

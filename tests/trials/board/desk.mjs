@@ -103,7 +103,7 @@ export class Front {
     const text = (await readFile(conf, 'utf8')).replace(new RegExp(Object.keys(places).join('|'), 'g'), named => places[named]).replace(/(listen .* ssl) http2;/, http2 ? '$&' : '$1;');
     await writeFile(`${file}/nginx.conf`, `daemon off; user root; pid ${file}/pid; error_log ${file}/errors; worker_processes 1; events {}
 http { include /etc/nginx/mime.types; access_log off; ${['client_body', 'proxy', 'fastcgi', 'uwsgi', 'scgi'].map(kind => `${kind}_temp_path ${file};`).join(' ')} ${text} }\n`);
-    const told = [], files = ['--roles', `${file}/roles`, '--users', `${file}/users`, '--own', `${file}/own`, '--secret', `${file}/nginx-secret.conf`];
+    const told = [], files = ['--roles', `${file}/roles`, '--users', `${file}/users`, '--own', `${file}/own`, '--secret', `${file}/nginx-secret.conf`, '--records', `${file}/records`];
     const words = ['--port', `${gate}`, '--desk', `${desk.port}`, ...files];
     Object.assign(front, {file, gate, words, address: `https://127.0.0.1:${site}`, children: [
       front.asGate(words),

@@ -21,14 +21,14 @@ const CONTRAST = `
 export const contrast = browser => browser.run(CONTRAST);
 
 /** The controls that a mouse can reach and the Tab key can't, or that don't show that they have the focus. */
-export async function unreached(browser) {
+export async function unreached(browser, more = 3) {
   const count = await browser.run(`
     window.controls = [...document.querySelectorAll('a[href], button:enabled, input:enabled, select:enabled, summary')].filter(element => element.checkVisibility());
     window.reached = new Set();
     document.activeElement?.blur();
     getSelection().setBaseAndExtent(document.body, 0, document.body, 0);
     return window.controls.length;`);
-  for (let key = 0; key < count + 3; key++) {
+  for (let key = 0; key < count + more; key++) {
     await browser.press('\uE004');
     await browser.run('const focus = document.activeElement; if (getComputedStyle(focus).outlineStyle !== "none") window.reached.add(focus);');
   }

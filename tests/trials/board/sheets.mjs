@@ -4,7 +4,7 @@ import {reportLines, run} from './desk.mjs';
 import {live, VIEWS} from './page.mjs';
 
 /** What the page would save is kept in it, in place of a file. */
-const KEPT = `window.kept = []; URL.createObjectURL = blob => { blob.arrayBuffer().then(bytes => window.kept.push([...new Uint8Array(bytes)])); return 'blob:'; }; HTMLAnchorElement.prototype.click = function () { window.named = this.download; };`;
+export const KEPT = `window.kept = []; URL.createObjectURL = blob => { blob.arrayBuffer().then(bytes => window.kept.push([...new Uint8Array(bytes)])); return 'blob:'; }; HTMLAnchorElement.prototype.click = function () { window.named = this.download; };`;
 const READ = `
 import csv, io, json, sys
 given = json.load(sys.stdin)
@@ -14,6 +14,11 @@ print(json.dumps(list(csv.reader(io.StringIO(text, newline=""), delimiter=given[
 async function sheet(browser, view, between = ',') {
   await browser.run(`location.hash = '${view}'`);
   await sleep(400);
+  return sheetOf(browser, between);
+}
+
+/** What the open page saves. */
+export async function sheetOf(browser, between) {
   await browser.run('window.kept = []; document.querySelector("#csv").click()');
   const bytes = await until(() => browser.run('return window.kept[0]'), 5);
   return {rows: JSON.parse(await run('/usr/bin/python3', ['-c', READ], JSON.stringify({bytes, between}))), begins: bytes.slice(0, 3), name: await browser.run('return window.named')};

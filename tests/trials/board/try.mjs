@@ -18,6 +18,7 @@ import {lead, office, session} from './lead.mjs';
 import {lines} from './lines.mjs';
 import {office as officesPage, tables} from './office.mjs';
 import {alarm, clockAhead, gone, hangs, live, looks, losses, numbers, ownEvents, people, settings, still, ways} from './page.mjs';
+import {records} from './records.mjs';
 import {shape} from './shape.mjs';
 import {callers, sheets} from './sheets.mjs';
 import {olderConf, tenTabs} from './tabs.mjs';
@@ -26,7 +27,7 @@ import {agentsPage} from './agent.mjs';
 import {PLAN} from './shift.mjs';
 
 const NEEDED = {chromedriver: 'chromium-driver', chromium: 'chromium', nginx: 'nginx-light', tsc: 'node-typescript', openssl: 'openssl', curl: 'curl', python3: 'python3'};
-const PARTS = ['files', 'gate', 'show', 'lines', 'buttons', 'board', 'alarms', 'words', 'shape', 'days', 'lead', 'customer', 'agent', 'office', 'tabs', 'full'], MOST_CALLS = 2000, ROUNDS = 50;
+const PARTS = ['files', 'gate', 'show', 'lines', 'buttons', 'board', 'alarms', 'words', 'shape', 'days', 'lead', 'records', 'customer', 'agent', 'office', 'tabs', 'full'], MOST_CALLS = 2000, ROUNDS = 50;
 const ROLES = [['pbx', 'exchange'], ['planner', 'office'], ['sup', 'supervisor'], ['ana', 'agent', '7'], ['lea', 'lead', 'groups=101,102']];
 // an agent who may look at boards too, so that one session does for both
 const READS_ALL = [['ana', 'agent', 'agent=7', 'reads=all']];
@@ -70,8 +71,9 @@ class Trial {
   /** The types, and how much a page loads at most, as nginx sends it. */
   async files() {
     const board = join(TOP, 'board'), shared = ['board.css', 'draw.js', 'desk.js', 'session.js', 'sound.js', 'words.js', 'customer.js', 'net.js', 'hear.js', 'stream.js'];
+    const ofRecords = [...readdirSync(join(board, 'records')).map(name => `records/${name}`), ...shared, 'settings.js', 'chart.js', 'csv.js'];
     const ofAgent = [...readdirSync(join(board, 'agent')).map(name => `agent/${name}`), ...shared], ofBoard = [...readdirSync(board), ...readdirSync(join(board, 'views')).map(name => `views/${name}`)];
-    for (const [page, names, most] of [['a board', ofBoard, 60000], ["an agent's page", ofAgent, 40000]]) {
+    for (const [page, names, most] of [['a board', ofBoard, 60000], ["an agent's page", ofAgent, 40000], ['the page of records', ofRecords, 40000]]) {
       const files = names.filter(name => /(?<!\.d)\.(js|css|html)$/.test(name)), bytes = files.reduce((sum, name) => sum + gzipSync(readFileSync(join(board, name))).length, 0);
       this.see(`${page} has less than ${most} bytes by gzip`, bytes < most, bytes);
     }
@@ -183,6 +185,11 @@ class Trial {
     const desk = await this.desk('lead.db', office(Math.floor(Date.now() / 1000))), front = await this.front(desk);
     await lead(this.see, await this.browser(), desk, front);
     await session(this.see, await this.browser(), front);
+  }
+
+  async records() {
+    const front = await this.front(await this.desk('records.db', PLAN));
+    await records(this.see, await this.browser(), front, this.pictures);
   }
 
   async customer() {

@@ -9,7 +9,7 @@ from place import CLICK, ELSEWHERE, PAGE, PATIENCE, Place, signed, token_of
 from trial import ANY, Connection, bytes_back
 
 # a route of each kind: of the gate, of the desk by way of nginx, and files
-GETS = ("/who", "/session", "/mine", "/stream", "/mine?stream", "/requests", "/records/", "/records/calls/2026-11-27.csv", "/basic?/board/?since=0", "/snapshot", "/events?after=0", "/calls/1", "/none", "/board/",
+GETS = ("/who", "/session", "/mine", "/stream", "/mine?stream", "/requests", "/records/", "/records/sums?kind=groups", "/records/calls/2026-11-27.csv", "/basic?/board/?since=0", "/snapshot", "/events?after=0", "/calls/1", "/none", "/board/",
         "/board/?since=0&limit=30", "/board/agent/", "/board/board.json")
 POSTS = ("/csta", "/session")
 HOWS = {"a program": {}, "a script": PAGE, "a click": CLICK}
@@ -108,12 +108,12 @@ class Answers(Place):
         """Who has a password, and no line that gives a right; and who may not what is asked for."""
         for login in ("lineless", "odd"):
             self.everywhere(login, self.password(login), lambda *_: refusal(403))
-        for login, paths in (("ana", ("/requests", "/records/", "/snapshot", "/events?after=0", "/calls/1", "/none", "/mine?agent=8", "/stream?agent=8", "/mine?stream&agent=8")),
-                             ("copy", ("/mine", "/stream", "/mine?stream", "/records/", "/snapshot", "/calls/1")), ("blind", ("/mine?agent=7", "/stream", "/mine?stream", "/requests", "/records/", "/snapshot")), ("sup", ("/mine", "/requests", "/records/")), ("pbx", ("/requests", "/records/"))):
+        for login, paths in (("ana", ("/requests", "/records/", "/records/sums", "/snapshot", "/events?after=0", "/calls/1", "/none", "/mine?agent=8", "/stream?agent=8", "/mine?stream&agent=8")),
+                             ("copy", ("/mine", "/stream", "/mine?stream", "/records/", "/records/sums", "/snapshot", "/calls/1")), ("blind", ("/mine?agent=7", "/stream", "/mine?stream", "/requests", "/records/", "/records/sums", "/snapshot")), ("sup", ("/mine", "/requests", "/records/", "/records/sums")), ("pbx", ("/requests", "/records/", "/records/sums"))):
             for path in paths:
                 for how, named in HOWS.items():
                     self.expect(f"{login}, {how}, {path}", self.said("GET", path, {**named, **self.password(login)}), refusal(403))
-        for path in ("/snapshot", "/events", "/who", "/mine", "/stream", "/requests", "/records/"):
+        for path in ("/snapshot", "/events", "/who", "/mine", "/stream", "/requests", "/records/", "/records/sums"):
             self.expect(f"a request at {path}", self.said("POST", path, self.password("ana"))[9:12], "403")
 
     def try_another_site(self):

@@ -52,6 +52,10 @@ class Reads(Readers):
                     wanted = 404 if login in ("planner", "lea") else 403, None
                 reply = self.ask("GET", f"/records/{name}", login=login)
                 self.expect(f"{login} at {name}", (reply.status, reply.text if reply.status == 200 else None), wanted)
+            sums = self.ask("GET", "/records/sums?kind=groups&since=2026-11-26&until=2026-11-28&by=day", login=login)
+            # the files are by no formulas, which is told
+            self.expect(f"{login} at the sums", (sums.status, sums.value.get("others"), sums.value.get("missing")),
+                        (200, ["2026-11-26", "2026-11-27"], ["2026-11-28"]) if login in ("planner", "lea") else (403, None, None))
         self.expect("the days", self.ask("GET", "/records/", login="lea").value, {"agents": ["2026-11-26", "2026-11-27"], "groups": ["2026-11-26", "2026-11-27"], "records": ["2026-11-27"]})
         for name in ("records/2026-11-28.csv", "records/../roles", "../roles", "records/%2e%2e/%2e%2e/roles", "records", "roles/2026-11-27.csv", "records/2026-11-27.csv/", "records/\u0662026-11-27.csv"):
             self.expect(f"no file {name!r}", self.ask("GET", f"/records/{urllib.parse.quote(name, safe='/%.')}", login="planner").status, 404)

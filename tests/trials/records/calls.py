@@ -218,7 +218,8 @@ class Calls(Records):
         return self.script("--copies", copies, "--days", folder, zone=zone)
 
     def files(self, folder):
-        return {str(file.relative_to(folder)): file.read_bytes().decode() for file in sorted(folder.rglob("*")) if file.is_file()}
+        """Those of days."""
+        return {str(file.relative_to(folder)): file.read_bytes().decode() for file in sorted(folder.rglob("*")) if file.is_file() and file.parent.name != "reports"}
 
     def try_files(self):
         """The days that are over, and no other; each as the tables have it; for the owner and the group alone."""
@@ -226,8 +227,8 @@ class Calls(Records):
         folder, copies = self.folder / "written", self.copy_of(file, moment)
         shutil.rmtree(folder, ignore_errors=True)
         status, said, fault = self.write(folder, copies, zone)
-        today = str(datetime.datetime.fromtimestamp(moment, zoneinfo.ZoneInfo(zone)).date())
-        wanted = {}
+        over = datetime.datetime.fromtimestamp(moment, zoneinfo.ZoneInfo(zone)).date()
+        today, wanted = str(over), {}
         for kind, name, column in (("records", "calls", 3), ("agents", "agents", 0), ("groups", "groups", 0)):
             said_of = self.script("--file", file, "--names", "--excel", *TABLES[name][0], zone=zone)[1].splitlines(keepends=True)
             for line in said_of[1:]:
@@ -235,6 +236,12 @@ class Calls(Records):
                 if date < today:
                     # each says by which formulas it is
                     wanted[f"{kind}/{date}.csv"] = wanted.get(f"{kind}/{date}.csv", said_of[0].replace("\n", ",formulas\n")) + line.replace("\n", ",2\n")
+        # those in which nothing was have a head alone
+        first = datetime.date.fromisoformat(min(Path(name).stem for name in wanted))
+        for date in (first + datetime.timedelta(days=number) for number in range((over - first).days)):
+            for kind, name in (("records", "calls"), ("agents", "agents"), ("groups", "groups")):
+                head = self.script("--file", file, "--names", "--excel", *TABLES[name][0], "--since", "2099-01-01", zone=zone)[1]
+                wanted.setdefault(f"{kind}/{date}.csv", head.replace("\n", ",formulas\n"))
         has = self.files(folder)
         self.expect("which days", (status, fault, sorted(has)), (0, "", sorted(wanted)))
         self.expect("more than one day", len({name for name in wanted if name.startswith("agents/")}) > 1, True)

@@ -174,6 +174,9 @@ class OwnPasswordTest(OfficeTest):
             self.assertEqual(self.change()[0], 200)
         self.assertEqual(seen, [200])
 
+    def test_half_a_sign_is_a_wrong_one(self):
+        self.error(self.change(old="\ud800"), 403, "wrongPassword")
+
     def test_by_name_and_password(self):
         self.assertEqual(self.by("anna", "/password", {"old": PASSWORD, "new": OTHER}, password=PASSWORD), (200, {}))
         self.assertEqual(self.by("", "/who", method="GET", cookie=self.token)[0], 401)
@@ -181,7 +184,7 @@ class OwnPasswordTest(OfficeTest):
     def test_wrong_ones_count_as_those_of_a_log_in(self):
         for number in range(10):
             self.error(self.change(old=f"wrong-{number}") if number % 2 else (self.log_in("anna", f"wrong-{number}")[0] + 2, {"error": {"name": "wrongPassword"}}), 403, "wrongPassword")
-        self.error(self.change(old="another"), 429, "tooManyRequests")
+        self.error(self.change(old="\ud800"), 429, "tooManyRequests")
         self.assertEqual((self.log_in("anna", "another")[0], "refused, wrong password: anna at 192.0.2.1" in self.printed.getvalue()), (429, True))
 
     def test_what_no_new_one_is(self):

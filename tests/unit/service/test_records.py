@@ -181,6 +181,32 @@ class Files(Copies):
         self.assertEqual(self.run_it(), "2 files written\n")
         self.assertEqual({path: path.read_bytes() for path in self.days.rglob("*.csv")}, {path: content for path, (_, content) in before.items()})
 
+    def test_days_in_which_nothing_was(self):
+        """They have a head alone, as far back as a year: one that was removed stays so, and a file of other formulas gives way to it."""
+        (self.copies / "1970-01-03T000500Z").rename(self.copies / "1970-01-07T000500Z")
+        self.run_it()
+        heads = {kind: self.read(kind, FIRST)[0] for kind in record_days.KINDS}
+        days = [f"1970-01-0{day}" for day in range(1, 7)]
+        for kind in record_days.KINDS:
+            self.assertEqual(sorted(file.stem for file in (self.days / kind).glob("*.csv")), days)
+        # nobody called any more, and the agent is logged on to the end of each day that is counted
+        self.assertEqual(self.read("records", days[3]), [heads["records"]])
+        self.assertEqual(record_days.formulas_of(self.days / "records" / f"{days[3]}.csv"), record_days.FORMULAS)
+        (self.days / "records" / f"{days[3]}.csv").write_text("number,caller\n1,0301\n")
+        (self.days / "records" / f"{days[4]}.csv").unlink()
+        self.assertEqual((self.run_it(), self.read("records", days[3])), ("2 files written\n", [heads["records"]]))
+        with mock.patch.object(record_days, "AGAIN", 1):
+            (self.days / "records" / f"{days[3]}.csv").unlink()
+            self.run_it()
+        self.assertFalse((self.days / "records" / f"{days[3]}.csv").exists())
+
+    def test_how_far_back(self):
+        """A desk's clock may once have been wrong by years."""
+        (self.copies / "1970-01-03T000500Z").rename(self.copies / "1970-01-09T000500Z")
+        with mock.patch.object(record_days, "BACK", 3):
+            self.run_it()
+        self.assertEqual(sorted(file.stem for file in (self.days / "records").glob("*.csv")), [FIRST, SECOND, "1970-01-06", "1970-01-07", "1970-01-08"])
+
     def test_after_a_week(self):
         """Older ones stay as they are, also removed: somebody may have had to remove callers' numbers."""
         self.run_it()
