@@ -96,7 +96,7 @@ class Trial {
     const asked = words => spawnSync(join(TOP, 'tests/trials/show-board'), [this.program, ...words], {encoding: 'utf8', timeout: 10000});
     const taken = asked(['--port', port]), named = asked(['--port', 'x']);
     this.see('show-board looks at its port first', taken.status === 1 && taken.stdout === '' && taken.stderr === `tests/trials/show-board: port ${port} is taken: take another one by --port P\n`, JSON.stringify(taken));
-    this.see('and at its words', named.status === 1 && named.stderr === 'tests/trials/show-board: usage: tests/trials/show-board [PROGRAM] [--port P]\n', JSON.stringify(named));
+    this.see('and at its words', named.status === 1 && named.stderr === 'tests/trials/show-board: usage: tests/trials/show-board [PROGRAM] [--port P] [--pictures FOLDER]\n', JSON.stringify(named));
     const begin = Date.now(), said = await Front.start(this.folder, await this.desk('show.db', PLAN), ROLES, {port}).then(() => 'it starts', error => error.message);
     this.see("nginx's own line", said.startsWith("the gate or nginx doesn't start: nginx: [emerg] bind() to ") && said.includes(`:${port} failed`) && Date.now() - begin < 20000, said);
   }
