@@ -166,6 +166,8 @@ class Streams:
             self.tell_agent(stream, state, is_whole=True)
 
     def begin_board(self, stream: Stream, sight: Sight, state: State, after: str = "") -> None:
+        # while nobody looked no turn was taken
+        self.turn_boards(state, self.clock())
         try:
             view = stream.view = self.see(sight, state)
         except TooMany:

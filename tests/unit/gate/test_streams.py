@@ -93,6 +93,17 @@ class StreamsTest(Named, unittest.IsolatedAsyncioTestCase):
         await self.turn(1.1)
         self.assertEqual(page.told, [])
 
+    async def test_a_board_that_comes_later(self):
+        """It begins with the desk as it is, and not as the last board was told."""
+        page = await self.page()
+        page.stream.end("left")
+        await page.task
+        self.desk.events.append(logged_on(1))
+        await self.following.catch_up()
+        self.now += 30
+        later = await self.page()
+        self.assertEqual((later.told[0][0], later.told[0][2]["agents"]["7"]["doing"]), ("picture", "notReady"))
+
     async def test_a_board_and_a_new_snapshot(self):
         """What that shows comes between two turns, and is told a second after the last change."""
         page, agents = await self.page(), self.desk.plan["agents"]
