@@ -13,6 +13,7 @@ const LINES = {
   groups: (line, id) => ({id, name: '', ring: 0, wrap: 0, priority: 0, waiting: 0, ringing: 0, queued: 0, counts: {}, next: '', ...line}),
   agents: (line, id) => ({id, name: '', since: 0, group: null, station: null, groups: [], pending: null, calls: [], ...line}),
   rules: line => line,
+  reasons: line => line.reason,
   calls: (line, id) => ({
     number: Number(id), state: 'none', since: 0, begun: line.since ?? 0, group: null, at: '', caller: '', direct: false,
     queued: line.since ?? 0, ...line,
@@ -27,6 +28,8 @@ export class State {
   /** @type {Map<string, Call>} */ calls = new Map();
   // what an office's rules do with a group's callers
   /** @type {Map<string, Rule>} */ rules = new Map();
+  // why agents aren't ready, by the office's list
+  /** @type {Map<string, string>} */ reasons = new Map();
   // the agent at a station
   /** @type {Map<string, string>} */ at = new Map();
   /** @type {Report[]} */ events = [];
@@ -45,7 +48,7 @@ export class State {
 
   /** @param {Told} told @param {boolean} isWhole whether all else is gone */
   take(told, isWhole) {
-    for (const name of /** @type {const} */ (['groups', 'agents', 'calls', 'rules'])) {
+    for (const name of /** @type {const} */ (['groups', 'agents', 'calls', 'rules', 'reasons'])) {
       const lines = /** @type {Map<string, any>} */ (this[name]);
       if (isWhole) lines.clear();
       for (const [id, line] of Object.entries(told[name] ?? {})) {

@@ -58,7 +58,7 @@ declare global {
   type Report = types.Report;
   type Rule = types.Rule;
   type Settings = typeof import('./settings.js').USUAL & {[ofGroup: `${string}.${string}`]: number};
-  type Shown = Pick<Agent, 'id' | 'name' | 'doing' | 'since' | 'group'>;
+  type Shown = Pick<Agent, 'id' | 'name' | 'doing' | 'since' | 'group'> & {reason?: string};
   type Sentence = types.Sentence;
   type Signed = types.Signed;
   type Severity = types.Severity;

@@ -99,6 +99,7 @@ rootsLogin: that login belongs to the machine's files, or begins as one of their
 unknownLogin: there is no such login any more
 tooManyLogins: there are as many logins as there may be
 notWritten: it could not be written: the disk of the gate is full, say
+notKept: the server has no room to keep it
 [csv]
 save: CSV
 [agents]
@@ -204,6 +205,7 @@ rings: Rings
 notAnswered: Not answered
 refused: Refused
 hungUp: Hung up
+code: About
 [tile]
 ringing: and {n} ringing
 ready: Agents ready
@@ -358,6 +360,11 @@ notReady: Not ready
 workingAfterCall: After-call work
 loggedOff: Log off
 loggedOn: Log on
+why: Why not ready?
+reason.none: Without a reason
+about: What was the call about?
+notTheDesks: Reasons and what calls were about are the office's notes: the desk does not know them.
+notKept: {what}: no answer came, so it is not kept. Choose it again.
 readyIn: ready in {clock}
 readySoon: ready in a moment
 notPlanned: No such agent is planned
@@ -555,6 +562,13 @@ function strange(/** @type {any} */ said, area = '', known = (/** @type {string}
 
 const isText = (/** @type {any} */ value) => ['string', 'number'].includes(typeof value);
 
+// A key of a list may not look like a caller's number.
+const KEY = /^(?!.*\d{6})[a-z][a-z0-9-]{0,14}$/, MOST_KEYS = 40;
+const isOfList = (/** @type {string} */ name, /** @type {any} */ value) => KEY.test(name) && isText(value) && `${value}`.trim() !== '';
+/** @returns {Record<string, string>} */
+const listOf = (said = {}) =>
+  Object.fromEntries(Object.entries(texts(said)).filter(([name, value]) => isOfList(name, value)).slice(0, MOST_KEYS));
+
 function officeOf(text = '') {
   let said;
   /** @type {string[]} */ const faults = [];
@@ -563,21 +577,25 @@ function officeOf(text = '') {
     said = {};
     faults.push('board.json');
   }
-  const given = texts(said), {names, limits} = said, drop = (name = '') => { delete given[name]; faults.push(name); };
+  const given = texts(said), {names, limits, reasons, codes, requireReason} = said;
+  const drop = (name = '') => { delete given[name]; faults.push(name); };
   const kinds = ['groups', 'agents', 'stations'], ofText = (_ = '', /** @type {any} */ value) => isText(value);
-  const isOf = (name = '', /** @type {any} */ value) =>
-    ['title', 'language', 'zone'].includes(name) ? isText(value) : ['names', 'limits', 'customer'].includes(name);
+  const isOf = (name = '', /** @type {any} */ value) => ['title', 'language', 'zone'].includes(name) ? isText(value) :
+    name === 'requireReason' ? typeof value === 'boolean' :
+      ['names', 'limits', 'customer', 'reasons', 'codes'].includes(name);
   faults.push(
     ...strange(said, '', isOf),
     ...strange(limits, 'limits.', ofText), ...strange(names, 'names.', name => kinds.includes(name)),
-    ...kinds.flatMap(name => strange(names?.[name], `names.${name}.`, ofText)));
+    ...kinds.flatMap(name => strange(names?.[name], `names.${name}.`, ofText)),
+    ...strange(reasons, 'reasons.', isOfList), ...strange(codes, 'codes.', isOfList));
   if (!/^[a-z]{2,3}$/.test(given.language ?? 'en')) drop('language');
   try { new Intl.DateTimeFormat('en', {timeZone: given.zone}); } catch { drop('zone'); }
   const {customer, faults: ofCustomer} = customerOf(said.customer);
   faults.push(...ofCustomer);
   const allNames = {groups: texts(names?.groups), agents: texts(names?.agents), stations: texts(names?.stations)};
+  const lists = {reasons: listOf(reasons), codes: listOf(codes), requireReason: requireReason === true};
   const {title, language, zone} = given;
-  return {office: {title, language, zone, limits: texts(limits), names: allNames, customer}, faults};
+  return {office: {...lists, title, language, zone, limits: texts(limits), names: allNames, customer}, faults};
 }
 
 const reply = await ask('/board/board.json', {cache: 'no-cache'}, PATIENCE).catch(() => null), isTold = reply?.status === 200;

@@ -8,6 +8,7 @@ import {isHeard, soundWhere, tone} from '../sound.js';
 import {clock, DOING, named, office, plain, query, refusal, timeOfDay, translate, word} from '../words.js';
 import {beat, drawCalls, joined, ring, say} from './calls.js';
 import {isFree, isOverdue, meant, placesOf, sideOf, STATES, states, taken, wrapLeft} from './mine.js';
+import {codeName, hasCodes, Reasons} from './reasons.js';
 import {Requests} from './requests.js';
 
 // milliseconds until the page is late, an answer of the gate isn't waited for, a text fades, a refusal fades, a click is no second one
@@ -57,6 +58,7 @@ function show({kind, words, key, result}) {
   if (kind !== 'waits') fades = setTimeout(put, kind === 'refused' ? REFUSED : FLEETING, 'told');
   if (result?.pending && mine) mine.agent.pending = result.pending;   // which no event has
   if (kind === 'refused' && key === 'loggedOff') leaves = false;
+  giving.told(kind, key);
   draw();
 }
 
@@ -73,6 +75,8 @@ const send = (service, members, words, key) => {
 /** @param {{device?:string}} [more] */
 const ask = (requested = '', more) => send('setAgentState', {agent: id, requested, ...more},
   more ? say('logOnAt', {station: `${more.device}`}) : say(requested), requested);
+
+const giving = new Reasons({id: () => id, ask, refuse, draw, who: callerName, group: groupName});
 
 /** @type {Act} */
 const act = (service, {call, key, back = ''}, who, field) => {
@@ -202,7 +206,7 @@ function draw() {
   put('states', ...STATES.map(requested => make('button', {
     'data-requested': requested,
     'aria-disabled': may.has(requested) && !requests.out.has(requested) ? false : 'true',
-    onclick: () => { if (may.has(requested)) ask(requested); },
+    onclick: () => { if (may.has(requested) && !giving.begins(requested, mine)) ask(requested); },
   }, say(requested))));
   const hidden = {
     'at-station': !device, 'own-queues': !device, states: !device || !acts, 'log-on': state !== 'null' || !acts,
@@ -211,6 +215,7 @@ function draw() {
   const wasHidden = byId('states').hidden;
   for (const [part, is] of Object.entries(hidden)) set(part, {hidden: is});
   drawLogOn(agent, may.has('loggedOn') && !requests.out.has('loggedOn'));
+  giving.draw(mine, acts && isLiving, moment);
   set('state', {'data-doing': does});
   put('state', make('span', {'aria-hidden': 'true'}, sign), ' ',
     make('span', {id: 'state-words', role: 'status'}, state ? words : say('notPlanned')), ' ',
@@ -251,11 +256,14 @@ const queues = table('queues', [
   {head: 'longest', text: ({wait}) => clock(wait)},
   {head: 'ready', text: ({ready, loggedOn}) => `${ready} / ${loggedOn}`},
 ]);
+/** @param {DayCall} one */
+const codeOf = ({call, moment}) => mine.given?.calls.find(given => given.call === call && given.moment === moment)?.code;
 const lastCalls = table('day', [
   {head: 'time words', text: ({moment}) => timeOfDay(moment, 'short')},
   {head: 'caller words', text: ({caller}) => caller ? callerName(caller) : '–'},
   {head: 'group words', text: ({group}) => group ? groupName(group) : say('direct')},
   {head: 'talk', text: ({talked}) => clock(talked)},
+  ...hasCodes ? [{head: 'code words', text: (/** @type {DayCall} */ one) => codeName(codeOf(one))}] : [],
 ]);
 
 function drawDay(moment = 0) {

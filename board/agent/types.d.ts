@@ -20,10 +20,17 @@ declare global {
   type Changed = {by: string, moment: number, requested: 'ready' | 'notReady' | 'workingAfterCall' | 'loggedOff'};
   type DayCall = {call: number, caller?: string, group?: string, moment: number, talked: number};
   type MyDay = {answered: number, begins: number, calls: DayCall[], missed: number, talking: number, talks?: number};
+  /** what the gate keeps of the agent: why not ready, and what the last calls were about */
+  type GivenCall = DayCall & {code: string};
+  type Given = {reason: string, calls: GivenCall[]};
+  type GivenBody = {reason: string} | {call: number, talk: number, code: string};
+  /** the page, as reasons and codes need it */
+  type GivingPage = {id: () => string, ask: (requested: string) => void, refuse: (words: string) => void, draw: () => void,
+    who: Namer, group: Namer};
   type Names = {agents: {agent: string, device?: string, name: string}[], groups: {device: string, name: string}[], stations: string[]};
   /** lines: those of groups that were told, by their numbers; queues: which of them are the agent's */
   type Mine = {agent: MyState, calls: MyCall[], day?: MyDay | null, doing: {doing: Doing, since: number, group?: string | null},
-    groups: MyQueue[], lines: Record<string, MyQueue>, live: boolean, missed?: Missed | null, changed?: Changed | null,
+    given?: Given, groups: MyQueue[], lines: Record<string, MyQueue>, live: boolean, missed?: Missed | null, changed?: Changed | null,
     names?: Names, queues: string[]};
   /** what GET /session answers; own: the login may change its password here; first: it has one that it was given */
   type Who = {agent?: string, begun?: number, ends?: number, first?: boolean, groups?: string[], login?: string, own?: boolean,

@@ -2,7 +2,7 @@
 import {order} from '../desk.js';
 import {AS_IT_IS, byId, make, put, set, table, withNumber} from '../draw.js';
 import {chosenAgents, noCounts, search} from '../lines.js';
-import {clock, DOING, named, word} from '../words.js';
+import {clock, DOING, named, office, word} from '../words.js';
 
 // a table of so many is written anew less often
 const MANY = 100, DAYS_EVERY = 5000, SORTED_EVERY = 5000, KINDS = /** @type {Doing[]} */ (Object.keys(DOING));
@@ -14,8 +14,12 @@ const seen = new Set(), watcher = new IntersectionObserver(entries => {
   redraw();
 }, {rootMargin: '200px'});
 
-/** @param {{doing:Doing}} line */
-const does = ({doing}) => `${DOING[doing].sign} ${DOING[doing].words}`;
+// Why the agent isn't ready, by what the agent said.
+/** @param {Doing} doing */
+const because = (doing, reason = '') => doing === 'notReady' && reason ? `: ${named(office.reasons[reason] ?? reason)}` : '';
+
+/** @param {{doing:Doing, reason?: string}} line */
+const does = ({doing, reason}) => `${DOING[doing].sign} ${DOING[doing].words}${because(doing, reason)}`;
 
 const days = table('agents-table', [
   {head: 'agent name', text: withNumber, file: line => line.name},
@@ -48,8 +52,9 @@ export function draw(drawn) {
   }
 }
 
-/** @param {Drawn} drawn */
-const people = drawn => chosenAgents(drawn).map(({id, name, doing, since, group}) => ({id, name, doing, since, group}));
+/** @param {Drawn} drawn @returns {Shown[]} */
+const people = drawn => chosenAgents(drawn).map(({id, name, doing, since, group}) =>
+  ({id, name, doing, since, group, reason: drawn.state.reasons.get(id)}));
 
 /** @param {Drawn} drawn */
 const drawDays = (drawn, shown = people(drawn)) =>
@@ -71,7 +76,7 @@ function arranged(shown, sort = '') {
 }
 
 /** @param {Drawn} drawn @param {Shown} shown */
-function tile({state, now, settings, lead}, {id, doing, group, since}) {
+function tile({state, now, settings, lead}, {id, doing, group, since, reason}) {
   if (!seen.has(id)) return make('li', {'data-key': id}, AS_IT_IS);
   const groupName = (id = '') => named(state.nameOf(id)), agent = state.agent(id), {name, station, groups, pending} = agent;
   const who = named(name || word('agents.one', {id})), {sign, words} = DOING[doing];
@@ -79,7 +84,7 @@ function tile({state, now, settings, lead}, {id, doing, group, since}) {
   const place = station ? [word('agents.at', {id, station}), ...groups.map(id => groupName(id))] : [id];
   return make('li', {'data-key': id, 'data-doing': doing, 'data-long': isLong, 'data-several': groups.length > 1},
     make('strong', who), make('span.sign', {'aria-hidden': 'true'}, sign),
-    make('span.words', words + (group && groups.length > 1 ? `: ${groupName(group)}` : '')),
+    make('span.words', words + because(doing, reason) + (group && groups.length > 1 ? `: ${groupName(group)}` : '')),
     make('time', !isOff && `${isLong ? '! ' : ''}${clock(now - since)}`),
     make('small', place.join(', ')),
     make('span.calls', pending !== null && make('span', word(`pending.${pending}`)),

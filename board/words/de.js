@@ -45,6 +45,7 @@ export default {
     rootsLogin: 'diese Anmeldung gehört zu den Dateien des Rechners oder beginnt wie eine davon',
     unknownLogin: 'diese Anmeldung gibt es nicht mehr', tooManyLogins: 'es gibt so viele Anmeldungen, wie es geben darf',
     notWritten: 'es ließ sich nicht schreiben: die Platte des Gates ist voll, etwa',
+    notKept: 'der Server hat keinen Platz dafür',
   },
   csv: {save: 'CSV'},
   'log.off': 'Hier abmelden', totals: 'Eigene Gruppen zusammen',
@@ -79,6 +80,7 @@ export default {
     peak: 'Höchstens wartend', day: 'Tag', calls: 'Anrufe', agent: 'Agent', talk: 'Gespräch', missed: 'Verpasst',
     days: 'Tage', week: 'Woche', month: 'Monat', weekday: 'Wochentag', hour: 'Stunde', occupancy: 'Auslastung',
     ownCalls: 'Eigene Anrufe', rings: 'Geklingelt', notAnswered: 'Nicht angenommen', refused: 'Abgelehnt', hungUp: 'Aufgelegt',
+    code: 'Worum',
   },
   records: {
     title: 'Aufzeichnungen', kind: 'Wovon', 'kind.groups': 'Gruppen', 'kind.agents': 'Agenten', of: 'Welche', all: 'Zusammen',
@@ -175,6 +177,9 @@ export default {
   agent: {
     state: 'Dein Zustand', change: 'Zustand ändern', at: 'an {station}', ready: 'Bereit', notReady: 'Nicht bereit',
     workingAfterCall: 'Nachbearbeitung',
+    why: 'Warum nicht bereit?', 'reason.none': 'Ohne Grund', about: 'Worum ging es?',
+    notTheDesks: 'Gründe und worum es ging sind Notizen des Büros: die Zentrale kennt sie nicht.',
+    notKept: '{what}: es kam keine Antwort, darum ist es nicht vermerkt. Wähl es noch einmal.',
     loggedOff: 'Abmelden', loggedOn: 'Anmelden', readyIn: 'bereit in {clock}', readySoon: 'gleich bereit',
     notPlanned: 'Ein solcher Agent ist nicht geplant', station: 'Platz',
     groups: 'Gruppen, eine bis acht', logOnAt: 'Anmelden an {station}',

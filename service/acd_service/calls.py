@@ -10,13 +10,14 @@ from collections.abc import Callable, Iterator, Mapping
 from pathlib import Path
 from typing import Any, NoReturn, TextIO
 
-from acd_service import archives, chain, command, reports, sheets
+from acd_service import archives, chain, command, reasons, reports, sheets
 from acd_service.book import Book, opened
 from acd_service.command import Fault, report
 from acd_service.figures import STEP, Figures, Reached
 from acd_service.leaving.records import Call, Records
 from acd_service.office import FILE, Office, counting, put_names
-from acd_service.record_days import APART, BEFORE, KINDS, Days, Writer, wanted_from
+from acd_service.reasons import Given
+from acd_service.record_days import AGAIN as ANEW, APART, BEFORE, KINDS, Days, Writer, wanted_from
 from acd_service.rules.reading import REQUESTER
 
 CALLS = ["number", "caller", "called", "entered", "groups", "rings", "agent", "station", "waited", "talked", "held",
@@ -28,9 +29,11 @@ AGENTS = ["day", "agent", "name", "logged_on", "ready", "talking", "wrap_up", "r
 GROUPS = ["begin", "group", "entered", "answered", "abandoned", "moved", "limit", "in_time", "abandoned_late",
           "service_level", "waited", "longest", "most_waiting", "handled", "handling", "closed", "answered_by_stay",
           "abandoned_by_stay", "in_time_by_stay", "late_by_stay", "service_level_by_stay"]
+# of calls and agents, where agents gave reasons and codes
+CODES, REASONS = "codes", "reasons"
 # the columns that --names adds for those that have numbers, and of what these are
 NAMES = {"groups": ("group_names", "groups"), "group": ("group_name", "groups"), "agent": ("agent_names", "agents"),
-         "rung": ("rung_names", "agents")}
+         "rung": ("rung_names", "agents"), CODES: ("code_names", CODES), REASONS: ("reason_names", REASONS)}
 # columns of numbers that aren't to be reckoned with, and of names
 NUMBERED = {"caller", "called", "groups", "agent", "station", "rung", "device", "group", "to"}
 NAMED = {"name", *(name for name, _ in NAMES.values())}
@@ -55,6 +58,11 @@ def when(moment: float | None) -> str:
     return "" if moment is None else datetime.datetime.fromtimestamp(moment).strftime("%Y-%m-%d %H:%M:%S")
 
 
+def columns_with(given: Given | None) -> tuple[list[str], list[str]]:
+    """Those of calls and of agents."""
+    return (CALLS, AGENTS) if given is None else ([*CALLS, CODES], [*AGENTS, REASONS])
+
+
 def call_row(call: Call) -> Row:
     rung = [leg for leg in call.legs if leg.rings]
     answered = [leg for leg in call.legs if leg.answered is not None]
@@ -65,19 +73,33 @@ def call_row(call: Call) -> Row:
             when(min((leg.answered for leg in answered), default=None)), when(call.ended_at)]
 
 
+def codes_of(call: Call, given: Given | None) -> Row:
+    """What a call was about, by the agents who talked in it: a column, where anything was given."""
+    talks = [(leg.answered, leg.agent) for leg in call.legs if leg.answered is not None]
+    return [] if given is None else [" ".join(given.codes_of(call.number, talks))]
+
+
+def reasons_of(given: Given, day: datetime.date, agent: str) -> str:
+    """For how many seconds of a day an agent wasn't ready for which reason: `lunch:1800 training:600`, the longest
+    first."""
+    spent = sorted(given.spent.get((day, agent), {}).items(), key=lambda one: (-one[1], one[0]))
+    return " ".join(f"{reason}:{seconds}" for reason, seconds in spent)
+
+
 def leg_rows(call: Call) -> Iterator[Row]:
     for number, leg in enumerate(call.legs, 1):
         yield [call.number, number, leg.device, leg.agent, leg.group, when(leg.begun), when(leg.answered),
                when(leg.ended_at), leg.waited, leg.rang, leg.talked, leg.held, leg.wrapped_up, leg.ended, leg.to]
 
 
-def agent_rows(records: Records, names: Names) -> Iterator[tuple[datetime.date, Row]]:
-    """Day and row, in the order of days and agents."""
+def agent_rows(records: Records, names: Names, given: Given | None = None) -> Iterator[tuple[datetime.date, Row]]:
+    """Day and row, in the order of days and agents; with the reasons that agents gave."""
     for day, agent in sorted(records.days, key=lambda key: (key[0], int("1" + key[1]))):
         has = records.days[day, agent]
         groups = " ".join(sorted(has.groups, key=lambda group: int("1" + group)))
+        more = [] if given is None else [reasons_of(given, day, agent)]
         yield day, [day, agent, names["agents"].get(agent, ""), *(has.counts[column] for column in AGENTS[3:14]),
-                    when(has.first), when(has.last), groups]
+                    when(has.first), when(has.last), groups, *more]
 
 
 def group_rows(figures: Figures, waited: Mapping[str, int], begin: int, end: int,
@@ -116,11 +138,18 @@ class Form:
     def row(self, columns: list[str], row: Row) -> Row:
         if self.is_named:
             for column in self.to_name(columns):
-                names = self.names[NAMES[column][1]]
-                row.append("; ".join(names.get(number, number) for number in str(row[columns.index(column)]).split()))
+                names = self.names.get(NAMES[column][1], {})
+                words = str(row[columns.index(column)]).split()
+                row.append("; ".join(named(names, word) for word in words))
         if self.is_guarded:
             row = [guarded(column, field) for column, field in zip(self.head(columns), row)]
         return row
+
+
+def named(names: Mapping[str, str], word: str) -> str:
+    """The name of a number or key; of a reason with its seconds."""
+    key, colon, seconds = word.partition(":")
+    return f"{names.get(key, key)}{colon and ' '}{seconds}"
 
 
 def guarded(column: str, field: Any) -> Any:
@@ -215,8 +244,9 @@ def group_rows_of(book: Book, figures: Figures, end: int, limit_of: Callable[[st
 class Printed:
     """One table, of the days that are asked for."""
 
-    def __init__(self, options: argparse.Namespace, office: Office, form: Form, names: Names) -> None:
-        self.options, self.office, self.form, self.names = options, office, form, names
+    def __init__(self, options: argparse.Namespace, office: Office, form: Form, names: Names,
+                 given: Given | None) -> None:
+        self.options, self.office, self.form, self.names, self.given = options, office, form, names, given
         self.writer = csv.writer(sys.stdout, lineterminator="\n")
 
     def is_asked_for(self, day: datetime.date) -> bool:
@@ -229,7 +259,8 @@ class Printed:
             self.writer.writerow(self.form.row(columns, row))
 
     def print(self, book: Book) -> None:
-        columns = {"legs": LEGS, "agents": AGENTS, "groups": GROUPS}.get(self.options.table, CALLS)
+        calls, agents = columns_with(self.given)
+        columns = {"legs": LEGS, "agents": agents, "groups": GROUPS}.get(self.options.table, calls)
         if self.options.excel:
             sys.stdout.write(sheets.MARK)
         self.writer.writerow(self.form.head(columns))
@@ -240,15 +271,16 @@ class Printed:
             for begin, row in group_rows_of(book, figures, end, self.office.limit_of):
                 self.put(columns, begin, row)
             return
-        records = Records(book, closed)
+        records = Records(book, closed, self.given)
         follow(book, records, None,
                {"legs": self.put_legs, "agents": lambda call: None}.get(self.options.table, self.put_call))
         if self.options.table == "agents":
-            for day, row in agent_rows(records, self.names):
+            for day, row in agent_rows(records, self.names, self.given):
                 self.put(columns, day, row)
 
     def put_call(self, call: Call) -> None:
-        self.put(CALLS, call.entered, call_row(call))
+        columns, _ = columns_with(self.given)
+        self.put(columns, call.entered, [*call_row(call), *codes_of(call, self.given)])
 
     def put_legs(self, call: Call) -> None:
         for row in leg_rows(call):
@@ -274,11 +306,13 @@ def book_of(file: Path, options: argparse.Namespace, folder: Path, since: dateti
     return Book(archives.opened(file, earlier, folder, options.live))
 
 
-def write_days(folder: Path, book: Book, office: Office, form: Form, names: Names, made: int) -> bool:
+def write_days(folder: Path, book: Book, office: Office, form: Form, names: Names, made: int,
+               given: Given | None) -> bool:
     """The files of the days that are over. Returns whether none is missing."""
-    heads = {kind: form.head(columns) for kind, columns in zip(KINDS, (CALLS, AGENTS, GROUPS))}
+    calls, agents = columns_with(given)
+    heads = {kind: form.head(columns) for kind, columns in zip(KINDS, (calls, agents, GROUPS))}
     closed = ended_by_rules(book)
-    records, figures = Records(book, closed), figures_of(book, closed)
+    records, figures = Records(book, closed, given), figures_of(book, closed)
     end, begins = made or book.last_moment(), book.begins()
     # an older archive has the beginning of the first request's day
     first = datetime.date.min if begins is None else datetime.date.fromtimestamp(begins) + datetime.timedelta(days=1)
@@ -294,11 +328,12 @@ def write_days(folder: Path, book: Book, office: Office, form: Form, names: Name
                    "where they are wanted")
 
         def write(call: Call) -> None:
-            days.write("records", datetime.date.fromtimestamp(call.entered), form.row(CALLS, call_row(call)))
+            days.write("records", datetime.date.fromtimestamp(call.entered),
+                       form.row(calls, [*call_row(call), *codes_of(call, given)]))
 
         follow(book, records, figures, write, end)
-        for day, row in agent_rows(records, names):
-            days.write("agents", day, form.row(AGENTS, row))
+        for day, row in agent_rows(records, names, given):
+            days.write("agents", day, form.row(agents, row))
         for begin, row in group_rows_of(book, figures, end, office.limit_of):
             days.write("groups", datetime.date.fromtimestamp(begin), form.row(GROUPS, row))
     if days.set_apart:
@@ -306,6 +341,17 @@ def write_days(folder: Path, book: Book, office: Office, form: Form, names: Name
     written = days.written + reports.write(folder, office, datetime.date.fromtimestamp(end))
     print(f"{written} files written")
     return not lacks
+
+
+def given_to(options: argparse.Namespace, since: datetime.date | None) -> Given | None:
+    """What agents gave, for the days from one on, and for those that are written anew; None where nobody ever gave
+    anything."""
+    folder = options.reasons or (options.copies / reasons.FOLDER if options.copies else None)
+    if folder is None or not reasons.parts(folder):
+        return None
+    first = since or datetime.date.min
+    least = datetime.date.min + BEFORE + datetime.timedelta(days=ANEW)
+    return Given(reasons.given(folder, str(max(first, least) - BEFORE - datetime.timedelta(days=ANEW))))
 
 
 def day(text: str) -> datetime.date:
@@ -323,6 +369,8 @@ def add_files(parser: argparse.ArgumentParser) -> None:
     parser.add_argument("--archive", action="append", default=[], type=Path, metavar="A",
                         help="an archive that the file continues, in place of those that its note names; "
                              "as often as there are some, from the oldest on")
+    parser.add_argument("--reasons", type=Path, metavar="FOLDER",
+                        help="reasons of not ready and codes of calls; those among the copies unless given")
 
 
 def parser() -> command.Parser:
@@ -364,10 +412,12 @@ def do(options: argparse.Namespace, folder: Path) -> bool:
     names = book.names()
     if options.names or options.days:
         put_names(names, file, office)
+        names |= {CODES: office.codes, REASONS: office.reasons}
+    given = given_to(options, since)
     if options.days:
-        has_all = write_days(options.days, book, office, Form(names, True, True), names, made)
+        has_all = write_days(options.days, book, office, Form(names, True, True), names, made, given)
     else:
-        Printed(options, office, Form(names, options.names, options.excel), names).print(book)
+        Printed(options, office, Form(names, options.names, options.excel), names, given).print(book)
         sys.stdout.flush()
         has_all = is_whole(book, since)
         if not has_all:

@@ -10,10 +10,11 @@ import json
 import re
 import ssl
 from collections.abc import Callable, Iterator
+from functools import partial
 from pathlib import Path
 from typing import Any
 
-from acd_service import certificate, command, gate_state, office, settings
+from acd_service import certificate, command, gate_state, office, reasons, settings
 from acd_service.command import Fault
 
 # least and greatest value of a setting
@@ -22,7 +23,9 @@ NUMBERS = {"ACD_PORT": (1024, 65535), "ACD_GATE_PORT": (1024, 65535), "ACD_TLS_P
 PATHS = ("ACD_FILE", "ACD_COPY_FOLDER", "ACD_SOCKET", "ACD_GATE_SOCKET")
 # days before the end of a certificate from which on it is a fault
 SOON = 14
-MEMBERS = {"title": str, "language": str, "zone": str, "names": dict, "limits": dict, "customer": dict}
+MEMBERS = {"title": str, "language": str, "zone": str, "names": dict, "limits": dict, "customer": dict,
+           "reasons": dict, "codes": dict, "requireReason": bool}
+KINDS = {str: "a text", dict: "an object", bool: "true or false"}
 NAMED, LONGEST_ADDRESS = ("groups", "agents", "stations"), 1000
 # the settings of pages that are numbers, each with its greatest value, those of one group among them, and those that
 # are texts
@@ -156,9 +159,10 @@ def of_board(file: Path) -> Iterator[str]:
             yield f"{file}: no member is called {name}"
         elif not isinstance(value, MEMBERS[name]):
             wrong.add(name)
-            yield f"{file}: {name} must be {'a text' if MEMBERS[name] is str else 'an object'}"
+            yield f"{file}: {name} must be {KINDS[MEMBERS[name]]}"
     judges: dict[str, Callable[[Path, Any], Iterator[str]]] = {
-        "zone": of_zone, "names": of_names, "limits": of_limits, "customer": of_customer}
+        "zone": of_zone, "names": of_names, "limits": of_limits, "customer": of_customer,
+        "reasons": partial(of_list, "reasons"), "codes": partial(of_list, "codes")}
     for name, judge in judges.items():
         if name in said and name not in wrong:
             yield from judge(file, said[name])
@@ -178,6 +182,17 @@ def of_names(file: Path, names: dict[str, Any]) -> Iterator[str]:
             if not re.fullmatch("[0-9]{1,15}", number) or not isinstance(name, str) or len(name) > office.LONGEST:
                 yield (f"{file}: names.{kind}: {number} must be a number, and its name a text of {office.LONGEST} "
                        "letters at most")
+
+
+def of_list(name: str, file: Path, has: dict[str, Any]) -> Iterator[str]:
+    for key, text in has.items():
+        if not re.fullmatch(reasons.KEY, key):
+            yield (f"{file}: {name}: {key} must be 1 to 15 of a-z, 0-9 and hyphen, begin with a letter, and not have "
+                   "six digits in a row")
+        elif not isinstance(text, str) or not text.strip() or len(text) > office.LONGEST:
+            yield f"{file}: {name}.{key} must be a text of {office.LONGEST} letters at most"
+    if len(has) > office.MOST_KEYS:
+        yield f"{file}: {name} has over {office.MOST_KEYS} keys; the others are ignored"
 
 
 def of_limits(file: Path, limits: dict[str, Any]) -> Iterator[str]:

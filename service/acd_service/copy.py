@@ -498,6 +498,12 @@ def put_back(options: argparse.Namespace, now: gate_state.Files | None) -> gate_
     return found[0]
 
 
+def put_reasons_back(options: argparse.Namespace) -> None:
+    """After a restore; an undo leaves them as they are."""
+    if not options.undo:
+        gate_state.give_parts(options.own, options.folder, restoring.owner_of(options.file))
+
+
 def do(options: argparse.Namespace) -> int:
     """Does what was asked for; the status, 0 where all is as it should be."""
     command.end_on_signals()
@@ -506,9 +512,9 @@ def do(options: argparse.Namespace) -> int:
         for desk in desks_over(options.file):
             desk.go_on()
     elif options.hand_over:
-        gate_state.hand_over(options.own or gate_state.FOLDER, options.hand_over)
+        gate_state.hand_over(options.own or gate_state.FOLDER, options.hand_over, options.folder)
     elif options.restore is not None or options.undo:
-        gate_state.beside(options.own, lambda now: put_back(options, now))
+        gate_state.beside(options.own, lambda now: put_back(options, now), lambda: put_reasons_back(options))
     elif not copied_and_told(options):
         return command.FAILED
     return 0

@@ -1,6 +1,6 @@
-"""The settings of the office in /etc/acd/board.json, as far as records use them: names in any script, limits of the
-service level, the zone, the language; and below its names those that the office gives by its page. Tested, not
-proved."""
+"""The settings of the office in /etc/acd/board.json, as far as records and the gate use them: names in any script,
+limits of the service level, the zone, the language, and the lists of reasons and codes; and below its names those that
+the office gives by its page. Tested, not proved."""
 import contextlib
 import json
 import os
@@ -13,11 +13,14 @@ from pathlib import Path
 
 from acd_service import gate_state, settings
 from acd_service.command import Fault
+from acd_service.reasons import KEY
 from acd_service.spelling import KINDS, Names, shown_names
 
 FILE = Path("/etc/acd/board.json")
 # seconds, where nobody says otherwise, and the most; the most letters of a name. The board has the same
 LIMIT, MOST, LONGEST = 20, 86400, 80
+# how many keys a list has at most; the pages have the same
+MOST_KEYS = 40
 
 
 def texts(said: object) -> dict[str, str]:
@@ -28,6 +31,12 @@ def texts(said: object) -> dict[str, str]:
         for name, value in members.items()
         if isinstance(value, (str, int, float)) and not isinstance(value, bool)
     }
+
+
+def listed(said: object) -> dict[str, str]:
+    """The keys of a list with their texts, in their order."""
+    found = [(key, text) for key, text in texts(said).items() if re.fullmatch(KEY, key) and text.strip()]
+    return dict(found[:MOST_KEYS])
 
 
 def seconds(text: str | None) -> float | None:
@@ -45,6 +54,8 @@ class Office:
     zone: str | None = None
     language: str = "en"
     title: str = ""
+    reasons: dict[str, str] = field(default_factory=dict)
+    codes: dict[str, str] = field(default_factory=dict)
 
     def limit_of(self, group: str) -> float:
         """Of the group, else of all."""
@@ -72,7 +83,7 @@ def office(file: Path, report: Callable[[str], object]) -> Office:
         zone = None
     return Office({kind: texts(names.get(kind) if isinstance(names, dict) else None) for kind in ("groups", "agents")},
                   texts(said.get("limits")), zone, language if re.fullmatch("[a-z]{2,3}", language) else "en",
-                  given.get("title", ""))
+                  given.get("title", ""), listed(said.get("reasons")), listed(said.get("codes")))
 
 
 def counting(file: Path | None, report: Callable[[str], object]) -> Office:

@@ -2,9 +2,33 @@
 
 A reader finds the old file or the new one, also after a power cut: the content goes to the disk before the name does,
 and the name before this returns."""
+import contextlib
+import fcntl
 import os
+import time
+from collections.abc import Iterator
 from pathlib import Path
 from typing import TextIO
+
+
+@contextlib.contextmanager
+def alone(folder: Path, patience: float | None = None) -> Iterator[None]:
+    """Nobody else changes or copies the files as long as this lasts; whoever doesn't give way for so long is passed
+    over."""
+    opened = os.open(folder, os.O_RDONLY | os.O_DIRECTORY)
+    end = time.monotonic() + (patience or 0)
+    try:
+        while True:
+            try:
+                fcntl.flock(opened, fcntl.LOCK_EX | (fcntl.LOCK_NB if patience is not None else 0))
+                break
+            except BlockingIOError:
+                if time.monotonic() > end:
+                    break
+                time.sleep(0.1)
+        yield
+    finally:
+        os.close(opened)
 
 
 def sync_folder(folder: Path) -> None:
@@ -40,10 +64,15 @@ def settle(stream: TextIO, path: Path) -> None:
 def put(path: Path, text: str, mode: int = 0o600, owner: tuple[int, int] | None = None) -> None:
     """Writes a file in one step; root may write it for its owner, a user and a group. Where that fails nothing is left
     of it."""
+    put_bytes(path, text.encode(), mode, owner)
+
+
+def put_bytes(path: Path, data: bytes, mode: int = 0o600, owner: tuple[int, int] | None = None) -> None:
+    """The same, with bytes."""
     stream = opened(path, mode)
     try:
         with stream:
-            stream.write(text)
+            stream.buffer.write(data)
             if owner:
                 os.fchown(stream.fileno(), *owner)
             settle(stream, path)

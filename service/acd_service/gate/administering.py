@@ -14,7 +14,7 @@ from typing import Any
 
 from passlib.hash import bcrypt
 
-from acd_service import gate_state
+from acd_service import put
 from acd_service.command import report
 from acd_service.gate import accounts, acts
 from acd_service.gate.accounts import GIVEN, Accounts
@@ -192,7 +192,7 @@ class Office:
 
     @staticmethod
     def do(folder: Path, login: str, did: str, work: Callable[[Path], object], members: Members) -> None:
-        with gate_state.alone(folder):
+        with put.alone(folder):
             journal = acts.Acts(folder / acts.FILE)
             number = journal.add(login, did, **members)
             try:

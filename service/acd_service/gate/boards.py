@@ -14,6 +14,7 @@ from acd_service.gate import lines
 from acd_service.gate.counting import Day, Peaks, Read
 from acd_service.gate.desk import Away
 from acd_service.gate.parts import Text
+from acd_service.gate.reasons import Given
 from acd_service.gate.ruled import OVERFLOWS, Ruled
 from acd_service.gate.state import State
 from acd_service.gate.tables import Recent as Latest, Table, Tables
@@ -156,10 +157,11 @@ class View:
 class Boards:
     """All of it, as long as boards are looked at. `events` asks the desk for a page of events."""
 
-    def __init__(self, events: Read, state: State, number: int, ruled: Ruled) -> None:
-        self.events, self.state, self.ruled = events, state, ruled
+    def __init__(self, events: Read, state: State, number: int, ruled: Ruled, given: Given | None = None) -> None:
+        self.events, self.state, self.ruled, self.given = events, state, ruled, given or Given()
         self.common: dict[str, Table] = {name: Table(number, found) for name, found in lines.all_of(state).items()}
         self.common["desk"], self.common["rules"] = Table(number), Table(number, ruled.lines())
+        self.common["reasons"] = Table(number, self.given.lines(state))
         self.common["events"] = Latest(number, RECENT)
         self.days: dict[tuple[int, float, float], Day] = {}
         self.views: dict[Sight, View] = {}
@@ -294,6 +296,7 @@ class Boards:
         self.put_desk(number)
         self.judge()
         common["rules"].renew(self.ruled.lines(), number)
+        common["reasons"].renew(self.given.lines(state), number)
         if self.fresh and self.has_events:
             for told in self.fresh:
                 common["events"].put(str(told["number"]), lines.as_text(told), number)

@@ -22,8 +22,8 @@ LAST = 5
 @dataclass
 class AgentDay:
     """The agent talks since `since`: `is_busy` by the desk's own state, or in `talks`, the numbers of calls of callers
-    from outside whom no group gave the agent. `missed_offer` is the last offer that the desk withdrew, until the agent
-    logs on or off."""
+    from outside whom no group gave the agent. `calls` are the last of today, `done` the last of all. `missed_offer` is
+    the last offer that the desk withdrew, until the agent logs on or off."""
     answered: int = 0
     talking: int = 0
     missed: int = 0
@@ -31,6 +31,7 @@ class AgentDay:
     is_busy: bool = False
     talks: set[int] = field(default_factory=set)
     calls: deque[Text] = field(default_factory=lambda: deque(maxlen=LAST))
+    done: deque[Text] = field(default_factory=lambda: deque(maxlen=LAST))
     missed_offer: Text | None = None
 
     def pass_to(self, moment: int, begins: int) -> None:
@@ -143,9 +144,11 @@ class Days:
             self.day_of(agent).talks.remove(number)
             self.day_of(agent).pass_to(moment, self.begins)
         began, group = self.talks.get(number, {}).pop(device, (None, None))
-        if began is not None and agent and moment >= self.begins:
-            self.day_of(agent).calls.append({"call": number, "caller": caller, "group": group, "moment": began,
-                                             "talked": moment - began})
+        if began is not None and agent:
+            done = {"call": number, "caller": caller, "group": group, "moment": began, "talked": moment - began}
+            self.day_of(agent).done.append(done)
+            if moment >= self.begins:
+                self.day_of(agent).calls.append(done)
 
     def text(self, agent: str) -> Text | None:
         """The day as an agent's page shows it; None until all of it is known."""
@@ -155,6 +158,10 @@ class Days:
         return {"answered": day.answered, "begins": self.begins,
                 "calls": [without_nothing(**call) for call in day.calls], "missed": day.missed,
                 "talking": day.talking, **without_nothing(talks=day.since)}
+
+    def done(self, agent: str) -> list[Text]:
+        """The last calls in which the agent has talked."""
+        return [without_nothing(**call) for call in self.agents[agent].done] if agent in self.agents else []
 
     def missed_offer(self, agent: str) -> Text | None:
         day = self.agents.get(agent)

@@ -5,9 +5,7 @@ import asyncio
 import contextlib
 import json
 import time
-import zlib
 from collections.abc import Awaitable, Callable
-from dataclasses import dataclass, field
 from pathlib import Path
 
 from acd_service import command
@@ -17,10 +15,12 @@ from acd_service.gate.days import EARLIER, Days, beginning
 from acd_service.gate.desk import Away
 from acd_service.gate.exchanges import Answer, Left
 from acd_service.gate.parts import Text
+from acd_service.gate.reasons import Given
 from acd_service.gate.ruled import FILE as RULES, Ruled
 from acd_service.gate.state import State
 from acd_service.gate.streams import Streams
 from acd_service.gate.texts import agent_text, as_json, groups_of, names_text, place_text, without_nothing
+from acd_service.gate.waiter import TURNS, Waiter
 
 # seconds: between two looks at the desk, at least and without a request in between, two snapshots, two tries of a desk
 # that is away; until pages learn that the desk is away, until the gate answers a question without news, and for how
@@ -31,34 +31,11 @@ SOON, PLANS = 2, (b"setGroupPriority", b"changeGroup", b"changeAgent", b"addGrou
 AWAY, HELD, WANTED = 2, 20, 60
 # the gate sends the names, which are long, to all pages once in this time at most
 NAMES_EVERY = 10
-# a page that waits for a queue's news gets its answer in every tenth turn only, so that not all pages ask again at once
-TURNS = 10
 MOST_CALLERS = 50
 
 
 class Another(Exception):
     """It is another desk's history."""
-
-
-def news() -> asyncio.Future[None]:
-    return asyncio.get_running_loop().create_future()
-
-
-@dataclass(eq=False)
-class Waiter:
-    agent: str
-    groups: frozenset[str]
-    after: int
-    names: int
-    woken: asyncio.Future[None] = field(default_factory=news)
-
-    @property
-    def turn(self) -> int:
-        return zlib.crc32(self.agent.encode()) % TURNS
-
-    def wake(self) -> None:
-        if not self.woken.done():
-            self.woken.set_result(None)
 
 
 def begun(snapshot: Text, before: State | None, has_boards: bool) -> tuple[State, dict[str, dict[str, str]]]:
@@ -85,7 +62,7 @@ class Following:
         # whether something was asked for that no report tells
         self.seen: Text | None = None
         self.is_other = self.is_stale = False
-        self.days, self.asked = Days(clock()), Asked()
+        self.days, self.asked, self.given = Days(clock()), Asked(), Given()
         # numbers that no earlier gate gave, unless the clock was set back; the epoch is another one for another desk
         self.number = self.epoch = int(clock() * 1000)
         self.all_changed = self.names_changed = self.number
@@ -200,6 +177,7 @@ class Following:
             for report in events:
                 if self.days.whole and report["number"] == (self.days.last or 0) + 1:
                     self.days.take(report, state)
+                    self.given.take(report)
                 if self.streams.boards is not None:
                     self.streams.boards.take(report)
                 state.apply(report)
@@ -231,6 +209,7 @@ class Following:
                 days.waits.at = state.logged_on()
             for report in await self.events(f"/history?after={days.last}") if days.last < state.last else []:
                 days.take(report, state)
+                self.given.take(report)
             is_new = days.last >= state.last and not days.whole
             days.whole |= is_new
             if is_new:

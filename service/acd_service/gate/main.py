@@ -3,11 +3,12 @@ import argparse
 import asyncio
 import contextlib
 from collections.abc import Callable
+from pathlib import Path
 from typing import NoReturn
 
 import acd_notify
 
-from acd_service import command, last_copy, settings
+from acd_service import command, last_copy, office, settings
 from acd_service.command import Fault
 from acd_service.gate.desk import Desk, Place, place
 
@@ -35,22 +36,26 @@ def parser() -> command.Parser:
                        help="the logins with their passwords, as htpasswd makes them; /etc/acd/users unless given")
     found.add_argument("--sessions", metavar="FILE", help="where sessions are kept; in memory alone unless given")
     found.add_argument("--own", metavar="FOLDER",
-                       help="where the logins and roles that the office gives are, and its names; it gives none unless "
-                            "given")
+                       help="where the logins and roles that the office gives are, its names, and what agents choose "
+                            "of its lists; there is none of that unless given")
     found.add_argument("--records", default="/var/lib/acd-records", metavar="FOLDER",
                        help="the files of records; /var/lib/acd-records unless given")
     found.add_argument("--secret", default="/etc/acd/nginx-secret.conf", metavar="FILE",
                        help="nginx's file of the secrets; /etc/acd/nginx-secret.conf unless given")
     found.add_argument("--copy", default=last_copy.FILE, metavar="FILE",
                        help=f"the line that the last copy left; {last_copy.FILE} unless given")
+    found.add_argument("--office", type=Path, default=office.FILE, metavar="FILE",
+                       help=f"the lists of reasons and codes; {office.FILE} unless given")
     return found
 
 
 async def serve(options: argparse.Namespace) -> None:
     # only here: who asks for the words of each command needs no more than Python has
+    from acd_service.gate.reasons import Giving
     from acd_service.gate.routes import Gate
     from acd_service.gate.server import Server, listening_at
     from acd_service.gate.sessions import secrets_of
+    from acd_service.reasons import FOLDER
     try:
         listening = listening_at(Place(options.port) if options.port else Place(path=options.socket))
     except (OSError, OverflowError):
@@ -59,6 +64,8 @@ async def serve(options: argparse.Namespace) -> None:
     gate = Gate(desk, options.roles, options.users, options.sessions, options.records, secrets_of(options.secret),
                 options.copy, own=options.own)
     acd_notify.ready()
+    if options.own:
+        Giving(gate, Path(options.own) / FOLDER, options.office)
     await Server(gate.answer).listen(listening)
 
 

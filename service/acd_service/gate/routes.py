@@ -207,6 +207,9 @@ class Gate:
         return Answer(204, fields=(cookie_field(None),))
 
     async def use_session(self, question: Question, _: bytes) -> Answer:
+        # of a page behind an nginx.conf that has no line for /reasons
+        if question.query == "reasons":
+            return await self.post(question._replace(path="/reasons", query=""))
         return self.said(question.login, await self.sessions.use(token_of(question)))
 
     # what is read

@@ -93,7 +93,8 @@ class Streams:
     def see(self, sight: Sight, state: State) -> View:
         """What a board sees."""
         if self.boards is None:
-            self.boards = Boards(self.following.events, state, self.following.number, self.following.ruled())
+            self.boards = Boards(self.following.events, state, self.following.number, self.following.ruled(),
+                                 self.following.given)
         found = self.boards.view(sight, self.following.number)
         found.seen = self.clock()
         return found
@@ -197,6 +198,7 @@ class Streams:
         text = own_text(state, stream.agent) | {"queues": queues, "day": days.text(stream.agent),
                                                 "missed": days.missed_offer(stream.agent),
                                                 "changed": self.following.asked.changed.get(stream.agent)}
+        text |= self.following.given.text(state, stream.agent, days.done(stream.agent))
         if agent is not None:
             text["doing"] = state.doing(agent)._asdict()
         new = queues if is_whole else [queue for queue in queues if queue not in stream.queues]

@@ -5,6 +5,7 @@ from collections import defaultdict
 from dataclasses import dataclass, field
 
 from acd_service.book import Fault
+from acd_service.reasons import Given
 from acd_service.waits import Waits
 
 # what a call's event makes of the connection at its device
@@ -136,10 +137,10 @@ class Day:
 
 
 class Records:
-    """The calls and the agents' days, event by event. `closed` are the calls that rules ended."""
+    """The calls and the agents' days, event by event. `closed` are the calls that rules ended; `given` is what agents gave."""
 
-    def __init__(self, book, closed):
-        self.closed = closed
+    def __init__(self, book, closed, given=None):
+        self.closed, self.given = closed, given or Given()
         self.came, self.log_ons, self.by_ticks = book.calls_that_came(), book.log_ons(), book.returns_by_ticks()
         self.calls, self.agents, self.days, self.calendar = {}, defaultdict(Agent), defaultdict(Day), Calendar()
         self.at = {}  # who is logged on at a station
@@ -155,6 +156,7 @@ class Records:
         ended = self.waits.take(event)
         if agent is not None:
             self.take_agent(moment, kind, device, agent)
+            self.given.take(event)
         elif call >= self.first:
             self.take_call(moment, kind, device, self.known(call), group, to, cause)
             if ended is not None:
@@ -267,7 +269,10 @@ class Records:
             day.first, day.last = begin if day.first is None else day.first, end
             day.groups.update(agent.groups)
             day.counts["logged_on"] += end - begin
-            day.counts["talking" if agent.talks else SECONDS[agent.state]] += end - begin
+            column = "talking" if agent.talks else SECONDS[agent.state]
+            day.counts[column] += end - begin
+            if column == "not_ready":
+                self.given.spend(number, self.calendar.day_of(begin), begin, end)
             if end == moment:
                 return
             begin = end

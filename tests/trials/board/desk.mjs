@@ -104,7 +104,7 @@ export class Front {
     await writeFile(`${file}/nginx.conf`, `daemon off; user root; pid ${file}/pid; error_log ${file}/errors; worker_processes 1; events {}
 http { include /etc/nginx/mime.types; access_log off; ${['client_body', 'proxy', 'fastcgi', 'uwsgi', 'scgi'].map(kind => `${kind}_temp_path ${file};`).join(' ')} ${text} }\n`);
     const told = [], files = ['--roles', `${file}/roles`, '--users', `${file}/users`, '--own', `${file}/own`, '--secret', `${file}/nginx-secret.conf`, '--records', `${file}/records`];
-    const words = ['--port', `${gate}`, '--desk', `${desk.port}`, ...files];
+    const words = ['--port', `${gate}`, '--desk', `${desk.port}`, ...files, '--office', `${file}/board.json`];
     Object.assign(front, {file, gate, words, address: `https://127.0.0.1:${site}`, children: [
       front.asGate(words),
       spawn('nginx', ['-c', `${file}/nginx.conf`], {stdio: ['ignore', 'ignore', 'pipe']}),

@@ -24,10 +24,13 @@ import {callers, sheets} from './sheets.mjs';
 import {olderConf, tenTabs} from './tabs.mjs';
 import {words} from './words.mjs';
 import {agentsPage} from './agent.mjs';
+import {reasons, ROLES as OF_AGENTS} from './reasons.mjs';
 import {PLAN} from './shift.mjs';
 
 const NEEDED = {chromedriver: 'chromium-driver', chromium: 'chromium', nginx: 'nginx-light', tsc: 'node-typescript', openssl: 'openssl', curl: 'curl', python3: 'python3'};
-const PARTS = ['files', 'gate', 'show', 'lines', 'buttons', 'board', 'alarms', 'words', 'shape', 'days', 'lead', 'records', 'customer', 'agent', 'office', 'tabs', 'full'], MOST_CALLS = 2000, ROUNDS = 50;
+const PARTS = ['files', 'gate', 'show', 'lines', 'buttons', 'board', 'alarms', 'words', 'shape', 'days', 'lead', 'records', 'customer',
+  'agent', 'reasons', 'office', 'tabs', 'full'];
+const MOST_CALLS = 2000, ROUNDS = 50;
 const ROLES = [['pbx', 'exchange'], ['planner', 'office'], ['sup', 'supervisor'], ['ana', 'agent', '7'], ['lea', 'lead', 'groups=101,102']];
 // an agent who may look at boards too, so that one session does for both
 const READS_ALL = [['ana', 'agent', 'agent=7', 'reads=all']];
@@ -202,6 +205,12 @@ class Trial {
     const desk = await this.desk('shift.db', PLAN), front = await this.front(desk, [...ROLES, ['max', 'lead', 'groups=130']]);
     const browser = await this.browser();
     await agentsPage(this.see, browser, desk, front, this.pictures);
+  }
+
+  async reasons() {
+    const desk = await this.desk('reasons.db', PLAN), front = await this.front(desk, OF_AGENTS);
+    const older = await this.front(desk, OF_AGENTS, {conf: join(TOP, 'tests/trials/gate/nginx-1.14.conf')});
+    await reasons(this.see, await this.browser(), await this.browser(), desk, front, older, this.pictures);
   }
 
   async office() {

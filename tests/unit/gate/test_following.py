@@ -12,7 +12,7 @@ from unittest import mock
 
 from standing import PATIENCE, Named
 
-from acd_service.gate import days, following, texts
+from acd_service.gate import days, following, texts, waiter
 from acd_service.gate.exchanges import NO_DESK, Answer, Left, error
 from acd_service.gate.state import State
 from in_memory import InMemory, event, logged_on
@@ -285,15 +285,15 @@ class FollowingTest(Named, unittest.IsolatedAsyncioTestCase):
         await self.ends()
 
     async def test_nobody_is_woken_while_the_desk_is_read_anew(self):
-        waiter = following.Waiter("7", frozenset(), self.following.number, 0)
-        self.following.waiters.add(waiter)
+        waits = waiter.Waiter("7", frozenset(), self.following.number, 0)
+        self.following.waiters.add(waits)
         self.following.forget()
-        for _ in range(following.TURNS):
+        for _ in range(waiter.TURNS):
             self.following.turned = 0.0
             self.following.take_turn()
-        self.assertFalse(waiter.woken.done())
+        self.assertFalse(waits.woken.done())
         await self.following.catch_up()
-        self.assertTrue(waiter.woken.done())
+        self.assertTrue(waits.woken.done())
 
     async def test_names_are_told_once_in_ten_seconds(self):
         await self.following.catch_up()

@@ -11,7 +11,7 @@ from pathlib import Path
 from unittest import mock
 
 import service_ground as ground
-from acd_service import chain, forget, pair
+from acd_service import chain, forget, pair, reasons
 from service_ground import moments_out, rows, said
 
 CALLER, STAYS, REQUESTER = "03055501234", "03044400001", "0777777"
@@ -76,6 +76,14 @@ class Forgotten(Archives):
         self.assertEqual(said(*self.words, "--confirm"), (0, f"gone: {away}\n", ""))
         self.assertEqual(list(self.home.glob("*put-away-*")), [])
         self.assertEqual(said(*self.words, "--confirm"), (0, "", ""))
+
+    def test_reasons_and_codes(self):
+        """They have a call's number and no caller's, so they stay as they are, and nothing is told of them."""
+        reasons.append(self.copies / "reasons", reasons.Code(300000, "7", "ana", 1, 10, "1970-01-01", "sale"))
+        before = ground.snapshot(self.copies / "reasons")
+        done = self.forget()
+        self.assertEqual((done.status, "reasons" in done.out, ground.snapshot(self.copies / "reasons")), (0, False, before))
+        self.assertEqual([name for name, data in ground.snapshot(self.home).items() if CALLER.encode() in data and not name.startswith("put-away-")], [])
 
     def test_beside_a_desk(self):
         self.serves()

@@ -12,7 +12,7 @@ from pathlib import Path
 from unittest import mock
 
 import service_ground as ground
-from acd_service import copy, gate_state, office, settings
+from acd_service import copy, gate_state, office, put, settings
 from service_ground import moments_out, said
 
 MOMENT = "2026-11-28T100000Z"
@@ -78,7 +78,7 @@ class Copies(Own):
     def test_who_never_gives_way(self):
         self.put()
         begun = time.monotonic()
-        with gate_state.alone(self.own):
+        with put.alone(self.own):
             self.assertEqual(gate_state.read(self.own), FILES)
         self.assertGreater(time.monotonic() - begun, 0.2)
 
@@ -86,11 +86,11 @@ class Copies(Own):
         found = []
 
         def come():
-            with gate_state.alone(self.own):
+            with put.alone(self.own):
                 found.append((self.own / "done").exists())
 
         other = threading.Thread(target=come)
-        with gate_state.alone(self.own):
+        with put.alone(self.own):
             other.start()
             time.sleep(0.1)
             (self.own / "done").touch()
@@ -217,7 +217,7 @@ class ByOwner(Own):
         parent = os.getpid()
         with contextlib.redirect_stdout(io.StringIO()) as printed, self.assertRaises(SystemExit) as end:
             try:
-                gate_state.beside(self.own, work)
+                gate_state.beside(self.own, work, lambda: print("after"))
             finally:
                 if os.getpid() != parent:
                     os._exit(sys.exc_info()[0] is not None)
@@ -226,9 +226,9 @@ class ByOwner(Own):
     def test_done(self):
         handlers = [signal.getsignal(one) for one in ground.SIGNALS]
         self.addCleanup(lambda: [signal.signal(one, was) for one, was in zip(ground.SIGNALS, handlers)])
-        self.assertEqual(self.beside(lambda now: FILES), (0, f"Put the logins and names that the office gave into {self.own}\n"))
+        self.assertEqual(self.beside(lambda now: FILES), (0, f"Put the logins and names that the office gave into {self.own}\nafter\n"))
         self.assertEqual((self.there(), {(file.stat().st_uid, file.stat().st_gid) for file in self.own.iterdir()}), (FILES, {GATE}))
-        self.assertEqual(self.beside(lambda now: None), (0, ""))
+        self.assertEqual(self.beside(lambda now: None), (0, "after\n"))
 
     def test_refused(self):
         def refuses(now):
