@@ -33,7 +33,7 @@ MAINTAINER = "The maintainers of acd <maintainers@users.noreply.hullapricot.exam
 UNITS = ("acd.service", "acd-tick.service", "acd-gate.service", "acd-copy.service", "acd-copy.timer",
          "acd-local.service", "acd-node.service", "acd-node-upkeep.service", "acd-node-upkeep.timer",
          "acd-records.service", "acd-follow.service", "acd-prune.service", "acd-prune.timer", "acd-certificate.service",
-         "acd-certificate.timer", "acd-rules.service")
+         "acd-certificate.timer", "acd-rules.service", "acd-webhook.service")
 # until the next minor version
 OLD_NAMES_OF_USERS = ("acd-calls", "acd-export", "acd-plan", "acd-trail")
 OLD_NAMES_OF_ROOT = ("acd-carry", "acd-certificate", "acd-copy", "acd-follow", "acd-forget", "acd-gate", "acd-local",
@@ -334,7 +334,8 @@ def lay_out(root, options, moment):
                  *sorted((TOP / "docs").glob("*.png"))]:
         put(doc + page.name, page.read_bytes())
     for example in ("nginx/nginx.conf", "settings/node.env", "settings/follow.env", "settings/rules.env",
-                    "settings/rules.toml", "monitoring/alerts.yaml"):
+                    "settings/rules.toml", "settings/webhook.env", "monitoring/alerts.yaml",
+                    "monitoring/dashboard.json"):
         put(f"{doc}examples/{Path(example).name}", (SERVICE / example).read_bytes())
     # no conffiles, about which an upgrade would ask: postinst makes both in /etc/acd, once. It reads nothing of the
     # documents, which a machine may leave out

@@ -223,6 +223,26 @@ def is_scheme(name: object) -> bool:
     return isinstance(name, str) and re.fullmatch("[a-z][a-z0-9+.-]*", name) is not None and name not in NEVER
 
 
+# The webhook
+
+def of_webhook(file: Path) -> Iterator[str]:
+    """An office may have none."""
+    # only these need the client's module
+    from acd_service import reach
+    from acd_service.webhook import sending
+    if not file.exists():
+        return
+    has = settings.written(file)
+    judges: dict[str, Callable[[str], object]] = {"ACD_WEBHOOK": sending.address, "ACD_WEBHOOK_DESK": reach.address}
+    for name, judge in judges.items():
+        try:
+            judge(has.get(name, ""))
+        except argparse.ArgumentTypeError as fault:
+            yield f"{file}: {name}: {fault}"
+    if has.get("ACD_WEBHOOK_CALLERS", "no") not in ("", "no", "yes"):
+        yield f"{file}: ACD_WEBHOOK_CALLERS must be yes or no"
+
+
 # nginx
 
 def of_nginx(folder: Path, env: Path) -> Iterator[str]:
@@ -304,7 +324,8 @@ def findings(folder: Path, nginx: Path, gate: Path) -> Iterator[str]:
     judges: tuple[tuple[Path, Callable[[], Iterator[str]]], ...] = (
         (env, lambda: of_settings(env)), (roles, lambda: of_logins(roles, users)),
         (gate, lambda: of_own(gate, roles, users)),
-        (folder / "board.json", lambda: of_board(folder / "board.json")), (nginx, lambda: of_nginx(nginx, env)))
+        (folder / "board.json", lambda: of_board(folder / "board.json")),
+        (folder / "webhook.env", lambda: of_webhook(folder / "webhook.env")), (nginx, lambda: of_nginx(nginx, env)))
     for file, judge in judges:
         try:
             yield from judge()

@@ -46,6 +46,7 @@ COMMANDS = {
     "status": Command("status", "print how the desk is, and what runs beside it"),
     "tick": Command("tick", "send the desk its ticks"),
     "trail": Command("trail", "print who asked the desk for what, when, and with which result"),
+    "webhook": Command("webhook.main", "send alarms to a program elsewhere, as they begin and end"),
 }
 # commands of before 1.17, which go with the old names: no page has them, nor --help
 FORMER = {"carry": Former("prune", "acdctl prune")}

@@ -14,7 +14,8 @@ NAMES = ("ACD_CARRY_DAYS", "ACD_CLOCK", "ACD_COPIES", "ACD_COPY_FOLDER", "ACD_FI
          "ACD_NODE_CERT", "ACD_NODE_ETCD", "ACD_NODE_ETCD_PASSWORD", "ACD_NODE_ETCD_USER", "ACD_NODE_FOLDER",
          "ACD_NODE_GONE", "ACD_NODE_KEY", "ACD_NODE_LINE", "ACD_NODE_MACHINES", "ACD_NODE_NAME",
          "ACD_NODE_UPKEEP_USER", "ACD_PASSWORD", "ACD_PATIENCE", "ACD_PORT", "ACD_PURGE_DESK", "ACD_RULES",
-         "ACD_RULES_OPTIONS", "ACD_SOCKET", "ACD_STEP", "ACD_TLS_HOST", "ACD_TLS_PORT")
+         "ACD_RULES_OPTIONS", "ACD_SOCKET", "ACD_STEP", "ACD_TLS_HOST", "ACD_TLS_PORT", "ACD_WEBHOOK",
+         "ACD_WEBHOOK_CALLERS", "ACD_WEBHOOK_DESK", "ACD_WEBHOOK_OPTIONS")
 # those that only earlier versions had
 EARLIER = ("ACD_CONNECTIONS",)
 # what a setting is where nobody says otherwise; the folder of copies is then beside the file, and desk and gate listen

@@ -34,6 +34,7 @@ KNOWN_BY = {
     "node-typescript": "tsc",
     "nodejs": "node",
     "openssl": "openssl",
+    "prometheus": "prometheus",
     "python3-aiohttp": "aiohttp",
     "python3-bcrypt": "bcrypt",
     "python3-coverage": "coverage",

@@ -77,6 +77,7 @@ BY_HAND = {
     "board": Part("try-board", (), (), (*NGINX, "curl"), ("browser",)),
     "copies whole": Part("try-copies", (), ("copies/copying.py", "copies/again.py", "copies/halts.py", "copies/restores.py", "copies/kills.py"), ("strace", "util-linux"), ("root",)),
     "cuts": Part("try-cuts", (), ("cuts/commands.py",), ("strace", "util-linux"), ("alone", "loop devices")),
+    "dashboard": Part("try-dashboard", (), ("try-dashboard",), (*NGINX, "prometheus")),
     "edges": Part("try-edges", (), ("machine/sockets.py", "machine/watched.py", "machine/upgraded.py", "machine/users.py", "machine/units.py", "machine/second.py"), (), ("booted", "browser"), False),
     "exchange": Part("try-exchange", (), ("try-exchange",), NGINX, ("sip",)),
     "figures whole": Part("try-figures", ("--days", "1000"), ("try-figures",)),
@@ -100,6 +101,7 @@ BY_HAND = {
     "trail day": Part("try-trail", ("--only", "day"), ("try-trail:Day",)),
     "years": Part("try-years", (), tuple(f"years/{name}.py" for name in ("audits", "cases", "chains", "cuts", "exports", "figures", "forgets", "kills", "service", "stops", "year")),
                   ("strace", "util-linux"), ("root",)),
+    "webhook": Part("try-webhook", (), ("try-webhook",), NGINX),
 }
 
 

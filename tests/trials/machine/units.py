@@ -33,6 +33,7 @@ MAY = {
     "acd-exchange.service": (NETWORK | {"write the exchange's folder"}, NETWORK | OF_ROOT - {"read the accounts"}),
     "acd-edge.service": (NETWORK | {"read the accounts", "AF_NETLINK"}, NETWORK | OF_ROOT | {"AF_NETLINK"}),
     "acd-rules.service": (INTERNET, INTERNET | OF_ROOT),
+    "acd-webhook.service": (INTERNET, INTERNET | OF_ROOT),
     "acd-certificate.service": (LOOPBACK, LOOPBACK | OF_ROOT),
     # it is root's, who gains nothing by a program of root's
     "acd-edge-limit.service": (OF_ROOT | {"gain", "AF_UNIX", "AF_NETLINK", "load a table"}, OF_ROOT | {"AF_UNIX", "AF_NETLINK", "load a table"}),
@@ -48,7 +49,7 @@ LIMITS = {
     "acd-node": {"CPUWeight": "400", "TasksMax": "64", "MemoryMax": str(6 << 30), "OOMScoreAdjust": "-500"},
     "acd-node-upkeep": {"CPUWeight": "20", "TasksMax": "16", "MemoryMax": str(256 << 20)},
     "acd-tick": {"TasksMax": "64"}, "acd-local": {"TasksMax": "64"}, "acd-follow": {"TasksMax": "64"}, "acd-prune": {"TasksMax": "64"},
-    "acd-certificate": {"TasksMax": "64"}, "acd-rules": {"TasksMax": "64"}, "acd-edge-limit": {"TasksMax": "16"},
+    "acd-certificate": {"TasksMax": "64"}, "acd-rules": {"TasksMax": "64"}, "acd-webhook": {"TasksMax": "64"}, "acd-edge-limit": {"TasksMax": "16"},
 }
 FOLDER = "/usr/lib/systemd/system"
 # shows a certificate where nginx would

@@ -197,6 +197,32 @@ class Names(Office):
                 self.put("board.json", json.dumps({**BOARD, **changed}))
                 self.finds(f"board.json: {end}")
 
+    def test_lists(self):
+        """Of reasons and codes; the gate and the pages leave out what is wrong here."""
+        key = "must be 1 to 15 of a-z, 0-9 and hyphen, begin with a letter, and not have six digits in a row"
+        for changed, end in (({"requireReason": "yes"}, "requireReason must be true or false"), ({"reasons": ["Lunch"]}, "reasons must be an object"), ({"codes": {"0301234": "x"}}, f"codes: 0301234 {key}"),
+                             ({"reasons": {"a123456": "x"}}, f"reasons: a123456 {key}"), ({"reasons": {"Lunch": "x"}}, f"reasons: Lunch {key}"), ({"reasons": {"a" * 16: "x"}}, f"reasons: {'a' * 16} {key}"),
+                             ({"codes": {"sale": ""}}, "codes.sale must be a text of 80 letters at most"), ({"codes": {"sale": 3}}, "codes.sale must be a text of 80 letters at most"),
+                             ({"codes": {f"k{number}": "x" for number in range(41)}}, "codes has over 40 keys; the others are ignored")):
+            with self.subTest(changed):
+                self.put("board.json", json.dumps({**BOARD, **changed}))
+                self.finds(f"board.json: {end}")
+        self.put("board.json", json.dumps({**BOARD, "reasons": {"lunch": "Mittag", "a12345-6": "x"}, "codes": {}, "requireReason": True}))
+        self.assertEqual(self.said(), (0, [NOTHING]))
+
+    def test_the_webhook(self):
+        example = (TOP / "service/settings/webhook.env").read_text()
+        for old, new, end in (("", "", "ACD_WEBHOOK: the address of the webhook must begin with https:// and have a host"), ("ACD_WEBHOOK=", "ACD_WEBHOOK=http://elsewhere/x", "ACD_WEBHOOK: the address of the webhook must begin with https:// and have a host"),
+                              ("ACD_WEBHOOK=\n", "ACD_WEBHOOK=https://x/?y=1\n", None), ("https://127.0.0.1:8443", "127.0.0.1", "ACD_WEBHOOK_DESK: '127.0.0.1' is no address as https://desk.example:8443, without a login, which --login has"),
+                              ("CALLERS=no", "CALLERS=No", "ACD_WEBHOOK_CALLERS must be yes or no")):
+            with self.subTest(new):
+                text = example.replace(old, new, 1) if old else example
+                self.put("webhook.env", text if not old or old.startswith("ACD_WEBHOOK=") else text.replace("ACD_WEBHOOK=\n", "ACD_WEBHOOK=https://x/\n"))
+                if end is None:
+                    self.assertEqual(self.said(), (0, [NOTHING]))
+                else:
+                    self.finds(f"webhook.env: {end}")
+
     def test_a_customers_file(self):
         for customer in ({"address": "https://crm.example/find?tel={caller}"}, {"address": "http://crm/{caller}", "schemes": ["http", "https"]}, {"address": "crm-app:{caller}", "schemes": ["crm-app"]}):
             self.put("board.json", json.dumps({**BOARD, "customer": customer}))

@@ -1,0 +1,1 @@
+"""acdctl webhook: an office's alarms, for a program elsewhere."""
