@@ -1,4 +1,5 @@
 // What is said in words, in English. Other languages have the same keys in words/, de.js say; what they lack is in English.
+// What one page alone says is in a words.js of its own.
 //   word('alarms.rest', {n: 3})   "and 3 more alarms": of a word with forms `n` chooses one. {n} is a value: Intl writes a number
 //   <b data-word="view.wall"></b> translate() writes it; data-label an aria-label
 import {customerOf} from './customer.js';
@@ -239,54 +240,6 @@ lost: Lost: gave up, of all answered and all who gave up. Speed of answer: the a
 stay: By stay: the same of the last stay in a queue alone, where the wait ended there.
 [records]
 title: Records
-kind: Of
-kind.groups: groups
-kind.agents: agents
-of: Which
-all: Together
-all.groups: all groups
-all.agents: all agents
-period: Period
-period.day: a day
-period.week: a week
-period.month: a month
-period.own: from .. to
-by: A line for each
-by.each: group or agent
-by.day: day
-by.week: week
-by.month: month
-by.weekday: day of the week
-by.hour: hour
-by.weekday-hour: hour and day of the week
-figure: Figure
-figure.entered: Entered
-figure.answered: Answered
-figure.abandoned: Abandoned
-figure.lost: Lost
-figure.level: In time
-figure.average_wait: Speed of answer
-within: Day in it
-since: From
-until: To
-before: The period before
-after: The next period
-week: {n}, from {day}
-missing.one: {n} day has no records: {days}
-missing.other: {n} days have no records: {days}
-others.one: {n} day was counted by other formulas, and isn't in the sums: {days}
-others.other: {n} days were counted by other formulas, and aren't in the sums: {days}
-unread.one: {n} day can't be read, and isn't in the sums: {days}
-unread.other: {n} days can't be read, and aren't in the sums: {days}
-none: There are no records of these days.
-reading: Reading ..
-file.records: The calls, as a file
-file.agents: The agents' day, as a file
-file.groups: The groups' quarters of an hour, as a file
-old: by other formulas
-counted: How many waited at most is known of a single group alone. An hour or a weekday has the sums of all its days, and their number.
-chart.calls: Calls
-chart.hours: Hours of talk, after-call work and readiness
 [chart]
 calls: Calls in a quarter of an hour
 level: In time, {limit}, in percent of {what}
@@ -431,82 +384,6 @@ looks: The login {login} looks at agent {number} here, and asks for nothing.
 # the office's page
 [office]
 title: Office
-person: A new person
-changes: Another role for {login}
-role: Role
-role.agent: agent
-role.lead: lead
-role.supervisor: supervisor
-name: Name, in any script
-number: Number of the agent
-number.any: Number
-login: Login: small letters, digits, -
-login.head: Login
-login.of: Login of {who}
-password: First password
-groups: Groups; if none is ticked, all
-groups.lead: Groups of the lead, one at least
-stations: Only at these stations, with commas
-give: Give the login
-change: Change
-planned: Agent {who} is planned already. Call this agent {name}?
-at: Log in at
-told: Write it down or print it: nobody can see the password again.
-print: Print
-renew: New password
-renew.sure: Give {login} a new first password? Who is logged in by it is logged out.
-end: End
-end.sure: End the login {login}? Who is logged in by it is logged out. The agent stays in the plan.
-logins: Logins
-here: These logins are this machine's. A standby has none of them, and of three machines each has its own. Logins of the machine's
-  files are changed there alone.
-of: Agent, groups
-state: State
-first: first password
-roots: of the machine's files
-plan: Plan
-kind: Kind
-kind.group: group
-kind.station: station
-kind.agent: agent
-ring: Ring, s
-wrap: After-call work, s
-doPlan: Plan it
-asPlanned: It is planned so.
-csv: A plan as CSV
-save: Save as CSV
-csv.faulty: The file has faults, and nothing was changed:
-csv.line: line {n}: {what}
-csv.header: the first line must be kind,number,name,ring,wrap
-csv.fields: it must have five fields
-csv.kind: the kind must be group, station or agent
-csv.number: the number must be of digits, 15 at most, an agent's 9
-csv.name: a group and an agent have a name, of 80 signs at most, and a station has none
-csv.ring: a group has a ring, from 0 to 3600 seconds, and nothing else has one
-csv.wrap: a group has after-call work, from 0 to 3600 seconds, and nothing else has it
-csv.twice: the number is there twice
-csv.crossed: These are of another kind in the plan, and are left as they are:
-csv.changes.one: {n} change
-csv.changes.other: {n} changes
-csv.beyond: The plan has these besides. They stay:
-csv.at: {n} of {all}
-csv.done.one: {n} change was made
-csv.done.other: {n} changes were made
-csv.refused.one: {n} change was refused
-csv.refused.other: {n} changes were refused
-acts: What was done last
-when: When
-who: Who
-what: What
-did.giveLogin: gave the login {of}
-did.changeRole: gave {of} another role
-did.givePassword: gave {of} a new first password
-did.changePassword: changed the own password
-did.endLogin: ended the login {of}
-did.giveName: called {of} {name}
-did.takeName: took the name in another script from {of}
-did.notDone: number {number} was not done: it could not be written
-old: nginx does not pass this page's questions on: the machine's administrator has to take the nginx.conf of this version.
 [password]
 own: Password
 rule: Another password, of {n} signs at least
@@ -541,6 +418,9 @@ function keyed(text = '') {
     return name ? [[area + name, said]] : [];
   }));
 }
+
+// What one page alone says.
+export const addWords = (text = '') => void Object.assign(ENGLISH, keyed(text));
 
 /** @returns {string[][]} */
 const flat = (said = {}, area = '') => Object.entries(said)

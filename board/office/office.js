@@ -1,4 +1,5 @@
 // The office's page: logins, roles, first passwords and the plan, for who administers.
+import './words.js';
 import {ask as sure} from '../act.js';
 import {byId, make, put, set, withNumber} from '../draw.js';
 import {ask, logIn, logOut, openSession} from '../session.js';

@@ -1,4 +1,5 @@
 // Records: files of days, which the gate has added up, as tables and charts.
+import './words.js';
 import {save} from '../csv.js';
 import {byId, make, put, set} from '../draw.js';
 import * as net from '../net.js';

@@ -76,7 +76,7 @@ class Trial {
     const board = join(TOP, 'board'), shared = ['board.css', 'draw.js', 'desk.js', 'session.js', 'sound.js', 'words.js', 'customer.js', 'net.js', 'hear.js', 'stream.js'];
     const ofRecords = [...readdirSync(join(board, 'records')).map(name => `records/${name}`), ...shared, 'settings.js', 'chart.js', 'csv.js'];
     const ofAgent = [...readdirSync(join(board, 'agent')).map(name => `agent/${name}`), ...shared], ofBoard = [...readdirSync(board), ...readdirSync(join(board, 'views')).map(name => `views/${name}`)];
-    for (const [page, names, most] of [['a board', ofBoard, 60000], ["an agent's page", ofAgent, 42000], ['the page of records', ofRecords, 40000]]) {
+    for (const [page, names, most] of [['a board', ofBoard, 60000], ["an agent's page", ofAgent, 40000], ['the page of records', ofRecords, 40000]]) {
       const files = names.filter(name => /(?<!\.d)\.(js|css|html)$/.test(name)), bytes = files.reduce((sum, name) => sum + gzipSync(readFileSync(join(board, name))).length, 0);
       this.see(`${page} has less than ${most} bytes by gzip`, bytes < most, bytes);
     }

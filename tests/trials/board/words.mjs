@@ -23,7 +23,7 @@ function ofLines(text) {
 
 /** A table of words by their keys; the module itself wants a browser. */
 export async function tableOf(file) {
-  const whole = await readFile(file, 'utf8'), [, english] = whole.match(/ENGLISH = keyed\(`([^]*?)`\)/) ?? [];
+  const whole = await readFile(file, 'utf8'), [, english] = whole.match(/(?:keyed|addWords)\(`([^]*?)`\)/) ?? [];
   if (english) return ofLines(english);
   const [, text] = whole.match(/export default \{([^]*?)\n\};/), areas = Object.entries(new Function(`return {${text}}`)());
   return Object.fromEntries(areas.flatMap(([area, said]) => typeof said === 'string' || said.other ? [[area, said]] : Object.entries(said).map(([name, one]) => [`${area}.${name}`, one])));
@@ -36,9 +36,14 @@ const SAID = `
   for (const element of document.querySelectorAll('*')) for (const name of ['title', 'aria-label', 'placeholder', 'alt']) if (element.hasAttribute(name)) said.push(element.getAttribute(name));
   return [document.title, ...said].filter(text => text.trim());`;
 
+/** All English words: the pages' together, and what one page alone says. */
+async function allOf(board) {
+  return Object.assign({}, ...await Promise.all(['words.js', 'office/words.js', 'records/words.js'].map(file => tableOf(join(board, file)))));
+}
+
 /** A language of whose words each is its key in brackets, which a board takes by lang=zz; the keys. */
 export async function brackets(board) {
-  const keys = Object.keys(await tableOf(join(board, 'words.js')));
+  const keys = Object.keys(await allOf(board));
   await writeFile(join(board, 'words/zz.js'), `export default {${keys.map(key => `'${key}': '[${key}]'`)}};`);
   return keys;
 }

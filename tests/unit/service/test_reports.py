@@ -107,7 +107,8 @@ class Reports(ground.Case):
 
     def test_words(self):
         """They are the pages' own."""
-        english = (ground.TOP / "board/words.js").read_text().partition("ENGLISH = keyed(`")[2].partition("`);")[0]
+        english = "".join((ground.TOP / "board" / name).read_text().partition(f"{word}(`")[2].partition("`);")[0]
+                          for name, word in (("words.js", "ENGLISH = keyed"), ("records/words.js", "addWords")))
         area, said = "", {}
         for line in english.splitlines():
             into, word = re.fullmatch(r"\[(.*)\]", line), re.fullmatch(r"(.*?): (.*)", line)
