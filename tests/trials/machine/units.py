@@ -162,10 +162,12 @@ class Units(Edges):
         self.done("mv", f"{copies}/{[name for name in self.done('ls', copies).split() if name.endswith('Z')][-1]}", f"{copies}/{later}")
         self.done("systemctl", "start", "acd-records")
         lines = self.done("sh", "-c", "stat -c '%U %G %a %n' /var/lib/acd-records /var/lib/acd-records/records /var/lib/acd-records/records/*.csv").splitlines()
-        self.expect_in("whose they are", "\n".join(lines), r"\A(acd acd-gate 750 \S+\n){2}acd acd-gate 640 \S+\.csv\Z")
+        self.expect_in("whose they are", "\n".join(lines), r"\A(acd acd-gate 750 \S+\n){2}acd acd-gate 640 \S+\.csv\nacd acd-gate 640 \S+\.csv\Z")
+        # the second is of tomorrow, on which nothing was
+        today = lines[2].split()[-1]
         for user, may in (("acd-gate", True), ("ben", False)):
-            self.expect(f"{user} reads them", self.ran("test", "-r", lines[-1].split()[-1], user=user)[0] == 0, may)
-        self.expect_in("the call", self.done("cat", lines[-1].split()[-1]), r"'?0301234,100,")
+            self.expect(f"{user} reads them", self.ran("test", "-r", today, user=user)[0] == 0, may)
+        self.expect_in("the call", self.done("cat", today), r"'?0301234,100,")
         self.done("rm", "-r", f"{copies}/{later}")
 
     def try_certificate(self):
