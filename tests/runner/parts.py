@@ -52,6 +52,7 @@ MARKS = {
 OF_THE_PROGRAM = {
     "sizes": Part("try-sizes", (), ("try-sizes",)),
     "serving": Part("try-serving", (), ("try-serving",)),
+    "order": Part("try-order", (), ("try-order",)),
     "runs": Part("try-runs", (), ("try-runs",)),
     "scenes": Part("try-scenes", (), ("try-scenes",)),
     "statuses": Part("try-statuses", (), ("try-statuses",)),
