@@ -2,6 +2,9 @@
 
 use super::reads;
 use crate::texts::text_in;
+use acd_codec::{RequestReader, read_request};
+use std::alloc::Global;
+use std::process::Abort;
 
 // Requests that equal their text, and others with their text after `=>`.
 fn requests() -> &'static [u8] {
@@ -75,5 +78,61 @@ fn texts_of_requests(rt: HostRuntime) {
             let (asked, text) = line.split_once(" => ").unwrap_or((line, line));
             reads(&rt, rt.alloc(), asked.as_bytes(), text);
         }
+    }
+}
+
+// Bytes that begin, go on or end almost as the text of a request does.
+fn other_texts() -> &'static [u8] {
+    br##"
+["call":1,"device":"201","invoke":3,"requester":"desk","service":"answerCall"}
+{"call":1,"device":"201","invoke":3,"requester":"desk","service":"answerCall"]
+{"call":1;"device":"201","invoke":3,"requester":"desk","service":"answerCall"}
+{"call":01,"device":"201","invoke":3,"requester":"desk","service":"answerCall"}
+{"call":1.0,"device":"201","invoke":3,"requester":"desk","service":"answerCall"}
+{"call":"1","device":"201","invoke":3,"requester":"desk","service":"answerCall"}
+{"call":1,"device":201,"invoke":3,"requester":"desk","service":"answerCall"}
+{"call":1,"devices":"201","invoke":3,"requester":"desk","service":"answerCall"}
+{"call":1,"device": "201","invoke":3,"requester":"desk","service":"answerCall"}
+{"call":1,"device":"201","invoke":3,"requester":"desk","service":"answercall"}
+{"call":1,"device":"201","invoke":3,"requester":"desk","service":"answerCall"
+{"call":1,"device":"201","invoke":3,"requester":"desk","service":"answerCall"}}
+{"call":1,"device":"201","invoke":3,"requester":"desk","service":"answerCall"},
+{"call":1,"device":"201","invoke":3,"requester":"desk","service":"answerCall","to":"202"}
+{"call":1,"device":"201","invoke":3,"requester":"desk","service":"deflectCall"}
+{"device":"201","call":1,"invoke":3,"requester":"desk","service":"answerCall"}
+{"caller":"0301234","called":"100","invoke":1,"requester":"pbx","service":"arriveCall"}
+{"called":"100","caller":"0301234","invoke":1,"requester":"pbx","service":"makeCall"}
+{"agent":"7","invoke":2,"requested":"re\u0061dy","requester":"desk","service":"setAgentState"}
+{"agent":"7","invoke":2,"requested":"loggedOn","requester":"desk","service":"setAgentState"}
+{"invoke":2,"requester":"clock","service":"tick" }
+{"invoke":2,"requester":"clock","service":"tick","service":"tick"}
+{"invoke":1000000000,"requester":"clock","service":"tick"}
+{"invoke":2,"requester":"Clock","service":"tick"}
+{:,:,:
+:::::
+{
+"##
+}
+
+// The reader finds the request whose text this is, where it is the text of the request that it reads as.
+fn finds(rt: &impl Abort, alloc: Global, reader: &mut RequestReader, asked: &str, is_text: bool) {
+    let found = reader.request_of_text(asked.as_bytes());
+    let found = found.expect(rt, "memory");
+    let request = read_request(alloc, asked.as_bytes()).ok();
+    let expected = if is_text { request } else { None };
+    assert!(rt; found == expected, "{asked}: {found:?}");
+}
+
+#[test]
+fn texts_of_no_other_request(rt: HostRuntime) {
+    let mut reader = RequestReader::new(rt.alloc());
+    for line in text_in(&rt, requests()).lines() {
+        if !line.is_empty() {
+            let asked = line.split_once(" => ").map_or(line, |(asked, _)| asked);
+            finds(&rt, rt.alloc(), &mut reader, asked, asked == line);
+        }
+    }
+    for line in text_in(&rt, other_texts()).lines() {
+        finds(&rt, rt.alloc(), &mut reader, line, false);
     }
 }
