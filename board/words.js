@@ -347,6 +347,7 @@ byYou: your own
 direct: to you
 hasWaited: has waited {clock}
 ringsFor: rings for another {clock}
+lift: your telephone rings first
 rings: {what} rings
 sayWhere: {what}: say to whom
 nobody: {what}: nobody and nothing here is called {who}

@@ -6,7 +6,7 @@ import * as net from '../net.js';
 import {logIn, logOut, openSession} from '../session.js';
 import {isHeard, soundWhere, tone} from '../sound.js';
 import {clock, DOING, named, office, plain, query, refusal, timeOfDay, translate, word} from '../words.js';
-import {beat, drawCalls, joined, ring, say} from './calls.js';
+import {beat, drawCalls, joined, ring, ringsHere, say} from './calls.js';
 import {isFree, isOverdue, meant, placesOf, sideOf, STATES, states, taken, wrapLeft} from './mine.js';
 import {codeName, hasCodes, Reasons} from './reasons.js';
 import {Requests} from './requests.js';
@@ -58,8 +58,14 @@ function show({kind, words, key, result}) {
   if (kind !== 'waits') fades = setTimeout(put, kind === 'refused' ? REFUSED : FLEETING, 'told');
   if (result?.pending && mine) mine.agent.pending = result.pending;   // which no event has
   if (kind === 'refused' && key === 'loggedOff') leaves = false;
+  if (kind === 'done' && key === 'makeCall' && result?.call) pickUp(result.call, words);
   giving.told(kind, key);
   draw();
+}
+
+// A call dialled here is picked up by itself; where a telephone rings in place of the page, that one is lifted.
+function pickUp(call = 0, words = '') {
+  if (ringsHere()) requests.send('phoneOffHook', {call, device: mine?.agent.device}, words, `phoneOffHook ${call}`);
 }
 
 // The second of two clicks asks for nothing.
@@ -287,7 +293,7 @@ function showMissed(moment = 0) {
       time: timeOfDay(missed.moment), so: isOff ? say('missed.so') : '',
     }), [...ready, [say('read'), read]]);
   } else drop('missed');
-  const mute = acts && agent.device && byId('tone').checked && !isHeard();
+  const mute = acts && agent.device && ringsHere() && !isHeard();
   const is = {'alarm.ticks': isLive() && isOverdue(mine, moment), sound: mute, 'agent.leaves': leaves};
   for (const [key, so] of Object.entries(is)) if (so) notice(key, word(key)); else drop(key);
 }

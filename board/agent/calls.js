@@ -18,6 +18,8 @@ export const say = (key, values) => word(`agent.${key}`, values);
 /** @param {...unknown} parts */
 export const joined = (...parts) => parts.filter(Boolean).join(' · ');
 
+export const ringsHere = () => byId('tone').checked;
+
 /** @param {DrawnCalls} drawn */
 export function drawCalls(drawn) {
   const list = byId('calls'), focused = list.contains(document.activeElement);
@@ -52,14 +54,14 @@ const card = ({mine, now, acts, off, who: nameOf, group, act}, call) => {
   });
   const from = here.group ? group(here.group) : joined(say(dials ? 'byYou' : 'direct'), here.sent && group(here.sent));
   const waited = call.queued && here.state === 'alerting' && say('hasWaited', {clock: clock(now - call.queued)});
-  const rings = left > 0 && say('ringsFor', {clock: clock(left)});
+  const rings = left > 0 && say('ringsFor', {clock: clock(left)}), lift = here.state === 'initiated' && !ringsHere() && say('lift');
   const file = !dials && isOutside(mine, call) ? customerFile(office.customer, call.caller) : undefined;
   return make('li', {'data-key': number, tabindex: -1, 'data-state': here.state},
     make('p.line', `${sign} ${words} ${clock(now - here.since)} · ${from}`),
     make('p.number', other ? nameOf(other) : '…'),
     // in a tab of its own, which knows nothing of this one
     file && make('p.customer', make('a', {href: file, target: '_blank', rel: 'noopener noreferrer'}, say('customer'))),
-    make('p.soft', joined(waited, rings, word('agents.call', {call: number}))),
+    make('p.soft', joined(waited, rings, lift, word('agents.call', {call: number}))),
     make('div.buttons', ...buttons.slice(0, 6), place, ...buttons.slice(6)));
 };
 
@@ -70,7 +72,7 @@ addEventListener('keydown', event => {
 });
 
 // It sounds in every second second.
-export function beat() { if (rings && beats++ % 2 === 0 && byId('tone').checked && isHeard()) tone(); }
+export function beat() { if (rings && beats++ % 2 === 0 && ringsHere() && isHeard()) tone(); }
 
 /** @param {Offer} offer what rings now */
 export function ring({key, title, words} = {key: '', title: '', words: ''}) {

@@ -41,7 +41,8 @@ declare global {
   /** A request that has no answer yet: what it asks for in words, when it was asked for, and in which log-on; `key` names what was
    *  clicked. */
   type Kept = {body: string, words: string, at?: number, logOn?: number | null, key?: string};
-  type Outcome = {kind: 'sent' | 'waits' | 'done' | 'refused' | 'dropped', words: string, key?: string, result?: {pending?: string}};
+  type Outcome = {kind: 'sent' | 'waits' | 'done' | 'refused' | 'dropped', words: string, key?: string,
+    result?: {pending?: string, call?: number}};
   /** The page, as the requests need it. */
   type Asking = {isLive: () => boolean | undefined, logOn: () => number | null, show: (outcome: Outcome) => void,
     ask: (kept: Kept, answer: (sends: boolean) => void) => void};

@@ -53,7 +53,11 @@ class Calls:
             self.dialogs.end(leg, REFUSED.get(answer.error, 503))
 
     def went_off_hook(self, row: Request, leg: Leg | None, answer: Answer) -> None:
-        if answer.status != 200 and leg is not None:
+        call = self.dialogs.call_of(leg) if leg is not None else None
+        if call is not None and answer.error == "wrongConnectionState":
+            # a click picked it up before the phone was lifted
+            self.dialogs.settle(call)
+        elif answer.status != 200 and leg is not None:
             self.dialogs.end(leg)
 
     def answered(self, row: Request, leg: Leg | None, answer: Answer) -> None:

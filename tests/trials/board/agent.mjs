@@ -1,4 +1,5 @@
-// The agent's page in a browser: what rings, what stands, second clicks, kept requests, names, the day, a lost desk, sessions, words and layout.
+// The agent's page in a browser: what rings, what stands, second clicks, kept requests, names, the day, a lost desk, sessions, words and
+// layout.
 import {lostReply, otherLogOn, olderPage, tooOld} from './kept.mjs';
 import {sleep, until} from './browser.mjs';
 import {layout, owners, words} from './plain.mjs';
@@ -35,14 +36,16 @@ async function atBoard({see, browser, front}) {
 async function lastLogOn(hands) {
   await hands.open();
   await hands.sees('as the last time', '#again', 'Log on as last time: at 207, Billing, Claims', 10);
-  const filled = await hands.browser.run('return [document.querySelector("[name=station]").value, ...[...document.querySelectorAll("#groups input:checked")].map(box => box.value)]');
+  const filled = await hands.browser.run(`return [document.querySelector("[name=station]").value,
+    ...[...document.querySelectorAll("#groups input:checked")].map(box => box.value)]`);
   hands.see('the form is as the last time too', String(filled) === '207,100,110', String(filled));
   await hands.click('#again:enabled', `✓ Log on at ${STATION}`);
   const agent = await until(async () => { const {agent} = await hands.mine(); return agent.device && agent; }, 5);
   hands.see('it did', agent.device === STATION && String(agent.groups) === '100,110', JSON.stringify(agent));
 }
 
-/** By keys alone: what has the focus at a log-on, a change of state and a log-off; a button that doesn't apply keeps it, and a change is read out. */
+/** By keys alone: what has the focus at a log-on, a change of state and a log-off; a button that doesn't apply keeps it, and a change is
+ * read out. */
 async function byKeys(hands) {
   const {see, browser} = hands, focused = () => browser.run('return document.activeElement.dataset.requested ?? document.activeElement.id');
   await hands.click(requested('loggedOff'), '✓ Log off');
@@ -52,13 +55,18 @@ async function byKeys(hands) {
   await browser.press('\uE007');
   await hands.said('✓ Log on at');
   see('behind a log-on the states have the focus', Boolean(await until(async () => await focused() === 'ready', 5)), await focused());
-  await browser.run(`window.said = []; const words = document.querySelector('#state-words'); new MutationObserver(() => window.said.push(words.textContent)).observe(words, {childList: true, characterData: true, subtree: true})`);
+  await browser.run(`window.said = []; const words = document.querySelector('#state-words');
+    new MutationObserver(() => window.said.push(words.textContent)).observe(words, {childList: true, characterData: true, subtree: true})`);
   await sleep(450);
   await browser.press('\uE007');
   await hands.said('✓ Ready');
-  see('the button that was pressed keeps it', await focused() === 'ready' && await browser.run('return document.activeElement.getAttribute("aria-disabled") === "true"'), await focused());
+  see('the button that was pressed keeps it',
+    await focused() === 'ready' && await browser.run('return document.activeElement.getAttribute("aria-disabled") === "true"'),
+    await focused());
   await hands.ask('setAgentState', {agent: AGENT, requested: 'notReady'});
-  see('what others change is read out', Boolean(await until(async () => String(await browser.run('return said')) === 'ready,not ready', 5)) && await browser.run('return document.querySelector("#state-words").role') === 'status', String(await browser.run('return said')));
+  see('what others change is read out',
+    Boolean(await until(async () => String(await browser.run('return said')) === 'ready,not ready', 5))
+      && await browser.run('return document.querySelector("#state-words").role') === 'status', String(await browser.run('return said')));
 }
 
 /** Counts what makes itself noticed: tones, notifications, changes of the live region and of the title. */
@@ -66,9 +74,15 @@ const COUNTING = `
   const start = OscillatorNode.prototype.start;
   Object.assign(window, {tones: 0, notices: [], shut: 0, said: [], titles: []});
   OscillatorNode.prototype.start = function (...more) { window.tones++; return start.apply(this, more); };
-  window.Notification = class { static permission = 'granted'; constructor(title, how) { window.notices.push([title, how]); window.notice = this; } close() { window.shut++; } };
-  new MutationObserver(() => window.said.push(document.querySelector('#ring').textContent)).observe(document.querySelector('#ring'), {childList: true, characterData: true, subtree: true});
-  new MutationObserver(() => window.titles.push([Date.now(), document.title, document.visibilityState])).observe(document.querySelector('title'), {childList: true, characterData: true, subtree: true});`;
+  window.Notification = class {
+    static permission = 'granted';
+    constructor(title, how) { window.notices.push([title, how]); window.notice = this; }
+    close() { window.shut++; }
+  };
+  new MutationObserver(() => window.said.push(document.querySelector('#ring').textContent))
+    .observe(document.querySelector('#ring'), {childList: true, characterData: true, subtree: true});
+  new MutationObserver(() => window.titles.push([Date.now(), document.title, document.visibilityState]))
+    .observe(document.querySelector('title'), {childList: true, characterData: true, subtree: true});`;
 
 /** A ring is seen in the title, heard, told by the browser, said once, and answered by a key. */
 async function rings(hands) {
@@ -79,18 +93,25 @@ async function rings(hands) {
   await hands.click(requested('ready'), '✓ Ready');
   await hands.sees('and no longer behind a click', '#notices', /^$/);
   const call = await hands.call('110', '0301234');
-  see('the title says who calls', Boolean(await until(async () => await browser.run('return document.title') === '◆ 0301234 Claims', 3)), await browser.run('return document.title'));
+  see('the title says who calls', Boolean(await until(async () => await browser.run('return document.title') === '◆ 0301234 Claims', 3)),
+    await browser.run('return document.title'));
   await sleep(4200);
   const {tones, notices, said, shut} = await browser.run('return {tones, notices, said, shut}');
   see('it sounds every other second', tones >= 4 && tones <= 8, tones);
-  see('the browser tells it once', notices.length === 1 && notices[0][0] === '◆ 0301234 Claims' && notices[0][1].requireInteraction && shut === 0, JSON.stringify(notices));
+  see('the browser tells it once',
+    notices.length === 1 && notices[0][0] === '◆ 0301234 Claims' && notices[0][1].requireInteraction && shut === 0,
+    JSON.stringify(notices));
   see('who hears the page is told once', String(said) === '0301234 Claims rings', String(said));
-  const colour = await browser.run('return [getComputedStyle(document.querySelector("#calls li")).backgroundColor, getComputedStyle(document.querySelector("#own-queues")).backgroundColor, document.body.hasAttribute("data-rings")]');
+  const colour = await browser.run(`return [getComputedStyle(document.querySelector("#calls li")).backgroundColor,
+    getComputedStyle(document.querySelector("#own-queues")).backgroundColor, document.body.hasAttribute("data-rings")]`);
   see('it is coloured', colour[0] !== colour[1] && colour[2], String(colour));
   await browser.run('document.querySelector("#calls input").focus()');
   await browser.press(F2);
   see('F2 answers', Boolean(await hands.said('✓ Answer: 0301234')), await hands.text('#told'));
-  see('and nothing rings any more', Boolean(await until(async () => !(await browser.run('return document.title')).startsWith('◆') && await browser.run('return window.shut === 1 && !document.body.hasAttribute("data-rings")'), 3)));
+  see('and nothing rings any more',
+    Boolean(await until(
+      async () => !(await browser.run('return document.title')).startsWith('◆')
+        && await browser.run('return window.shut === 1 && !document.body.hasAttribute("data-rings")'), 3)));
   const before = await browser.run('return tones');
   await sleep(2500);
   see('nor sounds', await browser.run('return tones') === before);
@@ -105,14 +126,19 @@ async function notNow(hands) {
   await hands.click(requested('ready'), '✓ Ready');
   const call = await hands.call('110', '0305678');
   await until(() => browser.find(button('rejectCall')), 10);
-  see('there is no Hang up beside Answer', !await browser.run(`return document.querySelector('#calls [data-service=clearConnection]').checkVisibility()`));
-  const apart = await browser.run(`const [answer, no] = ['answerCall', 'rejectCall'].map(service => document.querySelector('[data-service=' + service + ']').getBoundingClientRect()); return no.left - answer.right`);
+  see('there is no Hang up beside Answer',
+    !await browser.run(`return document.querySelector('#calls [data-service=clearConnection]').checkVisibility()`));
+  const apart = await browser.run(
+    `const [answer, no] = ['answerCall',
+      'rejectCall'].map(service => document.querySelector('[data-service=' + service + ']').getBoundingClientRect());
+      return no.left - answer.right`);
   see('Not now stands apart', apart >= 24, apart);
   await sleep(2000);
   see('no tone where none is wanted', await browser.run('return tones') === 0);
   await browser.press(F8);
   see('F8 is Not now', Boolean(await hands.said('✓ Not now: 0305678')), await hands.text('#told'));
-  see('the caller still waits', Boolean(await until(async () => (await hands.desk.get(`/calls/${call}`)).connections.some(one => one.state === 'queued'), 5)));
+  see('the caller still waits',
+    Boolean(await until(async () => (await hands.desk.get(`/calls/${call}`)).connections.some(one => one.state === 'queued'), 5)));
   await hands.desk.post({requester: `end-${call}`, invoke: 1, service: 'clearConnection', call, device: '110'});
   await browser.run('document.querySelector("#tone").click()');
 }
@@ -140,22 +166,35 @@ async function hidden(hands) {
 /** A second click, a key that is held, and clicks while there is no answer ask for nothing more, and are no fault. */
 async function secondClicks(hands) {
   const {see, browser} = hands;
-  await browser.run(`window.posts = []; window.faults = []; const before = fetch; window.fetch = async (address, how) => { if (how?.method === 'POST' && String(address).endsWith('/csta')) { window.posts.push(JSON.parse(how.body).service); await new Promise(done => setTimeout(done, window.slow ?? 0)); } return before(address, how); };
-    new MutationObserver(() => { if (document.querySelector('#told').textContent.startsWith('■')) window.faults.push(document.querySelector('#told').textContent); }).observe(document.querySelector('#told'), {childList: true, characterData: true, subtree: true});`);
+  await browser.run(`window.posts = []; window.faults = []; const before = fetch;
+    window.fetch = async (address, how) => {
+      if (how?.method === 'POST' && String(address).endsWith('/csta')) {
+        window.posts.push(JSON.parse(how.body).service);
+        await new Promise(done => setTimeout(done, window.slow ?? 0));
+      }
+      return before(address, how);
+    };
+    new MutationObserver(() => {
+      if (document.querySelector('#told').textContent.startsWith('■')) window.faults.push(document.querySelector('#told').textContent);
+    }).observe(document.querySelector('#told'), {childList: true, characterData: true, subtree: true});`);
   await hands.click(requested('ready'), '✓ Ready');
   await hands.call();
   await until(() => browser.find(button('answerCall')), 10);
   await sleep(450);
   await browser.run('window.posts.length = 0');
-  const pointer = await browser.run(`const box = document.querySelector('#calls [data-service=answerCall]').getBoundingClientRect(); return [Math.round(box.left + 20), Math.round(box.top + box.height / 2)]`);
+  const pointer = await browser.run(`const box = document.querySelector('#calls [data-service=answerCall]').getBoundingClientRect();
+    return [Math.round(box.left + 20), Math.round(box.top + box.height / 2)]`);
   const press = [{type: 'pointerDown', button: 0}, {type: 'pointerUp', button: 0}, {type: 'pause', duration: 150}];
-  await browser.ask('POST', '/actions', {actions: [{type: 'pointer', id: 'mouse', actions: [{type: 'pointerMove', x: pointer[0], y: pointer[1]}, ...press, ...press]}]});
+  await browser.ask('POST', '/actions',
+    {actions: [{type: 'pointer', id: 'mouse', actions: [{type: 'pointerMove', x: pointer[0], y: pointer[1]}, ...press, ...press]}]});
   await hands.said('✓ Answer');
   await sleep(800);
-  see('a double click answers, and does nothing else', String(await browser.run('return posts')) === 'answerCall', String(await browser.run('return posts')));
+  see('a double click answers, and does nothing else', String(await browser.run('return posts')) === 'answerCall',
+    String(await browser.run('return posts')));
   await browser.run('window.posts.length = 0; window.slow = 1500');
   await sleep(450);
-  const off = await browser.run(`const button = document.querySelector('#calls [data-service=holdCall]'); button.click(); const off = button.disabled; for (let time = 0; time < 5; time++) button.click(); return off`);
+  const off = await browser.run(`const button = document.querySelector('#calls [data-service=holdCall]'); button.click();
+    const off = button.disabled; for (let time = 0; time < 5; time++) button.click(); return off`);
   see('a button is off until its answer', off);
   await browser.run(`document.querySelector('#calls [data-service=holdCall]').disabled = false`);
   await sleep(500);
@@ -167,11 +206,14 @@ async function secondClicks(hands) {
   await hands.click(button('clearConnection'), '✓ Hang up');
   await until(() => browser.find(requested('ready')), 10);
   await sleep(450);
-  await browser.run(`window.posts.length = 0; for (const state of ['ready', 'notReady']) document.querySelector('#states [data-requested=' + state + ']').click()`);
+  await browser.run(`window.posts.length = 0;
+    for (const state of ['ready', 'notReady']) document.querySelector('#states [data-requested=' + state + ']').click();`);
   await sleep(800);
-  see('nor does the second click of two hit what has come in its way', String(await browser.run('return posts')) === 'setAgentState', String(await browser.run('return posts')));
+  see('nor does the second click of two hit what has come in its way', String(await browser.run('return posts')) === 'setAgentState',
+    String(await browser.run('return posts')));
   see('no click was a fault', !(await browser.run('return faults')).length, String(await browser.run('return faults')));
-  see('what was done is told for five seconds', Boolean(await until(async () => await hands.text('#told') === '', 7)), await hands.text('#told'));
+  see('what was done is told for five seconds', Boolean(await until(async () => await hands.text('#told') === '', 7)),
+    await hands.text('#told'));
 }
 
 /** An offer that is taken back stands as a sentence, over a new load, until somebody clicks it away. */
@@ -235,7 +277,8 @@ async function places(hands) {
   const first = await hands.call('130', '0402');
   await hands.click(button('answerCall'), '✓ Answer');
   const last = await hands.last();
-  for (const [typed, told] of [['', 'say to whom'], ['nobody', 'nobody and nothing here is called nobody'], ['ben', 'ben is not logged on']]) {
+  for (const [typed, told] of [['', 'say to whom'], ['nobody', 'nobody and nothing here is called nobody'],
+    ['ben', 'ben is not logged on']]) {
     await type(typed);
     await hands.click(button('singleStepTransfer'));
     see(`a transfer to '${typed}'`, Boolean(await hands.said(`■ Transfer: ${told}`)), await hands.text('#told'));
@@ -245,9 +288,11 @@ async function places(hands) {
   await hands.sees('where nobody is logged on it is asked', '#notices', 'Nobody is logged on at 208.Transfer all the sameNo');
   await browser.click('#notices button:last-child');
   await sleep(300);
-  see('and not done behind a no', (await hands.events(last)).length === 0 && await hands.text('#notices') === '', String(await hands.events(last)));
+  see('and not done behind a no', (await hands.events(last)).length === 0 && await hands.text('#notices') === '',
+    String(await hands.events(last)));
   await hands.ask('setAgentState', {agent: '8', requested: 'loggedOn', device: '208', group: '120'});
-  await until(() => browser.run('return [...document.querySelectorAll("#destinations option")].some(option => option.label === "Ben Berg")'), 15);
+  await until(() =>
+    browser.run('return [...document.querySelectorAll("#destinations option")].some(option => option.label === "Ben Berg")'), 15);
   await type('BEN');
   await hands.click(button('singleStepTransfer'));
   await hands.allTheSame('Ben Berg (208): ■ not ready.', 'Transfer');
@@ -257,10 +302,14 @@ async function places(hands) {
   await dial(hands);
 }
 
-/** A caller whom a colleague passes on: no button throws the caller out, Back gives the call to the colleague, or to the group where that one has a break. */
+/** A caller whom a colleague passes on: no button throws the caller out, Back gives the call to the colleague, or to the group where that
+ * one has a break. */
 async function sentOn(hands) {
-  const {see, browser, desk} = hands, at = async call => (await desk.get(`/calls/${call}`)).connections.map(one => one.device).filter(one => one !== '0405');
-  const buttons = () => browser.run(`return [...document.querySelectorAll('#calls li:first-child .buttons button')].filter(one => one.checkVisibility()).map(one => one.textContent)`);
+  const {see, browser, desk} = hands;
+  const at = async call => (await desk.get(`/calls/${call}`)).connections.map(one => one.device).filter(one => one !== '0405');
+  const buttons = () =>
+    browser.run(`return [...document.querySelectorAll('#calls li:first-child .buttons button')].filter(one => one.checkVisibility())
+      .map(one => one.textContent)`);
   for (const {call} of (await desk.get('/queues/120')).calls) await hands.ask('clearConnection', {call, device: '120'});
   await hands.ask('setAgentState', {agent: '8', requested: 'loggedOn', device: '208', group: '120'});
   await hands.ask('setAgentState', {agent: '8', requested: 'ready'});
@@ -278,7 +327,8 @@ async function sentOn(hands) {
   see('it rings at the colleague', String(await at(call)) === '208', String(await at(call)));
   await pass();
   await hands.ask('setAgentState', {agent: '8', requested: 'notReady'});
-  see('who has a break gets nothing back', Boolean(await until(async () => (await hands.mine()).calls[0]?.back === '120', 5)), JSON.stringify((await hands.mine()).calls[0]));
+  see('who has a break gets nothing back', Boolean(await until(async () => (await hands.mine()).calls[0]?.back === '120', 5)),
+    JSON.stringify((await hands.mine()).calls[0]));
   await hands.click(button('back'), '✓ Back: 0405, to Orders (120)');
   see('it waits in its group', String(await at(call)) === '120', String(await at(call)));
   await hands.ask('setAgentState', {agent: '8', requested: 'ready'});
@@ -296,34 +346,60 @@ async function sentOn(hands) {
   await hands.ask('setAgentState', {agent: '8', requested: 'loggedOff'});
 }
 
-/** A number that is dialled, picked up, and rings at a colleague. */
+/** A name that is dialled rings at the colleague by that click alone; where calls don't ring on the page, the telephone is lifted first. */
 async function dial(hands) {
-  const {see, browser, desk} = hands;
+  const {see, browser, desk} = hands, last = (await desk.events(0)).at(-1).number;
+  const own = async () => (await desk.get('/snapshot')).calls.find(call => call.caller === STATION);
+  const stateAt = (call, device) => call?.connections.find(one => one.device === device)?.state;
   await hands.click(requested('notReady'), '✓ Not ready');
   await browser.run('document.querySelector("#called").value = "ben"');
   await hands.click('#dial button', '✓ Call: Ben Berg (208)');
-  await hands.click(button('phoneOffHook'), '✓ Pick up: 208');
-  const {calls} = await desk.get('/snapshot'), own = calls.find(call => call.caller === STATION);
-  see('a dialled call rings there', own?.called === '208' && own.connections.some(one => one.device === '208' && one.state === 'alerting'), JSON.stringify(own));
+  const rings = Boolean(await until(async () => stateAt(await own(), '208') === 'alerting', 5));
+  see('a dialled call rings there', rings && (await own()).called === '208', JSON.stringify(await own()));
+  const happened = (await desk.events(last)).filter(one => one.call && one.device === STATION).map(one => one.event);
+  see('which the page picked up', String(happened) === 'serviceInitiated,originated', String(happened));
+  see('without a button for it', Boolean(await until(() => browser.run(`return document.querySelector('#calls [data-state=connected]')
+    && !document.querySelector('#calls [data-service=phoneOffHook]').checkVisibility()`), 5)));
   see('and nothing can be dialled beside it', await browser.run('return document.querySelector("#dial").hidden'));
   await hands.click(button('clearConnection'), '✓ Hang up: 208');
+  await browser.click('#tone');
+  await browser.run('document.querySelector("#called").value = "ben"');
+  await hands.click('#dial button', '✓ Call: Ben Berg (208)');
+  await hands.sees('the telephone rings first', '#calls .soft', 'your telephone rings first', 5);
+  await sleep(1500);
+  see('so the page waits for it', stateAt(await own(), STATION) === 'initiated', JSON.stringify(await own()));
+  await hands.click(button('phoneOffHook'), '✓ Pick up: 208');
+  see('or for a click', stateAt(await own(), '208') === 'alerting', JSON.stringify(await own()));
+  await hands.click(button('clearConnection'), '✓ Hang up: 208');
+  await browser.click('#tone');
   await hands.ask('setAgentState', {agent: '8', requested: 'loggedOff'});
 }
 
 /** The day: answered calls, talk and missed offers as the desk's events have them. */
 async function day(hands) {
-  const {see, desk} = hands, events = await desk.events(0), of = event => events.filter(one => one.event === event && (one.agent === AGENT || one.device === STATION));
+  const {see, desk} = hands, events = await desk.events(0);
+  const of = event => events.filter(one => one.event === event && (one.agent === AGENT || one.device === STATION));
   // a caller whom a colleague passed on is one of the own, and no state of the agent
-  const answered = of('established').length, direct = of('established').filter(one => !one.group).map(one => one.call), missed = of('diverted').filter(one => one.cause === 'noAnswer').length;
-  let talking = direct.reduce((sum, call) => sum + events.find(one => one.event === 'connectionCleared' && one.call === call).moment - events.find(one => one.event === 'established' && one.call === call && one.device === STATION).moment, 0), since = null;
+  const answered = of('established').length, direct = of('established').filter(one => !one.group).map(one => one.call);
+  const missed = of('diverted').filter(one => one.cause === 'noAnswer').length;
+  let talking = direct.reduce(
+    (sum, call) =>
+      sum + events.find(one => one.event === 'connectionCleared' && one.call === call).moment
+        - events.find(one => one.event === 'established' && one.call === call && one.device === STATION).moment, 0);
+  let since = null;
   for (const event of events.filter(one => one.agent === AGENT)) {
     if (since !== null) talking += event.moment - since;
     since = event.event === 'agentBusy' ? event.moment : null;
   }
   const average = Math.floor(talking / answered), sums = await hands.text('#day-sums');
-  see("the day is the desk's", sums === `${answered} calls answered · talk 0:${String(average).padStart(2, '0')} on average · ${missed} offers not taken`, `${sums}, not ${answered}, ${average}, ${missed}`);
-  const rows = await hands.browser.run('return [...document.querySelectorAll("#day tbody tr")].map(row => [...row.children].map(cell => cell.textContent))');
-  see('the last calls, the last one first', rows.length === 5 && String(rows.slice(0, 3).map(row => row.slice(1, 3))) === '0405,Orders,0402,Quick,0401111,Quick', JSON.stringify(rows));
+  see("the day is the desk's",
+    sums === `${answered} calls answered · talk 0:${String(average).padStart(2, '0')} on average · ${missed} offers not taken`,
+    `${sums}, not ${answered}, ${average}, ${missed}`);
+  const rows = await hands.browser.run(
+    'return [...document.querySelectorAll("#day tbody tr")].map(row => [...row.children].map(cell => cell.textContent))');
+  see('the last calls, the last one first',
+    rows.length === 5 && String(rows.slice(0, 3).map(row => row.slice(1, 3))) === '0405,Orders,0402,Quick,0401111,Quick',
+    JSON.stringify(rows));
 }
 
 /** While nobody knows what goes on no clock goes on either, and all is grey soon. */
@@ -331,14 +407,20 @@ async function lost(hands) {
   const {see, browser, desk} = hands, clock = () => browser.run('return document.querySelector("#state time").textContent');
   desk.child.kill('SIGSTOP');
   await hands.sees('a desk that hangs is told', '#status-text', 'What you see is old: the desk does not answer', 8);
-  see('its age stands beside, where no reader reads it each second', await browser.run(`const age = document.querySelector('#status-age'); return /old$/.test(age.textContent) && !age.closest('[role=status], [role=alert]')`));
-  see('buttons are off', await browser.run('return [...document.querySelectorAll("#states button")].every(button => button.ariaDisabled === "true")'));
+  see('its age stands beside, where no reader reads it each second',
+    await browser.run(`const age = document.querySelector('#status-age');
+      return /old$/.test(age.textContent) && !age.closest('[role=status], [role=alert]')`));
+  see('buttons are off',
+    await browser.run('return [...document.querySelectorAll("#states button")].every(button => button.ariaDisabled === "true")'));
   await sleep(8000);
   const stood = await clock();
   await sleep(2500);
   see('the clock stands', stood === await clock(), `${stood} ${await clock()}`);
   see('and all is grey', Boolean(await until(() => browser.run('return document.body.hasAttribute("data-old")'), 8)));
   desk.child.kill('SIGCONT');
-  see('it goes on by itself', Boolean(await until(async () => await hands.text('#status-text') === 'Live' && !await browser.run('return document.body.hasAttribute("data-old")'), 10)), await hands.text('#status-text'));
+  see('it goes on by itself',
+    Boolean(await until(
+      async () => await hands.text('#status-text') === 'Live' && !await browser.run('return document.body.hasAttribute("data-old")'), 10)),
+    await hands.text('#status-text'));
   await hangs(see, browser, hands.front, clock);
 }

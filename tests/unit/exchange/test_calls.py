@@ -220,6 +220,22 @@ class Queued(OnABench):
         b.answer("unknownCall")
         self.assertEqual((b.firsts(), b.asked()), (["ACK", "BYE"], [("clearConnection", {"call": 1, "device": "201"})]))
 
+    def test_a_click_picks_up_before_the_phone(self) -> None:
+        b = self.bench
+        b.report("serviceInitiated@201")
+        [(_, invite)] = b.take()
+        b.report("originated@201", "delivered@202")
+        [(address, ring)] = b.take()
+        self.assertEqual((address, ring.method), (OTHER, "INVITE"))
+        b.reply(invite, 200, body(7201))
+        self.assertEqual(b.asked(), [("phoneOffHook", {"call": 1, "device": "201"})])
+        b.answer("wrongConnectionState")
+        self.assertEqual((b.firsts(), b.asked()), (["ACK"], []))
+        b.reply(ring, 200, body(7202))
+        self.assertEqual(b.asked(), [("answerCall", {"call": 1, "device": "202"})])
+        b.answer()
+        self.assertEqual([(place, message.method) for place, message in b.take() if "m=audio 7202" in message.body], [(PHONE, "INVITE")])
+
     def test_offers_that_cross(self) -> None:
         """A phone offers while it is offered something: 491, and so does an offer for a side that has one under way."""
         b = self.bench
