@@ -7,8 +7,8 @@ const WAITS = 150, FIRST = 1600;
 // how long ago the tenth wait of a group ended: before, a share said nothing
 const TENTH = {lost: FIRST - 9 * 120 - 30, level: FIRST - 10 - 9 * 120 - 40};
 
-/** Of four groups one has a caller and nobody there, one a caller who waits, one lost eleven callers, and one answers all late. Of the last half hour each fact is worst once: what is one group's
- * is one alarm. */
+/** Of four groups one has a caller and nobody there, one a caller who waits, one lost eleven callers, and one answers all late. Of the
+ * last half hour each fact is worst once: what is one group's is one alarm. */
 export function troubles(now) {
   const story = new Story(now - 7200, [['100', 'Nobody'], ['101', 'Waits'], ['102', 'Lost'], ['103', 'Late']]);
   story.ask(now - 7200, 'setAgentState', {agent: '1', requested: 'loggedOff'});
@@ -26,10 +26,18 @@ export function troubles(now) {
 const NOTICED = `
   window.noticed = {tones: 0, notes: []};
   window.AudioContext = class { constructor() { this.state = 'running'; this.currentTime = 0; this.destination = {}; } resume() {}
-    createOscillator() { window.noticed.tones++; return {frequency: {}, connect: to => to, start() {}, stop() {}}; } createGain() { return {gain: {linearRampToValueAtTime() {}}, connect() {}}; } };
-  window.Notification = class { static permission = 'granted'; static requestPermission() {} constructor(title, {body}) { window.noticed.notes.push(body); } };`;
+    createOscillator() { window.noticed.tones++; return {frequency: {}, connect: to => to, start() {}, stop() {}}; }
+    createGain() { return {gain: {linearRampToValueAtTime() {}}, connect() {}}; }
+  };
+  window.Notification = class {
+    static permission = 'granted';
+    static requestPermission() {}
+    constructor(title, {body}) { window.noticed.notes.push(body); }
+  };`;
 
-const list = browser => browser.run(`return [...document.querySelectorAll('#alarm li')].map(item => [item.dataset.key, item.querySelector('b').textContent, item.querySelector('.since').textContent, item.hasAttribute('data-seen')])`);
+const list = browser =>
+  browser.run(`return [...document.querySelectorAll('#alarm li')].map(item =>
+    [item.dataset.key, item.querySelector('b').textContent, item.querySelector('.since').textContent, item.hasAttribute('data-seen')])`);
 
 export async function alarms(see, browser, desk, address, made) {
   await browser.command('Page.enable');
@@ -46,16 +54,23 @@ export async function alarms(see, browser, desk, address, made) {
   const found = await list(browser), keys = found.map(([key]) => key);
   see('each alarm, and none beside', String([...keys].sort()) === 'level.103,lost.102,nobody.100,wait.101', String(keys));
   see('the worst first', String(keys) === 'nobody.100,wait.101,lost.102,level.103', String(keys));
-  see('its words', found[0]?.[1] === '■ Nobody: 1 caller waits, and nobody is logged on' && found.some(([key, words]) => key === 'lost.102' && words === '■ Lost: 92% gave up in the last half hour, the goal is 5%'), found.map(one => one[1]).join('; '));
-  const late = /, (\d):(\d\d)$/.exec(found.find(([key]) => key === 'wait.101')?.[2] ?? ''), waits = Date.now() / 1000 - (await desk.get('/queues/101')).calls[0].since;
-  see('since when a wait is too long', late && Math.abs(60 * Number(late[1]) + Number(late[2]) - (waits - 120)) < 4, `${late?.[0]} ${waits}`);
+  see('its words',
+    found[0]?.[1] === '■ Nobody: 1 caller waits, and nobody is logged on'
+      && found.some(([key, words]) => key === 'lost.102' && words === '■ Lost: 92% gave up in the last half hour, the goal is 5%'),
+    found.map(one => one[1]).join('; '));
+  const late = /, (\d):(\d\d)$/.exec(found.find(([key]) => key === 'wait.101')?.[2] ?? '');
+  const waits = Date.now() / 1000 - (await desk.get('/queues/101')).calls[0].since;
+  see('since when a wait is too long', late && Math.abs(60 * Number(late[1]) + Number(late[2]) - (waits - 120)) < 4,
+    `${late?.[0]} ${waits}`);
   for (const [kind, key] of [['lost', 'lost.102'], ['level', 'level.103']]) {
-    const [, minutes, seconds] = /, (\d+):(\d\d)$/.exec(found.find(one => one[0] === key)?.[2] ?? '') ?? [], ago = TENTH[kind] + Date.now() / 1000 - made;
+    const [, minutes, seconds] = /, (\d+):(\d\d)$/.exec(found.find(one => one[0] === key)?.[2] ?? '') ?? [];
+    const ago = TENTH[kind] + Date.now() / 1000 - made;
     see(`since when ${key} is so`, Math.abs(60 * Number(minutes) + Number(seconds) - ago) < 4, `${minutes}:${seconds} and not ${ago}`);
   }
   const more = await browser.text('#alarm [data-key="lost.102"] .detail');
   see('what else is so of a group is beside its worst', more === 'Lost: only 0% in time in the last half hour, the goal is 80%', more);
-  see('the title counts them', (await browser.run('return document.title')).startsWith('■ 4 alarms – '), await browser.run('return document.title'));
+  see('the title counts them', (await browser.run('return document.title')).startsWith('■ 4 alarms – '),
+    await browser.run('return document.title'));
   await noticed(see, browser);
   await seen(see, browser, address);
   await limits(see, browser, address);
@@ -77,7 +92,8 @@ async function anew(see, browser) {
 
 /** What has no room on the screen is printed. */
 async function onPaper(see, browser) {
-  const shown = () => browser.run('return [...document.querySelectorAll("#alarm li")].filter(one => one.checkVisibility()).length'), onScreen = await shown();
+  const shown = () => browser.run('return [...document.querySelectorAll("#alarm li")].filter(one => one.checkVisibility()).length');
+  const onScreen = await shown();
   await browser.command('Emulation.setEmulatedMedia', {media: 'print'});
   await until(async () => await shown() === 4, 3);
   const printed = await shown();
@@ -89,8 +105,12 @@ async function onPaper(see, browser) {
 async function noticed(see, browser) {
   const {tones, notes} = await browser.run('return window.noticed');
   // those of the day come once it is counted
-  see('a tone, and a notification for each', tones >= 2 && tones <= 4 && notes.length === 4 && notes.every(note => !/[\u2068\u2069]/.test(note)), JSON.stringify([tones, notes]));
-  await browser.run(`window.told = []; for (const part of document.querySelectorAll('[role=alert], [role=status]')) new MutationObserver(() => window.told.push(part.textContent)).observe(part, {childList: true, characterData: true, subtree: true})`);
+  see('a tone, and a notification for each',
+    tones >= 2 && tones <= 4 && notes.length === 4 && notes.every(note => !/[\u2068\u2069]/.test(note)), JSON.stringify([tones, notes]));
+  await browser.run(`window.told = [];
+    for (const part of document.querySelectorAll('[role=alert], [role=status]')) {
+      new MutationObserver(() => window.told.push(part.textContent)).observe(part, {childList: true, characterData: true, subtree: true});
+    }`);
   await sleep(4000);
   const told = await browser.run('return window.told');
   see('nothing is read out again', told.length === 0, told.slice(0, 3).join('; '));
@@ -111,7 +131,8 @@ async function seen(see, browser, address) {
   if (await browser.run('return !document.querySelector("#alarms-rest").hidden')) await browser.click('#alarms-rest');
   await sleep(300);
   const found = await list(browser);
-  see('what was seen stays seen', String(found.filter(one => one[3]).map(one => one[0])) === 'wait.101' && found.length === 4, JSON.stringify(found));
+  see('what was seen stays seen', String(found.filter(one => one[3]).map(one => one[0])) === 'wait.101' && found.length === 4,
+    JSON.stringify(found));
   see('and goes last', found[3]?.[0] === 'wait.101' && found[3][1].startsWith('□'), found[3]);
 }
 
@@ -126,7 +147,8 @@ async function limits(see, browser, address) {
 
 /** Without a plan, and without anybody, a line says so. */
 export async function nothing(see, browser, none, planned) {
-  for (const [front, view, words] of [[none, 'queues', 'No group is planned yet.'], [planned, 'agents', 'Nobody is logged on.'], [planned, 'calls', '']]) {
+  for (const [front, view, words] of [[none, 'queues', 'No group is planned yet.'], [planned, 'agents', 'Nobody is logged on.'],
+    [planned, 'calls', '']]) {
     await browser.fresh(front.page('sup', `/board/#${view}`));
     await until(() => browser.run('return document.querySelector("#status").dataset.kind === "live"'), 20);
     see(`${view} of nothing`, await until(async () => await browser.text('#empty') === words, 20), await browser.text('#empty'));

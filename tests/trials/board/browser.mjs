@@ -34,15 +34,20 @@ export class Browser {
     browser.driver = spawn('chromedriver', [`--port=${port}`], {stdio: 'ignore'});
     browser.base = `http://127.0.0.1:${port}`;
     if (!await until(() => fetch(`${browser.base}/status`).then(reply => reply.ok))) throw new Error('chromedriver does not start');
-    const args = ['--headless=new', '--no-sandbox', '--disable-gpu', '--disable-dev-shm-usage', '--ignore-certificate-errors', '--hide-scrollbars', '--disable-background-networking', `--window-size=${width},${height}`, ...more];
-    const {sessionId} = await browser.ask('POST', '/session', {capabilities: {alwaysMatch: {browserName: 'chrome', acceptInsecureCerts: true, 'goog:chromeOptions': {args}, 'goog:loggingPrefs': {browser: 'ALL'}}}});
+    const args = ['--headless=new', '--no-sandbox', '--disable-gpu', '--disable-dev-shm-usage', '--ignore-certificate-errors',
+      '--hide-scrollbars', '--disable-background-networking', `--window-size=${width},${height}`, ...more];
+    const {sessionId} = await browser.ask('POST', '/session',
+      {capabilities: {
+        alwaysMatch: {browserName: 'chrome', acceptInsecureCerts: true, 'goog:chromeOptions': {args},
+          'goog:loggingPrefs': {browser: 'ALL'}}}});
     browser.base += `/session/${sessionId}`;
     await browser.size(width, height);
     return browser;
   }
 
   async ask(method, path, body) {
-    const reply = await fetch(this.base + path, {method, body: body && JSON.stringify(body), headers: {'content-type': 'application/json'}});
+    const reply = await fetch(this.base + path,
+      {method, body: body && JSON.stringify(body), headers: {'content-type': 'application/json'}});
     const {value} = await reply.json();
     if (!reply.ok) throw new Error(`${path}: ${value.message.split('\n')[0]}`);
     return value;

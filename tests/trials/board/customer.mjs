@@ -17,16 +17,20 @@ export function addresses(see, {customerOf, customerFile}) {
     ['http that the office allows', {address: HTTPS.replace('https', 'http'), schemes: ['http']}, '7', 'http://crm.example/find?tel=7', ''],
     ["a program's own", {address: 'crm-app:{caller}', schemes: ['https', 'crm-app']}, '7', 'crm-app:7', ''],
     ['javascript', {address: 'javascript:alert({caller})'}, '7', undefined, 'customer.address'],
-    ['javascript that the office allows', {address: 'javascript:alert({caller})', schemes: ['javascript']}, '7', undefined, 'customer.schemes,customer.address'],
+    ['javascript that the office allows', {address: 'javascript:alert({caller})', schemes: ['javascript']}, '7', undefined,
+      'customer.schemes,customer.address'],
     ['data', {address: 'data:text/html,{caller}', schemes: ['https', 'data']}, '7', undefined, 'customer.schemes,customer.address'],
-    ['JavaScript, in large letters and with a blank', {address: ' JavaScript:alert({caller})', schemes: ['https']}, '7', undefined, 'customer.address'],
+    ['JavaScript, in large letters and with a blank', {address: ' JavaScript:alert({caller})', schemes: ['https']}, '7', undefined,
+      'customer.address'],
     ['the path of this site', {address: '/find?{caller}'}, '7', undefined, 'customer.address'],
     ['no place for the caller', {address: 'https://crm.example/'}, '7', undefined, 'customer.address'],
-    ['no text', {address: 7}, '7', undefined, 'customer.address'], ['no object', HTTPS, '7', undefined, 'customer'], ['nothing in it', {}, '7', undefined, 'customer.address'],
+    ['no text', {address: 7}, '7', undefined, 'customer.address'], ['no object', HTTPS, '7', undefined, 'customer'],
+    ['nothing in it', {}, '7', undefined, 'customer.address'],
     ['too long', {address: HTTPS + 'x'.repeat(1000)}, '7', undefined, 'customer.address'],
     ['a member that is none', {address: HTTPS, tab: 'same'}, '7', 'https://crm.example/find?tel=7', 'customer.tab'],
     ['schemes that are none', {address: HTTPS, schemes: 'http'}, '7', 'https://crm.example/find?tel=7', 'customer.schemes'],
-    ['no digits', {address: HTTPS}, '0301&x=1', undefined, ''], ['no caller', {address: HTTPS}, undefined, undefined, ''], ['digits of another script', {address: HTTPS}, '٣', undefined, ''],
+    ['no digits', {address: HTTPS}, '0301&x=1', undefined, ''], ['no caller', {address: HTTPS}, undefined, undefined, ''],
+    ['digits of another script', {address: HTTPS}, '٣', undefined, ''],
   ]) {
     const {customer, faults: found} = customerOf(said), has = customerFile(customer, caller);
     see(`a customer's file, ${what}`, has === wanted && String(found) === faults, `${has} ${found}`);
@@ -60,19 +64,25 @@ export async function customers(see, browser, desk, front) {
   see('it rings', await open({}));
   see('without an address there is no link', !await browser.run('return document.querySelector(arguments[0])', link));
   await open({customer: {address: crm.address, schemes: ['https', 'http']}});
-  const [href, target, rel, text] = await browser.run('const link = document.querySelector(arguments[0]); return [link.href, link.target, link.rel, link.textContent]', link);
-  see('the link of the caller', String([href, target, rel, text]) === String([crm.address.replace('{caller}', '0301234567'), '_blank', 'noopener noreferrer', 'Customer file']), `${href} ${target} ${rel} ${text}`);
+  const [href, target, rel, text] = await browser.run(
+    'const link = document.querySelector(arguments[0]); return [link.href, link.target, link.rel, link.textContent]', link);
+  see('the link of the caller',
+    String([href, target, rel, text])
+      === String([crm.address.replace('{caller}', '0301234567'), '_blank', 'noopener noreferrer', 'Customer file']),
+    `${href} ${target} ${rel} ${text}`);
   const [here] = await windows();
   await browser.click(link);
   const other = await until(async () => (await windows()).find(handle => handle !== here), 10);
   see('a click opens a tab of its own', Boolean(other));
   await go(other);
-  const shown = await until(() => browser.run('return document.title === "Customer" && [location.href, String(window.opener), document.referrer]'), 10);
+  const shown = await until(
+    () => browser.run('return document.title === "Customer" && [location.href, String(window.opener), document.referrer]'), 10);
   see('which knows nothing of the page', String(shown) === String([href, 'null', '']), String(shown));
   see('and tells the office nothing but the caller', crm.asked.includes('/file?tel=0301234567 from nowhere'), String(crm.asked));
   await browser.ask('DELETE', '/window');
   await go(here);
-  see('it rings on, on the page as it was', await browser.run('return document.body.hasAttribute("data-rings") && location.pathname === "/board/agent/"'));
+  see('it rings on, on the page as it was',
+    await browser.run('return document.body.hasAttribute("data-rings") && location.pathname === "/board/agent/"'));
   await browser.run('document.querySelector(arguments[0]).focus()', link);
   await browser.press('\uE007');
   see('a key does it too', Boolean(await until(async () => (await windows()).length === 2, 10)));
@@ -83,6 +93,9 @@ export async function customers(see, browser, desk, front) {
   await sleep(500);
   see('never a script', !await browser.run('return document.querySelector(arguments[0])', link));
   await browser.fresh(front.page('sup', '/board/?since=0#queues'));
-  see('which the board tells', Boolean(await until(async () => (await browser.text('#fault')) === "board.json of the office can't be used: customer.schemes, customer.address", 10)), await browser.text('#fault'));
+  see('which the board tells',
+    Boolean(await until(
+      async () => (await browser.text('#fault')) === "board.json of the office can't be used: customer.schemes, customer.address", 10)),
+    await browser.text('#fault'));
   crm.end();
 }

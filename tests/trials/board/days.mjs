@@ -10,7 +10,9 @@ const GROUPS = [['100', 'Billing'], ['101', 'Orders'], ['102', 'Night']], DAY = 
 /** Eight days and a bit, up to now: a call each ten minutes, and at each full hour one that came before it and gives up behind it. */
 export function days(now) {
   const story = new Story(now - 9 * DAY, GROUPS), calls = [];
-  for (let moment = now - 9 * DAY + 300, turn = 9; moment < now - 400; moment += 600, turn = turn * 16807 % 2147483647) calls.push([moment, turn % 2, turn % 53, turn % 5 ? 30 + turn % 200 : 0]);
+  for (let moment = now - 9 * DAY + 300, turn = 9; moment < now - 400; moment += 600, turn = turn * 16807 % 2147483647) {
+    calls.push([moment, turn % 2, turn % 53, turn % 5 ? 30 + turn % 200 : 0]);
+  }
   for (let hour = Math.ceil(now / 3600) * 3600 - 9 * DAY + 3600; hour < now - 10; hour += 3600) calls.push([hour - 10, 2, 15, 0]);
   for (const call of calls.sort(([one], [other]) => one - other)) story.call(...call);
   return story.lines;
@@ -29,7 +31,8 @@ function zoneAt(hour) {
   return behind ? `Etc/GMT${behind > 0 ? '-' : '+'}${Math.abs(behind)}` : 'Etc/GMT';
 }
 
-const figures = line => [line.entered, line.answered, line.abandoned, line.within, line.late, line.handled, line.handling].map(value => value ?? 0);
+const figures = line =>
+  [line.entered, line.answered, line.abandoned, line.within, line.late, line.handled, line.handling].map(value => value ?? 0);
 
 export async function zones(see, browser, desk, front) {
   const file = `${front.file}/board.json`;
@@ -40,16 +43,21 @@ export async function zones(see, browser, desk, front) {
     await live(browser);
     const now = Math.floor(Date.now() / 1000), begin = midnight(zone, now, 0), wanted = await reckoned(desk, '--begin', begin);
     const sum = await browser.run('const {begin, all} = window.board.day(); return {begin, ...all.sum}');
-    see(`the day of ${zone} by ${by}`, sum.begin === begin && String(figures(sum)) === String(figures(wanted.groups.all ?? {})), `${sum.begin} ${figures(sum)} and not ${begin} ${figures(wanted.groups.all ?? {})}`);
+    see(`the day of ${zone} by ${by}`, sum.begin === begin && String(figures(sum)) === String(figures(wanted.groups.all ?? {})),
+      `${sum.begin} ${figures(sum)} and not ${begin} ${figures(wanted.groups.all ?? {})}`);
     await until(async () => (await rows(browser)).length === 6, 20);
     const shown = await rows(browser);
     for (const [place, back] of [[3, 1], [5, 7]]) {
       const of = (await reckoned(desk, '--begin', midnight(zone, now, back), '--end', midnight(zone, now, back - 1))).groups.all ?? {};
-      see(`${back} days before, in ${zone}`, String(shown[place]?.slice(1, 4)) === String(figures(of).slice(0, 3)) && of.entered > 50, `${shown[place]} and not ${figures(of)}`);
+      see(`${back} days before, in ${zone}`, String(shown[place]?.slice(1, 4)) === String(figures(of).slice(0, 3)) && of.entered > 50,
+        `${shown[place]} and not ${figures(of)}`);
     }
-    const clock = await browser.text('#clock'), told = new Intl.DateTimeFormat('en-GB', {timeZone: zone, timeZoneName: 'short', hour: '2-digit', minute: '2-digit'}).formatToParts();
+    const clock = await browser.text('#clock');
+    const told = new Intl.DateTimeFormat('en-GB',
+      {timeZone: zone, timeZoneName: 'short', hour: '2-digit', minute: '2-digit'}).formatToParts();
     // one program's UTC is another's GMT
-    see(`the clock of ${zone} names it`, clock.replace(/GMT$/, 'UTC').endsWith(told.find(part => part.type === 'timeZoneName').value.replace(/^GMT$/, 'UTC')), clock);
+    see(`the clock of ${zone} names it`,
+      clock.replace(/GMT$/, 'UTC').endsWith(told.find(part => part.type === 'timeZoneName').value.replace(/^GMT$/, 'UTC')), clock);
   }
   await browser.command('Emulation.setTimezoneOverride', {timezoneId: ''});
   await onPhone(see, browser, desk, front, file);
@@ -66,15 +74,21 @@ async function onPhone(see, browser, desk, front, file) {
   await live(browser);
   await until(() => browser.run('return document.querySelectorAll("#charts svg").length === 4'), 20);
   const gaps = await browser.run(`return [...document.querySelectorAll('#charts svg')].flatMap(svg => {
-    const boxes = [...svg.querySelectorAll('text')].filter(text => /^[0-9]+:[0-9]+$/.test(text.textContent)).map(text => text.getBoundingClientRect());
+    const boxes = [...svg.querySelectorAll('text')].filter(text => /^[0-9]+:[0-9]+$/.test(text.textContent))
+      .map(text => text.getBoundingClientRect());
     return boxes.slice(1).map((box, place) => Math.round(box.left - boxes[place].right)); })`);
   see('the hours of a chart stand apart on a phone', gaps.length >= 8 && Math.min(...gaps) >= 4, String(gaps));
-  const pale = await browser.run(`return [...document.querySelectorAll('#charts rect.running, #charts rect.first:not(.running)')].map(bar => [bar.matches('.running'), Number(getComputedStyle(bar).opacity)])`);
-  see('the running quarter of an hour is pale', new Set(pale.map(String)).size === 2 && pale.every(([running, opacity]) => running === opacity < 0.7), JSON.stringify(pale.slice(-3)));
+  const pale = await browser.run(
+    `return [...document.querySelectorAll('#charts rect.running, #charts rect.first:not(.running)')].map(bar =>
+      [bar.matches('.running'), Number(getComputedStyle(bar).opacity)])`);
+  see('the running quarter of an hour is pale',
+    new Set(pale.map(String)).size === 2 && pale.every(([running, opacity]) => running === opacity < 0.7), JSON.stringify(pale.slice(-3)));
   await browser.size(...SCREEN);
 }
 
-const rows = browser => browser.run('return [...document.querySelectorAll("#days-table tbody tr")].map(row => [...row.children].map(cell => cell.textContent.replaceAll(",", "")))');
+const rows = browser =>
+  browser.run(`return [...document.querySelectorAll("#days-table tbody tr")].map(row =>
+    [...row.children].map(cell => cell.textContent.replaceAll(",", "")))`);
 
 /** A day that begins while the board is looked at: its clock is put forward over midnight. */
 export async function overMidnight(see, browser, front) {

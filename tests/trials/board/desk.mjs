@@ -27,14 +27,18 @@ export function run(program, words, input = '') {
 export function missing(programs, modules = {}) {
   const isThere = name => process.env.PATH.split(':').some(folder => existsSync(join(folder, name)));
   const imports = name => spawnSync('/usr/bin/python3', ['-c', `import ${name}`]).status === 0;
-  const without = [...Object.entries(programs).filter(([name]) => !isThere(name)), ...Object.entries(modules).filter(([name]) => !imports(name))];
-  return without.length ? `not found: ${without.map(([name]) => name).join(', ')}. As root: apt-get install ${[...new Set(without.map(([, from]) => from))].join(' ')}` : '';
+  const without = [...Object.entries(programs).filter(([name]) => !isThere(name)),
+    ...Object.entries(modules).filter(([name]) => !imports(name))];
+  return without.length
+    ? `not found: ${without.map(([name]) => name)
+      .join(', ')}. As root: apt-get install ${[...new Set(without.map(([, from]) => from))].join(' ')}` : '';
 }
 
 /** The lines of a made-up day of some hours that ends now. */
 export async function aDay(hours, ...words) {
   const end = Math.floor(Date.now() / 1000);
-  return (await run('python3', ['-B', join(HERE, 'day.py'), '--begin', end - Math.round(3600 * hours), '--end', end, ...words])).trim().split('\n');
+  return (await run('python3', ['-B', join(HERE, 'day.py'), '--begin', end - Math.round(3600 * hours), '--end', end, ...words])).trim()
+    .split('\n');
 }
 
 /** The report's lines as lists of texts. */
@@ -48,8 +52,11 @@ export class Desk {
   feed(lines) { return run(this.program, ['lines', '--file', this.file], lines.map(line => `${line}\n`).join('')); }
 
   async serve() {
-    this.child = spawn(this.program, ['serve', '--file', this.file, '--port', this.port, '--endless'].map(String), {stdio: ['ignore', 'pipe', 'ignore']});
-    if (!await until(() => fetch(`http://127.0.0.1:${this.port}/events?after=999999999`).then(reply => reply.ok), 60)) throw new Error('the desk does not serve');
+    this.child = spawn(this.program, ['serve', '--file', this.file, '--port', this.port, '--endless'].map(String),
+      {stdio: ['ignore', 'pipe', 'ignore']});
+    if (!await until(() => fetch(`http://127.0.0.1:${this.port}/events?after=999999999`).then(reply => reply.ok), 60)) {
+      throw new Error('the desk does not serve');
+    }
   }
 
   async stop(signal = 'SIGKILL') {
@@ -65,7 +72,8 @@ export class Desk {
   }
 
   async post(body) {
-    const reply = await fetch(`http://127.0.0.1:${this.port}/csta`, {method: 'POST', body: typeof body === 'string' ? body : JSON.stringify(body)});
+    const reply = await fetch(`http://127.0.0.1:${this.port}/csta`,
+      {method: 'POST', body: typeof body === 'string' ? body : JSON.stringify(body)});
     return {status: reply.status, ...await reply.json()};
   }
 
@@ -87,23 +95,33 @@ export class Desk {
   }
 }
 
-/** A gate and nginx before a desk, by the configuration of service/nginx/nginx.conf or another one on other ports, and on the loopback address alone; without HTTP/2 where that isn't wanted. */
+/** A gate and nginx before a desk, by the configuration of service/nginx/nginx.conf or another one on other ports, and on the loopback
+ * address alone; without HTTP/2 where that isn't wanted. */
 export class Front {
   static async start(folder, desk, roles, {port, conf = join(TOP, 'service/nginx/nginx.conf'), http2 = true} = {}) {
     const front = new Front(), [gate, site] = [await freePort(), port ?? await freePort()], file = join(folder, `front${site}`);
     await mkdir(join(file, 'share'), {recursive: true});
     // files of its own, so that a trial may put some beside them
     await cp(join(TOP, 'board'), join(file, 'share/board'), {recursive: true});
-    execFileSync('openssl', ['req', '-x509', '-newkey', 'rsa:2048', '-nodes', '-subj', '/CN=desk', '-days', '2', '-keyout', `${file}/desk.key`, '-out', `${file}/desk.crt`], {stdio: 'ignore'});
+    execFileSync('openssl',
+      ['req', '-x509', '-newkey', 'rsa:2048', '-nodes', '-subj', '/CN=desk', '-days', '2', '-keyout', `${file}/desk.key`, '-out',
+        `${file}/desk.crt`], {stdio: 'ignore'});
     await mkdir(`${file}/own`);
     await writeFile(`${file}/roles`, roles.map(([login, ...role]) => `${login} ${role.join(' ')}\n`).join(''));
-    await writeFile(`${file}/nginx-secret.conf`, ['session', 'proxy'].map(name => `map "" $acd_${name}_secret { default "${randomBytes(32).toString('hex')}"; }\n`).join(''));
+    await writeFile(`${file}/nginx-secret.conf`,
+      ['session', 'proxy'].map(name => `map "" $acd_${name}_secret { default "${randomBytes(32).toString('hex')}"; }\n`).join(''));
     await writeFile(`${file}/users`, roles.map(([login]) => `${login}:{SHA}5en6G6MezRroT3XKqkdPOmY/BfQ=\n`).join(''));
-    const places = {'unix:/run/acd/desk.sock': `127.0.0.1:${desk.port}`, 'unix:/run/acd-gate/gate.sock': `127.0.0.1:${gate}`, '127.0.0.1:8080': `127.0.0.1:${desk.port}`, '127.0.0.1:8081': `127.0.0.1:${gate}`, 8443: `127.0.0.1:${site}`, '/etc/acd': file, '/usr/share/acd': `${file}/share`};
-    const text = (await readFile(conf, 'utf8')).replace(new RegExp(Object.keys(places).join('|'), 'g'), named => places[named]).replace(/(listen .* ssl) http2;/, http2 ? '$&' : '$1;');
+    const places = {'unix:/run/acd/desk.sock': `127.0.0.1:${desk.port}`, 'unix:/run/acd-gate/gate.sock': `127.0.0.1:${gate}`,
+      '127.0.0.1:8080': `127.0.0.1:${desk.port}`, '127.0.0.1:8081': `127.0.0.1:${gate}`, 8443: `127.0.0.1:${site}`, '/etc/acd': file,
+      '/usr/share/acd': `${file}/share`};
+    const text = (await readFile(conf, 'utf8')).replace(new RegExp(Object.keys(places).join('|'), 'g'), named => places[named])
+      .replace(/(listen .* ssl) http2;/, http2 ? '$&' : '$1;');
+    const paths = ['client_body', 'proxy', 'fastcgi', 'uwsgi', 'scgi'].map(kind => `${kind}_temp_path ${file};`).join(' ');
     await writeFile(`${file}/nginx.conf`, `daemon off; user root; pid ${file}/pid; error_log ${file}/errors; worker_processes 1; events {}
-http { include /etc/nginx/mime.types; access_log off; ${['client_body', 'proxy', 'fastcgi', 'uwsgi', 'scgi'].map(kind => `${kind}_temp_path ${file};`).join(' ')} ${text} }\n`);
-    const told = [], files = ['--roles', `${file}/roles`, '--users', `${file}/users`, '--own', `${file}/own`, '--secret', `${file}/nginx-secret.conf`, '--records', `${file}/records`];
+http { include /etc/nginx/mime.types; access_log off; ${paths} ${text} }\n`);
+    const told = [];
+    const files = ['--roles', `${file}/roles`, '--users', `${file}/users`, '--own', `${file}/own`, '--secret', `${file}/nginx-secret.conf`,
+      '--records', `${file}/records`];
     const words = ['--port', `${gate}`, '--desk', `${desk.port}`, ...files, '--office', `${file}/board.json`];
     Object.assign(front, {file, gate, words, address: `https://127.0.0.1:${site}`, children: [
       front.asGate(words),
@@ -115,7 +133,8 @@ http { include /etc/nginx/mime.types; access_log off; ${['client_body', 'proxy',
     await front.stop();
     // all that nginx said where it says of nothing that it ended it
     const said = Buffer.concat(told).toString().trim().split('\n');
-    throw new Error(`the gate or nginx doesn't start: ${(said.find(line => line.includes('[emerg]')) ?? said.join(' ')) || 'nginx said nothing'}`);
+    throw new Error(
+      `the gate or nginx doesn't start: ${(said.find(line => line.includes('[emerg]')) ?? said.join(' ')) || 'nginx said nothing'}`);
   }
 
   asGate(words) {
@@ -138,7 +157,8 @@ http { include /etc/nginx/mime.types; access_log off; ${['client_body', 'proxy',
   /** By curl, since the certificate is nobody's. */
   async ask(login, path, body, ...more) {
     const given = body === undefined ? [] : ['-d', typeof body === 'string' ? body : JSON.stringify(body)];
-    const text = await run('curl', ['-sk', '--max-time', '20', '-u', `${login}:secret`, '-w', '\n%{http_code}', ...more, ...given, `${this.address}${path}`]);
+    const text = await run('curl',
+      ['-sk', '--max-time', '20', '-u', `${login}:secret`, '-w', '\n%{http_code}', ...more, ...given, `${this.address}${path}`]);
     const cut = text.lastIndexOf('\n');
     return {status: Number(text.slice(cut + 1)), text: text.slice(0, cut)};
   }

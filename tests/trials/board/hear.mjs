@@ -1,10 +1,12 @@
-// How a page hears of the desk, without a browser: what it says to the worker of all pages, that it leaves and comes back, and that it takes another worker where one is gone.
+// How a page hears of the desk, without a browser: what it says to the worker of all pages, that it leaves and comes back, and that it
+// takes another worker where one is gone.
 import {deepEqual} from 'node:assert/strict';
 import {mkdtemp, readFile, rm, writeFile} from 'node:fs/promises';
 import {tmpdir} from 'node:os';
 import {join} from 'node:path';
 
-const BOARD = new URL('../../../board/', import.meta.url).pathname, folder = await mkdtemp(join(tmpdir(), 'hear')), workers = [], on = {}, heard = [];
+const BOARD = new URL('../../../board/', import.meta.url).pathname, folder = await mkdtemp(join(tmpdir(), 'hear')), workers = [], on = {};
+const heard = [];
 let look, hold, entries = [{nextHopProtocol: 'http/1.1'}, {}];
 
 class Port {
@@ -27,7 +29,8 @@ try {
   for (const name of ['shared.js', 'lone.js']) await writeFile(join(folder, name), await readFile(join(BOARD, 'hear.js')));
   Object.defineProperty(globalThis, 'navigator', {value: {locks: {request: (name, granted) => { hold = [name, granted]; }}}});
   Object.defineProperty(globalThis, 'performance', {value: {getEntries: () => entries}});
-  Object.assign(globalThis, {window: globalThis, document: {hidden: false}, SharedWorker: Shared, Worker: Lone, addEventListener: (name, then) => { on[name] = then; }, setInterval: then => { look = then; }});
+  Object.assign(globalThis, {window: globalThis, document: {hidden: false}, SharedWorker: Shared, Worker: Lone,
+    addEventListener: (name, then) => { on[name] = then; }, setInterval: then => { look = then; }});
   const ask = (await import(join(folder, 'shared.js'))).listen(one => heard.push(one), true);
   ask('agent=7');
   deepEqual(workers, []);

@@ -8,7 +8,9 @@ const BOARD = new URL('../../../board/', import.meta.url).pathname, folder = awa
 await mkdir(join(folder, 'login'));
 await writeFile(join(folder, 'package.json'), '{"type":"module"}');
 for (const file of ['net.js', 'login/login.js']) await writeFile(join(folder, file), await readFile(join(BOARD, file)));
-await writeFile(join(folder, 'draw.js'), 'export const shown = [], on = {}, byId = () => ({}), put = (id, text) => shown.push(text), set = (id, what) => Object.assign(on, what);');
+await writeFile(join(folder, 'draw.js'),
+  `export const shown = [], on = {}, byId = () => ({}), put = (id, text) => shown.push(text);
+  export const set = (id, what) => Object.assign(on, what);`);
 await writeFile(join(folder, 'words.js'), 'export const translate = () => {}, word = key => key;');
 try {
   const bodies = [], moments = [], gone = [];
@@ -25,6 +27,7 @@ try {
   await import(join(folder, 'login/login.js'));
   const {shown, on} = await import(join(folder, 'draw.js'));
   await on.onsubmit({preventDefault() {}});
-  deepEqual([bodies, gone, shown], [Array(3).fill('login=ana&password=secret'), ['https://desk/board/'], ['', 'login.again', 'login.again']]);
+  deepEqual([bodies, gone, shown],
+    [Array(3).fill('login=ana&password=secret'), ['https://desk/board/'], ['', 'login.again', 'login.again']]);
   ok(moments[1] - moments[0] >= 700 && moments[2] - moments[1] >= 1400, String(moments));
 } finally { await rm(folder, {recursive: true}); }

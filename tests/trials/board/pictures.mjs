@@ -20,10 +20,14 @@ async function rings(desk) {
   let invoke = 0;
   const ask = (service, members) => desk.post({requester: 'pictures', invoke: ++invoke, service, ...members});
   const {agents, calls, stations} = await desk.get('/snapshot'), {device: station} = agents.find(one => one.agent === AGENT);
-  for (const {call, connections} of calls) if (connections.some(one => one.device === station)) await ask('clearConnection', {call, device: station});
+  for (const {call, connections} of calls) {
+    if (connections.some(one => one.device === station)) await ask('clearConnection', {call, device: station});
+  }
   const device = station ?? stations.find(one => !agents.some(({device}) => device === one.device)).device;
   await ask('addGroup', GROUP);
-  for (const requested of ['loggedOff', 'loggedOn']) await ask('setAgentState', {agent: AGENT, requested, ...requested === 'loggedOn' && {device, group: GROUP.device}});
+  for (const requested of ['loggedOff', 'loggedOn']) {
+    await ask('setAgentState', {agent: AGENT, requested, ...requested === 'loggedOn' && {device, group: GROUP.device}});
+  }
   await ask('arriveCall', {caller: '0301234567', called: GROUP.device});
   await sleep(WAITS);
   await ask('setAgentState', {agent: AGENT, requested: 'ready'});

@@ -9,7 +9,9 @@ export async function logIn(hands, login, page) {
   await browser.open(`${front.address}${page}`);
   await until(async () => (await where(browser)).startsWith('/board/login/'), 10);
   hands.see(`${page} leads to the log-in`, await where(browser) === `/board/login/?next=${page}`, await where(browser));
-  await browser.run(`document.querySelector('[name=login]').value = arguments[0]; document.querySelector('[name=password]').value = arguments[1]`, login, 'guess');
+  await browser.run(
+    `document.querySelector('[name=login]').value = arguments[0]; document.querySelector('[name=password]').value = arguments[1]`,
+    login, 'guess');
   await browser.click('button');
   await hands.sees('a wrong password is told', '#told', 'Name or password is wrong.');
   await browser.run(`document.querySelector('[name=password]').value = 'secret'`);
@@ -22,12 +24,21 @@ export async function session(outer, folder) {
   try {
     await logIn(hands, 'ana', '/board/agent/');
     await hands.sees('the page of who logged in', '#name', `Ana Adler (${AGENT})`);
-    see('no script sees the cookie', await browser.run('return document.cookie') === '' && (await browser.ask('GET', '/cookie')).some(one => one.name === '__Host-acd' && one.httpOnly && one.secure && one.sameSite === 'Strict'));
-    const used = await browser.run(`window.uses = 0; const before = fetch; window.fetch = (address, how) => { if (String(address).endsWith('/session') && how?.method === 'POST') window.uses++; return before(address, how); }; return window.uses`);
+    see('no script sees the cookie',
+      await browser.run('return document.cookie') === ''
+        && (await browser.ask('GET', '/cookie'))
+          .some(one => one.name === '__Host-acd' && one.httpOnly && one.secure && one.sameSite === 'Strict'));
+    const used = await browser.run(`window.uses = 0; const before = fetch;
+      window.fetch = (address, how) => {
+        if (String(address).endsWith('/session') && how?.method === 'POST') window.uses++;
+        return before(address, how);
+      };
+      return window.uses`);
     await hands.logOn('100');
     await hands.click(requested('ready'), '✓ Ready');
     await browser.press('\uE00C');
-    see('clicks and keys use the session, once a minute', used === 0 && await browser.run('return window.uses') === 1, await browser.run('return window.uses'));
+    see('clicks and keys use the session, once a minute', used === 0 && await browser.run('return window.uses') === 1,
+      await browser.run('return window.uses'));
     await browser.picture(`${folder}/agent-session.png`);
     await behindACall(hands);
     await logIn(hands, 'ana', `/board/agent/?station=${STATION}&groups=100`);
@@ -54,6 +65,7 @@ async function elsewhere(hands) {
   const {see, browser} = hands;
   await until(() => browser.run('return window.agent?.mine()?.live'), 10);
   await browser.run(`return fetch(location.origin + '/logout', {method: 'POST'}).then(reply => reply.status)`);
-  see('without a session it is the log-in', Boolean(await until(async () => (await where(browser)).startsWith('/board/login/?next=/board/agent/'), 12)), await where(browser));
+  see('without a session it is the log-in',
+    Boolean(await until(async () => (await where(browser)).startsWith('/board/login/?next=/board/agent/'), 12)), await where(browser));
   await sleep(200);
 }

@@ -8,12 +8,16 @@ import {aDay, Desk, Front, missing, TOP} from './desk.mjs';
 import {people} from './page.mjs';
 import {pictures, records} from './pictures.mjs';
 
-const NEEDED = {nginx: 'nginx-light', openssl: 'openssl', curl: 'curl', python3: 'python3'}, MODULES = {aiohttp: 'python3-aiohttp', passlib: 'python3-passlib'};
+const NEEDED = {nginx: 'nginx-light', openssl: 'openssl', curl: 'curl', python3: 'python3'};
+const MODULES = {aiohttp: 'python3-aiohttp', passlib: 'python3-passlib'};
 
 function read(words) {
   try {
-    const {values, positionals} = parseArgs({args: words, options: {port: {type: 'string', default: '8443'}, pictures: {type: 'string'}}, allowPositionals: true});
-    if (/^[1-9][0-9]{0,4}$/.test(values.port) && Number(values.port) <= 65535 && positionals.length < 2) return [resolve(positionals[0] ?? join(TOP, 'release/acd')), Number(values.port), values.pictures];
+    const {values, positionals} = parseArgs({args: words, options: {port: {type: 'string', default: '8443'}, pictures: {type: 'string'}},
+      allowPositionals: true});
+    if (/^[1-9][0-9]{0,4}$/.test(values.port) && Number(values.port) <= 65535 && positionals.length < 2) {
+      return [resolve(positionals[0] ?? join(TOP, 'release/acd')), Number(values.port), values.pictures];
+    }
   } catch {}
   throw new Error('usage: tests/trials/show-board [PROGRAM] [--port P] [--pictures FOLDER]');
 }
@@ -31,7 +35,8 @@ async function given(words) {
 
 export async function main(words) {
   const {program, port, into} = await given(words);
-  const folder = await mkdtemp(join(existsSync('/dev/shm') ? '/dev/shm' : '/tmp', 'show-board-')), desk = await Desk.make(program, join(folder, 'day.db')), ends = [];
+  const folder = await mkdtemp(join(existsSync('/dev/shm') ? '/dev/shm' : '/tmp', 'show-board-'));
+  const desk = await Desk.make(program, join(folder, 'day.db')), ends = [];
   const end = async status => {
     for (const one of ends.reverse()) await one();
     await rm(folder, {recursive: true, force: true});
@@ -43,7 +48,8 @@ export async function main(words) {
     await desk.feed(await aDay(3, '--groups', 12, '--agents', 60));
     ends.push(() => desk.stop());
     await desk.serve();
-    const front = await Front.start(folder, desk, [['sup', 'supervisor'], ['planner', 'office'], ['ana', 'agent', '1'], ['ben', 'agent', '2']], {port});
+    const front = await Front.start(folder, desk,
+      [['sup', 'supervisor'], ['planner', 'office'], ['ana', 'agent', '1'], ['ben', 'agent', '2']], {port});
     ends.push(() => front.stop());
     await records(join(front.file, 'records'), desk);
     const folks = people(desk, 12);

@@ -1,6 +1,7 @@
 // A small desk whose days are told call by call: who answers after how long, who gives up after how long.
 
-/** Lines for `acd lines`: groups of one agent each, who take what comes one after the other. Calls are told in the order in which they come. */
+/** Lines for `acd lines`: groups of one agent each, who take what comes one after the other. Calls are told in the order in which they
+ * come. */
 export class Story {
   constructor(begin, groups) {
     Object.assign(this, {told: [], calls: 0, groups});
@@ -14,7 +15,9 @@ export class Story {
     }
   }
 
-  ask(moment, service, members) { this.told.push([moment, JSON.stringify({requester: `story-${this.told.length}`, invoke: 1, service, ...members})]); }
+  ask(moment, service, members) {
+    this.told.push([moment, JSON.stringify({requester: `story-${this.told.length}`, invoke: 1, service, ...members})]);
+  }
 
   get lines() { return [...this.told].sort(([one], [other]) => one - other).map(([moment, request]) => `${moment} ${request}`); }
 

@@ -1,11 +1,13 @@
-// The same reader for many pages, without a browser: each address is read once for all of its pages, over HTTP/1.1 four at most, and who is hidden gives way to who is shown.
+// The same reader for many pages, without a browser: each address is read once for all of its pages, over HTTP/1.1 four at most, and who is
+// hidden gives way to who is shown.
 import {deepEqual, ok} from 'node:assert/strict';
 import {createServer} from 'node:http';
 import {mkdtemp, readFile, rm, writeFile} from 'node:fs/promises';
 import {tmpdir} from 'node:os';
 import {join} from 'node:path';
 
-const BOARD = new URL('../../../board/', import.meta.url).pathname, folder = await mkdtemp(join(tmpdir(), 'shared')), open = new Set(), locks = new Map(), signals = new Set();
+const BOARD = new URL('../../../board/', import.meta.url).pathname, folder = await mkdtemp(join(tmpdir(), 'shared')), open = new Set();
+const locks = new Map(), signals = new Set();
 let asked = 0, most = 0;
 const server = createServer((request, reply) => {
   const what = new URL(request.url, 'http://desk').searchParams.get('begin');
@@ -16,8 +18,13 @@ const server = createServer((request, reply) => {
   reply.write(`event: picture\nid: 1-1-${asked}\ndata: {"clock":1,"live":true}\n\n`);
 });
 await new Promise(done => server.listen(0, '127.0.0.1', done));
-const until = async (holds, say = () => '') => { for (let end = Date.now() + 20000; !holds() && Date.now() < end;) await new Promise(done => setTimeout(done, 20)); ok(holds(), `${say()} ${holds}`); };
-const opened = async (...wanted) => { await until(() => String([...open].sort()) === String(wanted.map(String)), () => `${[...open].sort()}, not ${wanted}:`); };
+const until = async (holds, say = () => '') => {
+  for (let end = Date.now() + 20000; !holds() && Date.now() < end;) await new Promise(done => setTimeout(done, 20));
+  ok(holds(), `${say()} ${holds}`);
+};
+const opened = async (...wanted) => {
+  await until(() => String([...open].sort()) === String(wanted.map(String)), () => `${[...open].sort()}, not ${wanted}:`);
+};
 
 /** A page at its port. */
 class Page {
@@ -25,7 +32,11 @@ class Page {
   beats = 0;
   lost = [];
   constructor(what, how) {
-    this.port = {onmessage: null, postMessage: heard => { this.pictures += heard.kind === 'picture'; this.beats += heard.kind === 'beat'; if (heard.kind === 'lost') this.lost.push(heard.text); }};
+    this.port = {onmessage: null, postMessage: heard => {
+      this.pictures += heard.kind === 'picture';
+      this.beats += heard.kind === 'beat';
+      if (heard.kind === 'lost') this.lost.push(heard.text);
+    }};
     globalThis.onconnect({ports: [this.port]});
     this.how = {asked: `begin=${what}`, isOwn: false, isShown: true, isNarrow: true, lock: `page ${what} ${Math.random()}`, ...how};
     this.say();

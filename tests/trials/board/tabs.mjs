@@ -1,14 +1,25 @@
-// Ten tabs of a browser behind nginx without HTTP/2, where a browser has six connections; and the pages behind the nginx.conf of 1.14, which an office may keep.
+// Ten tabs of a browser behind nginx without HTTP/2, where a browser has six connections; and the pages behind the nginx.conf of 1.14,
+// which an office may keep.
 import {until} from './browser.mjs';
 import {logIn} from './session.mjs';
 import {Hands, requested} from './shift.mjs';
 
 // by the settings that ask for something else, and by views that show something else: nine boards of seven addresses
-const BOARDS = ['#wall', '#queues', '#agents', '#day', '#events', '?limit=30#wall', '?limit=45#queues', '?groups=100#wall', '?groups=100,110#day'], SECONDS = 2, FEW = 4;
-const DRAWN = 'return document.querySelector("#status-text")?.textContent === "Live" && (window.agent ? window.agent.mine().agent.agent === "7" : window.board.counted() && window.board.state().groups.size === 4)';
+const BOARDS = ['#wall', '#queues', '#agents', '#day', '#events', '?limit=30#wall', '?limit=45#queues', '?groups=100#wall',
+  '?groups=100,110#day'];
+const SECONDS = 2, FEW = 4;
+const DRAWN = `return document.querySelector("#status-text")?.textContent === "Live"
+  && (window.agent ? window.agent.mine().agent.agent === "7" : window.board.counted() && window.board.state().groups.size === 4)`;
 // how long the page waits for the answer to a request, whatever drives it
-const TIMED = `const before = fetch; window.fetch = async (address, how) => { const begin = performance.now(), reply = await before(address, how); if (String(address).endsWith('/csta')) window.took = performance.now() - begin; return reply; }`;
-const ASKED = 'const begin = performance.now(), asked = fetch(location.origin + "/session", {cache: "no-store"}); return Promise.race([asked.then(reply => reply.status === 200 && performance.now() - begin), new Promise(done => setTimeout(done, 20000))])';
+const TIMED = `const before = fetch;
+window.fetch = async (address, how) => {
+  const begin = performance.now(), reply = await before(address, how);
+  if (String(address).endsWith('/csta')) window.took = performance.now() - begin;
+  return reply;
+}`;
+const ASKED = `const begin = performance.now(), asked = fetch(location.origin + "/session", {cache: "no-store"});
+  return Promise.race([asked.then(reply => reply.status === 200 && performance.now() - begin),
+    new Promise(done => setTimeout(done, 20000))])`;
 
 async function show(browser, tab) {
   await browser.ask('POST', '/window', {handle: tab});
@@ -51,7 +62,9 @@ export async function tenTabs(see, browser, desk, front) {
   }
   await show(browser, own);
   await hands.ask('setAgentState', {agent: '7', requested: 'notReady'});
-  see('what happens comes to the page', Boolean(await until(() => browser.run('return window.agent.mine().agent.state === "notReady"'), SECONDS)), JSON.stringify(await hands.mine()));
+  see('what happens comes to the page',
+    Boolean(await until(() => browser.run('return window.agent.mine().agent.state === "notReady"'), SECONDS)),
+    JSON.stringify(await hands.mine()));
   await gone(see, browser, front, [...tabs.keys()].slice(1));
   await show(browser, own);
   see("the agent's page stays", await browser.run(DRAWN), await browser.text('#status'));
@@ -76,9 +89,11 @@ export async function olderConf(see, browser, desk, front) {
   const second = await opened(browser, `${front.address}/board/?since=0#agents`);
   see('the board draws', Boolean(await until(() => browser.run(DRAWN), 10)), await browser.text('#status'));
   await hands.ask('setAgentState', {agent: '7', requested: 'ready'});
-  see('and goes on', Boolean(await until(() => browser.run('return window.board.state().agent("7").doing === "ready"'), 5)), await browser.text('#agents-list'));
+  see('and goes on', Boolean(await until(() => browser.run('return window.board.state().agent("7").doing === "ready"'), 5)),
+    await browser.text('#agents-list'));
   await show(browser, first);
-  see('the page too', Boolean(await until(() => browser.run('return window.agent.mine().agent.state === "ready"'), 5)), JSON.stringify(await hands.mine()));
+  see('the page too', Boolean(await until(() => browser.run('return window.agent.mine().agent.state === "ready"'), 5)),
+    JSON.stringify(await hands.mine()));
   await browser.run('return fetch(location.origin + "/logout", {method: "POST"}).then(reply => reply.status)');
   const where = () => browser.run('return location.pathname');
   see('without a session it is the log-in', Boolean(await until(async () => await where() === '/board/login/', 12)), await where());

@@ -27,7 +27,8 @@ import {agentsPage} from './agent.mjs';
 import {reasons, ROLES as OF_AGENTS} from './reasons.mjs';
 import {PLAN} from './shift.mjs';
 
-const NEEDED = {chromedriver: 'chromium-driver', chromium: 'chromium', nginx: 'nginx-light', tsc: 'node-typescript', openssl: 'openssl', curl: 'curl', python3: 'python3'};
+const NEEDED = {chromedriver: 'chromium-driver', chromium: 'chromium', nginx: 'nginx-light', tsc: 'node-typescript', openssl: 'openssl',
+  curl: 'curl', python3: 'python3'};
 const PARTS = ['files', 'gate', 'show', 'lines', 'buttons', 'board', 'alarms', 'words', 'shape', 'days', 'lead', 'records', 'customer',
   'agent', 'reasons', 'office', 'tabs', 'full'];
 const MOST_CALLS = 2000, ROUNDS = 50;
@@ -63,7 +64,8 @@ class Trial {
 
   async desk(name, lines) {
     const desk = await Desk.make(this.program, join(this.folder, name)), answers = (await desk.feed(lines)).trim().split('\n');
-    this.see(`each request of ${name} is granted`, answers.every(line => line.startsWith('200 ')), answers.find(line => !line.startsWith('200 ')));
+    this.see(`each request of ${name} is granted`, answers.every(line => line.startsWith('200 ')),
+      answers.find(line => !line.startsWith('200 ')));
     await desk.serve();
     return this.keep(desk, () => desk.stop());
   }
@@ -73,11 +75,17 @@ class Trial {
 
   /** The types, and how much a page loads at most, as nginx sends it. */
   async files() {
-    const board = join(TOP, 'board'), shared = ['board.css', 'draw.js', 'desk.js', 'session.js', 'sound.js', 'words.js', 'customer.js', 'net.js', 'hear.js', 'stream.js'];
-    const ofRecords = [...readdirSync(join(board, 'records')).map(name => `records/${name}`), ...shared, 'settings.js', 'chart.js', 'csv.js'];
-    const ofAgent = [...readdirSync(join(board, 'agent')).map(name => `agent/${name}`), ...shared], ofBoard = [...readdirSync(board), ...readdirSync(join(board, 'views')).map(name => `views/${name}`)];
-    for (const [page, names, most] of [['a board', ofBoard, 60000], ["an agent's page", ofAgent, 40000], ['the page of records', ofRecords, 40000]]) {
-      const files = names.filter(name => /(?<!\.d)\.(js|css|html)$/.test(name)), bytes = files.reduce((sum, name) => sum + gzipSync(readFileSync(join(board, name))).length, 0);
+    const board = join(TOP, 'board');
+    const shared = ['board.css', 'draw.js', 'desk.js', 'session.js', 'sound.js', 'words.js', 'customer.js', 'net.js', 'hear.js',
+      'stream.js'];
+    const ofRecords = [...readdirSync(join(board, 'records')).map(name => `records/${name}`), ...shared, 'settings.js', 'chart.js',
+      'csv.js'];
+    const ofAgent = [...readdirSync(join(board, 'agent')).map(name => `agent/${name}`), ...shared];
+    const ofBoard = [...readdirSync(board), ...readdirSync(join(board, 'views')).map(name => `views/${name}`)];
+    for (const [page, names, most] of [['a board', ofBoard, 60000], ["an agent's page", ofAgent, 40000],
+      ['the page of records', ofRecords, 40000]]) {
+      const files = names.filter(name => /(?<!\.d)\.(js|css|html)$/.test(name));
+      const bytes = files.reduce((sum, name) => sum + gzipSync(readFileSync(join(board, name))).length, 0);
       this.see(`${page} has less than ${most} bytes by gzip`, bytes < most, bytes);
     }
     const said = await run('tsc', ['-p', join(TOP, 'board/jsconfig.json')]);
@@ -85,23 +93,39 @@ class Trial {
   }
 
   async gate() {
-    const unit = readdirSync(join(TOP, 'tests/unit/gate')).filter(name => /^test_.*\.py$/.test(name)).map(name => `tests/unit/gate/${name}`);
-    for (const test of [...unit, 'tests/trials/board/login_again.mjs', 'tests/trials/board/stream_again.mjs', 'tests/trials/board/stream_shared.mjs', 'tests/trials/board/hear.mjs']) {
+    const unit = readdirSync(join(TOP, 'tests/unit/gate')).filter(name => /^test_.*\.py$/.test(name))
+      .map(name => `tests/unit/gate/${name}`);
+    for (const test of [...unit, 'tests/trials/board/login_again.mjs', 'tests/trials/board/stream_again.mjs',
+      'tests/trials/board/stream_shared.mjs', 'tests/trials/board/hear.mjs']) {
       const program = test.endsWith('.mjs') ? process.execPath : '/usr/bin/python3';
-      try { execFileSync(program, [join(TOP, test)], {stdio: 'pipe'}); } catch (error) { this.see(test, false, String(error.stderr).slice(-600)); }
+      try {
+        execFileSync(program, [join(TOP, test)], {stdio: 'pipe'});
+      } catch (error) {
+        this.see(test, false, String(error.stderr).slice(-600));
+      }
     }
     this.tried++;
   }
 
   /** What is told of a port that is taken: before anything is made, and in nginx's own words where it was taken since. */
   async show() {
-    const other = this.keep(createServer(), server => server.close()), port = await new Promise(done => other.listen(0, '127.0.0.1', () => done(other.address().port)));
+    const other = this.keep(createServer(), server => server.close());
+    const port = await new Promise(done => other.listen(0, '127.0.0.1', () => done(other.address().port)));
     const asked = words => spawnSync(join(TOP, 'tests/trials/show-board'), [this.program, ...words], {encoding: 'utf8', timeout: 10000});
     const taken = asked(['--port', port]), named = asked(['--port', 'x']);
-    this.see('show-board looks at its port first', taken.status === 1 && taken.stdout === '' && taken.stderr === `tests/trials/show-board: port ${port} is taken: take another one by --port P\n`, JSON.stringify(taken));
-    this.see('and at its words', named.status === 1 && named.stderr === 'tests/trials/show-board: usage: tests/trials/show-board [PROGRAM] [--port P] [--pictures FOLDER]\n', JSON.stringify(named));
-    const begin = Date.now(), said = await Front.start(this.folder, await this.desk('show.db', PLAN), ROLES, {port}).then(() => 'it starts', error => error.message);
-    this.see("nginx's own line", said.startsWith("the gate or nginx doesn't start: nginx: [emerg] bind() to ") && said.includes(`:${port} failed`) && Date.now() - begin < 20000, said);
+    this.see('show-board looks at its port first',
+      taken.status === 1 && taken.stdout === ''
+        && taken.stderr === `tests/trials/show-board: port ${port} is taken: take another one by --port P\n`, JSON.stringify(taken));
+    this.see('and at its words',
+      named.status === 1
+        && named.stderr === 'tests/trials/show-board: usage: tests/trials/show-board [PROGRAM] [--port P] [--pictures FOLDER]\n',
+      JSON.stringify(named));
+    const begin = Date.now();
+    const said = await Front.start(this.folder, await this.desk('show.db', PLAN), ROLES, {port})
+      .then(() => 'it starts', error => error.message);
+    this.see("nginx's own line",
+      said.startsWith("the gate or nginx doesn't start: nginx: [emerg] bind() to ") && said.includes(`:${port} failed`)
+        && Date.now() - begin < 20000, said);
   }
 
   /** The pages' modules that need no document, run by node, from a copy whose folder says that they are modules. */
@@ -111,7 +135,8 @@ class Trial {
       await cp(join(TOP, 'board'), copy, {recursive: true});
       await writeFile(join(copy, 'package.json'), '{"type":"module"}');
     }
-    return Object.assign({}, ...await Promise.all(['desk.js', 'figures.js', 'customer.js', 'agent/mine.js'].map(name => import(pathToFileURL(join(copy, name))))));
+    return Object.assign({},
+      ...await Promise.all(['desk.js', 'figures.js', 'customer.js', 'agent/mine.js'].map(name => import(pathToFileURL(join(copy, name))))));
   }
 
   async lines() {
@@ -120,12 +145,14 @@ class Trial {
   }
 
   async buttons() {
-    const lines = (await run('python3', ['-B', join(TOP, 'tests/office.py'), 'given'])).trim().split('\n'), desk = await Desk.make(this.program, join(this.folder, 'buttons.db'));
+    const lines = (await run('python3', ['-B', join(TOP, 'tests/office.py'), 'given'])).trim().split('\n');
+    const desk = await Desk.make(this.program, join(this.folder, 'buttons.db'));
     await desk.feed(lines.slice(0, 1500));
     await desk.serve();
     this.keep(desk, () => desk.stop());
     const {refused, granted, wrong} = await buttons(await this.modules(), desk, ROUNDS);
-    this.see('each button is enabled where the desk grants it', wrong.length === 0 && refused > 0 && granted > 0, wrong.slice(0, 5).join('\n'));
+    this.see('each button is enabled where the desk grants it', wrong.length === 0 && refused > 0 && granted > 0,
+      wrong.slice(0, 5).join('\n'));
     console.log(`    ${refused} requests of disabled buttons were refused, ${granted} of enabled ones granted, ${wrong.length} otherwise`);
   }
 
@@ -133,7 +160,8 @@ class Trial {
     const [lines, others] = [await aDay(1.5, '--groups', 10, '--agents', 60), await aDay(1, '--groups', 4, '--agents', 12, '--seed', 2)];
     const desk = await this.desk('day.db', lines), other = await this.desk('other.db', others);
     await other.stop();
-    const front = await this.front(desk), browser = await this.browser(), folks = this.keep(people(desk, 12), one => one.end()), address = front.page('sup', '/board/');
+    const front = await this.front(desk), browser = await this.browser(), folks = this.keep(people(desk, 12), one => one.end());
+    const address = front.page('sup', '/board/');
     await browser.open(`${address}?since=0#wall`);
     await numbers(this.see, browser, desk, folks, 7);
     const own = ['100', '103', '106'];
@@ -165,12 +193,15 @@ class Trial {
     await live(browser);
     await hangs(this.see, browser, front, () => browser.text('#queues-table [data-key="101"] td:nth-child(4)'));
     await gone(this.see, browser, front, desk, front.page('sup', '/board/?since=0#queues'));
-    await nothing(this.see, browser, await this.front(await this.desk('nothing.db', PLAN.slice(3, 4))), await this.front(await this.desk('nobody.db', PLAN)));
+    await nothing(this.see, browser, await this.front(await this.desk('nothing.db', PLAN.slice(3, 4))),
+      await this.front(await this.desk('nobody.db', PLAN)));
   }
 
   async words() {
-    const desk = await this.desk('words.db', await aDay(0.5, '--groups', 10, '--agents', 40)), front = await this.front(desk), {groups, agents} = await desk.get('/snapshot');
-    await words(this.see, await this.browser(), join(front.file, 'share/board'), where => front.page('sup', where), [...groups, ...agents].map(one => one.name));
+    const desk = await this.desk('words.db', await aDay(0.5, '--groups', 10, '--agents', 40)), front = await this.front(desk);
+    const {groups, agents} = await desk.get('/snapshot');
+    await words(this.see, await this.browser(), join(front.file, 'share/board'), where => front.page('sup', where),
+      [...groups, ...agents].map(one => one.name));
   }
 
   async shape() {
@@ -179,7 +210,8 @@ class Trial {
   }
 
   async days() {
-    const desk = await this.desk('days.db', days(Math.floor(Date.now() / 1000))), front = await this.front(desk), browser = await this.browser();
+    const desk = await this.desk('days.db', days(Math.floor(Date.now() / 1000))), front = await this.front(desk);
+    const browser = await this.browser();
     await zones(this.see, browser, desk, front);
     await overMidnight(this.see, browser, front);
   }
@@ -215,7 +247,8 @@ class Trial {
 
   async office() {
     await this.modules();
-    const [plan, person] = await Promise.all(['office/plan.js', 'office/person.js'].map(name => import(pathToFileURL(join(this.folder, 'modules', name)))));
+    const [plan, person] = await Promise.all(
+      ['office/plan.js', 'office/person.js'].map(name => import(pathToFileURL(join(this.folder, 'modules', name)))));
     tables(this.see, plan, person);
     const desk = await this.desk('office.db', PLAN), front = await this.front(desk, [...ROLES, ['chef', 'admin']]);
     await officesPage(this.see, await this.browser(), desk, front, this.pictures);
@@ -225,14 +258,17 @@ class Trial {
     const desk = await this.desk('tabs.db', PLAN);
     await tenTabs(this.see, await this.browser(), desk, await this.front(desk, READS_ALL, {http2: false}));
     const other = await this.desk('older.db', PLAN);
-    await olderConf(this.see, await this.browser(), other, await this.front(other, READS_ALL, {conf: join(TOP, 'tests/trials/gate/nginx-1.14.conf')}));
+    await olderConf(this.see, await this.browser(), other,
+      await this.front(other, READS_ALL, {conf: join(TOP, 'tests/trials/gate/nginx-1.14.conf')}));
   }
 
   async full() {
-    const lines = await aDay(1, '--groups', 64, '--agents', 1000, '--load', 0.9), moment = lines[lines.length - 1].split(' ')[0], asking = service => lines.filter(line => line.includes(`"${service}"`)).length;
+    const lines = await aDay(1, '--groups', 64, '--agents', 1000, '--load', 0.9), moment = lines[lines.length - 1].split(' ')[0];
+    const asking = service => lines.filter(line => line.includes(`"${service}"`)).length;
     // as many calls as a desk may have
     for (let invoke = 1, live = asking('arriveCall') - asking('clearConnection'); live < MOST_CALLS; live++, invoke++) {
-      lines.push(`${moment} ${JSON.stringify({requester: 'many', invoke, service: 'arriveCall', caller: `04${invoke}`, called: String(100 + invoke % 64)})}`);
+      const members = {service: 'arriveCall', caller: `04${invoke}`, called: String(100 + invoke % 64)};
+      lines.push(`${moment} ${JSON.stringify({requester: 'many', invoke, ...members})}`);
     }
     const desk = await this.desk('full.db', lines), front = await this.front(desk), browser = await this.browser();
     await full(this.see, browser, desk, front, this.figure);
@@ -241,7 +277,8 @@ class Trial {
 
 export async function main(words) {
   const given = name => { const place = words.indexOf(name); return place < 0 ? undefined : words.splice(place, 2)[1]; };
-  const [only, pictures] = [given('--only'), resolve(given('--pictures') ?? 'out/board')], program = resolve(words[0] ?? join(TOP, 'release/acd'));
+  const [only, pictures] = [given('--only'), resolve(given('--pictures') ?? 'out/board')];
+  const program = resolve(words[0] ?? join(TOP, 'release/acd'));
   const without = missing(NEEDED);
   if (without) throw new Error(without);
   const parts = only ? only.split(',') : PARTS, begin = Date.now();
@@ -259,6 +296,7 @@ export async function main(words) {
     await sleep(100);
     await rm(folder, {recursive: true, force: true});
   }
-  console.log(`${trial.tried} tried, ${trial.wrong} wrong, ${trial.missed} figures missed, in ${((Date.now() - begin) / 1000).toFixed(0)} s; pictures in ${pictures}`);
+  const seconds = ((Date.now() - begin) / 1000).toFixed(0);
+  console.log(`${trial.tried} tried, ${trial.wrong} wrong, ${trial.missed} figures missed, in ${seconds} s; pictures in ${pictures}`);
   return trial.wrong ? 1 : 0;
 }

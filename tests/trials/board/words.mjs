@@ -1,4 +1,5 @@
-// That all words of the board come from its table: with one whose values are `[key]`, whatever is said is in brackets or comes from the desk; and that German is whole.
+// That all words of the board come from its table: with one whose values are `[key]`, whatever is said is in brackets or comes from the
+// desk; and that German is whole.
 import {readFile, writeFile} from 'node:fs/promises';
 import {join} from 'node:path';
 import {sleep, until} from './browser.mjs';
@@ -26,19 +27,24 @@ export async function tableOf(file) {
   const whole = await readFile(file, 'utf8'), [, english] = whole.match(/(?:keyed|addWords)\(`([^]*?)`\)/) ?? [];
   if (english) return ofLines(english);
   const [, text] = whole.match(/export default \{([^]*?)\n\};/), areas = Object.entries(new Function(`return {${text}}`)());
-  return Object.fromEntries(areas.flatMap(([area, said]) => typeof said === 'string' || said.other ? [[area, said]] : Object.entries(said).map(([name, one]) => [`${area}.${name}`, one])));
+  return Object.fromEntries(
+    areas.flatMap(([area, said]) =>
+      typeof said === 'string' || said.other ? [[area, said]] : Object.entries(said).map(([name, one]) => [`${area}.${name}`, one])));
 }
 
 /** Whatever a person is told by the page: texts, titles, labels, choices. */
 const SAID = `
   const walk = document.createTreeWalker(document.documentElement, NodeFilter.SHOW_TEXT), said = [];
   while (walk.nextNode()) if (!walk.currentNode.parentElement.closest('script, style, noscript')) said.push(walk.currentNode.textContent);
-  for (const element of document.querySelectorAll('*')) for (const name of ['title', 'aria-label', 'placeholder', 'alt']) if (element.hasAttribute(name)) said.push(element.getAttribute(name));
+  for (const element of document.querySelectorAll('*')) {
+    for (const name of ['title', 'aria-label', 'placeholder', 'alt']) if (element.hasAttribute(name)) said.push(element.getAttribute(name));
+  }
   return [document.title, ...said].filter(text => text.trim());`;
 
 /** All English words: the pages' together, and what one page alone says. */
 async function allOf(board) {
-  return Object.assign({}, ...await Promise.all(['words.js', 'office/words.js', 'records/words.js'].map(file => tableOf(join(board, file)))));
+  return Object.assign({},
+    ...await Promise.all(['words.js', 'office/words.js', 'records/words.js'].map(file => tableOf(join(board, file)))));
 }
 
 /** A language of whose words each is its key in brackets, which a board takes by lang=zz; the keys. */
@@ -67,7 +73,8 @@ export async function words(see, browser, board, page, names) {
     see(`${view}: all words are of the table`, said.length > 60 && !left.length, left.slice(0, 4).join('; '));
   }
   const german = Object.keys(await tableOf(join(board, 'words/de.js')));
-  see('German has each key, and no other', String([...german].sort()) === String([...keys].sort()), keys.filter(key => !german.includes(key)).concat(german.filter(key => !keys.includes(key))).slice(0, 4));
+  see('German has each key, and no other', String([...german].sort()) === String([...keys].sort()),
+    keys.filter(key => !german.includes(key)).concat(german.filter(key => !keys.includes(key))).slice(0, 4));
   await inGerman(see, browser, page);
 }
 
@@ -87,7 +94,9 @@ async function logIn(see, browser, address) {
 async function logInGerman(see, browser, address) {
   await browser.run('localStorage["acd-language"] = "de"');
   await browser.open(`${address}/board/login/`);
-  see('the page of log-in speaks as the office does', Boolean(await until(() => browser.run('return document.title === "Anmelden" && document.documentElement.lang === "de"'), 10)), await browser.run('return document.title'));
+  see('the page of log-in speaks as the office does',
+    Boolean(await until(() => browser.run('return document.title === "Anmelden" && document.documentElement.lang === "de"'), 10)),
+    await browser.run('return document.title'));
   await browser.run('delete localStorage["acd-language"]');
 }
 
@@ -103,8 +112,12 @@ async function inGerman(see, browser, page) {
   await browser.open(page('/board/?lang=de&since=0#wall'));
   await until(() => browser.run('return window.board?.counted()'), 30);
   await sleep(600);
-  const [lang, title, heads, level] = await browser.run('return [document.documentElement.lang, document.title, [...document.querySelectorAll("#wall-table th[scope=col]")].map(head => head.textContent), document.querySelector("#totals div:nth-child(4) b").textContent]');
-  see('the wall in German', lang === 'de' && title.endsWith('Hotline: Wand') && heads.includes('Rechtzeitig') && /^\d+\s%$/.test(level), JSON.stringify([lang, title, heads, level]));
-  const said = await browser.run(SAID), english = said.filter(text => /\b(the|Waiting|Abandoned|Settings|Longest|empty|seen|since)\b/.test(text));
+  const [lang, title, heads, level] = await browser.run(`return [document.documentElement.lang, document.title,
+    [...document.querySelectorAll("#wall-table th[scope=col]")].map(head => head.textContent),
+    document.querySelector("#totals div:nth-child(4) b").textContent]`);
+  see('the wall in German', lang === 'de' && title.endsWith('Hotline: Wand') && heads.includes('Rechtzeitig') && /^\d+\s%$/.test(level),
+    JSON.stringify([lang, title, heads, level]));
+  const said = await browser.run(SAID);
+  const english = said.filter(text => /\b(the|Waiting|Abandoned|Settings|Longest|empty|seen|since)\b/.test(text));
   see('and nothing English', !english.length, english.slice(0, 3).join('; '));
 }
