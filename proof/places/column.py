@@ -102,13 +102,11 @@ put("crates/acd_sql_columns/specs/Rows.antt",
     ("agent_made = λ agent name state pending station group stamp since. record", "agent_made = λ agent name state pending station group stamp since logged. record"), ("  since = since;\n", "  since = since;\n  logged = logged;\n"))
 after("crates/acd_sql_columns/specs/Relations.antt", ("  since = a.since;\n", "  logged = a.logged;\n", 2))
 
-# ---- tests in Rattle, and scenes
+# ---- tests, texts and scenes
 
-DESK, BOOK, SCENES = "crates/acd_test_desk/src/", "crates/acd_test_sqlbook/src/", "tests/trials/scenes/"
-after(DESK + "state/values.rt", ("        stamp,\n        since: 0,\n", "        logged: None,\n"))
-after(DESK + "codec/shown.rt", ("        stamp: 0,\n        since: 0,\n", "        logged: None,\n"), ("        since: 18,\n", "        logged: Some(15),\n"),
-      ('"group":"110",', '"logged":15,'), ('"device":"201","groups":["100","110"],', '"logged":15,'), ('"106","107"],', '"logged":15,'))
-put(DESK + "http/scenes.rt",
+TEXTS, BOOKS, SCENES = "tests/trials/texts/", "tests/trials/books/", "tests/trials/scenes/"
+put(TEXTS + "lines.txt", *[(f'{groups},"name":"Ana"', f'{groups},"logged":{logged},"name":"Ana"') for groups, logged in [('"group":"110"', 15), ('"groups":["100","110"]', 20), ('"106","107"]', 24)]])
+put(TEXTS + "exchanges.txt",
     ('"group":"100","name":"Ana","since":120', '"group":"100","logged":90,"name":"Ana","since":120'), ('"group":"100","name":"Ana","since":25', '"group":"100","logged":15,"name":"Ana","since":25'),
     ("Content-Length: 86\\r\nConnection", "Content-Length: 98\\r\nConnection"), ("Content-Length: 598\\r", "Content-Length: 610\\r", 2))
 put(SCENES + "priorities.txt", *[(f'{old}"name":"Ana","since":{since}', f'{old}"logged":{logged},"name":"Ana","since":{since}') for old, since, logged in [
@@ -118,21 +116,22 @@ put(SCENES + "reads.txt", ('"group":"100","name":"Ana"', '"group":"100","logged"
 after(SCENES + "reads.txt", ("~ 21 UPDATE agents SET since = 24 WHERE agent = 17\n", "~ 21 UPDATE agents SET logged = 14 WHERE agent = 17\n"))
 put(SCENES + "corrections.txt", ('"group":"100","name":"Anabel"', '"group":"100","logged":5,"name":"Anabel"'), ('"group":"100","name":"B"', '"group":"100","logged":5,"name":"B"'))
 put(SCENES + "limits.txt", ('"900000000001007"],"name"', '"900000000001007"],"logged":5,"name"'))
-put(BOOK + "several.rt", ("NULL,NULL,NULL,4,0);", "NULL,NULL,NULL,4,0,NULL);"), ("NULL,NULL,NULL,5,0);", "NULL,NULL,NULL,5,0,NULL);"), ("grp = 1100 AND since = 20", "grp = 1100 AND since = 20 AND logged = 15"))
-put(BOOK + "commits.rt", (", NULL, 5, 10);", ", NULL, 5, 10, 5);", 2), (", NULL, 5, 10)\n", ", NULL, 5, 10, 5)\n", 2))
-put(BOOK + "adopted.rt", ("stamp INTEGER NOT NULL, since INTEGER NOT NULL) STRICT;", "stamp INTEGER NOT NULL, since INTEGER NOT NULL, logged INTEGER) STRICT;"),
+put(BOOKS + "several.txt", ("NULL,NULL,NULL,4,0);", "NULL,NULL,NULL,4,0,NULL);"), ("NULL,NULL,NULL,5,0);", "NULL,NULL,NULL,5,0,NULL);"), ("grp = 1100 AND since = 20", "grp = 1100 AND since = 20 AND logged = 15"))
+put("crates/acd_test/src/stored.rt", (", NULL, 5, 10);", ", NULL, 5, 10, 5);", 2), (", NULL, 5, 10)\n", ", NULL, 5, 10, 5)\n", 2))
+put(BOOKS + "adopted.txt", ("stamp INTEGER NOT NULL, since INTEGER NOT NULL) STRICT;", "stamp INTEGER NOT NULL, since INTEGER NOT NULL, logged INTEGER) STRICT;"),
     ("1201, 1501, 1, 0);", "1201, 1501, 1, 0, 0);"), ("'Ben', 0, NULL, NULL, NULL, 1, 0)", "'Ben', 0, NULL, NULL, NULL, 1, 0, NULL)"), ("'Cem', 0, NULL, NULL, NULL, 1, 0)", "'Cem', 0, NULL, NULL, NULL, 1, 0, NULL)"))
-after(BOOK + "adopted.rt", ("BadRow(Agents) UPDATE agents SET since = 4294967296\n", "BadRow(Agents) UPDATE agents SET logged = 4294967296\n"))
-put(BOOK + "migrated.rt", ("1201,1100,9,25);", "1201,1100,9,25,15);"), ("NULL,NULL,NULL,5,0);", "NULL,NULL,NULL,5,0,NULL);"))
-put(BOOK + "numbers.rt", *[(f", {stamp}, {since});", f", {stamp}, {since}, {logged});") for stamp, since, logged in [
+after(BOOKS + "adopted.txt", ("bad row in agents: UPDATE agents SET since = 4294967296\n", "bad row in agents: UPDATE agents SET logged = 4294967296\n"))
+put(BOOKS + "rules.txt", (", 9, 25);", ", 9, 25, 15);"), (", 5, 0);", ", 5, 0, NULL);"))
+put(BOOKS + "rows.txt", ("1201, 1100, 1, 0);", "1201, 1100, 1, 0, 0);"), ("1202, 1100, 2, 0);", "1202, 1100, 2, 0, 0);"))
+put(BOOKS + "migrated.txt", ("1201,1100,9,25);", "1201,1100,9,25,15);"), ("NULL,NULL,NULL,5,0);", "NULL,NULL,NULL,5,0,NULL);"))
+put(BOOKS + "numbers.txt", *[(f", {stamp}, {since});", f", {stamp}, {since}, {logged});") for stamp, since, logged in [
     (20, 10, "NULL"), (21, 11, 5), (22, 12, 5), (23, 13, 5), (24, 14, 5), (25, 15, 5), (27, 17, 5), (26, 16, 5)]],
     *[(f'"{groups},"name":"{name}"', f'"{groups},"logged":5,"name":"{name}"') for groups, name in [('0110"]', "Ben"), ('0110"', "Cem"), *[('100"', name) for name in ["Dan", "Eva", "Fay", "Gus", "Hal"]]]])
-after(BOOK + "numbers.rt", ("AND stamp = 57 AND since = 147", " AND logged = 147"), ("AND stamp = 67 AND since = 157", " AND logged = 5"))
+after(BOOKS + "numbers.txt", ("AND stamp = 57 AND since = 147", " AND logged = 147"), ("AND stamp = 67 AND since = 157", " AND logged = 5"))
 
 # ---- pages, and what is outside the gate
 
-put("docs/USING.md", ('"group":G,"name":N,"pending":P,"since":M,"state":S}`; an agent', '"group":G,"logged":M,"name":N,"pending":P,"since":M,"state":S}`; logged is the moment of its last log-on; an agent'),
-    ("grp NULL references acd_groups, stamp, since |", "grp NULL references acd_groups, stamp, since, logged NULL |"))
+put("docs/USING.md", ("grp NULL references acd_groups, stamp, since |", "grp NULL references acd_groups, stamp, since, logged NULL |"))
 put("docs/openapi.yaml", ("        name: {$ref: '#/components/schemas/Name'}, pending: {$ref: '#/components/schemas/PendingState'}, since",
     "        logged: {$ref: '#/components/schemas/Moment'}, name: {$ref: '#/components/schemas/Name'}, pending: {$ref: '#/components/schemas/PendingState'}, since"))
 put("client/acd_types.py",

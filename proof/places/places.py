@@ -10,7 +10,7 @@ def kind_of(file):
     """What a file is, by its path."""
     part = pathlib.PurePath(file).parts
     if part[0] == "crates":
-        if part[1].startswith("acd_test_") or part[1] == "acd":
+        if part[1] in ("acd_test", "acd"):
             return "tests"
         if part[1] == "acd_model" and ("Examples" in part or "examples" in part or part[-1] == "examples.rt"):
             return "examples"

@@ -149,10 +149,10 @@ put(LAWS + "Names/UnnamedServices.antt", ("  unnamed_retrieve_call : ", """\
 
   unnamed_retrieve_call : """))
 
-# ---- tests in Rattle, and scenes
+# ---- texts and scenes
 
-after("crates/acd_test_desk/src/codec/read.rt", ('\n{"agent":"7","invoke":9,"name":"Anna","requester":"plan","service":"changeAgent"}\n', '{"call":1,"device":"201","invoke":9,"requester":"desk","service":"parkHere"}\n'))
-after("crates/acd_test_desk/src/codec/faulty.rt", ('call {"requester":"pbx","invoke":1,"service":"holdCall","call":1000000001,"device":"201"}\n', 'call {"requester":"pbx","invoke":1,"service":"parkHere","call":1000000001,"device":"201"}\n'))
+after("tests/trials/texts/requests.txt", ('\n{"agent":"7","invoke":9,"name":"Anna","requester":"plan","service":"changeAgent"}\n', '{"call":1,"device":"201","invoke":9,"requester":"desk","service":"parkHere"}\n'))
+after("tests/trials/texts/faulty.txt", ('call {"requester":"pbx","invoke":1,"service":"holdCall","call":1000000001,"device":"201"}\n', 'call {"requester":"pbx","invoke":1,"service":"parkHere","call":1000000001,"device":"201"}\n'))
 SCENES = "tests/trials/scenes/"
 after(SCENES + "refusals.txt", *[(line, line.replace("holdCall", "parkHere").replace(f"{invoke},", f"{invoke + 800},")) for invoke, line in [
     (131, '- 50 3 unknownCall {"call":9,"device":"999","invoke":131,"requester":"sup","service":"holdCall"}\n'), (132, '- 50 4 unknownConnection {"call":1,"device":"100","invoke":132,"requester":"sup","service":"holdCall"}\n'),
@@ -183,7 +183,7 @@ put("docs/openapi.yaml", ("        {$ref: '#/components/schemas/ChangeGroup'}, {
     # replies
 """))
 put("client/acd_types.py", ("class Reply(TypedDict):\n    invoke", "class ParkHere(ConnectionRequest):\n    service: Literal['parkHere']\n\n\nclass Reply(TypedDict):\n    invoke"), ("RejectCall, ChangeGroup, ChangeAgent]", "RejectCall, ChangeGroup, ChangeAgent, ParkHere]"))
-after("docs/OPERATING.md", ("`rejectCall`, `holdCall`,", " `parkHere`,"))
+after("docs/PRUNING.md", ("`rejectCall`, `holdCall`,", " `parkHere`,"))
 put("docs/MODEL.md", ("Each of the nineteen services", "Each of the twenty services"), ("to `Services/ChangeAgent`", "to `Services/ParkHere`"))
 put("docs/PROVED.md", ("each of the nineteen services", "each of the twenty services"))
 

@@ -4,5 +4,6 @@ pub mod Adding
 pub mod Printed
 pub mod Plain
 pub mod RoundTrip
+pub mod KeptTexts
 pub mod Choosing
 pub mod OldReadings

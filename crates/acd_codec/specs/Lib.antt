@@ -4,6 +4,7 @@ pub mod MemberReading
 pub mod Documents
 pub mod Reading
 pub mod RequestTexts
+pub mod KeptTexts
 pub mod ReplyTexts
 pub mod Formed
 pub mod Parts

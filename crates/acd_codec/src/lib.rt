@@ -18,6 +18,7 @@
 mod document;
 mod events;
 mod fault;
+mod guess;
 mod laws;
 mod member;
 mod read_texts;

@@ -1,22 +1,29 @@
 //! Requests out of JSON.
 
-ghost use Rattle.std.specs.Prelude.{◌≡◌, [], Some, option_and_then};
+ghost use Rattle.std.specs.Prelude.{◌≡◌, [], Some, option_and_then, IfOk};
+ghost use Rattle.std.specs.Str.{bytes_eq};
 ghost use Rattle.serde_json.specs.Find.{as_str};
 ghost use Rattle.acd_terms.specs.Groups.{with_all};
 ghost use Rattle.acd_codec.specs.Documents.{data_of, value_data};
 ghost use Rattle.acd_codec.specs.MemberReading.{device_of, device_in, agent_in, name_in, requester_in, invoke_in, seconds_in, priority_in, serial_in, service_in, requested_state_in, choice_of, groups_in, devices_named};
 ghost use Rattle.acd_codec.specs.Reading.{Gives, at_group, at_agent, at_connection, at_device, at_devices, to_device, group_in, named_agent_in, monitor_stop_in, two_devices_in, connection_in, one_group_in, chosen_in, requested_in, set_agent_state_in, set_group_priority_in, command_in, request_in, request_from, reads_as};
+ghost use Rattle.acd_codec.specs.RequestTexts.{request_text};
+ghost use Rattle.acd_codec.specs.KeptTexts.{request_of_text};
 
 use crate::document::Document;
 use crate::fault::ReadFault;
+use crate::guess::guessed;
+use crate::laws::reads_back;
 use crate::member::Member;
+use crate::requests::request_bytes;
 use crate::service::{RequestedState, Service};
 use acd_terms::{
     AgentId, Command, DeviceId, Groups, Invoke, Name, Priority, Request, Requested, Requester,
     Seconds, Serial, SomeGroups,
 };
 use json::{Scratch, Value};
-use std::alloc::Global;
+use std::alloc::{AllocError, Global};
+use std::mem;
 
 #[tactic(auto, unfolding(crate::specs::MemberReading::device_in))]
 fn device_in(document: &Document<'_>, member: Member) -> Result<DeviceId, Member>
@@ -449,11 +456,13 @@ fn request_of(document: &Document<'_>) -> Result<Request, Member>
     request_in(document)
 }
 
-/// Reads requests, one after another. It keeps from one to the next the room in which texts are read.
+/// Reads requests, one after another. It keeps from one to the next the room in which texts are read and written.
 #[derive(Drop)]
 pub struct RequestReader {
     alloc: Global,
     scratch: Scratch,
+    // The text that was written last.
+    written: Vec<u8>,
 }
 
 impl RequestReader {
@@ -461,6 +470,7 @@ impl RequestReader {
         RequestReader {
             alloc,
             scratch: Scratch::new(alloc),
+            written: Vec::new(alloc),
         }
     }
 
@@ -471,6 +481,47 @@ impl RequestReader {
         let document = Document::read(self.alloc, bytes, &mut self.scratch)?;
         let request = request_of(&document)?;
         Ok(request)
+    }
+
+    // Whether the bytes are the text of the request.
+    fn is_text_of(&mut self, bytes: &[u8], request: &Request) -> Result<bool, AllocError>
+        ensures { IfOk result (λ same. same ≡ bytes_eq bytes.now (request_text request.now)) }
+    {
+        let buffer = mem::replace(&mut self.written, Vec::new(self.alloc));
+        self.written = request_bytes(buffer, request)?;
+        Ok(bytes == self.written.as_slice())
+    }
+
+    // The request whose text the bytes are, read as JSON.
+    #[tactic(auto, unfolding(crate::specs::KeptTexts::request_of_text))]
+    fn read_whole(&mut self, text: &[u8]) -> Result<Option<Request>, AllocError>
+        ensures { IfOk result (λ request. request ≡ request_of_text text.now) }
+    {
+        match self.read(text) {
+            Ok(request) => {
+                if self.is_text_of(text, &request)? {
+                    Ok(Some(request))
+                } else {
+                    Ok(None)
+                }
+            }
+            Err(ReadFault::Malformed(_)) => Ok(None),
+            Err(ReadFault::NoMemory) => Err(AllocError),
+        }
+    }
+
+    /// The request whose one text this is, as [`request_text`] writes it.
+    #[tactic(auto, using(crate::proofs::KeptTexts::text_again))]
+    pub fn request_of_text(&mut self, text: &[u8]) -> Result<Option<Request>, AllocError>
+        ensures { IfOk result (λ request. request ≡ request_of_text text.now) }
+    {
+        if let Some(request) = guessed(text) {
+            if self.is_text_of(text, &request)? {
+                reads_back(&request);
+                return Ok(Some(request));
+            }
+        }
+        self.read_whole(text)
     }
 }
 

@@ -8,8 +8,8 @@ ghost use Rattle.acd_codec.specs.Tokens.{AddsMembers, AddsMember};
 
 use crate::service::{RequestedState, Service};
 use crate::writing::{
-    begun, ended, put_agent, put_device, put_groups, put_invoke, put_priority, put_requester,
-    put_seconds, put_serial, put_text, put_whom,
+    begun, begun_in, ended, ended_bytes, put_agent, put_device, put_groups, put_invoke,
+    put_priority, put_requester, put_seconds, put_serial, put_text, put_whom,
 };
 use acd_terms::{AgentId, Command, DeviceId, Name, Priority, Request, Requested, Seconds, Serial};
 use json::Writer;
@@ -243,6 +243,15 @@ fn put_request(out: &mut Writer, request: &Request) -> Result<(), AllocError>
             put_set_group_priority(out, request, *device, *priority)
         }
     }
+}
+
+/// Writes the one text of a request into a buffer, in place of what it holds.
+pub(crate) fn request_bytes(buffer: Vec<u8>, request: &Request) -> Result<Vec<u8>, AllocError>
+    ensures { IfOk result (λ bytes. bytes.items ≡ request_text request.now) }
+{
+    let mut out = begun_in(buffer)?;
+    put_request(&mut out, request)?;
+    ended_bytes(out)
 }
 
 /// The one text of a request: compact JSON, its members in the order of their names.

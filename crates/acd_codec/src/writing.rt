@@ -204,13 +204,32 @@ pub(crate) fn text_of(out: Writer) -> Result<String, AllocError>
     }
 }
 
+/// A buffer in which an object begins, in place of what it holds.
+pub(crate) fn begun_in(buffer: Vec<u8>) -> Result<Writer, AllocError>
+    ensures { IfOk result Begun }
+{
+    let mut buffer = buffer;
+    buffer.clear();
+    let mut out = Writer::new(buffer);
+    out.begin_object()?;
+    Ok(out)
+}
+
 /// A buffer with room for this many bytes, in which an object begins.
 pub(crate) fn begun(alloc: Global, room: usize) -> Result<Writer, AllocError>
     ensures { IfOk result Begun }
 {
-    let mut out = Writer::new(Vec::with_capacity(alloc, room)?);
-    out.begin_object()?;
-    Ok(out)
+    begun_in(Vec::with_capacity(alloc, room)?)
+}
+
+/// The bytes of the text, once the object ends.
+pub(crate) fn ended_bytes(out: Writer) -> Result<Vec<u8>, AllocError>
+    requires { out.before ≡ [] }
+    ensures { IfOk result (λ bytes. bytes.items ≡ print (out.tokens ++ end_object ∷ [])) }
+{
+    let mut out = out;
+    out.end_object()?;
+    Ok(out.into_inner())
 }
 
 /// The text, once the object ends.

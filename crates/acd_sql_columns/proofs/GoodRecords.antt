@@ -1,5 +1,5 @@
 -- Records whose fields are in their ranges are good: what is written of them is read back.
-use Rattle.std.proofs.Common.{◌≡◌, inl, inr, ℕ, ◌<◌, ◌≤◌, ◌^◌, ◌==◌, cond, Bool, true, false, List, [], ◌∷◌, map, length, Some, None, Ok, refl, ap, arith, eq-eqb, le-leb}
+use Rattle.std.proofs.Common.{◌≡◌, inl, inr, ℕ, ◌<◌, ◌≤◌, ◌^◌, ◌==◌, cond, Bool, true, false, List, [], ◌∷◌, map, length, Some, None, Ok, refl, sym, ap, arith, eq-eqb, le-leb}
 use Rattle.std.specs.Prelude.{IfSome}
 use Rattle.std.specs.Option.{is_some}
 use Rattle.std.specs.Ordering.{nat_cmp}
@@ -23,6 +23,8 @@ use Rattle.acd_terms.specs.declared.record.StationRecord.{StationRecord}
 use Rattle.acd_codec.specs.Formed.{IsAgent, IsDevice, IsPriority}
 use Rattle.acd_codec.specs.Reading.{reads_as}
 use Rattle.acd_codec.specs.RequestTexts.{request_text}
+use Rattle.acd_codec.specs.KeptTexts.{request_of_text}
+use Rattle.acd_codec.proofs.KeptTexts.{text_again}
 use Rattle.acd_book.specs.declared.kept.Kept.{Kept}
 use Rattle.acd_sql_columns.specs.declared.meta.Meta.{Meta}
 use Rattle.acd_sql_columns.specs.declared.tables.Table.TheVariants as table
@@ -109,7 +111,8 @@ moment_kept k h = number_again 0 4294967295 k.moment (omega arith, omega (arith,
 request_kept : (k : Kept) → reads_as (request_text k.request) ≡ Ok k.request → request_at (kept_values k) ≡ Some k.request
 unfolding request_at
 request_kept k h =
-    rw (h, (bytes_eq-Decides k.request.requester k.request.requester).1 refl, eq-eqb k.request.invoke k.request.invoke refl, (bytes_eq-Decides (request_text k.request) (request_text k.request)).1 refl) refl
+    let again : request_of_text (request_text k.request) ≡ Some k.request = sym (text_again (request_text k.request) k.request h ((bytes_eq-Decides (request_text k.request) (request_text k.request)).1 refl)) in
+    rw (again, (bytes_eq-Decides k.request.requester k.request.requester).1 refl, eq-eqb k.request.invoke k.request.invoke refl) refl
 
 status_kept : (k : Kept) → IsStatus k.status → status_at (kept_values k) 5 ≡ Some k.status
 unfolding status_at

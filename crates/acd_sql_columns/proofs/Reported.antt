@@ -1,14 +1,15 @@
 -- A row that is read as an event or as a kept record is that of the record.
-use Rattle.std.proofs.Common.{◌≡◌, ℕ, ◌==◌, length, List, Bool, true, false, not, cond, ◌&&◌, Option, Some, None, Result, Ok, Err, refl, sym, ap, subst, ◌∙◌}
+use Rattle.std.proofs.Common.{◌≡◌, ℕ, ◌==◌, length, List, Bool, true, false, not, cond, ◌&&◌, Option, Some, None, Ok, refl, sym, ap, subst, ◌∙◌}
 use Rattle.std.specs.Option.{is_some, unwrap_or}
 use Rattle.sqlite_value.specs.Order.{Row, column}
 use Rattle.std.specs.Str.{bytes_eq, is_utf8}
-use Rattle.std.specs.Result.{result_ok}
 use Rattle.std.specs.Cmp.{unsigned_Decides}
+use Rattle.std.proofs.lemmas.Bool.{and_parts}
 use Rattle.std.proofs.lemmas.Slice.Eq.{bytes_eq-Decides}
 use Rattle.sqlite_value.specs.declared.value.Value.TheVariants.{Text}
 use Rattle.acd_codec.specs.Reading.{reads_as}
 use Rattle.acd_codec.specs.RequestTexts.{request_text}
+use Rattle.acd_codec.proofs.KeptTexts.{text_read, IsTextOf}
 use Rattle.acd_terms.specs.declared.command.Request.{Request}
 use Rattle.acd_terms.specs.Columns.{columns_of, group_waited, seconds_waited}
 use Rattle.acd_terms.specs.declared.event.EventKind.{EventKind}
@@ -151,16 +152,6 @@ event_exact r x y h e = sym (event_back x) ∙ ap as_event (sym (event_stored r 
 
 -- ---- kept records
 
-all_three : (a b c : Bool) → (a && b && c) ≡ true → (a ≡ true) × (b ≡ true) × (c ≡ true)
-all_three true true true e = (refl, refl, refl)
-all_three true true false e = absurd (cc e)
-all_three true false c e = absurd (cc e)
-all_three false b c e = absurd (cc e)
-
-ok_same : {E : Type 0} (r : Result Request E) (q : Request) → result_ok r ≡ Some q → r ≡ Ok q
-ok_same (Ok x) q h = ap Ok (some_is x q h)
-ok_same (Err e) q h = absurd (cc h)
-
 -- the columns of the key and the text are those of the request, which is read from its text
 pub record IsOfRequest (r : Row) (q : Request) : Type 0 where
   pub requester : column r 1 ≡ Text q.requester
@@ -168,16 +159,15 @@ pub record IsOfRequest (r : Row) (q : Request) : Type 0 where
   pub text : column r 4 ≡ Text (request_text q)
   pub reads : reads_as (request_text q) ≡ Ok q
 
-of_request : (r : Row) (q : Request) (name : List ℕ) (n : ℕ) (t : List ℕ) → column r 1 ≡ Text name → column r 2 ≡ id_value n → column r 4 ≡ Text t → reads_as t ≡ Ok q
-    → (bytes_eq name q.requester && (n == q.invoke) && bytes_eq t (request_text q)) ≡ true → IsOfRequest r q
-of_request r q name n t e f g h test =
-    let all = all_three (bytes_eq name q.requester) (n == q.invoke) (bytes_eq t (request_text q)) test in
-    let same : t ≡ request_text q = (bytes_eq-Decides t (request_text q)).0 all.2 in
+of_request : (r : Row) (q : Request) (name : List ℕ) (n : ℕ) (t : List ℕ) → column r 1 ≡ Text name → column r 2 ≡ id_value n → column r 4 ≡ Text t → IsTextOf t q
+    → (bytes_eq name q.requester && (n == q.invoke)) ≡ true → IsOfRequest r q
+of_request r q name n t e f g text test =
+    let all = and_parts (bytes_eq name q.requester) (n == q.invoke) test in
     record {
       requester = e ∙ ap Text ((bytes_eq-Decides name q.requester).0 all.0);
       invoke = f ∙ ap id_value ((unsigned_Decides n q.invoke).0 all.1);
-      text = g ∙ ap Text same;
-      reads = ap reads_as (sym same) ∙ h;
+      text = g ∙ ap Text text.same;
+      reads = ap reads_as (sym text.same) ∙ text.reads;
     }
 
 pub request_stored : (r : Row) (q : Request) → request_at r ≡ Some q → IsOfRequest r q
@@ -189,7 +179,7 @@ request_stored r q h =
     let request = bound _ _ q text.2 in
     let test = guarded _ (Some request.0) q request.2 in
     subst (IsOfRequest r) (some_is request.0 q test.1)
-    (of_request r request.0 requester.0 invoke.0 text.0 (text_stored r 1 _ requester.1) (whole_stored r 2 _ invoke.1) (text_stored r 4 _ text.1) (ok_same (reads_as text.0) request.0 request.1) test.0)
+    (of_request r request.0 requester.0 invoke.0 text.0 (text_stored r 1 _ requester.1) (whole_stored r 2 _ invoke.1) (text_stored r 4 _ text.1) (text_read text.0 request.0 request.1) test.0)
 
 status_stored : (r : Row) (at n : ℕ) → status_at r at ≡ Some n → column r at ≡ id_value n
 unfolding status_at

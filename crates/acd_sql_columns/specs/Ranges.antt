@@ -1,6 +1,5 @@
 -- The records of rows whose values are all in their ranges, column by column. A row of another width represents none.
 use Rattle.std.specs.Prelude.{ℕ, ◌==◌, length, ◌&&◌, Option, None, Some, option_map, if◌then◌else◌}
-use Rattle.std.specs.Result.{result_ok}
 use Rattle.std.specs.Str.{bytes_eq}
 use Rattle.sqlite_value.specs.Order.{Row}
 use Rattle.acd_terms.specs.declared.command.Request.{Request}
@@ -9,8 +8,7 @@ use Rattle.acd_terms.specs.declared.record.StationRecord.{StationRecord}
 use Rattle.acd_terms.specs.declared.record.CallRecord.{CallRecord}
 use Rattle.acd_terms.specs.declared.record.ConnectionRecord.{ConnectionRecord}
 use Rattle.acd_terms.specs.declared.record.MonitorRecord.{MonitorRecord}
-use Rattle.acd_codec.specs.Reading.{reads_as}
-use Rattle.acd_codec.specs.RequestTexts.{request_text}
+use Rattle.acd_codec.specs.KeptTexts.{request_of_text}
 use Rattle.acd_book.specs.declared.kept.Kept.{Kept}
 use Rattle.acd_sql_columns.specs.declared.relations.GroupRow.{GroupRow}
 use Rattle.acd_sql_columns.specs.declared.relations.AgentRow.{AgentRow}
@@ -64,14 +62,14 @@ event_in r = read_whole event_fields event_made r >>= event_from
 abbrev pub event_number : Row → Option ℕ
 event_number r = option_map (λ (e : Event). e.number) (event_in r)
 
--- the request that the text represents, where the text is that of the request, and the key is that of its columns
+-- the request whose one text this is, where the key is that of its columns
 unfoldable pub request_at : Row → Option Request
 request_at r = do
   requester ← text_at r 1
   invoke ← whole_at r 2
   text ← text_at r 4
-  request ← result_ok (reads_as text)
-  if bytes_eq requester request.requester && invoke == request.invoke && bytes_eq text (request_text request) then Some request else None
+  request ← request_of_text text
+  if bytes_eq requester request.requester && invoke == request.invoke then Some request else None
 
 -- the kept record of the row that has these values before its body, if the body is a text
 abbrev pub kept_from : Row → KeptHead → Option Kept

@@ -4,10 +4,6 @@
 //! made then.
 
 ghost use Rattle.std.specs.Prelude.{◌≡◌, option_map, option_and_then, IfOk};
-ghost use Rattle.std.specs.Str.{bytes_eq};
-ghost use Rattle.std.specs.Result.{result_ok};
-ghost use Rattle.acd_codec.specs.Reading.{reads_as};
-ghost use Rattle.acd_codec.specs.RequestTexts.{request_text};
 ghost use Rattle.acd_sql_columns.specs.Ranges.{further_in, priority_in, group_in, station_in, agent_in, call_in, connection_in, monitor_in, counters_in, event_from, event_in, event_number, request_at, kept_from, kept_in, kept_stamp};
 ghost use Rattle.acd_sql_columns.specs.Values.{body_at};
 
@@ -20,7 +16,7 @@ use crate::relations::{AgentRow, GroupPriority, GroupRow};
 use crate::shape::{is_formed, report_in};
 use crate::values;
 use acd_book::{Kept, Text};
-use acd_codec::{ReadFault, RequestReader, request_text};
+use acd_codec::RequestReader;
 use acd_terms::{
     AgentId, CallRecord, Columns, ConnectionRecord, DeviceId, Event, Figures, Limits,
     MonitorRecord, Request, StationRecord,
@@ -154,14 +150,6 @@ pub fn event_number(row: &Row) -> Option<u64>
     }
 }
 
-// Whether the bytes are the text of the request.
-fn is_text_of(alloc: Global, request: &Request, bytes: &[u8]) -> Result<bool, AllocError>
-    ensures { IfOk result (λ same. same ≡ bytes_eq bytes.now (request_text request.now)) }
-{
-    let text = request_text(alloc, request)?;
-    Ok(bytes == text.as_bytes())
-}
-
 // The values of the row of a kept record, but for its body.
 #[derive(Clone, Copy)]
 struct KeptHead {
@@ -177,7 +165,7 @@ fn body_in(row: &Row) -> Option<&str>
     values::body(row, 6)
 }
 
-/// Reads the rows of kept records, one after another. It keeps from one to the next the room in which texts are read.
+/// Reads the rows of kept records, one after another. It keeps from one to the next the room in which texts are read and written.
 #[derive(Drop)]
 pub struct KeptReader {
     alloc: Global,
@@ -189,17 +177,6 @@ impl KeptReader {
         KeptReader {
             alloc,
             requests: RequestReader::new(alloc),
-        }
-    }
-
-    // The request that bytes represent, if they do.
-    fn request_of(&mut self, bytes: &[u8]) -> Result<Option<Request>, AllocError>
-        ensures { IfOk result (λ request. request ≡ result_ok (reads_as bytes.now)) }
-    {
-        match self.requests.read(bytes) {
-            Ok(request) => Ok(Some(request)),
-            Err(ReadFault::Malformed(_)) => Ok(None),
-            Err(ReadFault::NoMemory) => Err(AllocError),
         }
     }
 
@@ -216,16 +193,12 @@ impl KeptReader {
         let Some(text) = values::text(row, 4) else {
             return Ok(None);
         };
-        let Some(request) = self.request_of(text)? else {
+        let Some(request) = self.requests.request_of_text(text)? else {
             return Ok(None);
         };
         let is_key = requester == request.requester.as_bytes()
             && invoke == u64::from(request.invoke.number());
-        if is_key && is_text_of(self.alloc, &request, text)? {
-            Ok(Some(request))
-        } else {
-            Ok(None)
-        }
+        if is_key { Ok(Some(request)) } else { Ok(None) }
     }
 
     // None where a value is out of its range, the text isn't that of its request, or the key isn't that of the columns.
@@ -290,11 +263,4 @@ impl KeptReader {
             body,
         }))
     }
-}
-
-/// The kept record of a row, read with a new reader.
-pub fn kept_in(alloc: Global, row: &Row) -> Result<Option<Kept>, AllocError>
-    ensures { IfOk result (λ kept. kept ≡ kept_in row.now) }
-{
-    KeptReader::new(alloc).read(row)
 }

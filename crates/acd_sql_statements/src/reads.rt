@@ -15,6 +15,7 @@ use crate::query::connection_rows;
 use crate::read::meta_rows;
 use crate::{plan, select};
 use acd_book::Kept;
+use acd_sql_columns::decode::KeptReader;
 use acd_sql_columns::{Meta, decode};
 use acd_terms::{
     AgentId, AgentRecord, CallRecord, ConnectionRecord, DeviceId, Event, GroupRecord, Listed,
@@ -29,58 +30,85 @@ type Traffic = (Vec<CallRecord>, Vec<ConnectionRecord>, Vec<MonitorRecord>);
 
 /// A record that a row represents, where each value is in its range.
 pub(crate) trait Decoded: Drop {
+    /// What is kept from one row to the next.
+    type Reader: Drop;
+
     ghost in_row: { Values → Option Self };
 
-    fn decode(alloc: Global, row: &Row) -> Result<Option<Self>, AllocError>
+    fn reader(alloc: Global) -> Self::Reader;
+
+    fn decode(reader: &mut Self::Reader, row: &Row) -> Result<Option<Self>, AllocError>
         ensures { IfOk result (λ found. found ≡ in_row row.now) };
 }
 
 impl Decoded for ConnectionRecord {
+    type Reader = ();
+
     ghost in_row = { connection_in };
 
-    fn decode(_alloc: Global, row: &Row) -> Result<Option<ConnectionRecord>, AllocError> {
+    fn reader(_alloc: Global) {}
+
+    fn decode(_reader: &mut (), row: &Row) -> Result<Option<ConnectionRecord>, AllocError> {
         Ok(decode::connection_in(row))
     }
 }
 
 // An agent and a group after its first.
 impl Decoded for (AgentId, DeviceId) {
+    type Reader = ();
+
     ghost in_row = { further_in };
 
-    fn decode(_alloc: Global, row: &Row) -> Result<Option<(AgentId, DeviceId)>, AllocError> {
+    fn reader(_alloc: Global) {}
+
+    fn decode(_reader: &mut (), row: &Row) -> Result<Option<(AgentId, DeviceId)>, AllocError> {
         Ok(decode::further_in(row))
     }
 }
 
 impl Decoded for MonitorRecord {
+    type Reader = ();
+
     ghost in_row = { monitor_in };
 
-    fn decode(_alloc: Global, row: &Row) -> Result<Option<MonitorRecord>, AllocError> {
+    fn reader(_alloc: Global) {}
+
+    fn decode(_reader: &mut (), row: &Row) -> Result<Option<MonitorRecord>, AllocError> {
         Ok(decode::monitor_in(row))
     }
 }
 
 impl Decoded for Event {
+    type Reader = ();
+
     ghost in_row = { event_in };
 
-    fn decode(_alloc: Global, row: &Row) -> Result<Option<Event>, AllocError> {
+    fn reader(_alloc: Global) {}
+
+    fn decode(_reader: &mut (), row: &Row) -> Result<Option<Event>, AllocError> {
         Ok(decode::event_in(row))
     }
 }
 
 impl Decoded for Kept {
+    type Reader = KeptReader;
+
     ghost in_row = { kept_in };
 
-    fn decode(alloc: Global, row: &Row) -> Result<Option<Kept>, AllocError> {
-        decode::kept_in(alloc, row)
+    fn reader(alloc: Global) -> KeptReader {
+        KeptReader::new(alloc)
+    }
+
+    fn decode(reader: &mut KeptReader, row: &Row) -> Result<Option<Kept>, AllocError> {
+        reader.read(row)
     }
 }
 
-fn read_one<R: Decoded>(alloc: Global, row: &Row) -> Result<R, Error>
+fn read_one<R: Decoded>(reader: &mut R::Reader, row: &Row) -> Result<R, Error>
     ensures one { IfOk result (λ one. Some one ≡ R.in_row row.now) }
     ensures bad { IfErr result (FailsToDecode R.in_row (row.now ∷ [])) }
 {
-    match R::decode(alloc, row) {
+    match R::decode(reader, row) {
         Ok(Some(record)) => Ok(record),
         Ok(None) => Err(Error::SqliteFailure(ErrorCode::DatabaseCorrupt)),
         Err(_) => Err(Error::SqliteFailure(ErrorCode::OutOfMemory)),
@@ -103,9 +131,10 @@ pub(crate) fn records<R: Decoded>(alloc: Global, rows: &[Row]) -> Result<Vec<R>,
     ensures records { IfOk result (λ records. map Some records.items ≡ map R.in_row rows.now) }
     ensures bad { IfErr result (FailsToDecode R.in_row rows.now) }
 {
+    let mut reader = R::reader(alloc);
     let mut records = Vec::new(alloc);
     for row in rows {
-        let one = read_one(alloc, row)?;
+        let one = read_one(&mut reader, row)?;
         add(&mut records, one)?;
     }
     Ok(records)
@@ -117,7 +146,7 @@ pub(crate) fn first<R: Decoded>(alloc: Global, rows: &[Row]) -> Result<Option<R>
     ensures bad { IfErr result (FailsToDecode R.in_row rows.now) }
 {
     match rows.first() {
-        Some(row) => Ok(Some(read_one(alloc, row)?)),
+        Some(row) => Ok(Some(read_one(&mut R::reader(alloc), row)?)),
         None => Ok(None),
     }
 }
