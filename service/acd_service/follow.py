@@ -3,7 +3,10 @@ each to a desk of its own over a file.
 
 It feeds the next one once it has compared the copy's reply with the desk's. Each time it asks for the copy's last
 request once more: if the desk has another one there, or fewer requests, the two have different histories, and it feeds
-nothing more. It is tested, not proved."""
+nothing more. It is tested, not proved.
+
+Where it is to stand by, a person's order, the signal SIGUSR1, makes of the copy the desk that serves: that desk gets
+the line `serve`, and no request after it. By itself it never gives it."""
 import argparse
 import contextlib
 import json
@@ -31,6 +34,8 @@ BEYOND = 999_999_999_999_999
 OPEN_ELSEWHERE = 4
 DIFFERS, LACKS = 3, 4
 DECODER = json.JSONDecoder()
+# the order to serve
+ORDER = signal.SIGUSR1
 # there is something in it once a signal came
 ending: list[bool] = []
 
@@ -41,6 +46,10 @@ class Again(Exception):
 
 class Ended(Exception):
     """A signal wants it to end."""
+
+
+class Ordered(Exception):
+    """A person wants the copy to serve."""
 
 
 def moment_text(moment: float) -> str:
@@ -128,11 +137,23 @@ def remove(file: Path) -> None:
         part.unlink(missing_ok=True)
 
 
-class Copy:
-    """A desk's file, kept by the desk's program, which is fed by lines."""
+@contextlib.contextmanager
+def unordered() -> Iterator[None]:
+    """No order comes meanwhile: it waits."""
+    before = signal.pthread_sigmask(signal.SIG_BLOCK, {ORDER})
+    try:
+        yield
+    finally:
+        signal.pthread_sigmask(signal.SIG_SETMASK, before)
 
-    def __init__(self, program: str, file: str) -> None:
-        self.program, self.file = program, file
+
+class Copy:
+    """A desk's file, kept by the desk's program, which is fed by lines. With the words of a service that desk listens
+    from the start, and serves once it is told to."""
+
+    def __init__(self, program: str, file: str, service: list[str] | None = None) -> None:
+        self.program, self.file, self.service = program, file, service
+        self.serves = False
         self.desk: subprocess.Popen[bytes] | None = None
         # the last request that it has, by number and whole; before it is opened nobody knows
         self.last, self.is_known = 0, False
@@ -183,9 +204,11 @@ class Copy:
             os.link(new, self.file)
 
     def start(self, file: Path | str) -> None:
+        words = [self.program, "lines", "--file", file, "--reads"]
+        if self.service is not None and file == self.file:
+            words = [self.program, "standby", "--file", file, "--endless", *self.service]
         try:
             # a signal of the terminal isn't for it
-            words = [self.program, "lines", "--file", file, "--reads"]
             self.desk = subprocess.Popen(words, stdin=subprocess.PIPE, stdout=subprocess.PIPE, process_group=0)
         except OSError as fault:
             raise Fault(f"{self.program}: {fault.strerror}") from None
@@ -208,9 +231,10 @@ class Copy:
         """The status and the body of the answer to a line."""
         assert self.desk and self.desk.stdin and self.desk.stdout
         try:
-            self.desk.stdin.write(f"{line}\n".encode("latin-1"))
-            self.desk.stdin.flush()
-            status, _, body = self.desk.stdout.readline().partition(b" ")
+            with unordered():
+                self.desk.stdin.write(f"{line}\n".encode("latin-1"))
+                self.desk.stdin.flush()
+                status, _, body = self.desk.stdout.readline().partition(b" ")
         except OSError as fault:
             raise Again(f"its desk doesn't answer: {fault.strerror}") from None
         if not body.endswith(b"\n"):
@@ -229,18 +253,34 @@ class Copy:
             self.look()
         return answer
 
+    def serve(self) -> str:
+        """Has its desk serve; the line that it says then."""
+        assert self.desk and self.desk.stdin and self.desk.stdout
+        self.serves = True
+        with contextlib.suppress(OSError):
+            self.desk.stdin.write(b"serve\n")
+            self.desk.stdin.flush()
+        line = self.desk.stdout.readline().decode("latin-1")
+        if not line.endswith("\n"):
+            raise Fault(f"{self.file} doesn't serve: its desk ended with status {self.desk.wait()}")
+        return line.strip()
+
     def close(self) -> int:
         """Has its desk end, and close the file; the status that it ends with."""
         if self.desk is None:
             return 0
         desk, self.desk = self.desk, None
         assert desk.stdin and desk.stdout
+        is_up = desk.poll() is None
+        if self.serves:
+            desk.terminate()
         # where it has ended by itself there is a line left that nobody read
         with contextlib.suppress(OSError):
             desk.stdin.close()
         status = desk.wait()
         desk.stdout.close()
-        return status
+        # one that stands by, and has its input closed, says that it wasn't told to serve
+        return 0 if is_up and self.service is not None else status
 
 
 @contextlib.contextmanager
@@ -416,6 +456,11 @@ def parser() -> command.Parser:
     found.add_argument("--once", action="store_true", help="end as soon as the copy has all that the desk told")
     found.add_argument("--last", action="store_true",
                        help="print what was last said of the copy, and end; it takes no URL")
+    found.add_argument("--port", type=int, metavar="P",
+                       help="stand by: the port at which the copy's desk listens, and serves once SIGUSR1 says so")
+    found.add_argument("--socket", metavar="PATH", help="the same at a Unix socket")
+    found.add_argument("--tick", type=int, metavar="SECONDS", help="how often that desk ticks then")
+    found.add_argument("--patience", type=int, metavar="SECONDS", help="how long it waits for a client then")
     found.add_argument("--desk", default="acd", metavar="PROGRAM",
                        help="the desk's program that keeps the copy; acd unless given")
     reach.add_login_options(found)
@@ -430,6 +475,8 @@ def read(words: list[str]) -> argparse.Namespace:
     if not options.last:
         if not options.address or not options.file:
             found.error("URL and --file have to be given, or --last")
+        if service_of(options) and (options.port is None) == (options.socket is None):
+            found.error("to stand by takes either --port or --socket")
         reach.check(found, options)
     return options
 
@@ -449,16 +496,53 @@ def end(*_: object) -> None:
         raise Ended
 
 
+def order(*_: object) -> None:
+    """The first order alone counts."""
+    signal.signal(ORDER, signal.SIG_IGN)
+    raise Ordered
+
+
+def service_of(options: argparse.Namespace) -> list[str] | None:
+    """The words of the service that the copy's desk is to be, where it is to stand by."""
+    given = [("--port", options.port), ("--socket", options.socket), ("--tick", options.tick),
+             ("--patience", options.patience)]
+    words = [word for name, value in given if value is not None for word in (name, str(value))]
+    return words or None
+
+
+def serve(copy: Copy) -> int:
+    """Has the copy's desk serve, until it ends or a signal does; the status."""
+    if not copy.is_known or copy.desk is None:
+        copy.close()
+        copy.open()
+    say(f"{copy.file} serves from request {copy.last} on: {copy.serve()}")
+    assert copy.desk
+    status = copy.desk.wait()
+    raise Fault(f"{copy.file} serves no more: its desk ended with status {status}")
+
+
+def followed(follower: Follower) -> int:
+    """Follows until it is ended, has caught up where that is wanted, or is ordered to serve, and then serves."""
+    try:
+        follower.follow()
+    except Ordered:
+        return serve(follower.copy)
+    return 0
+
+
 def follow(options: argparse.Namespace) -> int:
-    """Follows until it is ended, or has caught up where that is wanted; the status."""
+    """The same, until a signal ends it; the status."""
     os.umask(0o077)
     for one in command.ENDING:
         signal.signal(one, end)
-    copy, status = Copy(options.desk, options.file), 0
+    service = service_of(options)
+    copy, status = Copy(options.desk, options.file, service), 0
     follower: Follower | None = None
     try:
         follower = Follower(reach.desk_at(options), copy, options.once)
-        follower.follow()
+        if service:
+            signal.signal(ORDER, order)
+        status = followed(follower)
     except Ended:
         pass
     except Fault as fault:

@@ -30,7 +30,7 @@ use Rattle.acd_program.specs.declared.asked.Address.TheVariants.{Port, Socket}
 use Rattle.acd_program.specs.declared.asked.Retention.{Retention}
 use Rattle.acd_program.specs.declared.asked.Retention.TheVariants.{Days, Records}
 use Rattle.acd_program.specs.declared.asked.Task.{Task}
-use Rattle.acd_program.specs.declared.asked.Task.TheVariants.{Lines, Serve, Import, AuditWhole, AuditWithArchive, Prune, ExportWithArchives, Read}
+use Rattle.acd_program.specs.declared.asked.Task.TheVariants.{Lines, Serve, Standby, Import, AuditWhole, AuditWithArchive, Prune, ExportWithArchives, Read}
 use Rattle.acd_program.specs.declared.desk.Printout.TheVariants.{Report, Export}
 use Rattle.acd_program.specs.declared.desk.Work.TheVariants as kind
 
@@ -162,6 +162,7 @@ module _ (options : List Row) where
   pub no_service : ((file : Bor Text) (address : Address) (span : Span) → IsText (codes "file") options file → IsAddress options address → IsSpan options span → ⊥)
       → (task : Task) → ¬ IsTaskWith (codes "serve") options task
   no_service none (Serve file address span) h = none file address span h.1 h.2 h.3
+  no_service none (Standby file address step patience) h = apart (codes "serve") (codes "standby") refl h.0
   no_service none (Lines file reads ends) h = apart (codes "serve") (codes "lines") refl h.0
   no_service none (Import file plan) h = apart (codes "serve") (codes "import") refl h.0
   no_service none (AuditWhole file counts) h = apart (codes "serve") (codes "audit") refl h.0.0
@@ -173,10 +174,26 @@ module _ (options : List Row) where
   no_service none (Read file (kind.Audit counts ending)) h = apart (codes "serve") (codes "audit") refl h.1.0
   no_service none (Read file (kind.Import requests)) h = h.1
 
+  pub no_standby : ((file : Bor Text) (address : Address) (step patience : Option Duration) → IsText (codes "file") options file → IsAddress options address → true ≡ is_given (codes "endless") options
+      → IsSeconds (codes "tick") options step → IsSeconds (codes "patience") options patience → ⊥) → (task : Task) → ¬ IsTaskWith (codes "standby") options task
+  no_standby none (Standby file address step patience) h = none file address step patience h.1 h.2 h.3.0 h.3.1 h.3.2
+  no_standby none (Lines file reads ends) h = apart (codes "standby") (codes "lines") refl h.0
+  no_standby none (Serve file address span) h = apart (codes "standby") (codes "serve") refl h.0
+  no_standby none (Import file plan) h = apart (codes "standby") (codes "import") refl h.0
+  no_standby none (AuditWhole file counts) h = apart (codes "standby") (codes "audit") refl h.0.0
+  no_standby none (AuditWithArchive file archive counts whole) h = apart (codes "standby") (codes "audit") refl h.0.0
+  no_standby none (Prune file archive retention quiet) h = apart (codes "standby") (codes "prune") refl h.0
+  no_standby none (ExportWithArchives file archives) h = apart (codes "standby") (codes "export") refl h.0
+  no_standby none (Read file (kind.Print Report)) h = apart (codes "standby") (codes "report") refl h.1
+  no_standby none (Read file (kind.Print Export)) h = apart (codes "standby") (codes "export") refl h.1.0
+  no_standby none (Read file (kind.Audit counts ending)) h = apart (codes "standby") (codes "audit") refl h.1.0
+  no_standby none (Read file (kind.Import requests)) h = h.1
+
   pub no_import : ((file plan : Bor Text) → IsText (codes "file") options file → IsText (codes "plan") options plan → ⊥) → (task : Task) → ¬ IsTaskWith (codes "import") options task
   no_import none (Import file plan) h = none file plan h.1 h.2
   no_import none (Lines file reads ends) h = apart (codes "import") (codes "lines") refl h.0
   no_import none (Serve file address span) h = apart (codes "import") (codes "serve") refl h.0
+  no_import none (Standby file address step patience) h = apart (codes "import") (codes "standby") refl h.0
   no_import none (AuditWhole file counts) h = apart (codes "import") (codes "audit") refl h.0.0
   no_import none (AuditWithArchive file archive counts whole) h = apart (codes "import") (codes "audit") refl h.0.0
   no_import none (Prune file archive retention quiet) h = apart (codes "import") (codes "prune") refl h.0
@@ -191,6 +208,7 @@ module _ (options : List Row) where
   no_prune none (Prune file archive retention quiet) h = none file archive retention h.1 h.2.0 h.2.1
   no_prune none (Lines file reads ends) h = apart (codes "prune") (codes "lines") refl h.0
   no_prune none (Serve file address span) h = apart (codes "prune") (codes "serve") refl h.0
+  no_prune none (Standby file address step patience) h = apart (codes "prune") (codes "standby") refl h.0
   no_prune none (Import file plan) h = apart (codes "prune") (codes "import") refl h.0
   no_prune none (AuditWhole file counts) h = apart (codes "prune") (codes "audit") refl h.0.0
   no_prune none (AuditWithArchive file archive counts whole) h = apart (codes "prune") (codes "audit") refl h.0.0
@@ -204,6 +222,7 @@ module _ (options : List Row) where
   pub no_file : ((file : Bor Text) → ¬ IsText (codes "file") options file) → (command : Text) → bytes_eq command (codes "lines") ≡ false → (task : Task) → ¬ IsTaskWith command options task
   no_file none command other (Lines file reads ends) h = apart command (codes "lines") other h.0
   no_file none command other (Serve file address span) h = none file h.1
+  no_file none command other (Standby file address step patience) h = none file h.1
   no_file none command other (Import file plan) h = none file h.1
   no_file none command other (AuditWhole file counts) h = none file h.0.1
   no_file none command other (AuditWithArchive file archive counts whole) h = none file h.0.1
@@ -254,20 +273,21 @@ no_seconds id options number none None h = none h
 pub unnumbered : (bits : ℕ) (id : Text) (options : List Row) (n : ℕ) → has_option id options ≡ false → ¬ IsNumber bits id options n
 unnumbered bits id options n none h = true≢false (sym (number_given bits id options n h) ∙ none)
 
--- a command that is none of the seven
-pub no_other : (command : Text) (options : List Row) → command ≢ codes "lines" → command ≢ codes "serve" → command ≢ codes "import" → command ≢ codes "report" → command ≢ codes "export" → command ≢ codes "audit"
+-- a command that is none of the eight
+pub no_other : (command : Text) (options : List Row) → command ≢ codes "lines" → command ≢ codes "serve" → command ≢ codes "standby" → command ≢ codes "import" → command ≢ codes "report" → command ≢ codes "export" → command ≢ codes "audit"
     → command ≢ codes "prune" → (task : Task) → ¬ IsTaskWith command options task
-no_other command options a b c d e f p (Lines file reads ends) h = a h.0
-no_other command options a b c d e f p (Serve file address span) h = b h.0
-no_other command options a b c d e f p (Import file plan) h = c h.0
-no_other command options a b c d e f p (AuditWhole file counts) h = f h.0.0
-no_other command options a b c d e f p (AuditWithArchive file archive counts whole) h = f h.0.0
-no_other command options a b c d e f p (Prune file archive retention quiet) h = p h.0
-no_other command options a b c d e f p (ExportWithArchives file archives) h = e h.0
-no_other command options a b c d e f p (Read file (kind.Print Report)) h = d h.1
-no_other command options a b c d e f p (Read file (kind.Print Export)) h = e h.1.0
-no_other command options a b c d e f p (Read file (kind.Audit counts ending)) h = f h.1.0
-no_other command options a b c d e f p (Read file (kind.Import requests)) h = h.1
+no_other command options a b s c d e f p (Lines file reads ends) h = a h.0
+no_other command options a b s c d e f p (Serve file address span) h = b h.0
+no_other command options a b s c d e f p (Standby file address step patience) h = s h.0
+no_other command options a b s c d e f p (Import file plan) h = c h.0
+no_other command options a b s c d e f p (AuditWhole file counts) h = f h.0.0
+no_other command options a b s c d e f p (AuditWithArchive file archive counts whole) h = f h.0.0
+no_other command options a b s c d e f p (Prune file archive retention quiet) h = p h.0
+no_other command options a b s c d e f p (ExportWithArchives file archives) h = e h.0
+no_other command options a b s c d e f p (Read file (kind.Print Report)) h = d h.1
+no_other command options a b s c d e f p (Read file (kind.Print Export)) h = e h.1.0
+no_other command options a b s c d e f p (Read file (kind.Audit counts ending)) h = f h.1.0
+no_other command options a b s c d e f p (Read file (kind.Import requests)) h = h.1
 
 -- a rule between options that is broken is no call for help
 pub conflict_is_no_help : (kind : ErrorKind) → kind ≡ ArgumentConflict → ¬ IsHelp kind

@@ -10,6 +10,7 @@ pub mod Tasks
 pub mod Begun
 pub mod Lone
 pub mod ServeDone
+pub mod StandingBy
 pub mod LinesOver
 pub mod Inputs
 pub mod Plans

@@ -1,5 +1,5 @@
 -- A desk over a book, as it is seen from outside; over that of a database, each book is called sound where the first was.
-use Rattle.std.proofs.Common.{◌≡◌, inl, inr, ℕ, Bool, true, List, [], ◌∷◌, Option, Some, None, is_some, Result, Ok, Err, sym, ap, subst, ◌∙◌, ◌&&◌, refl}
+use Rattle.std.proofs.Common.{◌≡◌, inl, inr, ℕ, Bool, true, false, List, [], ◌∷◌, Option, Some, None, is_some, Result, Ok, Err, sym, ap, subst, ◌∙◌, ◌&&◌, refl}
 use Rattle.std.proofs.lemmas.Result.{on_ok_weaker}
 use Rattle.sqlite.specs.Held.{Held, state}
 use Rattle.sqlite.specs.State.{State, HasCleanDisk}
@@ -37,6 +37,7 @@ use Rattle.acd_http.specs.Turns.{Turn, LookedAt, Turned, TurnedEach, TurnedWell,
 use Rattle.acd_http.specs.Turns as turn
 use Rattle.acd_http.specs.ReadingLines.{ReadingLine, plain, get, reading_line_of, ReadingAnswers}
 use Rattle.acd_io.specs.Sent.{Begins}
+use Rattle.std.specs.Io.KnownBytes.{Appends}
 use Rattle.acd_program.specs.Answered.{in_memory}
 use Rattle.acd_program.specs.Desks.{OverDatabase, OverNewDesk, in_database}
 use Rattle.acd_program.specs.Faults.{command_result}
@@ -44,6 +45,7 @@ use Rattle.acd_program.specs.Over.{held, unmade, LeavesBooks}
 use Rattle.acd_program.specs.LinesOver.{in_turn, Whole, LinesEnded}
 use Rattle.acd_program.specs.Seen.{Seen, seen, SeenNew, InDatabase, left_of, SeenOver, SeenIn}
 use Rattle.acd_program.specs.Serving.{TurnsOf, ServeEnded, ends_failed}
+use Rattle.acd_program.specs.Standby.{OrderedService, StandbyEnded}
 use Rattle.acd_program.specs.Taking.{IsOf}
 use Rattle.acd_program.specs.declared.fault.WorkFault.{WorkFault}
 use Rattle.acd_program.specs.declared.asked.Address.{Address}
@@ -313,6 +315,21 @@ module _ {D T : Type 0} (stands : D → Standing) (stood : T → Standing) (view
     serve_seen span old_errors new_errors address old_output new_output r (inr h) =
         let each = taken_seen span (Begins old_errors new_errors) h.0.taken in
         (each.0, inr (record { taken = each.1; ended = h.0.ended ∙ ap (λ (b : Bool). command_result (Ok tt) (ends_failed span.connections b)) (sym (v.failed e)) }, h.1))
+
+  -- ---- lines up to the order, and then connections
+
+  pub standby_seen : (d e : D) → Kept d → (to_do : OrderedService) (r : Result (Unit {0}) WorkFault) → StandbyEnded stands to_do r d e → Kept e × StandbyEnded stood to_do r (view d) (view e)
+  standby_seen d e k to_do r (inl h) =
+      (same_kept d e h.same k, inl (record { why = h.why; ended = h.ended; same = ap view h.same; quiet = h.quiet; unsaid = h.unsaid }))
+  standby_seen d e k to_do r (inr (inl h)) =
+      let done = done_seen d e k false to_do.io h.ended h.lines in
+      (done.0, inr (inl (record { ended = h.ended; lines = done.1; outcome = h.outcome; quiet = h.quiet })))
+  standby_seen d e k to_do r (inr (inr h)) =
+      let mid = kept_after d h.between k to_do.IsOrdered (Appends to_do.io.old_output h.answered) h.lines in
+      let served = serve_seen h.between e mid to_do.span to_do.old_errors to_do.new_errors to_do.address h.answered to_do.io.new_output r h.served in (
+        served.0,
+        inr (inr (record { between = view h.between; answered = h.answered; lines = lines_seen d h.between k to_do.IsOrdered (Appends to_do.io.old_output h.answered) h.lines; served = served.1 })),
+      )
 
 -- ---- over a new book in memory
 

@@ -47,7 +47,7 @@ pub begins_turns : {D E : Type 0} (stands : D → Standing) (span : Span) (d e :
 begins_turns stands span d e r a b h =
     (h.0, record { turns = h.1.turns; count = h.1.count; turned = h.1.turned; well = h.1.well; out = begun r a b (turn_lines 1 h.1.turns) h.1.out }, h.2)
 
-printed_for : {D : Type 0} (stands : D → Standing) (span : Span) (d e : D) (a b : Option (List ℕ)) → TurnsOf stands span d e (Begins a b) → PrintsServiceFaults a b
+pub printed_for : {D : Type 0} (stands : D → Standing) (span : Span) (d e : D) (a b : Option (List ℕ)) → TurnsOf stands span d e (Begins a b) → PrintsServiceFaults a b
 printed_for stands span d e a b h = (h.1.turns, h.1.out)
 
 -- an endless service without a fault is by a desk that hasn't failed
@@ -64,7 +64,7 @@ module _ (span : Span) (a b : Option (List ℕ)) (address : Address) (old_output
     serve_ended r d e line (inr some) = inr (some, line)
 
     -- without a fault the connections were answered as was asked for
-    serve_done : (u : Unit {0}) (d e : D) → ServeEnded span a b address old_output new_output stands (Ok u) d e → ServeDone stands span a b d e
+    pub serve_done : (u : Unit {0}) (d e : D) → ServeEnded span a b address old_output new_output stands (Ok u) d e → ServeDone stands span a b d e
     serve_done u d e (inl none) = absurd (ok_err none.0.ended)
     serve_done u d e (inr some) = record { taken = some.0.taken; well = well_for u span.connections (stands e).failed some.0.ended }
 

@@ -78,6 +78,7 @@ module _ {D : Type 0} (disk : Ghosts D) (IsFresh : Bool → D → Type 0) where
   pub elsewhere : (asked : Task) (io : Streams) (old_errors new_errors : Option (List ℕ)) (fault : Fault) → TaskEnded disk IsFresh asked io old_errors new_errors fault → fault_exit fault ≡ exit.OpenElsewhere → io.unread × io.unwritten
   elsewhere (task.Lines file reads ends) io old_errors new_errors fault h is = input_elsewhere file reads ends io fault h.1 is
   elsewhere (task.Serve file address span) io old_errors new_errors fault h is = (h.0, (opened_elsewhere fault (io.unwritten × (new_errors ≡ old_errors)) _ is h.1).0)
+  elsewhere (task.Standby file address step patience) io old_errors new_errors fault h is = (opened_elsewhere fault ((io.unread × io.unwritten) × (new_errors ≡ old_errors)) _ is h).0
   elsewhere (task.Import file plan) io old_errors new_errors fault h is = (h.0, opened_elsewhere fault io.unwritten _ is h.2)
   elsewhere (task.Read file work) io old_errors new_errors fault h is = (h.0, opened_elsewhere fault io.unwritten _ is h.2)
   elsewhere (task.AuditWithArchive file archive counts whole) io old_errors new_errors fault h is = (h.0, audited_elsewhere counts whole io.old_output io.new_output io.unwritten fault is h.2)

@@ -26,7 +26,7 @@ use Rattle.acd_program.specs.declared.asked.Address.TheVariants.{Port, Socket}
 use Rattle.acd_program.specs.declared.asked.Retention.{Retention}
 use Rattle.acd_program.specs.declared.asked.Retention.TheVariants.{Days, Records}
 use Rattle.acd_program.specs.declared.asked.Task.{Task}
-use Rattle.acd_program.specs.declared.asked.Task.TheVariants.{Lines, Serve, Import, AuditWhole, AuditWithArchive, Prune, ExportWithArchives, Read}
+use Rattle.acd_program.specs.declared.asked.Task.TheVariants.{Lines, Serve, Standby, Import, AuditWhole, AuditWithArchive, Prune, ExportWithArchives, Read}
 
 -- ---- the commands
 
@@ -62,6 +62,11 @@ serve_shape = with_rules (codes "serve")
     (required file_rule ∷ number_rule (codes "port") 65535 ∷ option_rule (codes "socket") ∷ number_rule (codes "connections") 1000000 ∷ flag_rule (codes "endless")
     ∷ number_rule (codes "tick") 3600 ∷ number_rule (codes "patience") 3600 ∷ [])
 
+abbrev pub standby_shape : Shape
+standby_shape = with_rules (codes "standby")
+    (required file_rule ∷ number_rule (codes "port") 65535 ∷ option_rule (codes "socket") ∷ flag_rule (codes "endless") ∷ number_rule (codes "tick") 3600
+    ∷ number_rule (codes "patience") 3600 ∷ [])
+
 abbrev pub import_shape : Shape
 import_shape = with_rules (codes "import") (required file_rule ∷ required (option_rule (codes "plan")) ∷ [])
 
@@ -84,7 +89,7 @@ prune_shape = with_rules (codes "prune")
 abbrev pub acd : App
 acd = record {
   top = record (new_shape (codes "acd")) { has_version = true; subcommand_required = true; is_leaf = false };
-  subs = lines_shape ∷ serve_shape ∷ import_shape ∷ report_shape ∷ export_shape ∷ audit_shape ∷ prune_shape ∷ [];
+  subs = lines_shape ∷ serve_shape ∷ standby_shape ∷ import_shape ∷ report_shape ∷ export_shape ∷ audit_shape ∷ prune_shape ∷ [];
 }
 
 -- a parse reads just this of the command, and of the option
@@ -150,6 +155,10 @@ IsSeconds name options None = has_option name options ≡ false
 abbrev pub IsSpan : List Row → Span → Type 0
 IsSpan options span = IsConnections options span.connections × IsSeconds (codes "tick") options span.step × IsSeconds (codes "patience") options span.patience
 
+-- no end is asked for by its word, a look each time that `--tick` names, and the patience that is asked for
+abbrev pub IsEndless : List Row → Option Duration → Option Duration → Type 0
+IsEndless options step patience = IsFlag (codes "endless") options true × IsSeconds (codes "tick") options step × IsSeconds (codes "patience") options patience
+
 -- what a prune leaves, of so many days or so many records: one of both was asked for
 abbrev pub IsRetention : List Row → Retention → Type 0
 IsRetention options (Days n) = IsNumber 32 (codes "days") options n × (has_option (codes "keep") options ≡ false)
@@ -177,6 +186,8 @@ IsTaskWith command options (Lines file reads ends) =
     (command ≡ codes "lines") × IsFileIfGiven options file × IsFlag (codes "reads") options reads × IsFlag (codes "end-on-store-fault") options ends
 IsTaskWith command options (Serve file address span) =
     (command ≡ codes "serve") × IsText (codes "file") options file × IsAddress options address × IsSpan options span
+IsTaskWith command options (Standby file address step patience) =
+    (command ≡ codes "standby") × IsText (codes "file") options file × IsAddress options address × IsEndless options step patience
 IsTaskWith command options (Import file plan) = (command ≡ codes "import") × IsText (codes "file") options file × IsText (codes "plan") options plan
 IsTaskWith command options (AuditWhole file counts) = IsAuditOf command options file counts true × HasNone (codes "archive") options
 IsTaskWith command options (AuditWithArchive file archive counts whole) = IsAuditOf command options file counts whole × IsText (codes "archive") options archive

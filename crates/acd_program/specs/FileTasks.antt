@@ -22,9 +22,11 @@ use Rattle.acd_program.specs.Over.{OverConnection}
 use Rattle.acd_program.specs.Pruning.{IsPruningInOrder, BookPruned, LeavesPruned}
 use Rattle.acd_program.specs.Serving.{Service}
 use Rattle.acd_program.specs.Statuses.{IsDone, status_number, exit_number, fault_exit}
-use Rattle.acd_program.specs.Tasks.{WorkedIn, ImportedIn, ServeDoneIn, FileAnswered, InputAnswered, WholeAudit, AuditedWith, PrunedWith, Exported, TaskDone}
-use Rattle.acd_program.specs.TasksEnded.{EndedIn, LinesLeft, WorkEndedIn, PlanEnded, AuditEnded, AuditWithArchiveEnded, PruneEnded, ExportEnded, ServiceEnded, InputEnded, TaskEnded}
+use Rattle.acd_program.specs.Tasks.{WorkedIn, ImportedIn, ServeDoneIn, StandbyDoneIn, FileAnswered, InputAnswered, WholeAudit, AuditedWith, PrunedWith, Exported, TaskDone}
+use Rattle.acd_program.specs.TasksEnded.{EndedIn, LinesLeft, WorkEndedIn, PlanEnded, AuditEnded, AuditWithArchiveEnded, PruneEnded, ExportEnded, ServiceEnded, StandbyTaskEnded, InputEnded, TaskEnded}
 use Rattle.acd_program.specs.WithArchive.{AskedWithArchive, AuditsWithArchive, AuditedWithArchive, BookAskedWithArchive}
+use Rattle.acd_http.specs.declared.serving.Span.{Span}
+use Rattle.acd_program.specs.declared.asked.Address.{Address}
 use Rattle.acd_program.specs.declared.asked.Task.{Task}
 use Rattle.acd_program.specs.declared.auditing.Finding.{Finding}
 use Rattle.acd_program.specs.declared.desk.Done.{Done}
@@ -120,6 +122,13 @@ module _ {S : Type 0} {host : calls.Ghosts Host} {known : start.Ghosts S} (disk 
   -- so a desk of the files answered so many connections, or answered them until it failed; or, where a fault ended it, so
   abbrev pub EndsFileService : Service → Result (Unit {0}) Fault → Type 0
   EndsFileService to_do result = MatchResult result (λ done. ServeDoneIn disk IsFresh to_do.span to_do.errors.before to_do.errors.after) (λ fault. EndsService to_do fault)
+
+  -- so a desk of the files answered the lines of an input up to the order, and then connections at an address; or, where a fault ended it, so
+  abbrev pub StoodBy : Span × Address → Streams → Output → Type 0
+  StoodBy service io errors = StandbyDoneIn disk IsFresh service.0 service.1 io errors.before errors.after
+
+  abbrev pub StandsOver : Span × Address → Streams → Output → Result (Unit {0}) Fault → Type 0
+  StandsOver service io errors result = MatchResult result (λ done. StoodBy service io errors) (StandbyTaskEnded disk IsFresh service io (errors.before, errors.after))
 
   -- ---- tasks
 

@@ -16,6 +16,7 @@ pub mod Logs
 pub mod Desks
 pub mod Seen
 pub mod Serving
+pub mod Standby
 pub mod LinesOver
 pub mod Sessions
 pub mod Tasks

@@ -6,7 +6,7 @@ use Rattle.std.specs.declared.io.ErrorKind.{ErrorKind}
 use Rattle.std.specs.declared.io.ErrorKind.TheVariants as kind
 use Rattle.acd_program.specs.Files.{new_page}
 use Rattle.acd_program.specs.declared.asked.Task.{Task}
-use Rattle.acd_program.specs.declared.asked.Task.TheVariants.{Lines, Serve, Import, AuditWhole, AuditWithArchive, Prune, ExportWithArchives, Read}
+use Rattle.acd_program.specs.declared.asked.Task.TheVariants.{Lines, Serve, Standby, Import, AuditWhole, AuditWithArchive, Prune, ExportWithArchives, Read}
 use Rattle.acd_program.specs.declared.reason.Reason.{Reason}
 use Rattle.acd_program.specs.declared.reason.Reason.TheVariants.{Absent, BelowNoFolder, NoPermission, AnotherProgram, NoDatabase, NoDesk, NoVersion}
 use Rattle.acd_program.specs.declared.reasons.Owner.{Owner}
@@ -46,6 +46,7 @@ archive_of _ = None
 abbrev pub file_of : Task → Option (Bor (List ℕ))
 file_of (Lines file reads ends) = file
 file_of (Serve file address span) = Some file
+file_of (Standby file address step patience) = Some file
 file_of (Import file plan) = Some file
 file_of (AuditWhole file counts) = Some file
 file_of (AuditWithArchive file archive counts whole) = None

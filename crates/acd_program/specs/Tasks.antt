@@ -21,6 +21,9 @@ use Rattle.acd_program.specs.Work.{WasAsked, IsTextOf, ImportsOver}
 use Rattle.acd_program.specs.InFiles.{OfFiles, IsLaidIn, WorkedOver, IsOpenedFrom, InFile}
 use Rattle.acd_http.specs.declared.serving.Span.{Span}
 use Rattle.acd_program.specs.Serving.{ServeDone}
+use Rattle.acd_program.specs.Standby.{StandbyServed, upon_order}
+use Rattle.acd_program.specs.declared.asked.Address.{Address}
+use Rattle.std.specs.declared.time.Duration.{Duration}
 use Rattle.acd_program.specs.declared.auditing.Finding.{Finding}
 use Rattle.acd_program.specs.declared.desk.Work.{Work}
 use Rattle.acd_program.specs.declared.desk.Work.TheVariants as kind
@@ -31,7 +34,7 @@ use Rattle.acd_program.specs.declared.outcome.Pruning.{Pruning}
 use Rattle.acd_program.specs.declared.status.Status.{Status}
 use Rattle.acd_program.specs.declared.status.Status.TheVariants.{Success}
 use Rattle.acd_program.specs.declared.asked.Task.{Task}
-use Rattle.acd_program.specs.declared.asked.Task.TheVariants.{Lines, Serve, Import, AuditWhole, AuditWithArchive, Prune, ExportWithArchives, Read}
+use Rattle.acd_program.specs.declared.asked.Task.TheVariants.{Lines, Serve, Standby, Import, AuditWhole, AuditWithArchive, Prune, ExportWithArchives, Read}
 
 -- Each line of the input was answered, over a desk in memory: the answers to the requests among them are the abstract desk's or, where lines may be reads too, each line was answered by the desk that
 -- the lines before it left
@@ -47,6 +50,10 @@ IsSomeEnding ending = (log : List ℕ) × IsEndingOf log ending
 abbrev pub IsReadEnding : Bool → Ending → Type 0
 IsReadEnding true ending = IsSomeEnding ending
 IsReadEnding false ending = ending ≡ Plain
+
+-- a service that doesn't end, with such a step and patience
+abbrev pub endless : Option Duration → Option Duration → Span
+endless step patience = record { connections = None; step = step; patience = patience }
 
 -- `IsFresh is_log file` says that a file is a log, or a database file, that was just opened
 module _ {D : Type 0} (disk : Ghosts D) (IsFresh : Bool → D → Type 0) where
@@ -65,6 +72,15 @@ module _ {D : Type 0} (disk : Ghosts D) (IsFresh : Bool → D → Type 0) where
     pub last : OfFiles disk
     pub opened : IsOpenedFrom disk IsFresh conn
     pub answered : SeenIn over_files (λ (stands : Seen (InDatabase (FileStore D disk)) → Standing). ServeDone stands span old_output new_output) true (file_state conn) last
+    pub closed : IsLaidIn last
+
+  -- so one was, its desk answered the lines of the input up to the order, and then connections
+  pub record StandbyDoneIn (span : Span) (address : Address) (io : Streams) (old_errors new_errors : Option (List ℕ)) : Type 0 where
+    pub conn : OfFiles disk
+    pub last : OfFiles disk
+    pub left : Option (List ℕ)
+    pub opened : IsOpenedFrom disk IsFresh conn
+    pub answered : StandbyServed over_files (upon_order span address io left (old_errors, new_errors)) (file_state conn) last
     pub closed : IsLaidIn last
 
   -- so one was, and each line of the input was answered over it
@@ -127,6 +143,7 @@ module _ {D : Type 0} (disk : Ghosts D) (IsFresh : Bool → D → Type 0) where
   abbrev pub TaskDone : Task → Streams → Option (List ℕ) → Option (List ℕ) → Status → Type 0
   TaskDone (Lines file reads ends) io old_errors new_errors status = InputAnswered file reads ends io status
   TaskDone (Serve file address span) io old_errors new_errors status = ServeDoneIn span old_errors new_errors × (status ≡ Success)
+  TaskDone (Standby file address step patience) io old_errors new_errors status = StandbyDoneIn (endless step patience) address io old_errors new_errors × (status ≡ Success)
   TaskDone (Import file plan) io old_errors new_errors status = ImportedIn io.old_output io.new_output status
   TaskDone (Read file (kind.Import requests)) io old_errors new_errors status = InFile disk IsFresh (λ old new. ImportsOver requests.now old io.old_output io.new_output new) false × (status ≡ Success)
   TaskDone (Read file (kind.Print printout)) io old_errors new_errors status =

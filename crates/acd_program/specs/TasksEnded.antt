@@ -15,8 +15,9 @@ use Rattle.acd_program.specs.InFiles.{OfFiles, IsOpenedFrom, LeavesUnopened}
 use Rattle.acd_program.specs.Over.{OverConnection, Unserved}
 use Rattle.acd_http.specs.declared.serving.Span.{Span}
 use Rattle.acd_program.specs.Serving.{ServeIn}
+use Rattle.acd_program.specs.Standby.{StandbyIn, upon_order}
 use Rattle.acd_program.specs.Sessions.{DatabaseEnded, MemoryEnded}
-use Rattle.acd_program.specs.Tasks.{IsSomeEnding, IsReadEnding}
+use Rattle.acd_program.specs.Tasks.{IsSomeEnding, IsReadEnding, endless}
 use Rattle.acd_program.specs.Pruning.{BookPruned, LeftOver}
 use Rattle.acd_program.specs.declared.auditing.Finding.{Finding}
 use Rattle.acd_program.specs.declared.export.EventTable.{EventTable}
@@ -29,7 +30,7 @@ use Rattle.acd_program.specs.declared.desk.Work.TheVariants as kind
 use Rattle.acd_program.specs.declared.outcome.Pruning.{Pruning}
 use Rattle.acd_program.specs.declared.asked.Address.{Address}
 use Rattle.acd_program.specs.declared.asked.Task.{Task}
-use Rattle.acd_program.specs.declared.asked.Task.TheVariants.{Lines, Serve, Import, AuditWhole, AuditWithArchive, Prune, ExportWithArchives, Read}
+use Rattle.acd_program.specs.declared.asked.Task.TheVariants.{Lines, Serve, Standby, Import, AuditWhole, AuditWithArchive, Prune, ExportWithArchives, Read}
 
 -- `IsFresh is_log file` says that a file is a log, or a database file, that was just opened
 module _ {D : Type 0} (disk : Ghosts D) (IsFresh : Bool → D → Type 0) where
@@ -54,6 +55,15 @@ module _ {D : Type 0} (disk : Ghosts D) (IsFresh : Bool → D → Type 0) where
     pub shut : IsShut last
     pub ended : Result (Unit {0}) WorkFault
     pub answered : ServeIn span old_errors new_errors address old_output new_output over_files true (file_state conn) ended last
+    pub why : EndsBy ended fault
+
+  -- the standby ended, or closing its file did, and the connection was shut
+  pub record StandbyLeft (span : Span) (address : Address) (io : Streams) (old_errors new_errors : Option (List ℕ)) (fault : WorkFault) (conn : OfFiles disk) : Type 0 where
+    pub last : OfFiles disk
+    pub left : Option (List ℕ)
+    pub shut : IsShut last
+    pub ended : Result (Unit {0}) WorkFault
+    pub answered : StandbyIn over_files true (file_state conn) (upon_order span address io left (old_errors, new_errors)) ended last
     pub why : EndsBy ended fault
 
   -- an audit with an archive was done, and a beginning of what it found was printed
@@ -130,16 +140,22 @@ module _ {D : Type 0} (disk : Ghosts D) (IsFresh : Bool → D → Type 0) where
   abbrev pub ServiceEnded : Span → Address → Option (List ℕ) → Option (List ℕ) → Option (List ℕ) → Option (List ℕ) → Type 0 → Fault → Type 0
   ServiceEnded span address old_output new_output old_errors new_errors Unwritten fault = EndedIn fault (Unwritten × (new_errors ≡ old_errors)) (ServiceLeft span address old_output new_output old_errors new_errors)
 
+  -- the lines of an input up to the order, and then connections
+  abbrev pub StandbyTaskEnded : Span × Address → Streams → Option (List ℕ) × Option (List ℕ) → Fault → Type 0
+  StandbyTaskEnded service io errors fault =
+      EndedIn fault (Untouched io × (errors.1 ≡ errors.0)) (StandbyLeft service.0 service.1 io errors.0 errors.1)
+
   -- the lines of an input, over a desk in memory or over a file that was named
   abbrev pub InputEnded : {Name : Type 0} → Option Name → Bool → Bool → Streams → Fault → Type 0
   InputEnded None reads ends io fault = (why : LinesFault) × (fault ≡ ended_by.Work (lines_fault why)) × MemoryEnded reads io why
   InputEnded (Some file) reads ends io fault = EndedIn fault (Untouched io) (LinesLeft reads ends io)
 
-  -- A fault ended the task, from what was read to what was written, and to what was printed on the stream of errors before the fault itself was. No other task but lines reads, and none but a
-  -- service prints anything there.
+  -- A fault ended the task, from what was read to what was written, and to what was printed on the stream of errors before the fault itself was. No other task but lines and a standby reads, and
+  -- none but a service and a standby prints anything there.
   abbrev pub TaskEnded : Task → Streams → Option (List ℕ) → Option (List ℕ) → Fault → Type 0
   TaskEnded (Lines file reads ends) io old_errors new_errors fault = (new_errors ≡ old_errors) × InputEnded file reads ends io fault
   TaskEnded (Serve file address span) io old_errors new_errors fault = io.unread × ServiceEnded span address io.old_output io.new_output old_errors new_errors io.unwritten fault
+  TaskEnded (Standby file address step patience) io old_errors new_errors fault = StandbyTaskEnded (endless step patience, address) io (old_errors, new_errors) fault
   TaskEnded (Import file plan) io old_errors new_errors fault = io.unread × (new_errors ≡ old_errors) × PlanEnded io.old_output io.new_output io.unwritten fault
   TaskEnded (Read file work) io old_errors new_errors fault = io.unread × (new_errors ≡ old_errors) × WorkEndedIn false work io.old_output io.new_output io.unwritten fault
   TaskEnded (AuditWithArchive file archive counts whole) io old_errors new_errors fault = io.unread × (new_errors ≡ old_errors) × AuditWithArchiveEnded counts whole io.old_output io.new_output io.unwritten fault

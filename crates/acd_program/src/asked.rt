@@ -2,6 +2,7 @@
 
 use crate::desk::Work;
 use acd_http::Span;
+use std::time::Duration;
 
 /// Where a service waits for connections.
 #[derive(Clone, Copy)]
@@ -36,6 +37,14 @@ pub(crate) enum Task<'m, 'a> {
         file: &'a str,
         address: Address<'a>,
         span: Span,
+    },
+    /// Answer the lines of standard input, requests and reads, up to the order to serve; and then connections over HTTP,
+    /// until the store has failed, and tick between them, where that is asked for.
+    Standby {
+        file: &'a str,
+        address: Address<'a>,
+        step: Option<Duration>,
+        patience: Option<Duration>,
     },
     /// Take the requests of a plan.
     Import {

@@ -74,6 +74,9 @@ pub enum WorkFault {
     /// The address of a service is in use, or isn't given to this program.
     #[error("cannot listen")]
     CannotListen,
+    /// The lines of a standby ended without the order to serve.
+    #[error("not told to serve")]
+    NotTold,
     /// A prune found no place that the archive has, and at which the moment changes.
     #[error("no place to prune at")]
     NoPlace,

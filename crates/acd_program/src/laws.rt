@@ -4,8 +4,11 @@ ghost use Rattle.sqlite_std_file.specs.File.{IsFresh};
 ghost use Rattle.acd_program.specs.EachOnce.{TablesTellOnce};
 ghost use Rattle.acd_program.specs.Reopening.{BooksMakeDesks, ClosedOpens, FreshAreSynced, LeftOpens};
 ghost use Rattle.acd_program.specs.Sessions.{LinesAreSessions, LinesAreFromNothing};
+ghost use Rattle.acd_program.specs.Standby.{StandbyLeadsToTheRun};
+ghost use Rattle.acd_desk.specs.Standing.{standing};
 
-use acd_book::MemoryBook;
+use acd_book::{Book, MemoryBook};
+use acd_http::laws::reads_answer_by_the_run;
 use acd_lines::laws::requests_run;
 use acd_sqlbook::SqlBook;
 use sqlite::Alter;
@@ -57,3 +60,11 @@ pub fn fresh_are_synced<S: Start>()
 pub fn tables_tell_once()
     ensures { TablesTellOnce }
 {}
+
+/// The lines that a standby answers before its order, and the connections and ticks after it, are one run of one desk, in
+/// the order in which it took them.
+pub fn standby_leads_to_the_run<B: Book>()
+    ensures { StandbyLeadsToTheRun (standing B.Book) }
+{
+    reads_answer_by_the_run::<B>();
+}

@@ -32,6 +32,7 @@ mod rights;
 mod running;
 mod serving;
 mod session;
+mod standby;
 mod status;
 mod task;
 mod unconnected;

@@ -326,6 +326,7 @@ fn file_of<'a>(task: Task<'_, 'a>) -> Option<&'a str>
     match task {
         Task::Lines { file, .. } => file,
         Task::Serve { file, .. } => Some(file),
+        Task::Standby { file, .. } => Some(file),
         Task::Import { file, .. } => Some(file),
         Task::AuditWhole { file, .. } => Some(file),
         // of two files such a fault doesn't say which is at fault

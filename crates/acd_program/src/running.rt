@@ -6,7 +6,7 @@ ghost use Rattle.acd_lines.specs.Lines.{streams};
 ghost use Rattle.clap.specs.Words.{kind_of};
 ghost use Rattle.acd_program.specs.CommandLine.{IsRefused};
 ghost use Rattle.acd_program.specs.Ended.{EndsBoth, EndsWorkOn};
-ghost use Rattle.acd_program.specs.FileTasks.{EndsWorkIn, EndsImportIn, EndsWholeAudit, EndsAudit, EndsFileLines, EndsInput, EndsFileService, EndsPrune, EndsExport, EndsTask, ExitsTask, DoneOrHelp, FaultEnded};
+ghost use Rattle.acd_program.specs.FileTasks.{EndsWorkIn, EndsImportIn, EndsWholeAudit, EndsAudit, EndsFileLines, EndsInput, EndsFileService, EndsPrune, EndsExport, StandsOver, EndsTask, ExitsTask, DoneOrHelp, FaultEnded};
 ghost use Rattle.acd_program.specs.Output.{output};
 ghost use Rattle.acd_program.specs.Serving.{service};
 ghost use Rattle.acd_program.specs.Sessions.{EndsNewLines};
@@ -18,7 +18,7 @@ use crate::asked::{Address, Retention, Task};
 use crate::connection::database_lines;
 use crate::desk::{Done, Work, over_database};
 use crate::export::{Starts, UnknownStarts, table_over};
-use crate::fault::{Fault, LookFault, WorkFault};
+use crate::fault::{Fault, LookFault, OpeningFault, PathFault, WorkFault};
 use crate::file::{close_connection, connect, log_ending};
 use crate::laws::lines_are_from_nothing;
 use crate::looking::Looks;
@@ -28,6 +28,7 @@ use crate::printing::print;
 use crate::pruning::prune_over;
 use crate::reasons::explain;
 use crate::serving::serve;
+use crate::standby::stand_by;
 use crate::status::{Exit, Status};
 use crate::task::parse;
 use crate::with_archive::over_archive;
@@ -36,6 +37,7 @@ use acd_http::{RequestsAndReads, Span};
 use acd_lines::laws::requests_run;
 use acd_lines::{LinesFault, Requests};
 use acd_log::Ending;
+use acd_order::{Pending, UntilOrder};
 use clap::Error;
 use clap::error::ErrorKind;
 use sqlite::{Connection, File, FileFrom, FileStore};
@@ -317,6 +319,33 @@ fn serve_file<'a, S: Start, W: Write, E: Write>(
     }
 }
 
+// Answers lines up to the order, and then connections. What the lines need is taken before the file is opened.
+fn stand_by_file<'a, S: Start, R: Read, W: Write, E: Write>(
+    rt: &HostRuntime,
+    start: S,
+    file: &'a str,
+    address: Address<'_>,
+    span: Span,
+    reader: &mut R,
+    writer: &mut W,
+    errors: &mut E,
+) -> Result<(), Fault<'a>>
+    ensures { StandsOver ⟦<FileFrom<S> as Disk>⟧ (span, address.entry)
+        (streams R.remaining W.contents (reader.old, reader.new) (writer.old, writer.new))
+        (output E.contents errors.old errors.new) result }
+{
+    let Ok(pending) = Pending::new(rt.alloc()) else {
+        return Err(Fault::Opening(OpeningFault::Look(LookFault::Path(PathFault::NoMemory))));
+    };
+    let (conn, is_new) = connect(rt, file, true, start)?;
+    let mut lines = UntilOrder::new(pending, reader);
+    let (done, conn) = stand_by(rt, conn, is_new, address, span, &mut lines, writer, errors);
+    match done_and_closed(done, close_connection(conn)) {
+        Ok(()) => Ok(()),
+        Err(fault) => Err(Fault::Work(fault)),
+    }
+}
+
 // Does it, and says how it ended where no fault ended it. Other files may be opened beside the desk's.
 fn execute<'a, S: Start, O: Starts<S>, R: Read, W: Write, E: Write>(
     rt: &HostRuntime,
@@ -347,6 +376,22 @@ fn execute<'a, S: Start, O: Starts<S>, R: Read, W: Write, E: Write>(
             Ok(()) => Ok(Status::Success),
             Err(fault) => Err(fault),
         },
+        Task::Standby {
+            file,
+            address,
+            step,
+            patience,
+        } => {
+            let span = Span {
+                connections: None,
+                step,
+                patience,
+            };
+            match stand_by_file(rt, start, file, address, span, reader, writer, errors) {
+                Ok(()) => Ok(Status::Success),
+                Err(fault) => Err(fault),
+            }
+        }
         Task::Import { file, plan } => import_plan(rt, start, file, plan, writer),
         Task::AuditWhole { file, counts } => audit_whole(rt, start, file, counts, writer),
         Task::AuditWithArchive {
@@ -394,6 +439,15 @@ fn fail<E: Write>(fault: Fault<'_>, errors: &mut E) -> Exit
     fault.exit()
 }
 
+// Where the task listens.
+fn address_of<'a>(task: Task<'_, 'a>) -> Option<Address<'a>> {
+    match task {
+        Task::Serve { address, .. } => Some(address),
+        Task::Standby { address, .. } => Some(address),
+        _ => None,
+    }
+}
+
 // The same of a task that a fault ended; it says which address a service could not have.
 fn fail_task<E: Write>(task: Task<'_, '_>, fault: Fault<'_>, errors: &mut E) -> Exit
     ensures { result ≡ fault_exit fault.entry }
@@ -401,7 +455,7 @@ fn fail_task<E: Write>(task: Task<'_, '_>, fault: Fault<'_>, errors: &mut E) -> 
     let Fault::Work(WorkFault::CannotListen) = fault else {
         return fail(fault, errors);
     };
-    let Task::Serve { address, .. } = task else {
+    let Some(address) = address_of(task) else {
         return fail(fault, errors);
     };
     let _ = match address {

@@ -19,8 +19,8 @@ use acd_http::{Door, Polled, ServeFault, Span};
 use sqlite::{Alter, Connection};
 use std::io::{self, ErrorKind, Write};
 
-// The listener, where there is one.
-fn listening<D>(door: io::Result<D>) -> Result<D, WorkFault> {
+/// The listener, where there is one.
+pub(crate) fn listening<D>(door: io::Result<D>) -> Result<D, WorkFault> {
     match door {
         Ok(door) => Ok(door),
         Err(error) if error.kind() == ErrorKind::OutOfMemory => Err(WorkFault::NoMemory),
@@ -69,6 +69,24 @@ fn answer<D: Door, B: Book, E: Write>(
     }
 }
 
+/// The same, after the line that says where.
+pub(crate) fn say_and_answer<D: Door, B: Book, W: Write, E: Write>(
+    rt: &HostRuntime,
+    door: &mut D,
+    desk: &mut Desk<B>,
+    address: Address<'_>,
+    span: Span,
+    writer: &mut W,
+    errors: &mut E,
+) -> Result<(), WorkFault>
+    ensures { EndsService B.Book (desk.old, desk.new) result
+        (service span address.entry (output W.contents writer.old writer.new)
+        (output E.contents errors.old errors.new)) }
+{
+    say(address, writer)?;
+    answer(rt, door, desk, span, errors)
+}
+
 // Answers connections at a listener, where there is one.
 fn serve_at<D: Door + Drop, B: Book, W: Write, E: Write>(
     rt: &HostRuntime,
@@ -84,8 +102,7 @@ fn serve_at<D: Door + Drop, B: Book, W: Write, E: Write>(
         (output E.contents errors.old errors.new)) }
 {
     let mut door = listening(door)?;
-    say(address, writer)?;
-    answer(rt, &mut door, desk, span, errors)
+    say_and_answer(rt, &mut door, desk, address, span, writer, errors)
 }
 
 fn serve_desk<B: Book, W: Write, E: Write>(

@@ -2,7 +2,7 @@
 
 ghost use Rattle.std.specs.Prelude.{◌≡◌, [], false, codes, map, IsTrue, IfOk, IfErr};
 ghost use Rattle.clap.specs.Words.{app_of, found_of, kind_of, rows_of, subcommand_rows_of};
-ghost use Rattle.acd_program.specs.CommandLine.{HasApp, HasRule, IsTaskWith, FindsTask, FindsTaskIn, FindsAddress, FindsConnections, FindsRetention, FindsSeconds, FindsSpan, IsTaskOf, IsRefusedBy, AddsCommand, acd, export_shape, file_rule, flag_rule, import_shape, is_given, lines_shape, number_rule, option_rule, repeated, report_shape, audit_shape, prune_shape, serve_shape};
+ghost use Rattle.acd_program.specs.CommandLine.{HasApp, HasRule, IsTaskWith, FindsTask, FindsTaskIn, FindsAddress, FindsConnections, FindsRetention, FindsSeconds, FindsSpan, IsTaskOf, IsRefusedBy, AddsCommand, acd, export_shape, file_rule, flag_rule, import_shape, is_given, lines_shape, number_rule, option_rule, repeated, report_shape, audit_shape, prune_shape, serve_shape, standby_shape};
 ghost use Rattle.acd_program.specs.Statuses.{IsHelp};
 
 use crate::asked::{Address, Retention, Task};
@@ -17,7 +17,7 @@ use std::convert::AsStr;
 use std::time::Duration;
 
 /// The text that `acd --version` prints after the program's name: the version, and the toolchain that proved it.
-const VERSION: &str = "1.18 (rattle-kit-13f)";
+const VERSION: &str = "1.19 (rattle-kit-13f)";
 
 const FILE: &str = "file";
 
@@ -59,6 +59,8 @@ const NO_ADDRESS: &str = "the following required arguments were not provided:\n 
 const TWO_ADDRESSES: &str = "the argument '--port <P>' cannot be used with '--socket <PATH>'";
 
 const NO_END: &str = "the following required arguments were not provided:\n  --connections <N>";
+
+const NOT_ENDLESS: &str = "the following required arguments were not provided:\n  --endless";
 
 const TWO_ENDS: &str = "the argument '--connections <N>' cannot be used with '--endless'";
 
@@ -177,36 +179,61 @@ fn lines_command<'a>(alloc: Global) -> Result<Command<'a>, AllocError>
         ))
 }
 
-fn serve_command<'a>(alloc: Global) -> Result<Command<'a>, AllocError>
-    ensures { IfOk result (HasApp (record { top = serve_shape; subs = [] })) }
+fn port_option<'a>(alloc: Global) -> Arg<'a>
+    ensures { HasRule (number_rule (codes "port") 65535) result }
 {
-    let port = number_option(
+    number_option(
         alloc,
         PORT,
         "P",
         "The port to listen on, from 1 to 65535",
         GREATEST_PORT,
-    );
+    )
+}
+
+fn tick_option<'a>(alloc: Global) -> Arg<'a>
+    ensures { HasRule (number_rule (codes "tick") 3600) result }
+{
+    number_option(
+        alloc,
+        TICK,
+        "SECONDS",
+        "Look this often for overdue rings and after-call work, and end them: 1 to 3600",
+        MOST_SECONDS,
+    )
+}
+
+fn patience_option<'a>(alloc: Global) -> Arg<'a>
+    ensures { HasRule (number_rule (codes "patience") 3600) result }
+{
+    number_option(
+        alloc,
+        PATIENCE,
+        "SECONDS",
+        "Wait this long for a client's request, and for it to read its reply: 1 to 3600",
+        MOST_SECONDS,
+    )
+}
+
+fn endless_option<'a>(alloc: Global) -> Arg<'a>
+    ensures { HasRule (flag_rule (codes "endless")) result }
+{
+    flag(
+        alloc,
+        ENDLESS,
+        "Serve without end; exit only if the store fails",
+    )
+}
+
+fn serve_command<'a>(alloc: Global) -> Result<Command<'a>, AllocError>
+    ensures { IfOk result (HasApp (record { top = serve_shape; subs = [] })) }
+{
     let connections = number_option(
         alloc,
         CONNECTIONS,
         "N",
         "How many connections to serve, from 1 to 1000000",
         MOST_CONNECTIONS,
-    );
-    let tick = number_option(
-        alloc,
-        TICK,
-        "SECONDS",
-        "Look this often for overdue rings and after-call work, and end them: 1 to 3600",
-        MOST_SECONDS,
-    );
-    let patience = number_option(
-        alloc,
-        PATIENCE,
-        "SECONDS",
-        "Wait this long for a client's request, and for it to read its reply: 1 to 3600",
-        MOST_SECONDS,
     );
     Command::new(alloc, "serve")
         .about("Answer requests over HTTP on 127.0.0.1, or on a Unix socket")
@@ -217,16 +244,31 @@ fn serve_command<'a>(alloc: Global) -> Result<Command<'a>, AllocError>
             "acd serve --file <F> <--port <P>|--socket <PATH>> <--connections <N>|--endless> [--tick <SECONDS>] [--patience <SECONDS>]",
         )
         .arg(file_option(alloc).required(true))?
-        .arg(port)?
+        .arg(port_option(alloc))?
         .arg(socket_option(alloc))?
         .arg(connections)?
-        .arg(flag(
-            alloc,
-            ENDLESS,
-            "Serve without end; exit only if the store fails",
-        ))?
-        .arg(tick)?
-        .arg(patience)
+        .arg(endless_option(alloc))?
+        .arg(tick_option(alloc))?
+        .arg(patience_option(alloc))
+}
+
+fn standby_command<'a>(alloc: Global) -> Result<Command<'a>, AllocError>
+    ensures { IfOk result (HasApp (record { top = standby_shape; subs = [] })) }
+{
+    Command::new(alloc, "standby")
+        .about("Answer requests in lines, and then over HTTP once a line says serve")
+        .after_help(
+            "Example:\n  acd standby --file desk.db --port 8080 --endless < lines\n\nIt answers lines as acd lines --reads does, up to the first line that is exactly serve.\nThen it answers connections as acd serve does. It listens from the start, and whoever\nconnects before waits. If the lines end without that one, it ends with status 1, and\nanswers nobody. A file that isn't there, or has no bytes, is made.\n\n--tick and --patience begin with the service.",
+        )
+        .override_usage(
+            "acd standby --file <F> <--port <P>|--socket <PATH>> --endless [--tick <SECONDS>] [--patience <SECONDS>]",
+        )
+        .arg(file_option(alloc).required(true))?
+        .arg(port_option(alloc))?
+        .arg(socket_option(alloc))?
+        .arg(endless_option(alloc))?
+        .arg(tick_option(alloc))?
+        .arg(patience_option(alloc))
 }
 
 fn import_command<'a>(alloc: Global) -> Result<Command<'a>, AllocError>
@@ -333,6 +375,7 @@ fn all_commands<'a>(alloc: Global) -> Result<Command<'a>, AllocError>
         .subcommand_required(true);
     let acd = with(Ok(acd), lines_command(alloc));
     let acd = with(acd, serve_command(alloc));
+    let acd = with(acd, standby_command(alloc));
     let acd = with(acd, import_command(alloc));
     let acd = with(acd, report_command(alloc));
     let acd = with(acd, export_command(alloc));
@@ -427,6 +470,20 @@ fn serve_of<'m, 'a>(options: &'m ArgMatches<'a>) -> Option<Task<'m, 'a>>
         file: options.get_str(FILE)?,
         address: address_of(options)?,
         span: span_of(options)?,
+    })
+}
+
+fn standby_of<'m, 'a>(options: &'m ArgMatches<'a>) -> Option<Task<'m, 'a>>
+    ensures { FindsTask (codes "standby") (rows_of (found_of options.now)) result }
+{
+    if !is_given(options, ENDLESS) {
+        return None;
+    }
+    Some(Task::Standby {
+        file: options.get_str(FILE)?,
+        address: address_of(options)?,
+        step: seconds_of(options, TICK)?,
+        patience: seconds_of(options, PATIENCE)?,
     })
 }
 
@@ -529,6 +586,7 @@ fn named<'m, 'a>(command: &str, options: &'m ArgMatches<'a>) -> Option<Task<'m, 
     match command {
         "lines" => Some(lines_of(options)),
         "serve" => serve_of(options),
+        "standby" => standby_of(options),
         "import" => import_of(options),
         "report" => report_of(options),
         "export" => export_of(options),
@@ -545,8 +603,9 @@ fn task_in<'m, 'a>(matches: &'m ArgMatches<'a>) -> Option<Task<'m, 'a>>
     named(command, options)
 }
 
-// Why words that the library of command lines takes name no task: a service has one address and one end.
-fn refusal(matches: &ArgMatches<'_>) -> (ErrorKind, &'static str)
+// Why words that the library of command lines takes name no task: a service has one address and one end. `no_end` is said
+// where it has none.
+fn refusal(matches: &ArgMatches<'_>, no_end: &'static str) -> (ErrorKind, &'static str)
     ensures { ¬ IsHelp result.0 }
 {
     let Some((_, options)) = matches.subcommand() else {
@@ -563,7 +622,7 @@ fn refusal(matches: &ArgMatches<'_>) -> (ErrorKind, &'static str)
     if is_given(options, ENDLESS) {
         return (ErrorKind::ArgumentConflict, TWO_ENDS);
     }
-    (ErrorKind::MissingRequiredArgument, NO_END)
+    (ErrorKind::MissingRequiredArgument, no_end)
 }
 
 fn prune_refusal(matches: &ArgMatches<'_>) -> (ErrorKind, &'static str)
@@ -577,9 +636,9 @@ fn prune_refusal(matches: &ArgMatches<'_>) -> (ErrorKind, &'static str)
     }
 }
 
-fn is_prune(matches: &ArgMatches<'_>) -> bool {
+fn is_of(matches: &ArgMatches<'_>, name: &str) -> bool {
     match matches.subcommand() {
-        Some((command, _)) => command == "prune",
+        Some((command, _)) => command == name,
         None => false,
     }
 }
@@ -588,8 +647,16 @@ fn is_prune(matches: &ArgMatches<'_>) -> bool {
 fn refused_service(alloc: Global, matches: &ArgMatches<'_>) -> Result<Error, AllocError>
     ensures { IfOk result (λ error. ¬ IsHelp (kind_of error)) }
 {
-    let (kind, why) = refusal(matches);
+    let (kind, why) = refusal(matches, NO_END);
     serve_command(alloc)?.error(kind, why)
+}
+
+// The same of a standby, which has no end.
+fn refused_standby(alloc: Global, matches: &ArgMatches<'_>) -> Result<Error, AllocError>
+    ensures { IfOk result (λ error. ¬ IsHelp (kind_of error)) }
+{
+    let (kind, why) = refusal(matches, NOT_ENDLESS);
+    standby_command(alloc)?.error(kind, why)
 }
 
 // The same of a prune: it leaves so many days, or so many records.
@@ -603,8 +670,11 @@ fn refused_prune(alloc: Global, matches: &ArgMatches<'_>) -> Result<Error, Alloc
 fn refused(alloc: Global, matches: &ArgMatches<'_>) -> Result<Error, AllocError>
     ensures { IfOk result (λ error. ¬ IsHelp (kind_of error)) }
 {
-    if is_prune(matches) {
+    if is_of(matches, "prune") {
         return refused_prune(alloc, matches);
+    }
+    if is_of(matches, "standby") {
+        return refused_standby(alloc, matches);
     }
     refused_service(alloc, matches)
 }

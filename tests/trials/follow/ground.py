@@ -16,7 +16,7 @@ from http.client import HTTPException
 from pathlib import Path
 
 from shipped import shipped
-from trial import Connection, Desk, Trial, ran, until
+from trial import Connection, Desk, Trial, forked, ran, until
 from trial.files import copied, held
 
 import limits
@@ -54,8 +54,8 @@ class Ground(Trial):
         return ran(*words, seconds=600, env=cls.settings(more))
 
     @classmethod
-    def script(cls, name, *words, **how):
-        return cls.ran(PYTHON, cls.scripts / name, *words, **how)
+    def script(cls, name, *words, more=()):
+        return forked(cls.scripts / name, *words, env=cls.settings(more))
 
     @classmethod
     def once(cls, address, file, *words, **how):

@@ -286,6 +286,74 @@ class Programs(Follows):
             self.assertEqual(self.follow(self.address).status, 0)
 
 
+class Standbys(Follows):
+    """A copy whose desk stands by: a script writes down with which words it was started, and which lines it got."""
+
+    def setUp(self):
+        super().setUp()
+        self.address, _ = self.answers({"/requests?after=0": page()})
+        self.noted = self.folder / "noted"
+        self.stand_in("echo 'listening on 127.0.0.1:8080'; exec sleep 60")
+
+    def stand_in(self, served):
+        """What the script does once it is told to serve."""
+        self.program("acd", f"""touch "$3"; echo "$*" >> {self.noted}
+while read -r line; do
+    echo "$line" >> {self.noted}
+    case "$line" in
+    serve) {served} ;;
+    *) echo '200 {{"last":0,"requests":[]}}' ;;
+    esac
+done
+test "$1" = lines""")
+
+    def started(self):
+        words = [sys.executable, ground.SERVICE / "bin/acdctl", "follow", self.address, "--file", self.copy, "--port", "8080", "--tick", "1"]
+        one = self.enterContext(subprocess.Popen(words, stdout=subprocess.PIPE, stderr=subprocess.PIPE, text=True))
+        self.addCleanup(one.kill)
+        self.assertEqual(one.stdout.readline(), "caught up at 0\n")
+        return one
+
+    def lines(self):
+        """What its last start had as words, and got as lines."""
+        words, *lines = self.noted.read_text().partition("standby ")[2].splitlines()
+        return words, lines
+
+    def test_it_serves_once_it_is_told(self):
+        one = self.started()
+        one.send_signal(signal.SIGUSR1)
+        self.assertEqual(one.stdout.readline(), f"{self.copy} serves from request 0 on: listening on 127.0.0.1:8080\n")
+        words, lines = self.lines()
+        self.assertEqual((words, lines[-1], lines.count("serve")), (f"--file {self.copy} --endless --port 8080 --tick 1", "serve", 1))
+        # a second order is no line
+        one.send_signal(signal.SIGUSR1)
+        one.terminate()
+        self.assertEqual((one.wait(), one.stderr.read(), self.lines()[1][-1]), (0, "", "serve"))
+
+    def test_by_itself_it_never_serves(self):
+        one = self.started()
+        one.terminate()
+        self.assertEqual((one.wait(), one.stderr.read(), "serve" in self.lines()[1]), (0, "", False))
+
+    def test_a_desk_that_ends_instead(self):
+        self.stand_in("exit 1")
+        one = self.started()
+        one.send_signal(signal.SIGUSR1)
+        self.assertEqual((one.wait(), one.stderr.read()), (1, f"acdctl follow: {self.copy} doesn't serve: its desk ended with status 1\n"))
+
+    def test_a_desk_that_ends_as_it_serves(self):
+        self.stand_in("echo 'listening on 127.0.0.1:8080'; exit 1")
+        one = self.started()
+        one.send_signal(signal.SIGUSR1)
+        self.assertEqual((one.wait(), one.stderr.read()), (1, f"acdctl follow: {self.copy} serves no more: its desk ended with status 1\n"))
+
+    def test_either_a_port_or_a_socket(self):
+        for words in (("--tick", "1"), ("--port", "8080", "--socket", "s")):
+            done = self.follow(self.address, *words)
+            self.assertEqual((done.status, done.out), (2, ""), done)
+            self.assertIn("to stand by takes either --port or --socket", done.faults)
+
+
 class Words(ground.Case):
     def test_command_lines(self):
         for words in ((), ("http://127.0.0.1",), ("--file", "G"), ("--last", "http://127.0.0.1"), ("desk.example", "--file", "G"), ("http://127.0.0.1", "--file", "G", "--ca", "C"),

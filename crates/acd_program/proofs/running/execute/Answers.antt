@@ -4,6 +4,8 @@ use Rattle.acd_lines.specs.Lines.{streams}
 use Rattle.acd_program.specs.declared.asked.Task.TheVariants as task
 use Rattle.acd_program.proofs.Ends.{match_so}
 use Rattle.acd_program.proofs.ServeDone.{file_prints}
+use Rattle.acd_program.proofs.StandingBy.{standby_prints}
+use Rattle.acd_program.specs.Tasks.{endless}
 use Rattle.acd_program.proofs.Tasks.{read_done, whole_done}
 use Rattle.acd_program.proofs.TasksEnded.{task_ends, err_elsewhere}
 use Rattle.acd_program.proofs.running.execute.Goals as goal
@@ -26,6 +28,24 @@ returns-in-Err-clause-result g c =
 pub returns-in-Ok-clause-printed : goal.returns-in-Ok-clause-printed
 returns-in-Ok-clause-printed g c =
     inr (refl, file_prints IsFresh c.in-Serve.span (g.E.Write.contents c.args.errors.now) (g.E.Write.contents c.serve_file.new.errors) c.in-Ok.ensures)
+
+pub returns-in-Ok-stand_by_file-clause-result : goal.returns-in-Ok-stand_by_file-clause-result
+returns-in-Ok-stand_by_file-clause-result g c =
+    task_ends _ IsFresh (Ok _) c.args.task (streams g.R.Read.remaining g.W.Write.contents (c.args.reader.now, c.stand_by_file.new.reader) (c.args.writer.now, c.stand_by_file.new.writer))
+    (g.E.Write.contents c.args.errors.now) (g.E.Write.contents c.stand_by_file.new.errors) (task.Standby c.in-Standby.file c.in-Standby.address c.in-Standby.step c.in-Standby.patience) c.in-Standby.is (c.in-Ok-stand_by_file.ensures, refl)
+
+pub returns-in-Err-stand_by_file-clause-result : goal.returns-in-Err-stand_by_file-clause-result
+returns-in-Err-stand_by_file-clause-result g c =
+    task_ends _ IsFresh (Err c.in-Err-stand_by_file.fault) c.args.task (streams g.R.Read.remaining g.W.Write.contents (c.args.reader.now, c.stand_by_file.new.reader) (c.args.writer.now, c.stand_by_file.new.writer))
+    (g.E.Write.contents c.args.errors.now) (g.E.Write.contents c.stand_by_file.new.errors) (task.Standby c.in-Standby.file c.in-Standby.address c.in-Standby.step c.in-Standby.patience) c.in-Standby.is c.in-Err-stand_by_file.ensures
+
+pub returns-in-Ok-stand_by_file-clause-printed : goal.returns-in-Ok-stand_by_file-clause-printed
+returns-in-Ok-stand_by_file-clause-printed g c =
+    inr (
+      refl,
+      standby_prints IsFresh (endless c.in-Standby.step c.in-Standby.patience) c.in-Standby.address (streams g.R.Read.remaining g.W.Write.contents (c.args.reader.now, c.stand_by_file.new.reader) (c.args.writer.now, c.stand_by_file.new.writer))
+          (g.E.Write.contents c.args.errors.now) (g.E.Write.contents c.stand_by_file.new.errors) c.in-Ok-stand_by_file.ensures,
+    )
 
 pub returns-in-Import-clause-result : goal.returns-in-Import-clause-result
 returns-in-Import-clause-result g c =
@@ -67,6 +87,9 @@ returns-in-Lines-clause-elsewhere g c = err_elsewhere _ IsFresh _ _ _ _ _ (retur
 
 pub returns-in-Err-clause-elsewhere : goal.returns-in-Err-clause-elsewhere
 returns-in-Err-clause-elsewhere g c = err_elsewhere _ IsFresh (Err c.in-Err.fault) _ _ _ _ (returns-in-Err-clause-result g c)
+
+pub returns-in-Err-stand_by_file-clause-elsewhere : goal.returns-in-Err-stand_by_file-clause-elsewhere
+returns-in-Err-stand_by_file-clause-elsewhere g c = err_elsewhere _ IsFresh (Err c.in-Err-stand_by_file.fault) _ _ _ _ (returns-in-Err-stand_by_file-clause-result g c)
 
 pub returns-in-Import-clause-elsewhere : goal.returns-in-Import-clause-elsewhere
 returns-in-Import-clause-elsewhere g c = err_elsewhere _ IsFresh _ _ _ _ _ (returns-in-Import-clause-result g c)

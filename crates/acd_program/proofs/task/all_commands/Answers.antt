@@ -3,7 +3,7 @@ use Rattle.clap.specs.Simple.{app_of_fields, new_shape, on_top}
 use Rattle.clap.specs.Words.{App, Shape, with_subcommand}
 use Rattle.clap.specs.declared.builder.Command.{Command}
 use Rattle.clap.specs.declared.builder.command.Command.TheOpen.{Command-F}
-use Rattle.acd_program.specs.CommandLine.{HasApp, lines_shape, serve_shape, import_shape, report_shape, export_shape, audit_shape, prune_shape}
+use Rattle.acd_program.specs.CommandLine.{HasApp, lines_shape, serve_shape, standby_shape, import_shape, report_shape, export_shape, audit_shape, prune_shape}
 use Rattle.acd_program.proofs.task.all_commands.Goals as goal
 
 abbrev alone : Shape → App
@@ -19,16 +19,19 @@ abbrev two : App
 two = with_subcommand one serve_shape
 
 abbrev three : App
-three = with_subcommand two import_shape
+three = with_subcommand two standby_shape
 
 abbrev four : App
-four = with_subcommand three report_shape
+four = with_subcommand three import_shape
 
 abbrev five : App
-five = with_subcommand four export_shape
+five = with_subcommand four report_shape
 
 abbrev six : App
-six = with_subcommand five audit_shape
+six = with_subcommand five export_shape
+
+abbrev seven : App
+seven = with_subcommand six audit_shape
 
 abbrev needs : Command-F Command → Command-F Command
 needs f = record f { subcommand_required = true }
@@ -47,8 +50,9 @@ returns c =
     } in
     let first = c.with-acd.ensures none (alone lines_shape) begun c.lines_command.ensures in
     let second = c.with-acd-2.ensures one (alone serve_shape) first c.serve_command.ensures in
-    let third = c.with-acd-3.ensures two (alone import_shape) second c.import_command.ensures in
-    let fourth = c.with-acd-4.ensures three (alone report_shape) third c.report_command.ensures in
-    let fifth = c.with-acd-5.ensures four (alone export_shape) fourth c.export_command.ensures in
-    let sixth = c.with-acd-6.ensures five (alone audit_shape) fifth c.audit_command.ensures in
-    c.with.ensures six (alone prune_shape) sixth c.prune_command.ensures
+    let third = c.with-acd-3.ensures two (alone standby_shape) second c.standby_command.ensures in
+    let fourth = c.with-acd-4.ensures three (alone import_shape) third c.import_command.ensures in
+    let fifth = c.with-acd-5.ensures four (alone report_shape) fourth c.report_command.ensures in
+    let sixth = c.with-acd-6.ensures five (alone export_shape) fifth c.export_command.ensures in
+    let seventh = c.with-acd-7.ensures six (alone audit_shape) sixth c.audit_command.ensures in
+    c.with.ensures seven (alone prune_shape) seventh c.prune_command.ensures

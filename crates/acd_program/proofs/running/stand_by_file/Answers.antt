@@ -1,0 +1,50 @@
+use Rattle.std.proofs.Common.{MutBor, true, refl}
+use Rattle.sqlite.specs.Files.{over_files, file_state}
+use Rattle.sqlite_std_file.specs.File.{IsFresh}
+use Rattle.acd_lines.specs.Lines.{streams}
+use Rattle.acd_order.specs.Left.{left_of}
+use Rattle.acd_program.specs.InFiles.{IsLaidIn}
+use Rattle.acd_program.specs.Standby.{upon_order}
+use Rattle.acd_program.proofs.Ends.{match_from, on_ok}
+use Rattle.acd_program.proofs.StandingBy.{standby_of_reader, standby_done_in}
+use Rattle.acd_program.proofs.running.stand_by_file.Goals as goal
+
+pub returns-in_err-conn : goal.returns-in_err-conn
+returns-in_err-conn g c = match_from c.from_residual.result _ _ _ c.from_residual.ensures.1 (((refl, refl), refl), c.in_err-conn.ensures.left)
+
+pub returns-in-Ok-done_and_closed : goal.returns-in-Ok-done_and_closed
+returns-in-Ok-done_and_closed g c =
+    let s : _ = file_state c.in_ok-conn.conn in
+    let last : _ = c.stand_by-done.result.1 in
+    let left : _ = left_of (λ (r : MutBor g.row.R.Denot). g.R.Read.remaining r.now) c.stand_by-done.new.feed in
+    record {
+      conn = c.in_ok-conn.conn;
+      last = last;
+      left = left;
+      opened = c.in_ok-conn.ensures.opened;
+      answered = on_ok c.stand_by-done.result.0 tt _ c.in-Ok-done_and_closed.ensures.0
+          (standby_done_in (upon_order c.args.span c.args.address (streams g.R.Read.remaining g.W.Write.contents (c.args.reader.now, c.args.reader.now) (c.args.writer.now, c.stand_by-done.new.writer)) left (g.E.Write.contents c.args.errors.now, g.E.Write.contents c.stand_by-done.new.errors))
+          over_files s c.stand_by-done.result.0 last true
+          (standby_of_reader g.R.Read.remaining (λ (r : MutBor g.row.R.Denot). g.R.Read.remaining r.now) g.W.Write.contents g.E.Write.contents (c.args.reader.now, c.args.reader.now) (c.new-lines.result, c.stand_by-done.new.feed)
+          (c.args.writer.now, c.stand_by-done.new.writer) (c.args.errors.now, c.stand_by-done.new.errors) c.args.span c.args.address c.new-lines.ensures over_files c.in_ok-conn.is_new c.in_ok-conn.ensures.makes s c.stand_by-done.result.0 last
+          c.stand_by-done.ensures.ended));
+      closed = on_ok c.close_connection.result tt (IsLaidIn last) c.in-Ok-done_and_closed.ensures.1 c.close_connection.ensures.laid;
+    }
+
+pub returns : goal.returns
+returns g c =
+    let s : _ = file_state c.in_ok-conn.conn in
+    let last : _ = c.stand_by-done.result.1 in (
+      c.in_ok-conn.conn,
+      c.in_ok-conn.ensures.opened,
+      record {
+        last = last;
+        left = left_of (λ (r : MutBor g.row.R.Denot). g.R.Read.remaining r.now) c.stand_by-done.new.feed;
+        shut = c.close_connection.ensures.shut;
+        ended = c.stand_by-done.result.0;
+        answered = standby_of_reader g.R.Read.remaining (λ (r : MutBor g.row.R.Denot). g.R.Read.remaining r.now) g.W.Write.contents g.E.Write.contents (c.args.reader.now, c.args.reader.now) (c.new-lines.result, c.stand_by-done.new.feed)
+            (c.args.writer.now, c.stand_by-done.new.writer) (c.args.errors.now, c.stand_by-done.new.errors) c.args.span c.args.address c.new-lines.ensures over_files c.in_ok-conn.is_new c.in_ok-conn.ensures.makes s c.stand_by-done.result.0 last
+            c.stand_by-done.ensures.ended;
+        why = c.in-Err.ensures;
+      },
+    )
