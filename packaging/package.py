@@ -330,9 +330,9 @@ def lay_out(root, options, moment):
     put("usr/share/lintian/overrides/acd", "acd: systemd-service-file-refers-to-unusual-wantedby-target "
                                            "acd-copy.service *\n")
     doc = "usr/share/doc/acd/"
-    for page in [TOP / "README.md", TOP / "docs/openapi.yaml", *sorted((TOP / "docs").glob("*.md")),
-                 *sorted((TOP / "docs").glob("*.png"))]:
-        put(doc + page.name, page.read_bytes())
+    for ending in ("*.md", "*.png", "api.html", "*.yaml", "pictures/*.svg"):
+        for page in sorted((TOP / "docs").glob(ending)):
+            put(f"{doc}{page.relative_to(TOP / 'docs')}", page.read_bytes())
     for example in ("nginx/nginx.conf", "settings/node.env", "settings/follow.env", "settings/rules.env",
                     "settings/rules.toml", "settings/webhook.env", "monitoring/alerts.yaml",
                     "monitoring/dashboard.json"):
@@ -384,7 +384,8 @@ def lay_out_exchange(root, version, moment):
     put("etc/acd/edge/kamailio.cfg", (EXCHANGE / "kamailio.cfg").read_bytes())
     # the folder in which postinst gives files to the edge is root's: nobody else can put a link there
     put("usr/share/lintian/overrides/acd-exchange", "acd-exchange: recursive-privilege-change * [postinst:*]\n")
-    put(doc + "EXCHANGE.md", (TOP / "docs/EXCHANGE.md").read_bytes())
+    for name in ("EXCHANGE.md", "pictures/one-machine.svg"):
+        put(doc + name, (TOP / "docs" / name).read_bytes())
     put(doc + "changelog.gz", packed(debian_changelog(versions, moment, "acd-exchange")))
     put(doc + "copyright", copyright_text(version))
     size, sums = sizes_and_sums(root)

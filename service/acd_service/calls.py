@@ -173,7 +173,7 @@ def newest(folder: Path) -> tuple[Path, int]:
     if not found:
         raise Fault(f"there is no copy in {folder}")
     made, place = max(found)
-    files = [file for file in place.iterdir() if not file.name.endswith(BESIDE)]
+    files = [file for file in place.iterdir() if file.is_file() and not file.name.endswith(BESIDE)]
     if len(files) != 1:
         raise Fault(f"there are {len(files)} files in {place}, and not one")
     for note in place.glob(f"*{AGAIN}"):

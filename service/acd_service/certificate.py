@@ -14,7 +14,7 @@ from acd_service.command import INFO, Fault
 WAIT = 10
 SEQUENCE, VERSION, UTC_TIME, GENERALIZED_TIME = 0x30, 0xA0, 0x17, 0x18
 FORMS = {UTC_TIME: "%y%m%d%H%M%SZ", GENERALIZED_TIME: "%Y%m%d%H%M%SZ"}
-HELP = "OPERATING, 'Certificates', says how"
+HELP = "EVERY-DAY.md, 'Certificates', says how"
 
 
 # A certificate in DER (RFC 5280): a sequence of the part that is signed, the algorithm and the signature

@@ -370,8 +370,7 @@ def copy(file: Path, folder: Path, keep: int, halt: int, own: Path | None = None
     looked_for(file, found)
     for proxy in old_proxies():
         report(f"{proxy} is of before 1.15: nginx asks the gate for every stranger. "
-               "Take /usr/share/doc/acd/examples/nginx.conf, or add the lines that OPERATING names ('A newer "
-               "program')")
+               "Take /usr/share/doc/acd/examples/nginx.conf")
     wrong = [desk.moved for desk in found if desk.moved] + [
         f"{left} is there: the log was damaged as the desk was started" for left in damaged(file)]
     broken = list(chain.look(chain.copies_of(folder)))

@@ -402,7 +402,7 @@ def forget(file: Path, copies: Path, named: list[Path], device: str, program: st
     for place in others_with(file, archives, copies.parent, scratch, device):
         say(f"{device} is still in {place}")
     if any(is_in_bytes(part, device) for part in (file, log_of(file)) if part.is_file()):
-        say(f"{device} is still in free pages of {file}: compact it, as OPERATING says ('Leaving old requests behind')")
+        say(f"{device} is still in free pages of {file}: compact it ('Make the file smaller' in PRUNING.md)")
 
 
 def confirm(file: Path) -> None:

@@ -27,7 +27,7 @@ SETTINGS = settings.FILE
 OURS = Path("/var/lib/acd")
 # what no unit sees, ProtectHome=yes
 HOMES = [Path(one) for one in ("/home", "/root", "/run/user")]
-PAGE = "'What a start looks at' in OPERATING.md"
+PAGE = "'The desk does not start' in WHEN-WRONG.md"
 # seconds between two looks at a log that seems damaged
 PAUSE = 0.1
 # as many seconds has the program to write the log into the file behind a stop: systemd gives it 90

@@ -109,7 +109,7 @@ def kept_by(page: Any) -> int:
 def report_opening(seconds: float) -> None:
     if seconds > SLOW:
         command.report(f"the desk took {seconds:.0f} s to open its file: the more requests it has, the longer it takes "
-                       "('Leaving old requests behind' in OPERATING.md)")
+                       "(PRUNING.md)")
 
 
 # The process beside a desk

@@ -1,7 +1,7 @@
 """One of several machines with a desk each, fed from one log in etcd: a front that takes requests, and a bridge that
 feeds this machine's desk.
 
-Not verified: what is proved of the desk is said in docs/PROVED.md, what this has to do for it in docs/OPERATING.md.
+Not verified: what is proved of the desk is said in docs/PROVED.md, what this has to do for it in docs/MACHINES.md.
 Clients send requests as to `acd serve`, by POST to /csta, to any machine, and send one again, with its key, until its
 answer isn't 503. A read, by GET or HEAD, is answered by this machine's own desk (`acd lines --reads`), behind all that
 this machine has answered; it goes into no log, no count and no digest. F/desk.db is the desk, F/at the revision of the

@@ -37,7 +37,7 @@ FAULTS = [
     ("a status that never comes", "      summary: The queue report, as text\n      responses:\n",
      "      summary: The queue report, as text\n      responses:\n        '404': {$ref: '#/components/responses/NotFound'}\n"),
     ("a status of the proxy as the desk's", "may not read it.\n      x-proxy: true\n", "may not read it.\n"),
-    ("the report as JSON", "text/plain", "application/json"),
+    ("the report as JSON", "text/plain: ", "application/json: "),
     ("a method that may not be", "enum: [POST, 'GET, HEAD']", "enum: [POST, GET]"),
     ("an example's reply", "result: {monitor: 1}", "result: {monitor: 2}"),
     ("a stamp left out", "{type: object, required: [stamp], properties: {stamp: ", "{type: object, required: [mark], properties: {mark: "),

@@ -1,4 +1,4 @@
-"""Whether the tables of docs/USING.md and the description say the same."""
+"""Whether the tables of docs/USING.md and the description say the same. Routes and what they answer are told by docs/api.html alone, which is made of the description."""
 import re
 
 SCHEMAS = "#/components/schemas/"
@@ -52,8 +52,6 @@ class Comparison:
         self.compare_results()
         self.compare_events()
         self.compare_states()
-        self.compare_routes()
-        self.compare_snapshot()
         return self.found
 
     def compare_services(self):
@@ -101,12 +99,6 @@ class Comparison:
         for status, told in rows(self.page, "| status | codes and names, and when |"):
             shown = {(int(code), name) for code, name in re.findall(r"(\d+) `(\w+)`", told)}
             self.same(f"codes of {status}", shown, self.codes_of(status))
-        for status, code, _ in rows(self.page, "| status | code and name | where |"):
-            number, name = re.match(r"(\d+) (\w+)", code).groups()
-            schema = self.description.schemas[name[0].upper() + name[1:]]["properties"]
-            self.same(f"code {number}", (int(number), name), (schema["code"]["enum"][0], schema["name"]["enum"][0]))
-            named = {"Malformed": "400", "NotFound": "404", "MethodNotAllowed": "405", "HeadTooLarge": "431", "NotImplemented": "501"}.get(name[0].upper() + name[1:])
-            self.same(f"status of {name}", status, named or next(it for it in ("411", "413") if (int(number), name) in self.codes_of(it)))
 
     def compare_results(self):
         shown = {}
@@ -138,49 +130,3 @@ class Comparison:
         connections = re.search(r"Connection states:\s+(.*?)\.", self.page, re.DOTALL)[1]
         for name, shown in (("AgentState", texts(states)), ("PendingState", texts(pending)), ("ConnectionState", re.findall(r"([a-z]+) \d", connections))):
             self.same(name, shown, self.description.schemas[name]["enum"])
-
-    def names_in(self, schema, known):
-        """All members of a schema and of what it is made of."""
-        if isinstance(schema, list):
-            return {name for value in schema for name in self.names_in(value, known)}
-        if not isinstance(schema, dict):
-            return set()
-        if "$ref" in schema:
-            if schema["$ref"] in known:
-                return set()
-            return self.names_in(self.description.resolved(schema), known | {schema["$ref"]})
-        return set(schema.get("properties", {})) | {name for key, value in schema.items() if key != "discriminator" for name in self.names_in(value, known)}
-
-    def compare_routes(self):
-        """Each route; and each member that a row shows in a text of JSON is one of the reply, and each of the reply is in its row, but for those of
-        events, requests and their replies."""
-        others = frozenset(f"{SCHEMAS}{name}" for name in ("EventReport", "ServiceRequest", "KeptReply"))
-        shown, route = {}, None
-        for first, _, body in rows(self.page, "| method and path | asks for | body of the reply |"):
-            route = re.sub(r"\{\w+\}", "{}", texts(first)[0].partition("?")[0]) if first else route
-            shown[route] = shown.get(route, "") + " " + body
-        described = {f"{method.upper()} {re.sub(r'{[a-z]+}', '{}', path)}": operation for path, method, operation in self.description.operations()}
-        self.same("routes", sorted(shown), sorted(described))
-        for route, body in shown.items():
-            content = described.get(route, {}).get("responses", {}).get("200", {}).get("content", {}).get("application/json")
-            if content and "{" in body:
-                names = self.names_in(content["schema"], frozenset())
-                self.same(f"members of {route} that it has not", set(re.findall(r'"(\w+)":', body)) - names, set())
-                self.same(f"members of {route} that aren't told", {name for name in self.names_in(content["schema"], others) if not re.search(rf"\b{name}\b", body)}, set())
-
-    def compare_snapshot(self):
-        """The snapshot's lists, and what an item of each has besides the members of the single read."""
-        shown = re.search(r"^The snapshot is `(.*?)`", self.page, re.MULTILINE)[1]
-        described = self.members("Snapshot")["properties"]
-        self.same("members of the snapshot", re.findall(r'"(\w+)":', shown), list(described))
-        lists = list(rows(self.page, "| list | an item is | and besides |"))
-        self.same("lists of the snapshot", [texts(name)[0] for name, _, _ in lists], [name for name, schema in described.items() if "items" in schema])
-        for name, item, besides in lists:
-            names = self.names_in(described[texts(name)[0]]["items"], frozenset())
-            route = texts(item)[0].replace("{id}", "")
-            single = next((operation for path, _, operation in self.description.operations() if path.startswith(route) and path.endswith("}")), None)
-            if single is None:
-                self.same(f"members of {name}", set(re.findall(r'"(\w+)":', item)), names)
-                continue
-            read = self.names_in(single["responses"]["200"]["content"]["application/json"]["schema"], frozenset())
-            self.same(f"what {name} have besides", set(re.findall(r'"(\w+)":', besides)) | set(re.findall(r"`(\w+)`", besides)), names - read)

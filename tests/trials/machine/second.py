@@ -1,11 +1,12 @@
-"""Cases of a second help line on the same machine, made by the lines of OPERATING.md as they are there, behind nginx."""
+"""Cases of a second help line on the same machine, made by the lines of REFERENCE.md as they are there, behind nginx."""
 import re
 import subprocess
 
 from booted import AT_SOCKETS
 from edges import Edges
+from sections import section, typed
 
-PAGE = "/usr/share/doc/acd/OPERATING.md"
+PAGE = "/usr/share/doc/acd/REFERENCE.md"
 # as htpasswd makes it, of the word `sesame`
 HASH = "import passlib.hash; print(passlib.hash.bcrypt.using(rounds=5).hash('sesame'))"
 
@@ -15,9 +16,7 @@ class Second(Edges):
 
     def lines(self, heading):
         """The lines that are to be typed under a heading."""
-        part = self.container.inside(PAGE).read_text().partition(f"\n## {heading}\n")[2].partition("\n## ")[0]
-        found = re.search(r"^    .*\n(?:    .*\n)*", part, re.MULTILINE)
-        return re.sub("^    ", "", found[0], flags=re.MULTILINE)
+        return typed(section(self.container.inside(PAGE).read_text(), heading))
 
     def asked(self, port, login, path):
         """The status of a read through nginx."""

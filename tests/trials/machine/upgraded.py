@@ -8,6 +8,7 @@ from pathlib import Path
 from booted import AT_PORTS, AT_SOCKETS, Booted
 from edges import Edges
 from second import HASH
+from sections import section, typed
 from trial import TOP
 
 OLDER = "release/ of 1.14"
@@ -146,8 +147,8 @@ class Upgraded(Edges):
         """The second line is made anew by the page, and has sockets too: then there is nothing to keep."""
         self.done("systemctl", "disable", "--now", "acd-north", "acd-tick-north", "acd-gate-north")
         self.done("rm", "/etc/systemd/system/acd-tick-north.service")
-        page = self.container.inside("/usr/share/doc/acd/OPERATING.md").read_text().partition("\n## A second help line\n")[2]
-        lines = re.sub("^    ", "", re.search(r"^    .*\n(?:    .*\n)*", page, re.MULTILINE)[0], flags=re.MULTILINE)
+        page = self.container.inside("/usr/share/doc/acd/REFERENCE.md").read_text()
+        lines = typed(section(page, "A second help line"))
         lines = "".join(line for line in lines.splitlines(True) if "/dev/null /etc/acd/north-roles" not in line)
         status, said = self.container.shell(f"set -e\n{lines}")
         self.expect(f"its lines ({said[-400:]})", status, 0)

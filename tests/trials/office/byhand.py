@@ -1,8 +1,8 @@
-"""Cases of a desk that is set up without the package, by the lines of OPERATING.md."""
-import re
+"""Cases of a desk that is set up without the package, by the lines of REFERENCE.md."""
 import shutil
 
 from office import FILE, HOME, Office
+from sections import section, typed
 from trial import TOP
 
 NEEDED = ("board", "client", "docs", "release", "service")
@@ -13,10 +13,9 @@ class ByHand(Office):
         self.done("env", "ACD_PURGE_DESK=yes", "dpkg", "--purge", "acd")
         for name in NEEDED:
             shutil.copytree(TOP / name, self.inside(f"{HOME}/acd/{name}"))
-        page = self.inside(f"{HOME}/acd/docs/OPERATING.md").read_text()
-        lines = re.findall(r"^    (.*\n)", page.partition("Without the package, with Debian's")[2].partition("\n## ")[0], re.MULTILINE)
-        self.expect_in("the lines of the page", "".join(lines), r"\Auseradd --system acd .*\n(.*\n)+.*systemctl enable --now acd-local acd .*\n\Z")
-        status, said = self.container.shell(f"cd {HOME}/acd && set -eux\n{''.join(lines)}")
+        lines = typed(section(self.inside(f"{HOME}/acd/docs/REFERENCE.md").read_text(), "Install without the package"))
+        self.expect_in("the lines of the page", lines, r"\Auseradd --system acd .*\n(.*\n)+.*systemctl enable --now acd-local acd .*\n\Z")
+        status, said = self.container.shell(f"cd {HOME}/acd && set -eux\n{lines}")
         self.expect(f"they work ({said[-300:]})", status, 0)
         self.serves("by hand")
         self.expect_in("they make the first file", said, f"(?m)^made {FILE}$")

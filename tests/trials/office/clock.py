@@ -52,7 +52,7 @@ class Clock(Planned):
         wanted = f"acdctl ready: the desk's time is over a minute ahead of this machine's clock: until {time.strftime('%Y-%m-%d %H:%M:%S', time.gmtime(moment))} UTC no ring and no after-call work ends by a tick"
         lines = self.eventually(lambda: self.said_since(mark), [wanted], 75)
         self.expect("and that is told, once", lines, [wanted])
-        said = self.container.shell(f"export TZ=UTC; {self.recipe('A clock that was ahead', 'date -d @')}")[1]
+        said = self.container.shell(f"export TZ=UTC; {self.recipe('The clock was wrong', 'date -d @')}")[1]
         self.expect("by hand, as the page says", said, time.strftime("%a %b %e %H:%M:%S UTC %Y\n", time.gmtime(moment)))
 
     def try_new_file(self):

@@ -59,9 +59,9 @@ class Clone(Office):
         version = re.search(r"^# acd (\S+) ", (TOP / "CHANGELOG.md").read_text(), re.MULTILINE)[1]
         self.expect("what is made", self.names(f"{CLONE}/out"), [f"acd-exchange_{version}_all.deb", f"acd_{version}_amd64.deb"])
         self.expect("it can be installed", self.container.shell(f"dpkg --install {CLONE}/out/acd_*.deb")[0], 0)
-        page = self.inside(f"{CLONE}/docs/OPERATING.md").read_text()
-        self.expect_in("OPERATING says what it takes", page, "apt-get install --no-install-recommends binutils dpkg-dev python3 ")
-        self.expect("what it installs is what is made", set(re.findall(r"apt-get install \S*/(\S+\.deb)", page)), {f"acd_{version}_amd64.deb"})
+        pages = "".join(self.inside(f"{CLONE}/docs/{name}.md").read_text() for name in ("FIRST-HOUR", "MACHINES"))
+        self.expect_in("the pages say what it takes", pages, "apt-get install --no-install-recommends binutils dpkg-dev python3 ")
+        self.expect("what it installs is what is made", set(re.findall(r"apt-get install \S*/(\S+\.deb)", pages)), {f"acd_{version}_amd64.deb"})
         for name in ("README.md", "/usr/share/doc/acd/copyright"):
             self.expect_in(f"{name} names the licence", self.inside(Path(CLONE) / name).read_text(), "MIT OR Apache-2.0")
 

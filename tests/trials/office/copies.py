@@ -7,7 +7,7 @@ from office import FILE, HOME, STATE, Planned
 LOG, COPIES = f"{FILE}-wal", f"{STATE}/copies"
 MOMENT = r"\d{4}-\d\d-\d\dT\d{6}Z"
 STARTS = 9
-BACK = "Copies"
+BACK = "Put a copy back"
 # what a restore changes names by, and where all lies as it was before one
 CALLS = ("rename", "link", "symlink", "unlink", "unlinkat", "rmdir", "mkdir")
 BEFORE = "/srv/before"
@@ -63,7 +63,7 @@ class Copies(Planned):
         self.done("sh", "-c", f"mkdir {HOME}/plain && cp {FILE} {HOME}/plain")
         self.expect("the audit says", self.ran("acd", "audit", "--file", f"{HOME}/plain/desk.db"), (0, "sound\n"))
         self.expect("the last answers aren't there", self.kept("plain", f"{HOME}/plain"), [])
-        self.expect_in("the page says so", self.page(BACK).replace("\n", " "), "`sound` .* Nor does it say that nothing is missing at the end: .* so is a file without its log")
+        self.expect_in("the page says so", self.page("What an audit cannot see").replace("\n", " "), "`sound` .* Nor does it say that nothing is missing at the end: .* so is a file without its log")
         self.expect("a copy by the unit has them", self.kept("plain", f"{COPIES}/{self.copied('with its log')}"), [1, 2, 3, 4, 5])
 
     def put_back(self, moment):

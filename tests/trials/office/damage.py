@@ -103,7 +103,7 @@ class Damage(Planned):
         self.expect("one folder, the desk's user's alone", (more, self.done("stat", "-c", "%U %a", f"{STATE}/{folder}")), ([], "acd 700\n"))
         self.expect("it has both, to the byte", self.held(f"{STATE}/{folder}/desk.db", f"{STATE}/{folder}/desk.db-wal") == held)
         self.expect("the line is there", self.said_since(mark), [f"acdctl ready: the log {LOG} is damaged from its frame {frame} on (byte {whole.at(frame)}), and answered requests from there on are missing; "
-                                                                 f"both files, as they were, are in {STATE}/{folder} ('What a start looks at' in OPERATING.md)"])
+                                                                 f"both files, as they were, are in {STATE}/{folder} ('The desk does not start' in WHEN-WRONG.md)"])
         self.expect("what is before the damage is there", self.kept("middle"), list(range(1, 11)))
         self.restarts("the next start tells nothing")
         self.expect("what is before the damage is still there", self.kept("middle"), list(range(1, 11)))

@@ -1,10 +1,10 @@
-"""Faults that are planted in the package: in its units, its scripts, what it does as it is installed, and its page. The cases named have to find them."""
+"""Faults that are planted in the package: in its units, its scripts, what it does as it is installed, and its pages. The cases named have to find them."""
 import subprocess
 from typing import NamedTuple
 
 from trial import planted
 
-UNITS, PAGE, POSTINST = "usr/lib/systemd/system", "usr/share/doc/acd/OPERATING.md", "DEBIAN/postinst"
+UNITS, PAGES, POSTINST = "usr/lib/systemd/system", "usr/share/doc/acd", "DEBIAN/postinst"
 MODULES = "usr/share/acd/acd_service"
 DESK, COPY = f"{UNITS}/acd.service", f"{UNITS}/acd-copy.service"
 PRUNE = f"{UNITS}/acd-prune.service"
@@ -48,13 +48,13 @@ FAULTS = [
     Fault("nobody looks at the desk's files", (f"{MODULES}/watch.py", "            look_at_files([self.desk], self.file)\n", "            pass\n"), "copies", ("plan", "try_moved_file")),
     Fault("the desk doesn't tick", (DESK, " --tick ${ACD_STEP}", ""), "clock", ("plan", "try_new_file")),
     Fault("a restore that is killed leaves no link", (f"{MODULES}/restoring.py", "    if is_hidden(file):\n        return\n    if leaving", "    return\n    if leaving"), "copies", ("plan", "try_killed")),
-    Fault("a recipe's files are for all to read", (PAGE, "        umask 077\n        cd /var/lib/acd\n        mkdir year", "        cd /var/lib/acd\n        mkdir year"), "copies", ("plan", "try_new_year")),
+    Fault("a recipe's files are for all to read", (f"{PAGES}/PRUNING.md", "        umask 077\n        cd /var/lib/acd\n        mkdir year", "        cd /var/lib/acd\n        mkdir year"), "copies", ("plan", "try_new_year")),
     Fault("nothing keeps the desk down", (DESK, "ConditionPathExists=!/run/acd-prune/down\n", ""), "pruned", ("try_days", "try_meanwhile")),
     Fault("a killed prune leaves it down", (PRUNE, "ExecStopPost=-+/usr/bin/acdctl prune --start\nExecStopPost=+/usr/bin/acdctl prune --start\n", ""), "pruned", ("try_days", "try_killed")),
     Fault("what starts it again isn't repeated", (PRUNE, "ExecStopPost=-+", "ExecStopPost=+"), "pruned", ("try_days", "try_killed")),
     Fault("a stop waits for itself", (f"{MODULES}/unit.py", '"start", "--no-block", UNIT', '"start", UNIT'), "pruned", ("try_days", "try_stopped")),
     Fault("what keeps it down lies elsewhere", (f"{MODULES}/unit.py", 'Path("/run/acd-prune")', 'Path("/var/lib/acd-prune")'), "pruned", ("try_days", "try_meanwhile")),
     Fault("a desk that was down is started", (f"{MODULES}/unit.py", "    if START.exists() or was_refused():", "    if True:"), "pruned", ("try_days", "try_down")),
-    Fault("a recipe that logs nobody off", (PAGE, '"requested":"loggedOff"}', '"requested":"notReady"}'), "plans", ("plan", "try_forgotten")),
+    Fault("a recipe that logs nobody off", (f"{PAGES}/EVERY-DAY.md", '"requested":"loggedOff"}', '"requested":"notReady"}'), "plans", ("plan", "try_forgotten")),
     Fault("a mark of another system's editor is a part of the first login", (f"{MODULES}/gate/roles.py", '.removeprefix(b"\\xef\\xbb\\xbf")', ""), "plans", ("plan", "try_roles")),
 ]

@@ -10,6 +10,7 @@ import time
 from pathlib import Path
 
 from booted import Booted
+from sections import section
 from trial import Plan
 
 HOME, STATE, FILE, SETTINGS = "/root", "/var/lib/acd", "/var/lib/acd/desk.db", "/etc/acd/acd.env"
@@ -67,10 +68,10 @@ class Office(Booted):
     def names(self, folder=STATE):
         return sorted(path.name for path in self.inside(folder).iterdir())
 
-    def page(self, heading=None):
-        """OPERATING.md of the package, or its part of this heading."""
-        text = self.inside("/usr/share/doc/acd/OPERATING.md").read_text()
-        return text.partition(f"\n## {heading}\n")[2].partition("\n## ")[0] if heading else text
+    def page(self, heading):
+        """The part of the package's pages that has this heading."""
+        parts = [section(page.read_text(), heading) for page in self.inside("/usr/share/doc/acd").glob("*.md")]
+        return "".join(parts)
 
     def recipe(self, heading, begin, changed=None):
         """The lines of a part that are to be typed, from the one that begins so up to the next that aren't; `changed` has what stands for a word of the page."""

@@ -7,7 +7,7 @@ from office import FILE, HOME, PLAN, STATE, Office
 HEADER = PLAN.partition("\n")[0] + "\n"
 DESK = "unix:/run/acd/desk.sock"
 SECOND = HEADER + "group,100,Bills,3,2\nstation,201,,,\nstation,202,,,\nagent,7,Ana,,\nagent,8,Ben,,\n"
-NOON = "The next agent, at noon"
+NOON = "Change the plan by a file"
 LINE = "acdctl plan --changes plan.csv --from unix:/run/acd/desk.sock --send"
 
 
@@ -33,7 +33,7 @@ class Plans(Office):
         self.container.put(f"{HOME}/plan.csv", PLAN)
         said = self.typed(f"runuser -u acd -- acd import --file {FILE} --plan plan.csv")
         self.expect("a plan in root's home", said, (1, "acd: cannot open plan.csv\n"))
-        status, said = self.typed(self.recipe("As a service of the machine", "systemctl stop acd"))
+        status, said = self.typed(self.recipe("A plan by acd import", "systemctl stop acd"))
         self.expect(f"by the page's lines ({said})", (status, said.count("200 {")), (0, 3))
         self.serves("with the plan")
         self.expect("it is there", self.plan_now(), PLAN)
@@ -88,7 +88,7 @@ class Plans(Office):
         self.expect_in("it is refused", said, "^acdctl plan: plan row 6: name\n")
         self.expect_in("and why", said, r"(?m)^acdctl plan: that is line 7: an agent's name must be .* of ASCII, .* \(Mueller for Müller\)$")
         self.expect("nothing is taken", (status, self.plan_now()), (1, before))
-        self.expect_in("the page says what to write", self.page(NOON), "a name is of ASCII, `Mueller` for Müller")
+        self.expect_in("the page says what to write", self.page("Umlauts and accents in a name"), "a name is of ASCII, `Mueller` for Müller")
         written = self.at_noon(SECOND + "agent,9,Jose Mueller,,\n")[0]
         self.expect("so written it is taken", (written, "agent,9,Jose Mueller,,\n" in self.plan_now()), (0, True))
 
@@ -97,7 +97,7 @@ class Plans(Office):
         for words in (("report",), ("export",), ("import", "--plan", f"{STATE}/plan.csv")):
             self.expect(f"{words[0]} over the served file", self.ran("acd", *words, "--file", FILE, user="acd"), (4, f"acd: {FILE} is open elsewhere\n"))
         self.expect("the records of the served file", self.ran("acd-calls", "--file", FILE, user="acd"), (1, f"acd-calls: {FILE} is open elsewhere: take a copy of it, by acd-copy, or add --live\n"))
-        self.expect_in("the page says what to ask", self.page("Fault lines, and what to do"), "is open elsewhere.*`/reports/queues` has the report, and a copy .* can be exported")
+        self.expect_in("the page says what to ask", self.page("A line of acd"), "is open elsewhere.*`/reports/queues` has the report, and a copy .* can be exported")
         self.expect_in("which has it", self.read("/reports/queues"), r"(?m)^100 .* Bills$")
         self.expect("the records by --live", self.ran("acd-calls", "--file", FILE, "--live", user="acd")[0], 0)
         self.expect("a copy", self.ran("systemctl", "start", "acd-copy"), (0, ""))
@@ -113,7 +113,7 @@ class Plans(Office):
         self.inside("/etc/acd/roles").write_text("sup supervisor\n")
         refused = self.service("sup", 1, "setAgentState", "gate", ("-H", "X-Login: sup"), agent="7", requested="loggedOff")
         self.expect("by a supervisor", refused["error"]["name"], "forbidden")
-        status, said = self.typed(self.recipe("An agent forgot to log off, a call hangs", "now=$(date +%s)", {'"call":12': f'"call":{number}', "calls/12": f"calls/{number}"}))
+        status, said = self.typed(self.recipe("An agent forgot to log off, or a call hangs", "now=$(date +%s)", {'"call":12': f'"call":{number}', "calls/12": f"calls/{number}"}))
         self.expect(f"by the page's lines ({said})", (status, said.count('"result"'), "error" in said), (0, 2, False))
         now = json.loads(self.read("/snapshot"))
         self.expect("nobody is logged on, no call is there", (now["calls"], [one for one in now["agents"] if "device" in one]), ([], []))

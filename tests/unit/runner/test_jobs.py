@@ -124,7 +124,7 @@ class Command(unittest.TestCase):
     def test_a_signal(self) -> None:
         """./test ends within five seconds, with what it has started."""
         for number in (signal.SIGTERM, signal.SIGINT):
-            process = subprocess.Popen([TOP / "test", "--only", "python", "trial trail pages"], stdout=subprocess.DEVNULL, stderr=subprocess.PIPE, start_new_session=True, text=True)
+            process = subprocess.Popen([TOP / "test", "--only", "python", "trial trail"], stdout=subprocess.DEVNULL, stderr=subprocess.PIPE, start_new_session=True, text=True)
             end = time.monotonic() + 600
             while not (started := descendants(process.pid)) or not any("try-trail" in words for words in started.values()):
                 self.assertLess(time.monotonic(), end)
@@ -210,6 +210,17 @@ class Lacks(unittest.TestCase):
         self.assertEqual((words[0], options["stdin"], options["env"]["DEBIAN_FRONTEND"]), ("timeout", subprocess.DEVNULL, "noninteractive"))
 
 
+class Lint(unittest.TestCase):
+    @unittest.skipIf(packages.missing(["flake8"]), "it needs flake8")
+    def test_a_fault(self) -> None:
+        file = Path(self.enterContext(tempfile.TemporaryDirectory())) / "bad.py"
+        for text, status in (("import os\n", 1), ("print()\n", 0)):
+            file.write_text(text)
+            [job] = parts.lint()
+            end = job.words.index("1") + 1      # of the options
+            self.assertEqual(subprocess.run([*job.words[:end], str(file)], stdout=subprocess.DEVNULL, check=False).returncode, status)
+
+
 class Chosen(unittest.TestCase):
     def test_each_folder_has_its_packages(self) -> None:
         self.assertEqual({file.relative_to(TOP / parts.UNIT).parts[0] for file in (TOP / parts.UNIT).rglob("test_*.py")}, set(parts.UNIT_PACKAGES))
@@ -218,7 +229,7 @@ class Chosen(unittest.TestCase):
         def names(*words: str) -> list[str]:
             return [job.name for job in command.tests(["program", "python"], Path("/bin/true"), list(words))]
 
-        self.assertEqual(names("unit/node", "unit/gate"), ["tests/unit/gate 1 of 3", "tests/unit/gate 2 of 3", "tests/unit/gate 3 of 3", "tests/unit/node"])
+        self.assertEqual(names("unit/node", "unit/gate"), ["tests/unit/gate 1 of 2", "tests/unit/gate 2 of 2", "tests/unit/node"])
         self.assertEqual((names("lint", "trial docs"), names("test_status"), names("no such job")), (["trial docs", "lint"], ["tests/unit/service/test_status.py"], []))
         self.assertLess({"types", "trial sizes", "trial rules", "tests/unit/client/test_client.py", "tests/unit/runner"}, set(names()))
 

@@ -1,17 +1,20 @@
-"""The pages' modules can be read on a screen: none of their lines is over 140 characters."""
+"""JavaScript, of the pages and of their trials, can be read on a screen: none of its lines is over 140 characters."""
 import unittest
 from pathlib import Path
 
-BOARD = Path(__file__).resolve().parents[3] / "board"
+TOP = Path(__file__).resolve().parents[3]
+PLACES = {"board": ("*.js", "*.ts"), "tests": ("*.mjs", "try-board", "show-board")}
 MOST = 140
 
 
 class Lines(unittest.TestCase):
     def test_modules(self) -> None:
-        modules = [file for ending in ("*.js", "*.ts") for file in sorted(BOARD.rglob(ending))]
-        self.assertGreater(len(modules), 20)
-        found = [f"{file.relative_to(BOARD)}:{number}" for file in modules for number, line in enumerate(file.read_text().splitlines(), 1) if len(line) > MOST]
-        self.assertEqual(found, [])
+        for place, endings in PLACES.items():
+            modules = [file for ending in endings for file in sorted((TOP / place).rglob(ending))]
+            self.assertGreater(len(modules), 20)
+            found = [f"{file.relative_to(TOP)}:{number}" for file in modules
+                     for number, line in enumerate(file.read_text().splitlines(), 1) if len(line) > MOST]
+            self.assertEqual(found, [])
 
 
 if __name__ == "__main__":

@@ -18,7 +18,7 @@ from acd_service import held, pair, ready, settings
 from service_ground import moments_out, said
 
 ROOT = os.geteuid() == 0
-# statuses of OPERATING: somebody has to mend something first, another time it may be otherwise, the command line is refused
+# statuses of docs/REFERENCE.md: somebody has to mend something first, another time it may be otherwise, the command line is refused
 MEND, AGAIN, WORDS = 64, 1, 2
 
 
@@ -114,7 +114,7 @@ class Served(Starts):
                     line = desk.stderr.readline()
                 finally:
                     desk.kill()
-        self.assertRegex(line, r"\Aacdctl ready: the desk took \d+ s to open its file: the more requests it has, the longer it takes \('Leaving old requests behind' in OPERATING\.md\)\n\Z")
+        self.assertRegex(line, r"\Aacdctl ready: the desk took \d+ s to open its file: the more requests it has, the longer it takes \(PRUNING\.md\)\n\Z")
 
     def test_without_the_program(self):
         self.desk()
@@ -327,7 +327,7 @@ class Pairs(Starts):
         pair.remember(self.file)
         pair.log_of(self.file).unlink()
         self.starts(f"acdctl ready: the log {self.file}-wal of the last start is gone, and no stop noted what it left: unless sqlite3 or acd wrote it into {self.file}, "
-                    "answered requests are lost ('What a start looks at' in OPERATING.md)\n")
+                    "answered requests are lost ('The desk does not start' in WHEN-WRONG.md)\n")
         self.starts()
 
     def test_a_note_that_cannot_be_written(self):
@@ -346,7 +346,7 @@ class Damage(Starts):
         before = {name: content for name, content in ground.snapshot(self.home).items() if name in ("desk.db", "desk.db-wal")}
         offset = 32 + 24 + page
         line = (f"acdctl ready: the log {log} is damaged from its frame 2 on (byte {offset}), and answered requests from there on are missing; both files, as they were, are in "
-                f"{self.home}/damaged-X ('What a start looks at' in OPERATING.md)\n")
+                f"{self.home}/damaged-X ('The desk does not start' in WHEN-WRONG.md)\n")
         with mock.patch.object(ready, "empty"):
             self.starts(line)
             kept, = self.home.glob("damaged-*")

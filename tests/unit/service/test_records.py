@@ -120,6 +120,12 @@ class Newest(Copies):
             (self.copies / "1970-01-02T000500Z" / name.replace(".archive.x", "-wal")).write_bytes(b"")
         self.assertEqual(said("calls", "--copies", self.copies), (0, story.CALLS, ""))
 
+    def test_one_with_the_gates_own_files(self):
+        gate = self.lay("1970-01-02T000500Z") / "gate"
+        gate.mkdir()
+        (gate / "users").write_text("ana:$2y$08$\n")
+        self.assertEqual(said("calls", "--copies", self.copies), (0, story.CALLS, ""))
+
     def test_one_with_a_request_that_was_sent_again(self):
         (self.lay("1970-01-02T000500Z") / "desk.db.again").write_text("sound up to request 3; and so on\n")
         self.assertEqual(said("calls", "--copies", self.copies), (0, story.CALLS, "acdctl calls: sound up to request 3; and so on\n"))
@@ -473,7 +479,7 @@ class Offices(ground.Case):
 
 class Sheets(unittest.TestCase):
     def test_what_a_spreadsheet_would_change(self):
-        """By OPERATING: it drops a 0, shows more than eleven digits otherwise, takes =1+1 for a formula; and takes a name that begins with a digit for a date."""
+        """By docs/EVERY-DAY.md: it drops a 0, shows more than eleven digits otherwise, takes =1+1 for a formula; and takes a name that begins with a digit for a date."""
         for field, is_name, guarded in (("0301", False, True), ("301", False, False), ("0", False, False), ("12345678901", False, False), ("123456789012", False, True),
                                         ("=1+1", False, True), ("1-2", False, False), ("-", True, True), ("@x", True, True), ("+49", True, True), ("'x", True, True),
                                         ("1-2", True, True), ("Ana", True, False), ("", True, False)):

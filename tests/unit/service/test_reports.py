@@ -87,8 +87,8 @@ class Reports(ground.Case):
             self.assertEqual((found.language, found.title, found.counts_answered_alone), wanted, said)
 
     def test_by_mail(self):
-        """The line of cron in OPERATING, on a Monday: cron makes % of \\%, and gives the rest to a shell."""
-        page = (ground.TOP / "docs/OPERATING.md").read_text()
+        """The line of cron in docs/EVERY-DAY.md, on a Monday: cron makes % of \\%, and gives the rest to a shell."""
+        page = (ground.TOP / "docs/EVERY-DAY.md").read_text()
         line = re.search(r"^    30 7 \* \* 1  root  (.*)$", page, re.MULTILINE)[1].replace("\\%", "%").replace("/var/lib/acd-records", str(self.folder))
         programs = self.folder / "programs"
         programs.mkdir()

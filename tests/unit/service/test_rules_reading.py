@@ -12,6 +12,7 @@ from acd_service.command import Fault
 from acd_service.rules import reading
 from acd_service.rules.hours import Span
 from acd_service.rules.reading import Rule, When
+from sections import section
 
 WHOLE = """\
 zone = "Europe/Berlin"
@@ -74,7 +75,7 @@ class Whole(Case):
         self.assertEqual((faults, found.rules["100"].hours, found.rules["100"].is_closed(0)), ([], None, False))
 
     def test_the_example_and_that_of_the_page(self):
-        page = (ground.TOP / "docs/OPERATING.md").read_text().partition("1. Write `/etc/acd/rules.toml`, which everybody may read (0644):\n")[2].partition("\n   **")[0]
+        page = section((ground.TOP / "docs/EVERY-DAY.md").read_text(), "Close the line at night").partition("try-rules -->\n")[2].partition("\n   **")[0]
         for text, names in (((ground.SERVICE / "settings/rules.toml").read_text(), ["100-closed", "100-nobody", "100-full", "100-long"]), (textwrap.dedent(page), ["100-closed", "100-long"])):
             found, faults = self.read(text)
             self.assertEqual((faults, [rule.name for has in found.rules.values() for rule in has.rules]), ([], [*names, "110-closed"]))

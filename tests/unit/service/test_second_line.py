@@ -1,18 +1,20 @@
-"""The lines of OPERATING that make the units of a second help line out of the package's: no unit of the second one has a file, a port or a folder of the first."""
+"""The lines of docs/REFERENCE.md that make the units of a second help line out of the package's: no unit of the second one has a file, a port or a folder of the first."""
 import re
 import subprocess
 import tempfile
 import unittest
 from pathlib import Path
 
+from sections import section
+
 TOP = Path(__file__).resolve().parents[3]
+LINES = section((TOP / "docs/REFERENCE.md").read_text(), "A second help line")
 
 
 class SecondLine(unittest.TestCase):
     def units(self):
         """The texts of its units, by their names."""
-        section = (TOP / "docs/OPERATING.md").read_text().partition("\n## A second help line\n")[2].partition("\n## ")[0]
-        loop = re.search(r"^    for unit in .*?^    done$", section, re.MULTILINE | re.DOTALL)[0]
+        loop = re.search(r"^    for unit in .*?^    done$", LINES, re.MULTILINE | re.DOTALL)[0]
         with tempfile.TemporaryDirectory() as folder:
             lines = loop.replace("/lib/systemd/system/", f"{TOP}/service/units/").replace("/etc/systemd/system/", f"{folder}/")
             subprocess.run(["sh", "-ec", lines], check=True)
@@ -20,8 +22,7 @@ class SecondLine(unittest.TestCase):
 
     def made(self, pattern, files):
         """What the section's lines that match make of these files, by their places below a folder."""
-        section = (TOP / "docs/OPERATING.md").read_text().partition("\n## A second help line\n")[2].partition("\n## ")[0]
-        lines = re.search(pattern, section, re.MULTILINE | re.DOTALL)[0]
+        lines = re.search(pattern, LINES, re.MULTILINE | re.DOTALL)[0]
         with tempfile.TemporaryDirectory() as folder:
             for place, text in files.items():
                 Path(folder, place).parent.mkdir(parents=True, exist_ok=True)

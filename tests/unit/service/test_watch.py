@@ -183,7 +183,7 @@ class Besides(Watched):
         self.assertEqual((self.heard(), self.lines), (["READY=1"], []))
 
     def test_a_slow_start_is_told(self):
-        for seconds, lines in ((5.0, []), (5.1, ["the desk took 5 s to open its file: the more requests it has, the longer it takes ('Leaving old requests behind' in OPERATING.md)"])):
+        for seconds, lines in ((5.0, []), (5.1, ["the desk took 5 s to open its file: the more requests it has, the longer it takes (PRUNING.md)"])):
             watch.report_opening(seconds)
             self.assertEqual(self.lines, lines)
 

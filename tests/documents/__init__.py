@@ -1,0 +1,1 @@
+"""What the pages of docs/ are checked for: links, commands with their options, and blocks of code that nobody runs."""
