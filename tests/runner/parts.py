@@ -15,13 +15,15 @@ from .jobs import PYTHON, TOP, Job
 UNIT = "tests/unit"
 PLAIN = TOP / "tests/runner/plain.py"
 # what unit tests need: a folder of them can't be left out by .ci/run
-UNIT_PACKAGES = {"client": (), "exchange": (), "gate": ("python3-aiohttp", "python3-bcrypt", "python3-passlib"), "node": ("python3-aiohttp",), "runner": (),
+UNIT_PACKAGES = {"client": (), "exchange": (), "gate": ("python3-aiohttp", "python3-bcrypt", "python3-passlib"), "node": ("python3-aiohttp",), "pages": (), "runner": (),
                  "service": ("python3-bcrypt", "python3-passlib")}
-HELPERS = ("python3-pytest", "python3-pytest-timeout")      # unittest takes their place where they are missing
+HELPERS = ("python3-pytest", "python3-pytest-timeout", "python3-yaml")      # without the first two unittest takes their place, without the last one case is skipped
 NGINX = ("nginx-light", "openssl", "python3-aiohttp", "python3-bcrypt", "python3-passlib")
 SPACES = ("iproute2", "openssl", "strace", "util-linux")
 LONGEST = 4 * 3600      # seconds that a trial may take
-TOGETHER = 8            # so many files of unit tests at most are run by one process, whose start costs as much as the tests of a file
+# flake8, which takes a sixth of its time to look for garbage among trees that it needs: without that half a gigabyte
+LINT = "import gc; from flake8.main.cli import main; gc.disable(); raise SystemExit(main())"
+TOGETHER = 16           # so many files of unit tests at most are run by one process, whose start costs as much as the tests of a file
 
 
 class Part(NamedTuple):
@@ -46,14 +48,19 @@ MARKS = {
     "root": ("root",),
     "alone": ("root", "name spaces", "tracing", "room in /dev/shm"),
     "loop devices": ("loop devices",),
+    "traced": ("tracing",),
     "sip": ("root", "sip-tester", "kamailio", "kamailio-tls-modules", "nftables", "curl"),
 }
 # of the process itself; the greatest comes first, so that it ends with the others
 OF_THE_PROGRAM = {
     "sizes": Part("try-sizes", (), ("try-sizes",)),
     "serving": Part("try-serving", (), ("try-serving",)),
+    "order": Part("try-order", (), ("try-order",)),
     "runs": Part("try-runs", (), ("try-runs",)),
     "scenes": Part("try-scenes", (), ("try-scenes",)),
+    "books stopped": Part("try-books", ("--only", "stopped"), ("books/stops.py",), ("strace",), ("traced",)),
+    "texts": Part("try-texts", (), ("try-texts",)),
+    "books": Part("try-books", ("--only", "rows"), ("try-books",)),
     "statuses": Part("try-statuses", (), ("try-statuses",)),
     "untouched": Part("try-untouched", (), ("try-untouched",)),
     "logs": Part("try-logs", (), ("try-logs",)),
@@ -61,10 +68,10 @@ OF_THE_PROGRAM = {
 }
 # of what stands around it: the parts that are done in seconds
 OF_THE_SERVICE = {
-    **{f"gate {part}": Part("try-gate", ("--only", part), (f"gate/{file}",), NGINX)
-       for part, file in (("answers", "answers.py"), ("streamed", "streamed.py"), ("days", "days.py"), ("sessions", "sessions.py"), ("leads", "leads.py"), ("reads", "mine.py:Reads"), ("executed", "executed.py"), ("mine", "mine.py:Mine"))},
-    **{f"trail {part}": Part("try-trail", ("--only", part), (f"try-trail:{case}",), packages)
-       for part, case, packages in (("story", "Story", ()), ("archives", "Archives", ()), ("faults", "Bad", ()), ("pages", "OfPages", ()), ("served", "Served", NGINX))},
+    **{f"gate {part}": Part("try-gate", ("--only", part), (f"gate/{file}",), NGINX) for part, file in (("streamed", "streamed.py"), ("days", "days.py"), ("mine", "mine.py:Mine"))},
+    "gate": Part("try-gate", ("--only", "answers,sessions,leads,reads,executed"), ("gate/answers.py", "gate/sessions.py", "gate/leads.py", "gate/mine.py:Reads", "gate/executed.py"), NGINX),
+    "trail": Part("try-trail", ("--only", "story,archives,faults,pages"), tuple(f"try-trail:{case}" for case in ("Story", "Archives", "Bad", "OfPages"))),
+    "trail served": Part("try-trail", ("--only", "served"), ("try-trail:Served",), NGINX),
     "rules": Part("try-rules", ("--only", "days"), ("rules/drawn_days.py",)),
     "figures": Part("try-figures", ("--days", "4"), ("try-figures",)),
     "certificates": Part("try-certificates", (), ("try-certificates",), ("openssl",)),
@@ -87,7 +94,7 @@ BY_HAND = {
     "gate whole": Part("try-gate", (), ("try-gate", "gate/followed.py", "gate/older.py", "gate/alike.py", "gate/waits.py", "gate/pushed.py", "gate/monitor.py", "gate/many.py"), (*NGINX, "python3-h2", "python3-prometheus-client")),
     "http": Part("try-http", (), ("try-http",), (*NGINX, "apache2-utils", "curl", "sqlite3")),
     "node": Part("try-node", (), ("node/carried.py", "node/day.py", "node/hostile.py", "node/values.py"), (), ("etcd",)),
-    "office": Part("try-office", (), tuple(f"office/{name}.py" for name in ("starting", "damage", "clock", "copies", "pruned", "plans", "program", "byhand", "clone")), (), ("booted",), False),
+    "office": Part("try-office", (), tuple(f"office/{name}.py" for name in ("starting", "damage", "clock", "copies", "pruned", "plans", "program", "byhand", "hour", "clone")), (), ("booted",), False),
     "package": Part("try-package", (), ("try-package",), ("debootstrap", "iproute2", "lintian", "util-linux"), ("root",), False),
     "prune": Part("try-prune", (), ("try-prune",)),
     "ready": Part("try-ready", (), tuple(f"ready/{name}.py" for name in ("cuts", "logs", "notices", "settings", "starts", "stops")), (), ("root",)),
@@ -122,7 +129,7 @@ def is_python(file: Path) -> bool:
 
 
 def lint() -> list[Job]:
-    return [Job("lint", (PYTHON, "-m", "flake8", "--jobs", "1", *python_files()), counts.of_status, ("flake8",))]
+    return [Job("lint", (PYTHON, "-c", LINT, "--jobs", "1", *python_files()), counts.of_status, ("flake8",))]
 
 
 def types() -> list[Job]:

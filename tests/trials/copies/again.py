@@ -48,7 +48,7 @@ class Again(Part):
         return office
 
     def prune(self, office, wanted):
-        status, said, faults = office.run(PYTHON, self.script.parent / "acdctl", "prune", "--file", office.file)
+        status, said, faults = office.command(self.script.parent / "acdctl", "prune", "--file", office.file)
         self.expect(f"pruned: {faults}", (status, said, faults), (0, wanted, ""))
 
     def lines(self, office, given):

@@ -13,7 +13,7 @@ import time
 from pathlib import Path
 
 from shipped import SERVICE, shipped
-from trial import Connection, Desk, Lines, Plan, Requests, Trial, compact, line, ran
+from trial import Connection, Desk, Lines, Plan, Requests, Trial, compact, forked, line, ran
 from trial.files import log_of
 
 # that of Debian, which the scripts are run by
@@ -78,9 +78,15 @@ class Office:
     def words(self, *words):
         return [PYTHON, self.script, "--file", self.file, "--folder", self.copies, *words]
 
-    def copy(self, *words, **how):
+    def copy(self, *words, given="", cwd=None, user=None):
         """acd-copy over this file."""
-        return self.run(*self.words(*words), **how)
+        if user:
+            return self.run(*self.words(*words), given=given, cwd=cwd, user=user)
+        return self.command(*self.words(*words)[1:], given=given, cwd=cwd)
+
+    def command(self, *words, given="", cwd=None):
+        """A program that stands beside the script that is tried, or that script."""
+        return forked(*words, given=given, cwd=cwd or self.folder, env=self.settings())
 
     # the desk
 

@@ -30,7 +30,7 @@ FIRST = [f"a{number}" for number in range(500)]
 
 class Ground(Place):
     """The passwords' hashes are bcrypt's, as the pages have it; nginx has as many workers as Debian gives it."""
-    WORKERS, KEY = "auto", ("ec", "-pkeyopt", "ec_paramgen_curve:P-256")
+    WORKERS = "auto"
     ROLES = {"sup": "supervisor", **{login: "supervisor" for login in FIRST}}
 
     @classmethod

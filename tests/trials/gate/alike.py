@@ -20,7 +20,6 @@ def basic(login, password="secret"):
 
 
 class Alike(Place):
-    KEY = "ec", "-pkeyopt", "ec_paramgen_curve:P-256"
     ROLES = {"sup": "supervisor", "ana": "agent agent=7", "lea": "lead groups=100", "blind": "office reads=none", "planner": "office", "copy": "follow", "pbx": "exchange", "lineless": None,
              "odd": "office agent=7", "tried": "supervisor"}
 

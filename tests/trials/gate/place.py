@@ -32,8 +32,8 @@ class Place(Trial):
     PLAN, ROLES, missed, secret, proxys = plan_of(), {}, 0, secrets.token_hex(32), secrets.token_hex(32)
     # which secrets gate and nginx read
     SECRETS = "session", "proxy"
-    # of nginx: its configuration, its workers, and the kind of its key
-    NGINX, WORKERS, KEY = TOP / "service/nginx/nginx.conf", 1, ("rsa:2048",)
+    # of nginx: its configuration, and its workers
+    NGINX, WORKERS = TOP / "service/nginx/nginx.conf", 1
 
     @classmethod
     def setUpClass(cls):
@@ -98,7 +98,7 @@ class Place(Trial):
     @classmethod
     def start_nginx(cls):
         here = cls.folder
-        subprocess.run(["openssl", "req", "-x509", "-newkey", *cls.KEY, "-nodes", "-subj", "/CN=desk", "-addext", "subjectAltName=IP:127.0.0.1", "-days", "2",
+        subprocess.run(["openssl", "req", "-x509", "-newkey", "ec", "-pkeyopt", "ec_paramgen_curve:P-256", "-nodes", "-subj", "/CN=desk", "-addext", "subjectAltName=IP:127.0.0.1", "-days", "2",
                         "-keyout", here / "desk.key", "-out", here / "desk.crt"], stderr=subprocess.DEVNULL, check=True)
         (here / "share").mkdir()
         (here / "share/board").symlink_to(TOP / "board")

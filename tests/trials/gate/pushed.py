@@ -27,8 +27,6 @@ def word(login):
 
 
 class Pushed(Place):
-    KEY = "ec", "-pkeyopt", "ec_paramgen_curve:P-256"
-
     @classmethod
     def setUpClass(cls):
         """So many agents have a page, which is open twice."""

@@ -23,7 +23,6 @@ def word(login):
 
 
 class Waits(Place):
-    KEY = "ec", "-pkeyopt", "ec_paramgen_curve:P-256"
     ROLES = {"pbx": "exchange", "sup": "supervisor", **{f"a{number}": f"agent agent={number}" for number in range(1, LOGINS + 1)}}
 
     def try_own_connections(self):

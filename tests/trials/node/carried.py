@@ -1,4 +1,4 @@
-"""Three machines whose desks are pruned: all are stopped at one place, pruned up to one request, and go on, as docs/OPERATING.md has it."""
+"""Three machines whose desks are pruned: all are stopped at one place, pruned up to one request, and go on, as docs/MACHINES.md has it."""
 import base64
 import json
 import subprocess

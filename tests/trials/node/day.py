@@ -171,7 +171,7 @@ def by_timer(machines):
 
 
 def by_hand(machines):
-    """As docs/OPERATING.md has it, by the least first number of the files that say how far each machine came. The compaction waits for one member, and none tells when it has done."""
+    """As docs/MACHINES.md has it, by the least first number of the files that say how far each machine came. The compaction waits for one member, and none tells when it has done."""
     def defragment():
         return machines.etcdctl("--command-timeout=10m", "defrag") and 2 * most(machines, "dbSize") < QUOTA
 

@@ -18,7 +18,7 @@ COMMANDS = Path(__file__).resolve().parents[3] / "service/bin"
 LINE = base64.b64encode(b"desk/line").decode()
 NAMES = "m1,m2,m3"
 USERS = [*NAMES.split(","), "upkeep", "root"]
-# An entry, as docs/OPERATING.md says: written anew here, so that a node that reads it otherwise is found. As many may be in a value, of so many bytes.
+# An entry, as docs/MACHINES.md says: written anew here, so that a node that reads it otherwise is found. As many may be in a value, of so many bytes.
 ENTRY = re.compile(rb"[0-9a-fA-F]{32} ([0-9]{1,10} [^\r\n]{1,4096})", re.DOTALL)
 MOST, LONGEST_VALUE = 100, 262144
 # Seconds: until a request has its answer, and what waits for the machines ends; and for a program that ends by itself.
@@ -129,7 +129,7 @@ class Machines:
         return words + (["--etcd-user", user, "--etcd-password", self.folder / f"{user}.password"] if self.passwords else [])
 
     def ask_for_users(self):
-        """As docs/OPERATING.md has it: a machine may write the log and what is below its own name."""
+        """As docs/MACHINES.md has it: a machine may write the log and what is below its own name."""
         grant, may = ["role", "grant-permission"], "--prefix=true"
         commands = [["role", "add", "node"], [*grant, "node", "read", may, "desk/line"], [*grant, "node", "readwrite", "desk/line"]]
         for user in USERS:
@@ -286,7 +286,7 @@ class Machines:
             self.ask_until_answered(json.dumps(body), chance, [], machines)
 
     def copy_folder(self, to, source):
-        """As docs/OPERATING.md has it: both are stopped, and the machine that is copied from is so until the other one has started."""
+        """As docs/MACHINES.md has it: both are stopped, and the machine that is copied from is so until the other one has started."""
         for n in (to, source):
             self.kill_node(n)
         run(["rm", "-rf", self.folder / f"m{to}"], check=True)

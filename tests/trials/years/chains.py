@@ -172,9 +172,9 @@ class Chains:
         ground.expect("some go through, and some don't", states, {(0, False), (1, True)})
 
     def compacted(self):
-        """The lines of OPERATING that compact a file: the same rows with the same archive, nothing of who was pruned in its bytes, and a copy of it is good."""
+        """The lines of docs/PRUNING.md that compact a file: the same rows with the same archive, nothing of who was pruned in its bytes, and a copy of it is good."""
         ground, office = self.ground, self.office("compacted")
-        lines = re.search(r"runuser -u acd -- sh -euc '\n(.*?)'; systemctl start acd && systemctl start acd-copy\n", (TOP / "docs/OPERATING.md").read_text(), re.DOTALL)[1]
+        lines = re.search(r"runuser -u acd -- sh -euc '\n(.*?)'; systemctl start acd && systemctl start acd-copy\n", (TOP / "docs/PRUNING.md").read_text(), re.DOTALL)[1]
         ground.expect("pruned", office.prune()[0], 0)
         rows, size = held(office.file), office.file.stat().st_size
         folder = self.folder / "programs"
