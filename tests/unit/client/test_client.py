@@ -403,12 +403,12 @@ class AgainstADeskThatCannotAnswer(unittest.TestCase):
             self.client(desk.address.replace("127.0.0.1", "localhost"), trusted=CERTIFICATES / "elsewhere.crt").ask("tick")
 
     def test_https_where_http_is_spoken(self) -> None:
-        """A server that answers no TLS; the desk itself says nothing before it has a whole head."""
+        """A server that answers no TLS, and one that waits for the rest, as the desk does unless the hello's random bytes hold an empty line."""
         with self.assertRaises(ssl.SSLError):
             self.client(FalseDesk([reply({}, "400 Bad Request")]).address.replace("http:", "https:")).ask("tick")
-        desk = Desk(str(self.folder))
-        self.addCleanup(desk.kill)
-        client = self.client(desk.address.replace("http:", "https:"))
+        silent = socket.create_server(("127.0.0.1", 0))
+        self.addCleanup(silent.close)
+        client = self.client(f"https://127.0.0.1:{silent.getsockname()[1]}")
         client.wait = 0.1
         self.assertRegex(self.told_of(client), "no answer yet from https://.* handshake .*timed out")
 
