@@ -73,7 +73,7 @@ put("crates/acd_lemmas/proofs/SameRecords.antt",
 after("crates/acd_laws/proofs/Rules/KeptPlan.antt", ("groups = gs; stamp = turn.stamp; since = turn.moment", "; logged = Some turn.moment"))
 after("crates/acd_laws/proofs/Rules/BoundsStep.antt", ("groups = groups; stamp = k; since = m", "; logged = Some m"))
 after("crates/acd_laws/proofs/Watched/SoundDeeds.antt", ("groups = groups; stamp = turn.stamp; since = turn.moment", "; logged = Some turn.moment"))
-after("crates/acd_bounds/proofs/Starved.antt", ("stamp = n.stamp; since = n.moment", "; logged = Some 15"), ("groups = []; stamp = 5; since = 0", "; logged = None"))
+after("crates/acd_laws/proofs/Starved.antt", ("stamp = n.stamp; since = n.moment", "; logged = Some 15"), ("groups = []; stamp = 5; since = 0", "; logged = None"))
 
 # ---- JSON
 

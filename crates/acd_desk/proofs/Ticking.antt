@@ -17,7 +17,7 @@ use Rattle.acd_terms.specs.declared.command.Arrival.{Arrival}
 use Rattle.acd_model.specs.Rules.First.{BreaksNoRule}
 use Rattle.acd_model.specs.Step.{executed_moment}
 use Rattle.acd_laws.specs.Due.{is_due_by}
-use Rattle.acd_bounds.proofs.InTime.{tick_bounds_answers, tick_leaves_none}
+use Rattle.acd_laws.proofs.InTime.{tick_bounds_answers, tick_leaves_none}
 use Rattle.acd_book.specs.declared.kept.Kept.{Kept}
 use Rattle.acd_book.specs.Content.{Content, kept_of}
 use Rattle.acd_book.specs.State.{BookState}

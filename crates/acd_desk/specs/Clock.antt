@@ -7,7 +7,7 @@ use Rattle.acd_terms.specs.declared.command.Command.TheVariants.{Tick}
 use Rattle.acd_model.specs.Step.{executed_moment}
 use Rattle.acd_model.specs.Run.{TimedCommand, run}
 use Rattle.acd_laws.specs.Due.{is_due, is_due_by}
-use Rattle.acd_bounds.specs.TimeLaws.{IsInTime}
+use Rattle.acd_laws.specs.TimeLaws.{IsInTime}
 use Rattle.acd_book.specs.declared.book.Book.{Ghosts}
 use Rattle.acd_book.specs.Content.{Content}
 use Rattle.acd_book.specs.State.{IfHonest}

@@ -1,3 +1,6 @@
 pub mod Read
 pub mod Sent
 pub mod Digits
+pub mod Order
+pub mod Left
+pub mod Laws

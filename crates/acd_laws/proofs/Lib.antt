@@ -9,3 +9,5 @@ pub mod Figures
 pub mod Watched
 pub mod Made
 pub mod Names
+pub mod InTime
+pub mod Starved

@@ -19,6 +19,8 @@ ghost use Rattle.acd_laws.specs.ChangeLaws.{StepMakesItsChanges};
 ghost use Rattle.acd_laws.specs.AllLaws.{StepKeepsLaws, RunKeepsLaws};
 ghost use Rattle.acd_laws.specs.NameLaws.{NamesAreInert, RunIgnoresNames};
 ghost use Rattle.acd_laws.specs.OneOfferLaws.{RulesGiveOneOffer, StepKeepsOneOffer, RunHasOneOffer};
+ghost use Rattle.acd_laws.specs.StarvingLaws.{LowPriorityMayStarve};
+ghost use Rattle.acd_laws.specs.TimeLaws.{TickBoundsAnswers, RunBoundsAnswers, TickLeavesNone};
 
 /// The call that is found to wait first in a group has the least place there, and one is found wherever one waits.
 pub fn finds_the_first_waiting()
@@ -213,4 +215,27 @@ pub fn names_are_inert()
 /// So it is of runs from the empty state.
 pub fn run_ignores_names()
     ensures { RunIgnoresNames }
+{}
+
+/// After a tick of rows that break no rule each offer is younger than the ring of its group at that tick, and the time
+/// since it; so is after-call work, by the wrap of the agent's least group. A time of 0 means never.
+pub fn tick_bounds_answers()
+    ensures { TickBoundsAnswers }
+{}
+
+/// So it is in every run, after each of its ticks, at each state from there on.
+pub fn run_bounds_answers()
+    ensures { RunBoundsAnswers }
+{}
+
+/// For each number of rounds there is a run in which a call of a group of low priority waits before and after each
+/// request, while an agent of both groups answers a call of the other in each round.
+pub fn low_priority_may_starve()
+    ensures { LowPriorityMayStarve }
+{}
+
+/// After a tick nothing is due: at the moment at which it was executed no offer has rung its group's ring, and no
+/// after-call work has lasted its group's wrap.
+pub fn tick_leaves_none()
+    ensures { TickLeavesNone }
 {}

@@ -25,10 +25,10 @@ use Rattle.acd_http.specs.Turns.{Turn, Turned, TurnedEach}
 use Rattle.acd_http.specs.Turns as turn
 use Rattle.acd_http.specs.TurnsAttended.{ticked, handed_by, all_handed}
 use Rattle.acd_http.proofs.Attending.{arrived, replied, So, none_more, one_connection, joined}
-use Rattle.acd_order.specs.Left as order
-use Rattle.acd_order.specs.declared.until_order.UntilOrder.{UntilOrder}
-use Rattle.acd_order.specs.Order.{before_order, has_order, mark, marked}
-use Rattle.acd_order.proofs.Told.{told_by}
+use Rattle.acd_io.specs.Left as order
+use Rattle.acd_io.specs.declared.until_order.UntilOrder.{UntilOrder}
+use Rattle.acd_io.specs.Order.{before_order, has_order, mark, marked}
+use Rattle.acd_io.proofs.Told.{told_by}
 use Rattle.acd_program.specs.Desks.{in_database}
 use Rattle.acd_program.specs.Faults.{open_fault}
 use Rattle.acd_program.specs.LinesOver.{in_turn}

@@ -18,9 +18,9 @@ use Rattle.acd_http.specs.declared.serving.Span.{Span}
 use Rattle.acd_http.specs.ReadingLines.{AnswersReads, arrivals_of, answers_of}
 use Rattle.acd_http.specs.Turns.{Turn, TurnedEach}
 use Rattle.acd_http.specs.TurnsAttended.{requests_handed, answers_handed}
-use Rattle.acd_order.specs.Left.{left_of}
-use Rattle.acd_order.specs.declared.until_order.UntilOrder.{UntilOrder}
-use Rattle.acd_order.specs.Order.{before_order, has_order, mark, marked}
+use Rattle.acd_io.specs.Left.{left_of}
+use Rattle.acd_io.specs.declared.until_order.UntilOrder.{UntilOrder}
+use Rattle.acd_io.specs.Order.{before_order, has_order, mark, marked}
 use Rattle.acd_program.specs.Desks.{OverDesk}
 use Rattle.acd_program.specs.Faults.{lines_fault}
 use Rattle.acd_program.specs.LinesOver.{in_turn}

@@ -2,7 +2,7 @@ use Rattle.std.proofs.Common.{MutBor, true, refl}
 use Rattle.sqlite.specs.Files.{over_files, file_state}
 use Rattle.sqlite_std_file.specs.File.{IsFresh}
 use Rattle.acd_lines.specs.Lines.{streams}
-use Rattle.acd_order.specs.Left.{left_of}
+use Rattle.acd_io.specs.Left.{left_of}
 use Rattle.acd_program.specs.InFiles.{IsLaidIn}
 use Rattle.acd_program.specs.Standby.{upon_order}
 use Rattle.acd_program.proofs.Ends.{match_from, on_ok}

@@ -1,2 +1,0 @@
-pub mod InTime
-pub mod Starved

@@ -1,2 +1,0 @@
-pub mod TimeLaws
-pub mod StarvingLaws

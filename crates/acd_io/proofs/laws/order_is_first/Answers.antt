@@ -1,0 +1,5 @@
+use Rattle.acd_io.proofs.Told.{order_first}
+use Rattle.acd_io.proofs.laws.order_is_first.Goals as goal
+
+pub returns : goal.returns
+returns c = order_first

@@ -1,3 +1,0 @@
-pub mod Orders
-pub mod GivenOn
-pub mod Told

@@ -1,3 +1,0 @@
-pub mod Order
-pub mod Left
-pub mod Laws
