@@ -8,6 +8,7 @@ pub mod Commits
 pub mod Sound
 pub mod ContentLaws
 pub mod Carrying
+pub mod CarriedRuns
 pub mod WithArchive
 pub mod SameRequests
 pub mod ByPlace

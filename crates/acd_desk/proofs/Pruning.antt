@@ -10,16 +10,14 @@ use Rattle.acd_book.specs.Content.{Content}
 use Rattle.acd_book.specs.Memory.{stamp_of, number_of}
 use Rattle.acd_book.specs.Order.{Rises}
 use Rattle.acd_book.specs.Pruned.{pruned}
-use Rattle.acd_desk.specs.Stands.{IsSound}
-use Rattle.acd_desk.specs.Carried.{Archive, together, joined}
+use Rattle.acd_desk.specs.Carried.{Archive, together}
 use Rattle.acd_desk.specs.Sharing.{IsSplit}
 use Rattle.acd_desk.specs.WithArchive.{ComeBefore, IsCut, IsSoundWith, IsLedFrom}
 use Rattle.acd_desk.specs.AuditWith.{StandsInTime, HoldsArchive, first_sent_again, IsSentAgain}
 use Rattle.acd_desk.specs.Overlap.{IsCleanCut}
-use Rattle.acd_desk.specs.Pruning.{IsPlace, IsGone, StaysLed, IsCarriedFurther}
+use Rattle.acd_desk.specs.Pruning.{IsPlace, IsGone, StaysLed}
 use Rattle.acd_desk.proofs.AuditLaws.{zero_least}
 use Rattle.acd_desk.proofs.Audits.{same_content}
-use Rattle.acd_desk.proofs.Carrying.{cut_again}
 use Rattle.acd_desk.proofs.LedFrom.{kept_whole, events_whole, Newer, led_newer, sound_made, sent_again_unsound, cut_without, sound_without, led_without}
 use Rattle.acd_desk.proofs.SharedLists.{not_both, every_front, every_back, every_each, rises_back, split_at, none_above, all_above}
 
@@ -162,8 +160,3 @@ prune_stays_sent_again a c stamp number n stands place again =
     let on : StaysLed a c (pruned stamp number c) again.led = prune_stays_led a c stamp number again.led stands place in
     let first : option_map stamp_of (first_sent_again on.led.left on.led.newer) ≡ Some n = ap (option_map stamp_of) on.first ∙ again.first in
     record { unsound = sent_again_unsound a (pruned stamp number c) on.led n stands.counted first; led = on.led; first = first }
-
-pub prune_carries_further : (p : Archive) (a old new : Content) (gone : Archive) → IsGone a old new gone → IsCarriedFurther p gone old new
-prune_carries_further p a old new gone is =
-    let content : together p old ≡ together (joined p gone) new = ap (together p) is.whole ∙ (cut_again p gone new).content in
-    record { content = content; sound = λ sound. subst IsSound content sound }

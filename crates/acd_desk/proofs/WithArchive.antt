@@ -7,7 +7,8 @@ use Rattle.acd_desk.specs.Carried.{Archive, together, joined, NoneSentAgain}
 use Rattle.acd_desk.specs.WithArchive.{IsSoundWith}
 use Rattle.acd_desk.proofs.Leading.{sound_led}
 use Rattle.acd_desk.proofs.Sound.{ran_sound}
-use Rattle.acd_desk.proofs.Carrying.{run_of_all, cut_again}
+use Rattle.acd_desk.proofs.Carrying.{cut_again}
+use Rattle.acd_desk.proofs.CarriedRuns.{run_of_all}
 
 pub audits_with_archive : (a c : Content) (goes : IsSoundWith a c) → IsSound a → IsSound (together goes.left c)
 audits_with_archive a c goes sound =

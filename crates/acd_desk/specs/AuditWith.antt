@@ -1,19 +1,17 @@
 -- The answer of an audit of a content with its archive.
-use Rattle.std.specs.Prelude.{◌≡◌, ◌≢◌, ℕ, ◌+◌, ◌<◌, ◌≤◌, List, [], ◌∷◌, ◌++◌, length, find, Option, Some, is_some, option_map}
-use Rattle.acd_terms.specs.Lists.{Every}
+use Rattle.std.specs.Prelude.{◌≡◌, ℕ, ◌+◌, ◌<◌, ◌≤◌, List, [], ◌∷◌, ◌++◌, length, find, Option, Some, is_some, option_map}
 use Rattle.acd_terms.specs.declared.rows.Rows.{Rows}
 use Rattle.acd_terms.specs.declared.event.Event.{Event}
 use Rattle.acd_book.specs.declared.kept.Kept.{Kept}
 use Rattle.acd_book.specs.Content.{Content, kept_of, IsKeptAfter, IsCounted, GoOn}
 use Rattle.acd_book.specs.Memory.{stamp_of, number_of}
 use Rattle.acd_book.specs.Order.{Rises, IsOrdered}
-use Rattle.acd_book.specs.State.{BookState, IfHonest}
 use Rattle.acd_desk.specs.declared.audit.ArchiveAudit.{ArchiveAudit}
 use Rattle.acd_desk.specs.declared.audit.ArchiveAudit.TheVariants.{Sound, SentAgain, Differs}
-use Rattle.acd_desk.specs.Stands.{arrivals_of, IsSound}
+use Rattle.acd_desk.specs.Stands.{arrivals_of}
 use Rattle.acd_desk.specs.Leads.{led}
 use Rattle.acd_desk.specs.Replay.{Matches}
-use Rattle.acd_desk.specs.Carried.{Archive, together}
+use Rattle.acd_desk.specs.Carried.{Archive}
 use Rattle.acd_desk.specs.WithArchive.{IsCut, IsSoundWith, IsLedFrom}
 
 -- no moment is before the one that precedes it
@@ -97,7 +95,3 @@ abbrev pub IsAuditWith : Content → Content → ArchiveAudit → Type 0
 IsAuditWith a c Sound = IsSoundWith a c
 IsAuditWith a c (SentAgain n) = IsSentAgain a c n
 IsAuditWith a c (Differs n) = IsDifferenceWith a c n
-
--- a content that is sound, by itself or with its archive, keeps to time
-abbrev pub SoundStandsInTime : Type 0
-SoundStandsInTime = (p : Archive) (a : Content) → IsSound (together p a) → StandsInTime a

@@ -29,3 +29,8 @@ IsNewTo p a = kept_of p.kept a.request.requester a.request.invoke ≡ None
 -- no request is sent again after it was carried away
 abbrev pub NoneSentAgain : Archive → List Arrival → Type 0
 NoneSentAgain p list = Every (IsNewTo p) list
+
+-- the rest may be carried over again: two archives are as one, which has the keys of both
+pub record IsCutAgain (p q : Archive) (c : Content) : Type 0 where
+  pub content : together p (together q c) ≡ together (joined p q) c
+  pub keys : (list : List Arrival) → NoneSentAgain p list → NoneSentAgain q list → NoneSentAgain (joined p q) list

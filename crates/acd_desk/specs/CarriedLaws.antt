@@ -9,13 +9,8 @@ use Rattle.acd_desk.specs.declared.taken.Taken.{Taken}
 use Rattle.acd_desk.specs.Accepted.{accepted, maybe_last, sent}
 use Rattle.acd_desk.specs.Stands.{IsSound, ran_after, replies, StopsAt}
 use Rattle.acd_desk.specs.Laws.{KeepsLaws}
-use Rattle.acd_desk.specs.Leads.{led, answers_to, Leads}
-use Rattle.acd_desk.specs.Carried.{Archive, together, joined, NoneSentAgain}
-
--- answers, rows, events and kept records over the content are those over archive and content together
-pub record IsAsTogether (p : Archive) (c : Content) (list : List Arrival) : Type 0 where
-  pub answers : answers_to c list ≡ answers_to (together p c) list
-  pub content : together p (led c list) ≡ led (together p c) list
+use Rattle.acd_desk.specs.Leads.{led, answers_to, Leads, IsAsTogether}
+use Rattle.acd_desk.specs.Carried.{Archive, together, NoneSentAgain, IsCutAgain}
 
 abbrev pub CarriedGoesOn : Type 0
 CarriedGoesOn = (p : Archive) (c : Content) (list : List Arrival) → NoneSentAgain p list → IsAsTogether p c list
@@ -28,11 +23,6 @@ pub record IsRunOfAll (p : Archive) (c : Content) (list : List Arrival) : Type 0
 
 abbrev pub CarriedIsRunOfAll : Type 0
 CarriedIsRunOfAll = (p : Archive) (c : Content) (list : List Arrival) → IsSound (together p c) → NoneSentAgain p list → IsRunOfAll p c list
-
--- the rest may be carried over again: two archives are as one, which has the keys of both
-pub record IsCutAgain (p q : Archive) (c : Content) : Type 0 where
-  pub content : together p (together q c) ≡ together (joined p q) c
-  pub keys : (list : List Arrival) → NoneSentAgain p list → NoneSentAgain q list → NoneSentAgain (joined p q) list
 
 abbrev pub CarriedAgain : Type 0
 CarriedAgain = (p q : Archive) (c : Content) → IsCutAgain p q c

@@ -7,6 +7,7 @@ use Rattle.acd_book.specs.State.{BookState}
 use Rattle.acd_desk.specs.declared.taken.Taken.{Taken}
 use Rattle.acd_desk.specs.Replies.{answer_in, after}
 use Rattle.acd_desk.specs.Accepted.{accepted, maybe_last, sent}
+use Rattle.acd_desk.specs.Carried.{Archive, together}
 
 -- the content after some arrivals, one after the other
 abbrev pub led : Content → List Arrival → Content
@@ -27,3 +28,8 @@ pub record Leads (start : Content) (arrivals : List Arrival) (answers : List Tak
   pub replies : sent answers ≡ answers_to start (accepted arrivals answers)
   pub content : new.is_open → new.content ≡ led start (accepted arrivals answers)
   pub stops : (c : Content) → new.stops c → StopsFrom start (accepted arrivals answers) (maybe_last arrivals answers) c
+
+-- answers, rows, events and kept records over the content are those over archive and content together
+pub record IsAsTogether (p : Archive) (c : Content) (list : List Arrival) : Type 0 where
+  pub answers : answers_to c list ≡ answers_to (together p c) list
+  pub content : together p (led c list) ≡ led (together p c) list

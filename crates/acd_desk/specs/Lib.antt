@@ -36,6 +36,7 @@ pub mod KeyPlaces
 pub mod NameLaws
 pub mod CarriedLaws
 pub mod WithArchive
+pub mod ArchiveLaws
 pub mod Sharing
 pub mod AuditWith
 pub mod Pairs
@@ -45,3 +46,4 @@ pub mod AuditedWith
 pub mod Clock
 pub mod Clocked
 pub mod Pruning
+pub mod PruneLaws

@@ -10,9 +10,8 @@ ghost use Rattle.acd_desk.specs.Rebuilding.{PagesRebuild};
 ghost use Rattle.acd_desk.specs.PageSizes.{PagesAreShort, SoundIsReplied};
 ghost use Rattle.acd_desk.specs.NameLaws.{ContentIgnoresNames, AnswersIgnoreNames};
 ghost use Rattle.acd_desk.specs.CarriedLaws.{CarriedGoesOn, CarriedIsRunOfAll, CarriedAgain, CarriedOpens, CarriedRuns};
-ghost use Rattle.acd_desk.specs.WithArchive.{SoundIsLed, LedIsSound, AuditsWithArchive, AuditsLinkByLink};
-ghost use Rattle.acd_desk.specs.AuditWith.{SoundStandsInTime};
-ghost use Rattle.acd_desk.specs.Pruning.{LedHoldsArchive, PruneLosesNothing, PruneStaysSound, PruneStaysLed, PruneStaysSentAgain, PruneCarriesFurther};
+ghost use Rattle.acd_desk.specs.ArchiveLaws.{SoundIsLed, LedIsSound, AuditsWithArchive, AuditsLinkByLink, SoundStandsInTime};
+ghost use Rattle.acd_desk.specs.PruneLaws.{LedHoldsArchive, PruneLosesNothing, PruneStaysSound, PruneStaysLed, PruneStaysSentAgain, PruneCarriesFurther};
 
 use acd_book::Book;
 

@@ -1,4 +1,5 @@
-use Rattle.acd_desk.proofs.Carrying.{goes_on, run_of_all, cut_again, opens_alone}
+use Rattle.acd_desk.proofs.Carrying.{goes_on, cut_again}
+use Rattle.acd_desk.proofs.CarriedRuns.{run_of_all, opens_alone}
 use Rattle.acd_desk.proofs.laws.carried_goes_on.Goals as goal
 
 pub returns : goal.returns

@@ -1,4 +1,4 @@
-use Rattle.acd_desk.proofs.Carrying.{runs_together}
+use Rattle.acd_desk.proofs.CarriedRuns.{runs_together}
 use Rattle.acd_desk.proofs.laws.carried_runs.Goals as goal
 
 pub returns : goal.returns

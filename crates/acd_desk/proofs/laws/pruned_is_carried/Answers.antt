@@ -1,5 +1,6 @@
 use Rattle.acd_desk.proofs.NewerRuns.{led_holds}
-use Rattle.acd_desk.proofs.Pruning.{prune_loses_nothing, prune_carries_further}
+use Rattle.acd_desk.proofs.Pruning.{prune_loses_nothing}
+use Rattle.acd_desk.proofs.CarriedRuns.{prune_carries_further}
 use Rattle.acd_desk.proofs.laws.pruned_is_carried.Goals as goal
 
 pub returns : goal.returns
