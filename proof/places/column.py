@@ -23,7 +23,7 @@ after("crates/acd_model/specs/AgentMoves.antt", ("station = Some station; groups
 after("crates/acd_model/specs/Services/AddAgent.antt", ("stamp = turn.stamp; since = turn.moment", "; logged = None"))
 after("crates/acd_services/src/agent_moves.rt", ("        groups,\n        stamp: at.stamp,\n        since: at.moment,\n", "        logged: Some(at.moment),\n"))
 after("crates/acd_services/src/add_agent.rt", ("        since: at.moment,\n", "        logged: None,\n"))
-after("crates/acd_desk/specs/OldStep.antt", ("groups = group ∷ []; stamp = turn.stamp; since = turn.moment", "; logged = Some turn.moment"))
+after("crates/acd_desk_laws/specs/OldStep.antt", ("groups = group ∷ []; stamp = turn.stamp; since = turn.moment", "; logged = Some turn.moment"))
 
 # ---- examples: when the agent logged on, in each that says what becomes of one
 

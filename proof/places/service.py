@@ -119,7 +119,7 @@ after(CODEC + "proofs/OldReadings.antt", ("service.ChangeGroup ∷ service.Chang
 
 # ---- the desk: sizes, outcomes, and the desk of old
 
-DESK = "crates/acd_desk/"
+DESK = "crates/acd_desk_laws/"
 as_variant(DESK + "proofs/TextSizes.antt", ("service_short service.ChangeAgent = leb-true _ 20 refl\n", "service_short service.ParkHere = leb-true _ 20 refl\n"),
            ("  takes_request (ChangeAgent a t) h = weaker _ 222 347 (takes_at_agent service.ChangeAgent a t h.0 h.1) (omega arith)\n", "  takes_request (ParkHere c d) h = weaker _ 156 347 (takes_at_connection service.ParkHere c d h.0 h.1) (omega arith)\n"))
 as_variant(DESK + "proofs/Outcomes.antt", (", change_group, change_agent", ", park_here"), (" change_group change_agent", " park_here"),

@@ -11,7 +11,6 @@ pub mod Faults
 pub mod Arrived
 pub mod Laws
 pub mod Opening
-pub mod DeskLaws
 pub mod Ran
 pub mod Attended
 pub mod RequestPages
@@ -21,22 +20,11 @@ pub mod AnswerTexts
 pub mod Session
 pub mod Audit
 pub mod Replay
-pub mod AuditLaws
-pub mod Feeding
-pub mod OldChoice
-pub mod OldStep
-pub mod OldSound
-pub mod Following
-pub mod Rebuilding
-pub mod PageSizes
 pub mod GroupStates
 pub mod Pages
 pub mod BookReading
 pub mod KeyPlaces
-pub mod NameLaws
-pub mod CarriedLaws
 pub mod WithArchive
-pub mod ArchiveLaws
 pub mod Sharing
 pub mod AuditWith
 pub mod Pairs
@@ -46,4 +34,3 @@ pub mod AuditedWith
 pub mod Clock
 pub mod Clocked
 pub mod Pruning
-pub mod PruneLaws

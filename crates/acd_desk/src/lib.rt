@@ -24,7 +24,6 @@ mod executing;
 mod export;
 mod fault;
 mod group_states;
-pub mod laws;
 mod newer;
 mod open_fault;
 mod overlap;

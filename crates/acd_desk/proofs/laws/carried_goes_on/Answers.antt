@@ -1,6 +1,0 @@
-use Rattle.acd_desk.proofs.Carrying.{goes_on, cut_again}
-use Rattle.acd_desk.proofs.CarriedRuns.{run_of_all, opens_alone}
-use Rattle.acd_desk.proofs.laws.carried_goes_on.Goals as goal
-
-pub returns : goal.returns
-returns c = record { on = goes_on; all = run_of_all; again = cut_again; opens = opens_alone }

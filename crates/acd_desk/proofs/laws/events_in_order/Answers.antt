@@ -1,5 +1,0 @@
-use Rattle.acd_desk.proofs.Rising.{sound_rises}
-use Rattle.acd_desk.proofs.laws.events_in_order.Goals as goal
-
-pub returns : goal.returns
-returns c = sound_rises

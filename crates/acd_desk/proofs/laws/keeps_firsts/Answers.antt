@@ -1,5 +1,0 @@
-use Rattle.acd_desk.proofs.Sound.{ran_kept}
-use Rattle.acd_desk.proofs.laws.keeps_firsts.Goals as goal
-
-pub returns : goal.returns
-returns c = ran_kept

@@ -1,5 +1,0 @@
-use Rattle.acd_desk.proofs.LedFrom.{led_is_sound}
-use Rattle.acd_desk.proofs.laws.led_is_sound.Goals as goal
-
-pub returns : goal.returns
-returns c = led_is_sound

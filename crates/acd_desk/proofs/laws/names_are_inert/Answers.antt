@@ -1,5 +1,0 @@
-use Rattle.acd_desk.proofs.NamesInert.{content_ignores_names, answers_ignore_names}
-use Rattle.acd_desk.proofs.laws.names_are_inert.Goals as goal
-
-pub returns : goal.returns
-returns c = record { content = content_ignores_names; answers = answers_ignore_names }

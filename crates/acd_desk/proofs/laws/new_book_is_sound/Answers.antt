@@ -1,5 +1,0 @@
-use Rattle.acd_desk.proofs.ContentLaws.{empty_sound}
-use Rattle.acd_desk.proofs.laws.new_book_is_sound.Goals as goal
-
-pub returns : goal.returns
-returns c = empty_sound

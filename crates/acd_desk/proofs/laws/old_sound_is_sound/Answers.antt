@@ -1,5 +1,0 @@
-use Rattle.acd_desk.proofs.OldRuns.{old_sound_is_sound}
-use Rattle.acd_desk.proofs.laws.old_sound_is_sound.Goals as goal
-
-pub returns : goal.returns
-returns c = old_sound_is_sound

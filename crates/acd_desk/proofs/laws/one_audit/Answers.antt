@@ -1,5 +1,0 @@
-use Rattle.acd_desk.proofs.AuditLaws.{one_audit, sound_ordered, sound_agrees}
-use Rattle.acd_desk.proofs.laws.one_audit.Goals as goal
-
-pub returns : goal.returns
-returns c = record { one = one_audit; ordered = sound_ordered; agrees = sound_agrees }

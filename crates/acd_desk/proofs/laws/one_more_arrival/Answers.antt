@@ -1,5 +1,0 @@
-use Rattle.acd_desk.proofs.Runs.{after_firsts}
-use Rattle.acd_desk.proofs.laws.one_more_arrival.Goals as goal
-
-pub returns : goal.returns
-returns c = after_firsts

@@ -1,5 +1,0 @@
-use Rattle.acd_desk.proofs.LedFrom.{sound_is_led}
-use Rattle.acd_desk.proofs.laws.sound_is_led.Goals as goal
-
-pub returns : goal.returns
-returns c = sound_is_led

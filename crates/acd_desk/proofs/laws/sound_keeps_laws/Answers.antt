@@ -1,5 +1,0 @@
-use Rattle.acd_desk.proofs.ContentLaws.{sound_keeps_laws}
-use Rattle.acd_desk.proofs.laws.sound_keeps_laws.Goals as goal
-
-pub returns : goal.returns
-returns c = sound_keeps_laws

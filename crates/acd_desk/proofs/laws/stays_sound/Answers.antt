@@ -1,5 +1,0 @@
-use Rattle.acd_desk.proofs.ContentLaws.{after_sound}
-use Rattle.acd_desk.proofs.laws.stays_sound.Goals as goal
-
-pub returns : goal.returns
-returns c = after_sound

@@ -1,0 +1,15 @@
+pub mod CarriedRuns
+pub mod WithArchive
+pub mod ByPlace
+pub mod Feeding
+pub mod OldStates
+pub mod OldOffers
+pub mod OldRuns
+pub mod Recast
+pub mod Following
+pub mod Rebuilding
+pub mod TextSizes
+pub mod Outcomes
+pub mod PageSizes
+pub mod NamesInert
+pub mod InTime

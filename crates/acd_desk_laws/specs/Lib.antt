@@ -1,0 +1,13 @@
+pub mod DeskLaws
+pub mod AuditLaws
+pub mod Feeding
+pub mod OldChoice
+pub mod OldStep
+pub mod OldSound
+pub mod Following
+pub mod Rebuilding
+pub mod PageSizes
+pub mod NameLaws
+pub mod CarriedLaws
+pub mod ArchiveLaws
+pub mod PruneLaws
