@@ -32,7 +32,7 @@ const HISTORY_PAGE: usize = 1000;
 // Executed requests in a page.
 const REQUESTS_PAGE: usize = 1000;
 
-#[tactic(auto, using(crate::proofs::ReadsDone::read_made))]
+#[tactic(auto, using(crate::proofs::Pages::ReadsDone::read_made))]
 impl<B: Book> Desk<B> {
     // A read of the tables.
     fn look<T, F: FnOnce(&Tables) -> T>(&mut self, reading: F) -> Result<T, DeskFault>
@@ -113,7 +113,7 @@ impl<B: Book> Desk<B> {
     }
 }
 
-#[tactic(auto, using(crate::proofs::ReadsDone::read_looked))]
+#[tactic(auto, using(crate::proofs::Pages::ReadsDone::read_looked))]
 impl<B: Book> Desk<B> {
     // The number of the last event.
     fn last_event(&mut self) -> Result<u64, DeskFault>

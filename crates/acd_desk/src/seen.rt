@@ -24,7 +24,7 @@ impl SeenKeys {
     }
 
     /// Whether the place of the request's key was seen.
-    #[tactic(auto, using(crate::proofs::PlaceLemmas::seen_within, crate::proofs::PlaceLemmas::seen_past))]
+    #[tactic(auto, using(crate::proofs::Replays::PlaceLemmas::seen_within, crate::proofs::Replays::PlaceLemmas::seen_past))]
     pub(crate) fn has(&self, request: &Request) -> bool
         ensures { result ≡ is_seen_key self.now request.now }
     {
@@ -37,7 +37,7 @@ impl SeenKeys {
     }
 
     /// Records the place of the request's key as seen.
-    #[tactic(auto, using(crate::proofs::PlaceLemmas::seen_itself, crate::proofs::PlaceLemmas::seen_other, crate::proofs::PlaceLemmas::seen_past))]
+    #[tactic(auto, using(crate::proofs::Replays::PlaceLemmas::seen_itself, crate::proofs::Replays::PlaceLemmas::seen_other, crate::proofs::Replays::PlaceLemmas::seen_past))]
     pub(crate) fn insert(&mut self, request: &Request)
         ensures itself { IsSeenKey self.new request.now }
         ensures others { (other : Asked) → IsSeenKey self.old other → IsSeenKey self.new other }

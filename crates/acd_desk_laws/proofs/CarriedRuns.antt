@@ -15,10 +15,10 @@ use Rattle.acd_desk.specs.Stands.{IsSound, ran_after, StopsAt}
 use Rattle.acd_desk.specs.Leads.{led, StopsFrom, IsAsTogether}
 use Rattle.acd_desk.specs.Carried.{Archive, together, IsNewTo, NoneSentAgain, joined}
 use Rattle.acd_desk_laws.specs.CarriedLaws.{IsRunOfAll, CarriedRuns}
-use Rattle.acd_desk.proofs.Leading.{sound_led, sound_answers}
-use Rattle.acd_desk.proofs.Sound.{ran_sound, stop_sound}
-use Rattle.acd_desk.proofs.ContentLaws.{sound_keeps_laws, sound_rules}
-use Rattle.acd_desk.proofs.Carrying.{counted_alone, goes_on, cut_again}
+use Rattle.acd_desk.proofs.Contents.Leading.{sound_led, sound_answers}
+use Rattle.acd_desk.proofs.Contents.Sound.{ran_sound, stop_sound}
+use Rattle.acd_desk.proofs.Contents.ContentLaws.{sound_keeps_laws, sound_rules}
+use Rattle.acd_desk.proofs.Contents.Carrying.{counted_alone, goes_on, cut_again}
 use Rattle.acd_desk.specs.Pruning.{IsGone}
 use Rattle.acd_desk_laws.specs.PruneLaws.{IsCarriedFurther}
 

@@ -25,12 +25,12 @@ use Rattle.acd_desk.specs.Replies as replies
 use Rattle.acd_desk.specs.Stands.{IsSound, ran_after}
 use Rattle.acd_desk.specs.ReadAnswers.{above}
 use Rattle.acd_desk_laws.specs.Following.{shown_at, figures_shown, IsBefore, LeadsBy, SnapshotLeadsOn}
-use Rattle.acd_desk.proofs.ContentLaws.{sound_keeps_laws, sound_keeps_figures, sound_rules, sound_reports_no_more, sound_counted}
+use Rattle.acd_desk.proofs.Contents.ContentLaws.{sound_keeps_laws, sound_keeps_figures, sound_rules, sound_reports_no_more, sound_counted}
 use Rattle.acd_desk_laws.proofs.Recast.{is_held, history, watched_recast, no_more_recast, last_none, held_place}
-use Rattle.acd_desk.proofs.Longer.{ran_none, ran_push}
-use Rattle.acd_desk.proofs.Sound.{ran_sound}
-use Rattle.acd_desk.proofs.Steps.{step_numbers, step_event}
-use Rattle.acd_desk.proofs.PageLemmas.{is_above, not_above}
+use Rattle.acd_desk.proofs.Contents.Longer.{ran_none, ran_push}
+use Rattle.acd_desk.proofs.Contents.Sound.{ran_sound}
+use Rattle.acd_desk.proofs.Contents.Steps.{step_numbers, step_event}
+use Rattle.acd_desk.proofs.Pages.PageLemmas.{is_above, not_above}
 use Rattle.acd_laws.proofs.Watched.Order.{last-append}
 use Rattle.acd_lemmas.proofs.Lists.{every-append}
 

@@ -22,11 +22,11 @@ use Rattle.acd_desk.specs.Firsts.{stepped, record_of, executed, run_from, firsts
 use Rattle.acd_desk.specs.Stands.{IsSound, arrivals_of}
 use Rattle.acd_desk.specs.Carried.{Archive, together}
 use Rattle.acd_desk.specs.AuditWith.{Ascends, StandsInTime}
-use Rattle.acd_desk.proofs.AuditLaws.{sound_ordered, zero_least}
-use Rattle.acd_desk.proofs.Carrying.{counted_alone}
-use Rattle.acd_desk.proofs.CleanCuts.{ascends_lower, ascends_back}
-use Rattle.acd_desk.proofs.SharedLists.{every_upto, rises_back}
-use Rattle.acd_desk.proofs.Steps.{step_event, step_numbers}
+use Rattle.acd_desk.proofs.Replays.AuditLaws.{sound_ordered, zero_least}
+use Rattle.acd_desk.proofs.Contents.Carrying.{counted_alone}
+use Rattle.acd_desk.proofs.Archives.CleanCuts.{ascends_lower, ascends_back}
+use Rattle.acd_desk.proofs.Archives.SharedLists.{every_upto, rises_back}
+use Rattle.acd_desk.proofs.Contents.Steps.{step_event, step_numbers}
 
 -- ---- a step ----
 

@@ -18,7 +18,7 @@ use Rattle.acd_desk.specs.declared.taken.Taken.TheVariants.{Reply, InvokeReused,
 use Rattle.acd_desk.specs.Firsts.{has_key, distinct_from, firsts, kept_at, record_of, executed, run_from, run}
 use Rattle.acd_desk.specs.Replies.{same_request, answer_of, reply_to}
 use Rattle.acd_desk_laws.specs.NameLaws.{unnamed_request, unnamed_arrival, unnamed_kept, HasOneRequestAKey, answers, SameArrivalsButNames, ContentIgnoresNames, AnswersIgnoreNames}
-use Rattle.acd_desk.proofs.Keys.{same_itself}
+use Rattle.acd_desk.proofs.Contents.Keys.{same_itself}
 
 abbrev unnamed_content : Content → Content
 unnamed_content c = record c { rows = unnamed c.rows; kept = map unnamed_kept c.kept }

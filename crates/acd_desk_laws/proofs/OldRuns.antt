@@ -32,7 +32,7 @@ use Rattle.acd_desk_laws.specs.OldStep.{old_log_on_at, old_log_on, old_set_agent
 use Rattle.acd_desk_laws.specs.OldSound.{old_executed, old_run_from, IsOldRequested, IsOldCommand, IsOldSound}
 use Rattle.acd_desk_laws.proofs.OldStates.{just_one, IsOldState, empty_is_old, moved_is_old, serve_old, step_is_old}
 use Rattle.acd_desk_laws.proofs.OldOffers.{same_distribution}
-use Rattle.acd_desk.proofs.Sound.{firsts_same, length-arrivals}
+use Rattle.acd_desk.proofs.Contents.Sound.{firsts_same, length-arrivals}
 use Rattle.acd_terms.specs.declared.command.Turn.{Turn}
 
 -- a log-on in one group

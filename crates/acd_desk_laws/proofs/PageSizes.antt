@@ -22,8 +22,8 @@ use Rattle.acd_desk.specs.RequestPages.{executed_text, further_texts, requests_t
 use Rattle.acd_desk.specs.ReadAnswers.{requests_size, requests_page}
 use Rattle.acd_desk_laws.specs.PageSizes.{IsReplied, IsFormed, longest_page, PagesAreShort, SoundIsReplied}
 use Rattle.acd_desk_laws.proofs.Outcomes.{step_outcome}
-use Rattle.acd_desk.proofs.Sound.{sound_list, length-arrivals}
-use Rattle.acd_desk.proofs.Steps.{step_limits, step_stamp}
+use Rattle.acd_desk.proofs.Contents.Sound.{sound_list, length-arrivals}
+use Rattle.acd_desk.proofs.Contents.Steps.{step_limits, step_stamp}
 use Rattle.acd_desk_laws.proofs.TextSizes.{request_short, reply_short}
 
 joined : (xs ys : List ℕ) (m n k : ℕ) → length xs ≤ m → length ys ≤ n → m + n ≤ k → length (xs ++ ys) ≤ k

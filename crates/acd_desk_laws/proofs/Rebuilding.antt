@@ -13,11 +13,11 @@ use Rattle.acd_desk.specs.Replies.{after}
 use Rattle.acd_desk.specs.Stands.{arrivals_of, IsSound, ran_after}
 use Rattle.acd_desk.specs.ReadAnswers.{requests_size, requests_page}
 use Rattle.acd_desk_laws.specs.Rebuilding.{last_read, IsRead, nothing, page, IsAllRead, made_of, PagesRebuild}
-use Rattle.acd_desk.proofs.AuditLaws.{sound_agrees}
-use Rattle.acd_desk.proofs.Longer.{ran_none, ran_push}
-use Rattle.acd_desk.proofs.Runs.{run-limits}
-use Rattle.acd_desk.proofs.Sound.{run_sound, ran_sound, arrivals_append}
-use Rattle.acd_desk.proofs.Steps.{step_stamp}
+use Rattle.acd_desk.proofs.Replays.AuditLaws.{sound_agrees}
+use Rattle.acd_desk.proofs.Contents.Longer.{ran_none, ran_push}
+use Rattle.acd_desk.proofs.Contents.Runs.{run-limits}
+use Rattle.acd_desk.proofs.Contents.Sound.{run_sound, ran_sound, arrivals_append}
+use Rattle.acd_desk.proofs.Contents.Steps.{step_stamp}
 
 -- ---- the kept records of a run are numbered from 1 to the last stamp ----
 

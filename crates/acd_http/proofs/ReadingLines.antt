@@ -6,16 +6,16 @@ use Rattle.acd_book.specs.Content.{Content}
 use Rattle.acd_desk.specs.declared.taken.Taken.{Taken}
 use Rattle.acd_desk.specs.Arrived.{at}
 use Rattle.acd_desk.specs.Ran.{Standing}
-use Rattle.acd_desk.proofs.Leading.{sound_led}
+use Rattle.acd_desk.proofs.Contents.Leading.{sound_led}
 use Rattle.acd_desk.specs.Attended.{Attended}
-use Rattle.acd_desk.proofs.Many.{Settles, ran_nothing, attended_ran, attended_more, attended_read}
+use Rattle.acd_desk.proofs.Desks.Many.{Settles, ran_nothing, attended_ran, attended_more, attended_read}
 use Rattle.acd_desk.specs.ReadDone.{ReadDone}
 use Rattle.acd_desk.specs.ReadAnswers.{text_read, question_read, is_plain}
 use Rattle.acd_desk.specs.declared.question.Question.{Question}
 use Rattle.acd_desk.specs.AnswerTexts.{seen}
 use Rattle.acd_desk.specs.declared.fault.DeskFault.{DeskFault}
 use Rattle.acd_desk.specs.declared.fault.DeskFault.TheVariants as fault
-use Rattle.acd_desk.proofs.ReadsDone.{read_seen, read_no_memory}
+use Rattle.acd_desk.proofs.Pages.ReadsDone.{read_seen, read_no_memory}
 use Rattle.acd_codec.specs.declared.fault.FixedAnswer.TheVariants as fixed
 use Rattle.acd_lines.specs.Answers.{fixed_line}
 use Rattle.acd_lines.specs.Input.{no_moment, too_long, faulty, arrival, text_of}

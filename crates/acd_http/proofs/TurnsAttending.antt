@@ -6,7 +6,7 @@ use Rattle.acd_desk.specs.Arrived.{at}
 use Rattle.acd_desk.specs.Clock.{clock_tick, Looked}
 use Rattle.acd_desk.specs.Standing.{Standing}
 use Rattle.acd_desk.specs.Attended.{Attended}
-use Rattle.acd_desk.proofs.Many.{Settles, ran_nothing, attended_ran, attended_more, attended_read}
+use Rattle.acd_desk.proofs.Desks.Many.{Settles, ran_nothing, attended_ran, attended_more, attended_read}
 use Rattle.acd_http.specs.Turns.{Turn, answered, looked, Turned, TurnedEach}
 use Rattle.acd_http.specs.TurnsAttended.{ticked, handed_by, all_handed, TurnsLeadToTheRun}
 use Rattle.acd_http.proofs.Attending.{arrived, replied, So, none_more, one_connection, joined}

@@ -9,7 +9,7 @@ use Rattle.acd_terms.specs.declared.command.Arrival.{Arrival}
 use Rattle.acd_desk.specs.declared.taken.Taken.{Taken}
 use Rattle.acd_desk.specs.Arrived.{at}
 use Rattle.acd_desk.specs.Ran.{Standing, Ran}
-use Rattle.acd_desk.proofs.Many.{Settles, ran_nothing, ran_more}
+use Rattle.acd_desk.proofs.Desks.Many.{Settles, ran_nothing, ran_more}
 use Rattle.acd_lines.specs.Input.{arrival}
 use Rattle.acd_lines.specs.Answers.{Answers, taken_line}
 use Rattle.acd_lines.specs.Output.{AnswerLines, imported}

@@ -4,7 +4,7 @@ use Rattle.acd_terms.specs.declared.command.Arrival.{Arrival}
 use Rattle.acd_desk.specs.declared.taken.Taken.{Taken}
 use Rattle.acd_desk.specs.Arrived.{at}
 use Rattle.acd_desk.specs.Ran.{Standing, Ran}
-use Rattle.acd_desk.proofs.Many.{Settles, ran_nothing, ran_more}
+use Rattle.acd_desk.proofs.Desks.Many.{Settles, ran_nothing, ran_more}
 use Rattle.acd_lines.specs.Input.{Line, no_moment, too_long, faulty, arrival, line_of, text_of, lines_of, arrivals_in}
 use Rattle.acd_lines.specs.Answers.{Answers}
 use Rattle.acd_lines.specs.Output.{AnswerLines}

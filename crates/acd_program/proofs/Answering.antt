@@ -15,7 +15,7 @@ use Rattle.acd_desk.specs.Opening.{Opened, Refused}
 use Rattle.acd_desk.specs.declared.open_fault.OpenFault.TheVariants.{Rows}
 use Rattle.acd_terms.specs.declared.rows.Rule.{Rule}
 use Rattle.acd_desk.specs.Ran.{Ran}
-use Rattle.acd_desk.proofs.ContentLaws.{empty_sound}
+use Rattle.acd_desk.proofs.Contents.ContentLaws.{empty_sound}
 use Rattle.acd_io.specs.Read.{IsInput}
 use Rattle.acd_program.specs.Answered.{nothing, in_memory, IsNewDesk, AnsweredFromNothing}
 use Rattle.acd_lines.specs.Lines.{LinesAnswered, FirstLines, ArrivalsAnswered}

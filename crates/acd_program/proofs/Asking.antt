@@ -14,8 +14,8 @@ use Rattle.acd_desk.specs.declared.fault.DeskFault.{DeskFault}
 use Rattle.acd_desk.specs.declared.open_fault.OpenFault.{OpenFault}
 use Rattle.acd_desk.specs.Opening.{Opened, Refused}
 use Rattle.acd_desk.specs.ReadDone.{ReadDone}
-use Rattle.acd_desk.proofs.AuditLaws.{one_audit}
-use Rattle.acd_desk.proofs.ReadsDone.{read_nothing, read_twice}
+use Rattle.acd_desk.proofs.Replays.AuditLaws.{one_audit}
+use Rattle.acd_desk.proofs.Pages.ReadsDone.{read_nothing, read_twice}
 use Rattle.acd_program.specs.declared.auditing.Finding.{Finding}
 use Rattle.acd_program.specs.declared.auditing.Finding.TheVariants.{Sound, Counted, SentAgain, SentAgainCounted, Differs}
 use Rattle.acd_program.specs.Ended.{OnlyAsked}

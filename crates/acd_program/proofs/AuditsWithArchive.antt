@@ -24,7 +24,7 @@ use Rattle.acd_desk.specs.Stands.{IsSound}
 use Rattle.acd_desk.specs.Carried.{Archive, together}
 use Rattle.acd_desk.specs.WithArchive.{IsLedFrom}
 use Rattle.acd_desk.specs.ReadDone.{ReadDone}
-use Rattle.acd_desk.proofs.LedFrom.{counted_led, sound_is_led}
+use Rattle.acd_desk.proofs.Archives.LedFrom.{counted_led, sound_is_led}
 use Rattle.acd_log.specs.declared.ending.Ending.{Ending}
 use Rattle.acd_sqlbook.specs.Adopting.{IsUntouched}
 use Rattle.acd_sqlbook.specs.declared.cache.Cache.{Cache}

@@ -11,7 +11,7 @@ use Rattle.acd_desk.specs.Carried.{together}
 use Rattle.acd_desk.specs.Firsts.{executed, firsts, run_from, stepped}
 use Rattle.acd_desk.specs.ReadAnswers.{above}
 use Rattle.acd_desk.specs.Stands.{IsSound, arrivals_of}
-use Rattle.acd_desk.proofs.Steps.{step_event, step_numbers}
+use Rattle.acd_desk.proofs.Contents.Steps.{step_event, step_numbers}
 use Rattle.acd_program.specs.EachOnce.{AreAdded, AreChained, TablesTellOnce, told}
 use Rattle.acd_program.specs.Exporting.{IsNewTable}
 use Rattle.acd_program.specs.declared.export.EventTable.{EventTable}

@@ -19,7 +19,7 @@ use Rattle.acd_desk.specs.Opening.{Opened}
 use Rattle.acd_desk.specs.Ran.{Ran, IsFault, Holds}
 use Rattle.acd_desk.specs.Session.{Session}
 use Rattle.acd_desk.specs.Leads.{Leads}
-use Rattle.acd_desk.proofs.Sessions.{session_ran}
+use Rattle.acd_desk.proofs.Desks.Sessions.{session_ran}
 use Rattle.acd_lines.specs.Lines.{LinesAnswered, ArrivalsAnswered}
 use Rattle.acd_lines.proofs.Weaker.{arrivals_so}
 use Rattle.acd_program.specs.Over.{IsSession, IsSessionTo, IsFailedSession, OverConnection, left}

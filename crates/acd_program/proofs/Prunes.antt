@@ -24,10 +24,10 @@ use Rattle.acd_desk.specs.Pruning.{IsPlace}
 use Rattle.acd_desk.specs.ReadDone.{ReadDone}
 use Rattle.acd_desk.specs.Standing.{Standing}
 use Rattle.acd_desk.specs.Stands.{IsSound}
-use Rattle.acd_desk.proofs.LedFrom.{counted_led, sound_is_led}
-use Rattle.acd_desk.proofs.NewerRuns.{led_holds}
-use Rattle.acd_desk.proofs.Pruning.{prune_loses_nothing, prune_stays_sound, prune_stays_sent_again}
-use Rattle.acd_desk.proofs.ReadsAhead.{by_read, known, read_nothing, read_ok, read_twice}
+use Rattle.acd_desk.proofs.Archives.LedFrom.{counted_led, sound_is_led}
+use Rattle.acd_desk.proofs.Archives.NewerRuns.{led_holds}
+use Rattle.acd_desk.proofs.Archives.Pruning.{prune_loses_nothing, prune_stays_sound, prune_stays_sent_again}
+use Rattle.acd_desk.proofs.Replays.ReadsAhead.{by_read, known, read_nothing, read_ok, read_twice}
 use Rattle.acd_log.specs.declared.ending.Ending.{Ending}
 use Rattle.acd_log.specs.declared.ending.Ending.TheVariants.{Plain, Early, Headless}
 use Rattle.acd_sqlbook.specs.Caching.{followed}

@@ -14,7 +14,7 @@ use Rattle.acd_desk.specs.Arrived.{at}
 use Rattle.acd_desk.specs.Attended.{Attended}
 use Rattle.acd_desk.specs.Clock.{clock_tick, Looked}
 use Rattle.acd_desk.specs.Standing.{Standing, standing}
-use Rattle.acd_desk.proofs.Many.{Settles, attended_more, attended_read}
+use Rattle.acd_desk.proofs.Desks.Many.{Settles, attended_more, attended_read}
 use Rattle.acd_lines.specs.Lines.{LinesAnswered, EndedLines, Streams, streams, LinesDone, EndedBy}
 use Rattle.acd_lines.specs.Output.{whole_lines}
 use Rattle.acd_lines.specs.declared.fault.LinesFault.{LinesFault}

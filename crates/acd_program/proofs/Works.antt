@@ -16,10 +16,10 @@ use Rattle.acd_desk.specs.Standing.{Standing}
 use Rattle.acd_desk.specs.Stands.{IsSound}
 use Rattle.acd_desk.specs.Carried.{Archive, together}
 use Rattle.acd_desk.specs.ReadAnswers.{text_read, export_read, Rise}
-use Rattle.acd_desk.proofs.Rising.{carried_rises}
+use Rattle.acd_desk.proofs.Contents.Rising.{carried_rises}
 use Rattle.acd_desk.specs.Opening.{Opened}
 use Rattle.acd_desk.specs.Ran.{Ran, IsFault}
-use Rattle.acd_desk.proofs.Sessions.{session_ran}
+use Rattle.acd_desk.proofs.Desks.Sessions.{session_ran}
 use Rattle.acd_lines.specs.Lines.{LinesAnswered, AllRequests, RequestsAnswered}
 use Rattle.acd_lines.proofs.Weaker.{requests_so}
 use Rattle.acd_program.specs.declared.desk.Printout.TheVariants.{Export}

@@ -15,7 +15,7 @@ use std::alloc::{AllocError, Global};
 use std::io::{Read, Write};
 
 /// A desk over a new book in memory, with the greatest limits.
-#[tactic(auto, using(acd_desk::proofs::ContentLaws::empty_sound), unfolding(acd_terms::specs::Limits::limits_fit))]
+#[tactic(auto, using(acd_desk::proofs::Contents::ContentLaws::empty_sound), unfolding(acd_terms::specs::Limits::limits_fit))]
 pub fn new_desk(alloc: Global) -> Result<Desk<MemoryBook>, AllocError>
     ensures { IfOk result (λ d. IsNewDesk (standing in_memory d)) }
 {

@@ -1,4 +1,4 @@
-use Rattle.acd_desk.proofs.Pruning.{prune_stays_sound, prune_stays_led, prune_stays_sent_again}
+use Rattle.acd_desk.proofs.Archives.Pruning.{prune_stays_sound, prune_stays_led, prune_stays_sent_again}
 use Rattle.acd_desk_laws.proofs.audits_alike_when_pruned.Goals as goal
 
 pub returns : goal.returns

@@ -1,4 +1,4 @@
-use Rattle.acd_desk.proofs.AuditLaws.{one_audit, sound_ordered, sound_agrees}
+use Rattle.acd_desk.proofs.Replays.AuditLaws.{one_audit, sound_ordered, sound_agrees}
 use Rattle.acd_desk_laws.proofs.one_audit.Goals as goal
 
 pub returns : goal.returns

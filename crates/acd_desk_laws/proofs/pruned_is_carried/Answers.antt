@@ -1,5 +1,5 @@
-use Rattle.acd_desk.proofs.NewerRuns.{led_holds}
-use Rattle.acd_desk.proofs.Pruning.{prune_loses_nothing}
+use Rattle.acd_desk.proofs.Archives.NewerRuns.{led_holds}
+use Rattle.acd_desk.proofs.Archives.Pruning.{prune_loses_nothing}
 use Rattle.acd_desk_laws.proofs.CarriedRuns.{prune_carries_further}
 use Rattle.acd_desk_laws.proofs.pruned_is_carried.Goals as goal
 

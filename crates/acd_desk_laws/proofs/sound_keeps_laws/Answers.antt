@@ -1,4 +1,4 @@
-use Rattle.acd_desk.proofs.ContentLaws.{sound_keeps_laws}
+use Rattle.acd_desk.proofs.Contents.ContentLaws.{sound_keeps_laws}
 use Rattle.acd_desk_laws.proofs.sound_keeps_laws.Goals as goal
 
 pub returns : goal.returns

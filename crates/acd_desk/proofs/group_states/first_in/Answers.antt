@@ -2,7 +2,7 @@ use Rattle.std.proofs.Common.{◌≡◌, ℕ, List, ◌∷◌, Option, rules, ap
 use Rattle.std.specs.List.{filter_map}
 use Rattle.acd_model.specs.Scans.{connection_of}
 use Rattle.acd_desk.specs.GroupStates.{first_of, lesser, queued_of}
-use Rattle.acd_desk.proofs.GroupLines.{least_with, lesser_join}
+use Rattle.acd_desk.proofs.Pages.GroupLines.{least_with, lesser_join}
 use Rattle.acd_desk.proofs.group_states.first_in.Goals as goal
 
 pub loop-call-preserved : goal.loop-call-preserved

@@ -1,8 +1,8 @@
 use Rattle.std.proofs.Common.{length, filter, List, ap, ◌∙◌}
 use Rattle.acd_terms.specs.declared.record.ConnectionRecord.{ConnectionRecord}
 use Rattle.acd_model.specs.Rules.Occupied.{rings_from}
-use Rattle.acd_desk.proofs.OrderLemmas.{waiting_keys, waiting_lent}
-use Rattle.acd_desk.proofs.GroupLines.{first_is, ringing_is, same_state, waiting_is}
+use Rattle.acd_desk.proofs.Pages.OrderLemmas.{waiting_keys, waiting_lent}
+use Rattle.acd_desk.proofs.Pages.GroupLines.{first_is, ringing_is, same_state, waiting_is}
 use Rattle.acd_desk.proofs.group_states.group_state.Goals as goal
 
 pub returns : goal.returns

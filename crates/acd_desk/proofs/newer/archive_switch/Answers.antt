@@ -11,7 +11,7 @@ use Rattle.acd_desk.specs.Opening.{by_book, by_rows}
 use Rattle.acd_desk.specs.Pages.{ReadsIfOpen}
 use Rattle.acd_desk.specs.Pairs.{by_opening}
 use Rattle.acd_desk.specs.ReplayWith.{IsSwitchOf}
-use Rattle.acd_desk.proofs.ReadsAhead.{by_read, read_ok, read_nothing, read_no_memory}
+use Rattle.acd_desk.proofs.Replays.ReadsAhead.{by_read, read_ok, read_nothing, read_no_memory}
 use Rattle.acd_desk.proofs.newer.archive_switch.Goals as goal
 
 -- the book answered nothing

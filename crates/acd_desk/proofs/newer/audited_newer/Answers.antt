@@ -2,8 +2,8 @@ use Rattle.std.proofs.Common.{◌≡◌, ◌+◌, ◌≤◌, ◌∙◌, ℕ, Ok,
 use Rattle.acd_terms.specs.declared.rows.Limits.{Limits}
 use Rattle.acd_terms.specs.declared.rows.Rows.{Rows}
 use Rattle.acd_desk.specs.ReplayWith.{CountsOneWith, AuditsFrom}
-use Rattle.acd_desk.proofs.BothReads.{both_then_fault, current_read}
-use Rattle.acd_desk.proofs.StepsWith.{newer_begun, newer_more, newer_ended, newer_left}
+use Rattle.acd_desk.proofs.Archives.BothReads.{both_then_fault, current_read}
+use Rattle.acd_desk.proofs.Archives.StepsWith.{newer_begun, newer_more, newer_ended, newer_left}
 use Rattle.acd_desk.proofs.newer.audited_newer.Goals as goal
 
 pub loop-init : goal.loop-init

@@ -1,6 +1,6 @@
 use Rattle.std.proofs.Common.{◌≡◌, Ok}
 use Rattle.acd_desk.specs.Pairs.{ReadsBoth}
-use Rattle.acd_desk.proofs.StepsWith.{SeenWith}
+use Rattle.acd_desk.proofs.Archives.StepsWith.{SeenWith}
 use Rattle.acd_desk.proofs.newer.audited_newer.Given as goal
 
 abbrev pub invariant-loop : goal.invariant-loop

@@ -5,8 +5,8 @@ use Rattle.acd_desk.specs.declared.audit.ArchiveAudit.{ArchiveAudit}
 use Rattle.acd_desk.specs.declared.pair.PairFault.TheVariants.{Current}
 use Rattle.acd_desk.specs.declared.working.LoadedSwitch.{LoadedSwitch}
 use Rattle.acd_desk.specs.ReplayWith.{AuditsInOrder}
-use Rattle.acd_desk.proofs.BothReads.{both_opening, both_ok, both_then, both_fault, both_then_fault, both_no_memory}
-use Rattle.acd_desk.proofs.StepsWith.{IsLoaded, whole_differs, whole_newer}
+use Rattle.acd_desk.proofs.Archives.BothReads.{both_opening, both_ok, both_then, both_fault, both_then_fault, both_no_memory}
+use Rattle.acd_desk.proofs.Archives.StepsWith.{IsLoaded, whole_differs, whole_newer}
 use Rattle.acd_desk.proofs.newer.audited_with.Goals as goal
 
 pub returns-in_err-loaded : goal.returns-in_err-loaded

@@ -1,7 +1,7 @@
 use Rattle.std.proofs.Common.{Ok, Err, refl, rules}
 use Rattle.acd_desk.specs.Overlap.{IsNextRecord}
-use Rattle.acd_desk.proofs.BothReads.{archive_read, current_read, both_fault, both_then_fault}
-use Rattle.acd_desk.proofs.Overlaps.{both_next}
+use Rattle.acd_desk.proofs.Archives.BothReads.{archive_read, current_read, both_fault, both_then_fault}
+use Rattle.acd_desk.proofs.Archives.Overlaps.{both_next}
 use Rattle.acd_desk.proofs.overlap.next_record.Goals as goal
 
 pub returns : goal.returns

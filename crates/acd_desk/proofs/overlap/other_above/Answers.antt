@@ -1,7 +1,7 @@
 use Rattle.std.proofs.Common.{◌≡◌, ◌≤◌, ℕ, Option, Ok, Err, IfSome, is_some, refl, rules}
 use Rattle.acd_desk.specs.Overlap.{FindsAbove}
-use Rattle.acd_desk.proofs.BothReads.{both_fault, both_then_fault, archive_if_open, if_archive}
-use Rattle.acd_desk.proofs.Overlaps.{above_all, above_fault}
+use Rattle.acd_desk.proofs.Archives.BothReads.{both_fault, both_then_fault, archive_if_open, if_archive}
+use Rattle.acd_desk.proofs.Archives.Overlaps.{above_all, above_fault}
 use Rattle.acd_desk.proofs.overlap.other_above.Goals as goal
 
 pub returns-in_err-kept : goal.returns-in_err-kept

@@ -1,7 +1,7 @@
 use Rattle.std.proofs.Common.{rules}
 use Rattle.acd_desk.specs.Overlap.{FindsEvent}
-use Rattle.acd_desk.proofs.BothReads.{both_then_fault}
-use Rattle.acd_desk.proofs.Overlaps.{events_start, events_next, events_other, events_over, events_all}
+use Rattle.acd_desk.proofs.Archives.BothReads.{both_then_fault}
+use Rattle.acd_desk.proofs.Archives.Overlaps.{events_start, events_next, events_other, events_over, events_all}
 use Rattle.acd_desk.proofs.overlap.other_event.Goals as goal
 
 pub loop-init : goal.loop-init

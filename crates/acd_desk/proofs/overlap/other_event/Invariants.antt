@@ -1,6 +1,6 @@
 use Rattle.std.proofs.Common.{Ok}
 use Rattle.acd_desk.specs.Pairs.{ReadsBoth}
-use Rattle.acd_desk.proofs.Overlaps.{SharesEvents}
+use Rattle.acd_desk.proofs.Archives.Overlaps.{SharesEvents}
 use Rattle.acd_desk.proofs.overlap.other_event.Given as goal
 
 abbrev pub invariant-loop : goal.invariant-loop

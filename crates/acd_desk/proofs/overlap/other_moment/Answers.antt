@@ -1,7 +1,7 @@
 use Rattle.std.proofs.Common.{Bool, Ok, Err, refl, rules}
 use Rattle.acd_desk.specs.Overlap.{FindsMoment}
-use Rattle.acd_desk.proofs.BothReads.{both_fault, archive_read}
-use Rattle.acd_desk.proofs.Overlaps.{moment_unclean, moment_clean}
+use Rattle.acd_desk.proofs.Archives.BothReads.{both_fault, archive_read}
+use Rattle.acd_desk.proofs.Archives.Overlaps.{moment_unclean, moment_clean}
 use Rattle.acd_desk.proofs.overlap.other_moment.Goals as goal
 
 pub returns-in_err-clean : goal.returns-in_err-clean

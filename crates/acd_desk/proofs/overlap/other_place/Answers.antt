@@ -1,8 +1,8 @@
 use Rattle.std.proofs.Common.{Ok, Err, refl, rules}
 use Rattle.acd_desk.specs.declared.overlap.Cut.{Cut}
 use Rattle.acd_desk.specs.Overlap.{FindsPlace}
-use Rattle.acd_desk.proofs.BothReads.{both_fault, current_read}
-use Rattle.acd_desk.proofs.Overlaps.{place_found}
+use Rattle.acd_desk.proofs.Archives.BothReads.{both_fault, current_read}
+use Rattle.acd_desk.proofs.Archives.Overlaps.{place_found}
 use Rattle.acd_desk.proofs.overlap.other_place.Goals as goal
 
 pub returns-in_err-cut : goal.returns-in_err-cut

@@ -1,7 +1,7 @@
 use Rattle.std.proofs.Common.{rules}
 use Rattle.acd_desk.specs.Overlap.{FindsRecord}
-use Rattle.acd_desk.proofs.BothReads.{both_then_fault}
-use Rattle.acd_desk.proofs.Overlaps.{records_start, records_next, records_other, records_over, records_all}
+use Rattle.acd_desk.proofs.Archives.BothReads.{both_then_fault}
+use Rattle.acd_desk.proofs.Archives.Overlaps.{records_start, records_next, records_other, records_over, records_all}
 use Rattle.acd_desk.proofs.overlap.other_record.Goals as goal
 
 pub loop-init : goal.loop-init

@@ -1,6 +1,6 @@
 use Rattle.std.proofs.Common.{◌≡◌, Ok}
 use Rattle.acd_book.specs.State.{Reads}
-use Rattle.acd_desk.proofs.AuditSteps.{Seen}
+use Rattle.acd_desk.proofs.Replays.AuditSteps.{Seen}
 use Rattle.acd_desk.proofs.replay.audited.Given as goal
 
 abbrev pub invariant-loop-count : goal.invariant-loop-count

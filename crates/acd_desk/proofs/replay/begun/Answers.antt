@@ -1,5 +1,5 @@
 use Rattle.std.proofs.Common.{sym, ◌∙◌}
-use Rattle.acd_desk.proofs.AuditSteps.{begins_fitting, begins_empty}
+use Rattle.acd_desk.proofs.Replays.AuditSteps.{begins_fitting, begins_empty}
 use Rattle.acd_desk.proofs.replay.begun.Goals as goal
 
 pub returns-in_ok-uncoursed-clause-read : goal.returns-in_ok-uncoursed-clause-read

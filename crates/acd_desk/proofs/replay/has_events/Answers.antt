@@ -2,8 +2,8 @@ use Rattle.std.proofs.Common.{rules, ◌≡◌, Bool, length}
 use Rattle.std.specs.Bool.{Decides}
 use Rattle.acd_book.specs.Content.{Content, events_after}
 use Rattle.acd_desk.specs.Pages.{IsPageOf}
-use Rattle.acd_desk.proofs.Comparing.{events_decided}
-use Rattle.acd_desk.proofs.ReadsAhead.{read_ok, read_nothing}
+use Rattle.acd_desk.proofs.Replays.Comparing.{events_decided}
+use Rattle.acd_desk.proofs.Replays.ReadsAhead.{read_ok, read_nothing}
 use Rattle.acd_desk.proofs.replay.has_events.Goals as goal
 
 pub returns-in_err-found : goal.returns-in_err-found

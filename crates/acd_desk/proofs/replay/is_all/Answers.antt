@@ -1,4 +1,4 @@
-use Rattle.acd_desk.proofs.AuditSteps.{all_not, all_whole}
+use Rattle.acd_desk.proofs.Replays.AuditSteps.{all_not, all_whole}
 use Rattle.acd_desk.proofs.replay.is_all.Goals as goal
 
 pub returns-in_default : goal.returns-in_default

@@ -1,5 +1,5 @@
 use Rattle.std.proofs.Common.{◌≡◌, ◌∙◌, ℕ, Bool, Result, ap, subst, rules}
-use Rattle.acd_desk.proofs.AuditSteps.{step_last, step_replayed, step_differs, counts_one, stamp_of_switch}
+use Rattle.acd_desk.proofs.Replays.AuditSteps.{step_last, step_replayed, step_differs, counts_one, stamp_of_switch}
 use Rattle.std.specs.Bool.{Decides}
 use Rattle.acd_terms.specs.declared.rows.Rows.{Rows}
 use Rattle.acd_book.specs.Content.{Content}
@@ -7,8 +7,8 @@ use Rattle.acd_book.specs.State.{BookState, Reads}
 use Rattle.acd_book.specs.declared.fault.BookFault.{BookFault}
 use Rattle.acd_desk.specs.declared.replay.Step.{Step}
 use Rattle.acd_desk.specs.Replay.{IsStep, IsEnd}
-use Rattle.acd_desk.proofs.Reading.{then_fault}
-use Rattle.acd_desk.proofs.ReadsAhead.{read_fault}
+use Rattle.acd_desk.proofs.Replays.Reading.{then_fault}
+use Rattle.acd_desk.proofs.Replays.ReadsAhead.{read_fault}
 use Rattle.acd_desk.proofs.replay.next_step.Goals as goal
 
 whole_of_switch : (a b : BookState) (found : Result Bool BookFault) (lent held : Rows) → lent ≡ held → Reads a b found (λ (c : Content) (holds : Bool). Decides holds (IsEnd c lent))

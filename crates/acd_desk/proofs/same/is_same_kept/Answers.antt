@@ -1,4 +1,4 @@
-use Rattle.acd_desk.proofs.SameKept.{kept_decided}
+use Rattle.acd_desk.proofs.Contents.SameKept.{kept_decided}
 use Rattle.acd_desk.proofs.same.is_same_kept.Goals as goal
 
 pub returns : goal.returns

@@ -1,7 +1,7 @@
 use Rattle.std.proofs.Common.{[], ◌++◌, ap, ◌∙◌, get_or}
 use Rattle.std.specs.List.{cons_option}
 use Rattle.acd_model.specs.Scans.{connections_of}
-use Rattle.acd_desk.proofs.OrderLemmas.{both_parties, two_parties}
+use Rattle.acd_desk.proofs.Pages.OrderLemmas.{both_parties, two_parties}
 use Rattle.acd_desk.proofs.table_reads.parties.Goals as goal
 
 pub returns : goal.returns

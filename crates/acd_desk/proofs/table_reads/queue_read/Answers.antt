@@ -1,5 +1,5 @@
 use Rattle.std.proofs.Common.{◌∙◌}
-use Rattle.acd_desk.proofs.OrderLemmas.{read_queue, waiting_lent, ready_lent}
+use Rattle.acd_desk.proofs.Pages.OrderLemmas.{read_queue, waiting_lent, ready_lent}
 use Rattle.acd_desk.proofs.table_reads.queue_read.Goals as goal
 
 pub returns : goal.returns

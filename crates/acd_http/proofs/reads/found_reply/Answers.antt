@@ -2,7 +2,7 @@ use Rattle.std.proofs.Common.{ap, ◌∙◌}
 use Rattle.acd_desk.specs.Ran.{standing}
 use Rattle.acd_desk.specs.AnswerTexts.{seen}
 use Rattle.acd_desk.specs.ReadAnswers.{question_read}
-use Rattle.acd_desk.proofs.ReadsDone.{read_seen}
+use Rattle.acd_desk.proofs.Pages.ReadsDone.{read_seen}
 use Rattle.acd_http.specs.declared.reply.Kind.{Kind}
 use Rattle.acd_http.specs.Exchanging.{found_reply}
 use Rattle.acd_http.proofs.reads.found_reply.Goals as goal

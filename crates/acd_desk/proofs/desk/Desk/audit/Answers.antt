@@ -1,4 +1,4 @@
-use Rattle.acd_desk.proofs.AuditLaws.{finds_sound}
+use Rattle.acd_desk.proofs.Replays.AuditLaws.{finds_sound}
 use Rattle.acd_desk.proofs.desk.Desk.audit.Goals as goal
 
 pub returns-in-Ok-clause-sound : goal.returns-in-Ok-clause-sound

@@ -7,7 +7,7 @@ use Rattle.acd_desk.specs.Pages.{ReadsIfOpen}
 use Rattle.acd_desk.specs.Standing.{standing}
 use Rattle.acd_desk.specs.ReadDone.{ReadDone}
 use Rattle.acd_desk.specs.ReplayWith.{AuditsInOrder}
-use Rattle.acd_desk.proofs.AuditedWith.{read_found, both_failed, archive_neither, audited_both}
+use Rattle.acd_desk.proofs.Archives.AuditedWith.{read_found, both_failed, archive_neither, audited_both}
 use Rattle.acd_desk.proofs.desk.Desk.audit_with.Goals as goal
 
 pub returns-in-Ok-clause-read : goal.returns-in-Ok-clause-read

@@ -1,6 +1,6 @@
 use Rattle.std.proofs.Common.{rules}
 use Rattle.acd_desk.specs.Standing.{standing}
-use Rattle.acd_desk.proofs.Ticking.{still_brought, now_brought, none_brought}
+use Rattle.acd_desk.proofs.Desks.Ticking.{still_brought, now_brought, none_brought}
 use Rattle.acd_desk.proofs.desk.Desk.bring_switch.Goals as goal
 
 pub returns-in-Loaded : goal.returns-in-Loaded

@@ -2,8 +2,8 @@ use Rattle.std.proofs.Common.{sym, subst}
 use Rattle.acd_desk.specs.Arrived.{at}
 use Rattle.acd_desk.specs.Standing.{standing, holding}
 use Rattle.acd_desk.specs.Ran.{Took}
-use Rattle.acd_desk.proofs.Calls.{also_new, again_new}
-use Rattle.acd_desk.proofs.ReadsDone.{took_nothing}
+use Rattle.acd_desk.proofs.Desks.Calls.{also_new, again_new}
+use Rattle.acd_desk.proofs.Pages.ReadsDone.{took_nothing}
 use Rattle.acd_desk.proofs.desk.Desk.execute.Goals as goal
 
 pub returns-in-Err : goal.returns-in-Err

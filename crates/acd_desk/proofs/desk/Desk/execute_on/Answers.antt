@@ -9,9 +9,9 @@ use Rattle.acd_desk.specs.Faults.{answer_to, left_by}
 use Rattle.acd_desk.specs.Standing.{Standing, standing, holding, switch_of, is_failed, with_new_key}
 use Rattle.acd_desk.specs.Prepared.{Prepared}
 use Rattle.acd_desk.specs.Ran.{Took}
-use Rattle.acd_desk.proofs.Calls.{leaves}
-use Rattle.acd_desk.proofs.Commits.{prepared_as}
-use Rattle.acd_desk.proofs.NewKeys.{not_executed, kept_new, not_kept}
+use Rattle.acd_desk.proofs.Desks.Calls.{leaves}
+use Rattle.acd_desk.proofs.Desks.Commits.{prepared_as}
+use Rattle.acd_desk.proofs.Desks.NewKeys.{not_executed, kept_new, not_kept}
 use Rattle.acd_desk.proofs.desk.Desk.execute_on.Goals as goal
 
 pub returns-in_default : goal.returns-in_default

@@ -2,8 +2,8 @@ use Rattle.std.proofs.Common.{◌≡◌, ℕ, length, ◌∙◌}
 use Rattle.acd_book.specs.Content.{Content}
 use Rattle.acd_desk.specs.Stands.{IsSound}
 use Rattle.acd_desk.specs.Standing.{standing}
-use Rattle.acd_desk.proofs.ReadsDone.{read_follows}
-use Rattle.acd_desk.proofs.ContentLaws.{sound_count}
+use Rattle.acd_desk.proofs.Pages.ReadsDone.{read_follows}
+use Rattle.acd_desk.proofs.Contents.ContentLaws.{sound_count}
 use Rattle.acd_desk.proofs.desk.Desk.executed.Goals as goal
 
 pub returns-clause-kept : goal.returns-clause-kept

@@ -1,8 +1,8 @@
 use Rattle.std.proofs.Common.{Some, Err, ◌++◌, ap, sym, ◌∙◌, string_bytes, append-nil}
 use Rattle.acd_desk.specs.Standing.{standing}
 use Rattle.acd_desk.specs.ReadAnswers.{records_left}
-use Rattle.acd_desk.proofs.ReadsDone.{read_so, read_twice, read_nothing}
-use Rattle.acd_desk.proofs.PageLemmas.{export_begins, export_step}
+use Rattle.acd_desk.proofs.Pages.ReadsDone.{read_so, read_twice, read_nothing}
+use Rattle.acd_desk.proofs.Pages.PageLemmas.{export_begins, export_step}
 use Rattle.acd_desk.proofs.desk.Desk.export.Goals as goal
 
 pub loop-init : goal.loop-init

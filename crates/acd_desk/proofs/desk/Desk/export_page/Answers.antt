@@ -1,8 +1,8 @@
 use Rattle.std.proofs.Common.{Some, None, ap, sym, ◌∙◌, string_bytes, arith}
 use Rattle.acd_reports.specs.Export.{records_text}
 use Rattle.acd_desk.specs.Standing.{standing}
-use Rattle.acd_desk.proofs.ReadsDone.{read_so}
-use Rattle.acd_desk.proofs.PageLemmas.{export_ends, export_goes_on}
+use Rattle.acd_desk.proofs.Pages.ReadsDone.{read_so}
+use Rattle.acd_desk.proofs.Pages.PageLemmas.{export_ends, export_goes_on}
 use Rattle.acd_desk.proofs.desk.Desk.export_page.Goals as goal
 
 pub returns-in-None : goal.returns-in-None

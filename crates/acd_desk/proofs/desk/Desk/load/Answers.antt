@@ -4,8 +4,8 @@ use Rattle.acd_desk.specs.Faults.{fault_of, left_by}
 use Rattle.acd_desk.specs.Standing.{standing, holding, switch_of, is_failed}
 use Rattle.acd_desk.specs.Reread.{Reread}
 use Rattle.acd_desk.specs.ReadDone.{ReadFailed}
-use Rattle.acd_desk.proofs.Calls.{loaded_rows}
-use Rattle.acd_desk.proofs.ReadsDone.{leaves_read_failed, unread_by_book, unread_by_rows}
+use Rattle.acd_desk.proofs.Desks.Calls.{loaded_rows}
+use Rattle.acd_desk.proofs.Pages.ReadsDone.{leaves_read_failed, unread_by_book, unread_by_rows}
 use Rattle.acd_desk.proofs.desk.Desk.load.Goals as goal
 
 pub returns-in-Err-clause-loaded : goal.returns-in-Err-clause-loaded

@@ -1,7 +1,7 @@
 use Rattle.std.proofs.Common.{◌≡◌, ◌∙◌, refl, sym}
 use Rattle.acd_book.specs.Content.{Content}
 use Rattle.acd_desk.specs.Standing.{standing, holding}
-use Rattle.acd_desk.proofs.ReadsDone.{read_rows, read_so}
+use Rattle.acd_desk.proofs.Pages.ReadsDone.{read_rows, read_so}
 use Rattle.acd_desk.proofs.desk.Desk.look.Goals as goal
 
 pub returns : goal.returns

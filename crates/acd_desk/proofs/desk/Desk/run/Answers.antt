@@ -5,7 +5,7 @@ use Rattle.acd_desk.specs.declared.taken.Taken.{Taken}
 use Rattle.acd_desk.specs.Standing.{Standing, standing}
 use Rattle.acd_terms.specs.Lists.{Every}
 use Rattle.acd_desk.specs.Ran.{Ran, EndsIn, IsStoreFault}
-use Rattle.acd_desk.proofs.Many.{Settles, ran_nothing, ran_more, later_push, every_push}
+use Rattle.acd_desk.proofs.Desks.Many.{Settles, ran_nothing, ran_more, later_push, every_push}
 use Rattle.acd_desk.proofs.desk.Desk.run.Goals as goal
 
 take-push : (i : ℕ) (l : List Arrival) (d : Arrival) → i < length l → take (i + 1) l ≡ take i l ++ get_or l i d ∷ []

@@ -2,7 +2,7 @@ use Rattle.std.proofs.Common.{sym, subst}
 use Rattle.acd_desk.specs.Standing.{standing}
 use Rattle.acd_desk.specs.Ran.{IsStoreFault}
 use Rattle.acd_desk.specs.Session.{Session}
-use Rattle.acd_desk.proofs.Sessions.{session_ran}
+use Rattle.acd_desk.proofs.Desks.Sessions.{session_ran}
 use Rattle.acd_desk.proofs.desk.Desk.session.Goals as goal
 
 pub returns-in-Ok-run-clause-ran : goal.returns-in-Ok-run-clause-ran

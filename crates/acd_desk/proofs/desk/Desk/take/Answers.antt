@@ -1,6 +1,6 @@
 use Rattle.acd_desk.specs.Arrived.{at}
 use Rattle.acd_desk.specs.Standing.{standing}
-use Rattle.acd_desk.proofs.Many.{ran_one}
+use Rattle.acd_desk.proofs.Desks.Many.{ran_one}
 use Rattle.acd_desk.proofs.desk.Desk.take.Goals as goal
 
 pub returns-clause-ran : goal.returns-clause-ran

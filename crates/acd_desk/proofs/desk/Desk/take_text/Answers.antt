@@ -1,6 +1,6 @@
 use Rattle.acd_desk.specs.Arrived.{at}
 use Rattle.acd_desk.specs.Standing.{standing}
-use Rattle.acd_desk.proofs.Many.{says_of}
+use Rattle.acd_desk.proofs.Desks.Many.{says_of}
 use Rattle.acd_desk.proofs.desk.Desk.take_text.Goals as goal
 
 pub returns : goal.returns

@@ -3,7 +3,7 @@ use Rattle.acd_desk.specs.Arrived.{at}
 use Rattle.acd_desk.specs.Standing.{standing}
 use Rattle.acd_desk.specs.Clock.{Ticked}
 use Rattle.acd_desk.specs.Ran.{Took}
-use Rattle.acd_desk.proofs.Ticking.{none_due, ticked, not_ticked}
+use Rattle.acd_desk.proofs.Desks.Ticking.{none_due, ticked, not_ticked}
 use Rattle.acd_desk.proofs.desk.Desk.tick_if_due.Goals as goal
 
 pub returns-in-Err : goal.returns-in-Err

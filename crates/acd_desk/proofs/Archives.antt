@@ -1,0 +1,12 @@
+-- An audit beside an archive, the records that both have, and a content whose oldest records are taken away.
+pub mod NextRecords
+pub mod LookUps
+pub mod SharedLists
+pub mod CleanCuts
+pub mod BothReads
+pub mod Overlaps
+pub mod LedFrom
+pub mod NewerRuns
+pub mod StepsWith
+pub mod AuditedWith
+pub mod Pruning
