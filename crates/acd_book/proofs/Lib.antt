@@ -7,3 +7,6 @@ mod Places
 mod Listing
 mod Counting
 pub mod BookSteps
+pub mod Reading
+pub mod ReadsAhead
+pub mod SharedLists

@@ -1,7 +1,7 @@
 -- An audit beside an archive, the records that both have, and a content whose oldest records are taken away.
 pub mod NextRecords
 pub mod LookUps
-pub mod SharedLists
+pub mod SharedSteps
 pub mod CleanCuts
 pub mod BothReads
 pub mod Overlaps

@@ -22,10 +22,8 @@ pub mod Audit
 pub mod Replay
 pub mod GroupStates
 pub mod Pages
-pub mod BookReading
 pub mod KeyPlaces
 pub mod WithArchive
-pub mod Sharing
 pub mod AuditWith
 pub mod Pairs
 pub mod Overlap

@@ -11,7 +11,7 @@ use Rattle.acd_desk.specs.declared.overlap.Next.{Next}
 use Rattle.acd_desk.specs.declared.overlap.Pages.{Pages}
 use Rattle.acd_desk.specs.declared.overlap.Next.TheVariants.{Same, Other, Over}
 use Rattle.acd_desk.specs.Pages.{IsPageOf}
-use Rattle.acd_desk.specs.Sharing.{IsSplit, Begins, cut_before}
+use Rattle.acd_book.specs.Sharing.{IsSplit, Begins, cut_before}
 use Rattle.acd_desk.specs.WithArchive.{ComeBefore}
 use Rattle.acd_desk.specs.AuditWith.{StandsInTime, HoldsArchive}
 

@@ -9,7 +9,7 @@ use Rattle.acd_desk.specs.declared.open_fault.OpenFault.TheVariants as open_faul
 use Rattle.acd_desk.specs.declared.pair.PairFault.{PairFault}
 use Rattle.acd_desk.specs.declared.pair.PairFault.TheVariants.{Current, Archive}
 use Rattle.acd_desk.specs.Opening.{by_book}
-use Rattle.acd_desk.specs.Pages.{ReadsIfOpen}
+use Rattle.acd_book.specs.BookReading.{ReadsIfOpen}
 
 -- the answer of one of them, as the answer of both
 abbrev pub of_current : {T : Type 0} → Result T BookFault → Result T PairFault

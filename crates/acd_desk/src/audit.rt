@@ -3,7 +3,7 @@
 ghost use Rattle.acd_desk.specs.Standing.{book_of};
 ghost use Rattle.acd_desk.specs.ReadDone.{DeskRead};
 ghost use Rattle.acd_desk.specs.Audit.{IsAudited, FindsSound};
-ghost use Rattle.acd_desk.specs.BookReading.{Anything, MayRead};
+ghost use Rattle.acd_book.specs.BookReading.{Anything, MayRead};
 ghost use Rattle.std.specs.Prelude.{◌≡◌};
 ghost use Rattle.acd_desk.specs.AuditedWith.{desk_part, archive_part, audit_fault, left_by_pair, IsAuditedWith};
 

@@ -4,9 +4,9 @@ ghost use Rattle.std.specs.Prelude.{◌≡◌, ◌≤◌, ◌∷◌, [], IfOk, I
 ghost use Rattle.std.specs.Bool.{Decides};
 ghost use Rattle.acd_book.specs.Memory.{stamp_of, number_of};
 ghost use Rattle.acd_book.specs.State.{BookReads};
-ghost use Rattle.acd_desk.specs.BookReading.{Anything, IfOrdered, MayRead};
+ghost use Rattle.acd_book.specs.BookReading.{Anything, IfOrdered, MayRead};
 ghost use Rattle.acd_desk.specs.Pairs.{BothRead, across};
-ghost use Rattle.acd_desk.specs.Sharing.{cut_before};
+ghost use Rattle.acd_book.specs.Sharing.{cut_before};
 ghost use Rattle.acd_desk.specs.Overlap.{IsCutStamp, IsCutNumber, IsCutOf, DecidesCleanCut, IsNextOf, IsNextRecord, ReadsNextEvent, IsOtherPlace, listed, IsBefore, IsFirstUpTo, IsRecordUpTo, IsEventUpTo, FindsRecord, FindsEvent, FindsMoment, FindsAbove, FindsPlace, earlier};
 
 use crate::page::Page;

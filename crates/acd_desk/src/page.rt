@@ -4,7 +4,7 @@ ghost use Rattle.std.specs.Prelude.{◌≡◌, ◌≤◌, length, true, IfOk};
 ghost use Rattle.acd_book.specs.Content.{Content, events_after};
 ghost use Rattle.acd_book.specs.State.{BookReads};
 ghost use Rattle.acd_desk.specs.Pages.{IsPageOf, Reaches, Extends, GivesEvents};
-ghost use Rattle.acd_desk.specs.BookReading.{MayRead};
+ghost use Rattle.acd_book.specs.BookReading.{MayRead};
 ghost use Rattle.acd_desk.specs.ReadAnswers.{above};
 
 use acd_book::{Book, BookFault};

@@ -11,7 +11,7 @@ ghost use Rattle.acd_model.specs.Rules.First.{BreaksNoRule};
 ghost use Rattle.acd_desk.specs.Firsts.{stepped};
 ghost use Rattle.acd_desk.specs.Audit.{IsAudit};
 ghost use Rattle.acd_desk.specs.Pages.{IsPageOf};
-ghost use Rattle.acd_desk.specs.BookReading.{MayRead, BookDecides, IfOrdered};
+ghost use Rattle.acd_book.specs.BookReading.{MayRead, BookDecides, IfOrdered};
 ghost use Rattle.acd_desk.specs.Replay.{again, IsFirstOfKey, DecidesFirst, DecidesNext, DecidesKnown, IsExpected, Matches, IsEnd, BeginsReplay, BeginsEmpty, Plays, StepsOn, IsStep, CountsOne, IsAll};
 
 use crate::audit::Audit;

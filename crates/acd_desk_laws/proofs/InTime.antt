@@ -25,7 +25,7 @@ use Rattle.acd_desk.specs.AuditWith.{Ascends, StandsInTime}
 use Rattle.acd_desk.proofs.Replays.AuditLaws.{sound_ordered, zero_least}
 use Rattle.acd_desk.proofs.Contents.Carrying.{counted_alone}
 use Rattle.acd_desk.proofs.Archives.CleanCuts.{ascends_lower, ascends_back}
-use Rattle.acd_desk.proofs.Archives.SharedLists.{every_upto, rises_back}
+use Rattle.acd_book.proofs.SharedLists.{every_upto, rises_back}
 use Rattle.acd_desk.proofs.Contents.Steps.{step_event, step_numbers}
 
 -- ---- a step ----

@@ -15,10 +15,9 @@ use Rattle.acd_desk.specs.declared.audit.ArchiveAudit.TheVariants as audit
 use Rattle.acd_desk.specs.declared.audit.AuditFault.{AuditFault}
 use Rattle.acd_book.specs.declared.fault.BookFault.{BookFault}
 use Rattle.acd_desk.specs.AuditedWith.{archive_part, desk_part, IsAuditedWith}
-use Rattle.acd_desk.specs.BookReading.{Anything}
+use Rattle.acd_book.specs.BookReading.{Anything, ReadsIfOpen}
 use Rattle.acd_desk.specs.AuditWith.{StandsInTime, IsAuditWith}
 use Rattle.acd_desk.specs.Opening.{Opened}
-use Rattle.acd_desk.specs.Pages.{ReadsIfOpen}
 use Rattle.acd_desk.specs.Standing.{Standing, InStep}
 use Rattle.acd_desk.specs.Stands.{IsSound}
 use Rattle.acd_desk.specs.Carried.{Archive, together}

@@ -13,10 +13,9 @@ use Rattle.acd_book.specs.State.{BookState, Reads}
 use Rattle.acd_book.specs.declared.fault.BookFault.{BookFault}
 use Rattle.acd_book.specs.declared.fault.BookFault.TheVariants.{NoMemory}
 use Rattle.acd_reports.specs.Export.{records_text}
-use Rattle.acd_desk.specs.BookReading.{Anything, IfOrdered}
-use Rattle.acd_desk.specs.Pages.{ReadsIfOpen}
+use Rattle.acd_book.specs.BookReading.{Anything, IfOrdered, ReadsIfOpen}
 use Rattle.acd_desk.specs.ReadAnswers.{Rise, above, records_left}
-use Rattle.acd_desk.proofs.Replays.ReadsAhead.{by_read, read_no_memory, read_nothing, read_ok, read_twice}
+use Rattle.acd_book.proofs.ReadsAhead.{by_read, read_no_memory, read_nothing, read_ok, read_twice}
 use Rattle.acd_sqlbook.specs.declared.cache.Cache.{Cache}
 use Rattle.acd_sqlbook.specs.Caching.{followed}
 use Rattle.acd_sqlbook.specs.State.{book_state}

@@ -15,11 +15,10 @@ use Rattle.acd_book.specs.State.{BookState, Commits, IfHonest, Reads}
 use Rattle.acd_book.specs.declared.fault.BookFault.{BookFault}
 use Rattle.acd_book.proofs.BookSteps.{step_so, step_then}
 use Rattle.acd_desk.specs.AuditWith.{StandsInTime, HoldsArchive}
-use Rattle.acd_desk.specs.BookReading.{Anything}
+use Rattle.acd_book.specs.BookReading.{Anything, ReadsIfOpen}
 use Rattle.acd_desk.specs.Carried.{Archive, together}
 use Rattle.acd_desk.specs.Opening.{Opened}
 use Rattle.acd_desk.specs.Overlap.{IsCleanCut}
-use Rattle.acd_desk.specs.Pages.{ReadsIfOpen}
 use Rattle.acd_desk.specs.Pruning.{IsPlace}
 use Rattle.acd_desk.specs.ReadDone.{ReadDone}
 use Rattle.acd_desk.specs.Standing.{Standing}
@@ -27,7 +26,7 @@ use Rattle.acd_desk.specs.Stands.{IsSound}
 use Rattle.acd_desk.proofs.Archives.LedFrom.{counted_led, sound_is_led}
 use Rattle.acd_desk.proofs.Archives.NewerRuns.{led_holds}
 use Rattle.acd_desk.proofs.Archives.Pruning.{prune_loses_nothing, prune_stays_sound, prune_stays_sent_again}
-use Rattle.acd_desk.proofs.Replays.ReadsAhead.{by_read, known, read_nothing, read_ok, read_twice}
+use Rattle.acd_book.proofs.ReadsAhead.{by_read, known, read_nothing, read_ok, read_twice}
 use Rattle.acd_log.specs.declared.ending.Ending.{Ending}
 use Rattle.acd_log.specs.declared.ending.Ending.TheVariants.{Plain, Early, Headless}
 use Rattle.acd_sqlbook.specs.Caching.{followed}

@@ -11,9 +11,8 @@ use Rattle.acd_book.specs.Pruned.{pruned}
 use Rattle.acd_book.specs.State.{BookState, Commits, IfHonest}
 use Rattle.acd_book.specs.declared.fault.BookFault.{BookFault}
 use Rattle.acd_desk.specs.AuditWith.{StandsInTime}
-use Rattle.acd_desk.specs.BookReading.{Anything}
+use Rattle.acd_book.specs.BookReading.{Anything, ReadsIfOpen}
 use Rattle.acd_desk.specs.Carried.{Archive}
-use Rattle.acd_desk.specs.Pages.{ReadsIfOpen}
 use Rattle.acd_desk.specs.Pairs.{BookCall}
 use Rattle.acd_desk.specs.Pruning.{IsPlace, IsGone}
 use Rattle.acd_log.specs.declared.ending.Ending.{Ending}

@@ -13,7 +13,7 @@ use Rattle.acd_desk.specs.declared.audit.ArchiveAudit.{ArchiveAudit}
 use Rattle.acd_desk.specs.declared.audit.ArchiveAudit.TheVariants as audit
 use Rattle.acd_desk.specs.declared.audit.AuditFault.{AuditFault}
 use Rattle.acd_desk.specs.AuditWith.{StandsInTime, IsSentAgain, IsDifferenceWith}
-use Rattle.acd_desk.specs.BookReading.{Anything}
+use Rattle.acd_book.specs.BookReading.{Anything}
 use Rattle.acd_desk.specs.declared.desk.Desk.{Desk}
 use Rattle.acd_desk.specs.Standing.{Standing, InStep, standing}
 use Rattle.acd_desk.specs.ReadDone.{ReadDone}

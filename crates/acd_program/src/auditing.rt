@@ -2,7 +2,7 @@
 
 ghost use Rattle.std.specs.Prelude.{◌≡◌, IfOk};
 ghost use Rattle.acd_desk.specs.AuditedWith.{desk_part, archive_part};
-ghost use Rattle.acd_desk.specs.BookReading.{Anything, MayRead};
+ghost use Rattle.acd_book.specs.BookReading.{Anything, MayRead};
 ghost use Rattle.acd_desk.specs.ReadDone.{DeskRead};
 ghost use Rattle.acd_program.specs.WithArchive.{uncounted_with, counted_with, FindsWith};
 ghost use Rattle.acd_program.specs.Found.{uncounted, AuditsDesk, HasCount};

@@ -14,11 +14,10 @@ use Rattle.acd_desk.specs.declared.pair.PairFault.TheVariants as pair
 use Rattle.acd_desk.specs.AuditedWith.{desk_part, archive_part, audit_fault, left_by_pair, IsAuditedWith}
 use Rattle.acd_desk.specs.Pairs.{ReadsBoth}
 use Rattle.acd_desk.specs.Faults.{fault_of, left_by}
-use Rattle.acd_desk.specs.Pages.{ReadsIfOpen}
 use Rattle.acd_desk.specs.Standing.{Standing, InStep, switch_of, is_failed, Mirrors}
 use Rattle.acd_desk.specs.ReadDone.{ReadDone}
 use Rattle.acd_desk.specs.ReplayWith.{AuditsInOrder}
-use Rattle.acd_desk.specs.BookReading.{Anything}
+use Rattle.acd_book.specs.BookReading.{Anything, ReadsIfOpen}
 use Rattle.acd_desk.proofs.Desks.DeskSteps.{works}
 use Rattle.acd_desk.proofs.Pages.ReadsDone.{stands, without_memory, store_failed}
 use Rattle.acd_terms.proofs.Results.{ok_err, same_error}

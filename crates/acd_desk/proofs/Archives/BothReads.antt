@@ -10,10 +10,9 @@ use Rattle.acd_desk.specs.declared.open_fault.OpenFault.TheVariants as open_faul
 use Rattle.acd_desk.specs.declared.pair.PairFault.{PairFault}
 use Rattle.acd_desk.specs.declared.pair.PairFault.TheVariants.{Current, Archive}
 use Rattle.acd_desk.specs.Opening.{by_book}
-use Rattle.acd_desk.specs.Pages.{ReadsIfOpen}
 use Rattle.acd_desk.specs.Pairs.{of_current, of_archive, of_opening, by_opening, current_part, archive_part, ReadsBoth}
-use Rattle.acd_desk.specs.BookReading.{Anything}
-use Rattle.acd_desk.proofs.Replays.ReadsAhead.{known, by_read, read_ok, read_nothing, read_twice, none_alone, read_more}
+use Rattle.acd_book.specs.BookReading.{Anything, ReadsIfOpen}
+use Rattle.acd_book.proofs.ReadsAhead.{known, by_read, read_ok, read_nothing, read_twice, none_alone, read_more}
 
 -- nothing is read of one of them
 quiet : {T : Type 0} (a : BookState) (r : Result T BookFault) (found : T) → r ≡ Ok found → ReadsIfOpen {A = T} a a r Anything

@@ -9,11 +9,11 @@ use Rattle.acd_book.specs.declared.kept.Kept.{Kept}
 use Rattle.acd_book.specs.Content.{Content, IsKeptAfter, GoOn, events_after}
 use Rattle.acd_book.specs.Memory.{stamp_of, number_of}
 use Rattle.acd_book.specs.Order.{Rises}
-use Rattle.acd_desk.specs.Sharing.{IsSplit}
+use Rattle.acd_book.specs.Sharing.{IsSplit}
 use Rattle.acd_desk.specs.AuditWith.{Ascends, StandsInTime}
 use Rattle.acd_desk.specs.Overlap.{IsCleanCut, IsBefore}
 use Rattle.acd_desk.proofs.Archives.NextRecords.{none_left, next_left as next_record}
-use Rattle.acd_desk.proofs.Archives.SharedLists.{within, below, cons_not_nil, every_front, every_back, every_upto, split_at, split_once, next_left}
+use Rattle.acd_book.proofs.SharedLists.{within, below, cons_not_nil, every_front, every_back, every_upto, split_at, split_once, next_left}
 
 -- ---- moments that don't go back ----
 

@@ -19,7 +19,7 @@ use Rattle.acd_desk.proofs.Replays.Audits.{same_content}
 use Rattle.acd_desk.proofs.Contents.Carrying.{goes_on, cut_again}
 use Rattle.acd_desk.proofs.Contents.Growing.{Grows, led_grows, led_counted, all_new}
 use Rattle.acd_desk.proofs.Archives.LookUps.{none_front, only_front}
-use Rattle.acd_desk.proofs.Archives.SharedLists.{every_back, every_each, split_once}
+use Rattle.acd_book.proofs.SharedLists.{every_back, every_each, split_once}
 use Rattle.acd_desk.proofs.Contents.Sound.{length-arrivals}
 
 -- ---- the archive's part ----

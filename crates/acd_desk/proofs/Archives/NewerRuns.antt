@@ -29,7 +29,7 @@ use Rattle.acd_desk.proofs.Contents.Leading.{led_push}
 use Rattle.acd_desk.proofs.Archives.LedFrom.{kept_whole, carried_low, carried_events_low, carried_rows, carried_counted, Newer, led_newer}
 use Rattle.acd_desk.proofs.Archives.LookUps.{none_front, none_rest, none_in_both, first_record}
 use Rattle.acd_desk.proofs.Contents.Runs.{executes}
-use Rattle.acd_desk.proofs.Archives.SharedLists.{rises_append, split_once}
+use Rattle.acd_book.proofs.SharedLists.{rises_append, split_once}
 use Rattle.acd_desk.proofs.Contents.Sound.{arrivals_append, length-arrivals}
 use Rattle.acd_desk.proofs.Contents.Steps.{step_stamp, step_event, step_numbers}
 

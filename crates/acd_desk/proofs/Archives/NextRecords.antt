@@ -5,7 +5,7 @@ use Rattle.acd_book.specs.declared.kept.Kept.{Kept}
 use Rattle.acd_book.specs.Content.{IsKeptAfter}
 use Rattle.acd_book.specs.Memory.{stamp_of}
 use Rattle.acd_book.specs.Order.{Rises}
-use Rattle.acd_desk.proofs.Archives.SharedLists.{every_back, not_both}
+use Rattle.acd_book.proofs.SharedLists.{every_back, not_both}
 
 among_every : {T : Type 0} (P : T → Type 0) (x : T) (xs : List T) → Every P xs → Among x xs → P x
 among_every P x [] h at = absurd at

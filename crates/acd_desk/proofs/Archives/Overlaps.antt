@@ -16,17 +16,18 @@ use Rattle.acd_desk.specs.declared.overlap.Next.{Next}
 use Rattle.acd_desk.specs.declared.overlap.Next.TheVariants.{Same, Other, Over}
 use Rattle.acd_desk.specs.declared.overlap.Pages.{Pages}
 use Rattle.acd_desk.specs.declared.pair.PairFault.{PairFault}
-use Rattle.acd_desk.specs.Pages.{IsPageOf, ReadsIfOpen}
+use Rattle.acd_desk.specs.Pages.{IsPageOf}
 use Rattle.acd_desk.specs.Pairs.{of_current, ReadsBoth}
-use Rattle.acd_desk.specs.Sharing.{IsSplit, Begins, cut_before}
+use Rattle.acd_book.specs.Sharing.{IsSplit, Begins, cut_before}
 use Rattle.acd_desk.specs.Carried.{Archive}
 use Rattle.acd_desk.specs.WithArchive.{IsCut}
 use Rattle.acd_desk.specs.AuditWith.{HoldsArchive, StandsInTime}
 use Rattle.acd_desk.specs.Overlap.{AreInOrder, cut_stamp, cut_number, KeepsArchive, ReportsArchive, IsNextOf, IsNextRecord, IsOtherPlace, listed, IsOther, IsOtherUpTo, IsFirstUpTo, IsCleanCut, earlier, FindsRecord, FindsEvent, IsNextEvent, ReadsNextEvent, FindsMoment, FindsAbove, FindsPlace}
-use Rattle.acd_desk.specs.BookReading.{Anything}
+use Rattle.acd_book.specs.BookReading.{Anything, ReadsIfOpen}
 use Rattle.acd_desk.proofs.Archives.BothReads.{both_known, both_current, both_ok, both_then, both_then_fault}
-use Rattle.acd_desk.proofs.Replays.ReadsAhead.{by_read, read_ok, read_nothing, read_twice}
-use Rattle.acd_desk.proofs.Archives.SharedLists.{within, Shares, shares_nothing, cut_rises, cut_within, next_shares, other_shares, other_low, over_first, reached, split_at, split_there, split_once, next_above, next_left}
+use Rattle.acd_book.proofs.ReadsAhead.{by_read, read_ok, read_nothing, read_twice}
+use Rattle.acd_book.proofs.SharedLists.{within, Shares, shares_nothing, cut_rises, cut_within, reached, split_at, split_there, split_once, next_left}
+use Rattle.acd_desk.proofs.Archives.SharedSteps.{next_shares, other_shares, other_low, over_first, next_above}
 use Rattle.acd_desk.proofs.Archives.NextRecords.{none_left, next_left as record_left}
 
 -- ---- records ----

@@ -11,7 +11,7 @@ use Rattle.acd_book.specs.Memory.{stamp_of, number_of}
 use Rattle.acd_book.specs.Order.{Rises}
 use Rattle.acd_book.specs.Pruned.{pruned}
 use Rattle.acd_desk.specs.Carried.{Archive, together}
-use Rattle.acd_desk.specs.Sharing.{IsSplit}
+use Rattle.acd_book.specs.Sharing.{IsSplit}
 use Rattle.acd_desk.specs.WithArchive.{ComeBefore, IsCut, IsSoundWith, IsLedFrom}
 use Rattle.acd_desk.specs.AuditWith.{StandsInTime, HoldsArchive, first_sent_again, IsSentAgain}
 use Rattle.acd_desk.specs.Overlap.{IsCleanCut}
@@ -19,7 +19,7 @@ use Rattle.acd_desk.specs.Pruning.{IsPlace, IsGone, StaysLed}
 use Rattle.acd_desk.proofs.Replays.AuditLaws.{zero_least}
 use Rattle.acd_desk.proofs.Replays.Audits.{same_content}
 use Rattle.acd_desk.proofs.Archives.LedFrom.{kept_whole, events_whole, Newer, led_newer, sound_made, sent_again_unsound, cut_without, sound_without, led_without}
-use Rattle.acd_desk.proofs.Archives.SharedLists.{not_both, every_front, every_back, every_each, rises_back, split_at, none_above, all_above}
+use Rattle.acd_book.proofs.SharedLists.{not_both, every_front, every_back, every_each, rises_back, split_at, none_above, all_above}
 
 -- ---- lists in order ----
 

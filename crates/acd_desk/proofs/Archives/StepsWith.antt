@@ -39,7 +39,7 @@ use Rattle.acd_desk.proofs.Archives.LedFrom.{kept_whole, carried_rows, first_non
 use Rattle.acd_desk.proofs.Archives.LookUps.{only_front}
 use Rattle.acd_desk.proofs.Archives.NewerRuns.{led_holds, runs_start, runs_next, carried_none, runs_led, runs_above, led_matches, led_ends, newer_first}
 use Rattle.acd_desk.proofs.Archives.NextRecords.{none_left, next_left}
-use Rattle.acd_desk.proofs.Archives.SharedLists.{not_both, cons_not_nil}
+use Rattle.acd_book.proofs.SharedLists.{not_both, cons_not_nil}
 
 -- ---- what is next ----
 

@@ -12,7 +12,7 @@ use Rattle.acd_desk.specs.Replies.{answer_of, answer_in, after}
 use Rattle.acd_desk.specs.Stands.{IsSound}
 use Rattle.acd_desk.specs.Leads.{led, answers_to, IsAsTogether}
 use Rattle.acd_desk.specs.Carried.{Archive, together, joined, IsNewTo, NoneSentAgain, IsCutAgain}
-use Rattle.acd_desk.proofs.Archives.SharedLists.{every_back}
+use Rattle.acd_book.proofs.SharedLists.{every_back}
 use Rattle.acd_desk.proofs.Contents.ContentLaws.{sound_counted}
 
 -- ---- one arrival ----

@@ -18,7 +18,7 @@ use Rattle.acd_desk.proofs.Replays.AuditLaws.{going_rises, zero_least}
 use Rattle.acd_desk.proofs.Replays.Audits.{none_of}
 use Rattle.acd_desk.proofs.Contents.Counting.{counted_executed}
 use Rattle.acd_desk.proofs.Archives.LookUps.{none_front}
-use Rattle.acd_desk.proofs.Archives.SharedLists.{rises_append, every_each, every_upto, within}
+use Rattle.acd_book.proofs.SharedLists.{rises_append, every_each, every_upto, within}
 use Rattle.acd_desk.proofs.Contents.Steps.{step_stamp, step_event, step_numbers}
 
 -- a content has so many records more, and events, numbered on

@@ -19,7 +19,7 @@ use Rattle.acd_desk.proofs.Contents.Steps.{step_numbers}
 use Rattle.acd_desk.proofs.Contents.Counting.{counted_executed}
 use Rattle.acd_desk.proofs.Contents.Sound.{New, new-distinct, distinct-new, new-take, kept-raised, length-raised, length-arrivals, firsts_same, sound_list}
 use Rattle.acd_desk.proofs.Replays.Audits.{begins}
-use Rattle.acd_desk.proofs.Archives.SharedLists.{rises_append}
+use Rattle.acd_book.proofs.SharedLists.{rises_append}
 
 -- ---- a run in two parts ----
 

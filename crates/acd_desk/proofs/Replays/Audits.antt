@@ -23,7 +23,7 @@ use Rattle.acd_desk.specs.Stands.{arrivals_of, IsSound}
 use Rattle.acd_desk.specs.Audit.{replayed, Agrees, AgreesBefore, IsFirstDifference}
 use Rattle.acd_desk.specs.Replay.{again, Splits, Replays, Matches, IsEnd}
 use Rattle.acd_desk.proofs.Archives.NextRecords.{none_left, next_left}
-use Rattle.acd_desk.proofs.Archives.SharedLists.{not_both}
+use Rattle.acd_book.proofs.SharedLists.{not_both}
 use Rattle.acd_desk.proofs.Contents.Steps.{step_stamp, step_event, step_numbers}
 use Rattle.acd_desk.proofs.Contents.Runs.{run-limits, after_firsts, executes}
 use Rattle.acd_desk.proofs.Contents.Counting.{counted_run}

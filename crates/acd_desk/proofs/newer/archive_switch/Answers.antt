@@ -8,10 +8,10 @@ use Rattle.acd_switch.specs.declared.row_fault.RowFault.TheVariants as row
 use Rattle.acd_desk.specs.declared.open_fault.OpenFault.{OpenFault}
 use Rattle.acd_desk.specs.declared.working.LoadedSwitch.{LoadedSwitch}
 use Rattle.acd_desk.specs.Opening.{by_book, by_rows}
-use Rattle.acd_desk.specs.Pages.{ReadsIfOpen}
+use Rattle.acd_book.specs.BookReading.{ReadsIfOpen}
 use Rattle.acd_desk.specs.Pairs.{by_opening}
 use Rattle.acd_desk.specs.ReplayWith.{IsSwitchOf}
-use Rattle.acd_desk.proofs.Replays.ReadsAhead.{by_read, read_ok, read_nothing, read_no_memory}
+use Rattle.acd_book.proofs.ReadsAhead.{by_read, read_ok, read_nothing, read_no_memory}
 use Rattle.acd_desk.proofs.newer.archive_switch.Goals as goal
 
 -- the book answered nothing

@@ -1,6 +1,6 @@
 use Rattle.std.proofs.Common.{ℕ, rules}
 use Rattle.acd_book.specs.Content.{Content}
-use Rattle.acd_desk.proofs.Replays.ReadsAhead.{known}
+use Rattle.acd_book.proofs.ReadsAhead.{known}
 use Rattle.acd_desk.proofs.Archives.Overlaps.{read_on, fault_on}
 use Rattle.acd_desk.proofs.overlap.stamp_at.Goals as goal
 

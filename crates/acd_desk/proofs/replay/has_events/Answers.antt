@@ -3,7 +3,7 @@ use Rattle.std.specs.Bool.{Decides}
 use Rattle.acd_book.specs.Content.{Content, events_after}
 use Rattle.acd_desk.specs.Pages.{IsPageOf}
 use Rattle.acd_desk.proofs.Replays.Comparing.{events_decided}
-use Rattle.acd_desk.proofs.Replays.ReadsAhead.{read_ok, read_nothing}
+use Rattle.acd_book.proofs.ReadsAhead.{read_ok, read_nothing}
 use Rattle.acd_desk.proofs.replay.has_events.Goals as goal
 
 pub returns-in_err-found : goal.returns-in_err-found

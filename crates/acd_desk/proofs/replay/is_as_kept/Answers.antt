@@ -4,7 +4,7 @@ use Rattle.acd_book.specs.Content.{Content}
 use Rattle.acd_desk.specs.Pages.{IsPageOf}
 use Rattle.acd_desk.specs.Replay.{Knows}
 use Rattle.acd_desk.proofs.Replays.Comparing.{IsAsKept, other_record, other_key, same_events}
-use Rattle.acd_desk.proofs.Replays.ReadsAhead.{known, read_ok, read_nothing, read_twice}
+use Rattle.acd_book.proofs.ReadsAhead.{known, read_ok, read_nothing, read_twice}
 use Rattle.acd_desk.proofs.replay.is_as_kept.Goals as goal
 
 pub returns-then-not-is_same_kept : goal.returns-then-not-is_same_kept

@@ -7,8 +7,8 @@ use Rattle.acd_book.specs.State.{BookState, Reads}
 use Rattle.acd_book.specs.declared.fault.BookFault.{BookFault}
 use Rattle.acd_desk.specs.declared.replay.Step.{Step}
 use Rattle.acd_desk.specs.Replay.{IsStep, IsEnd}
-use Rattle.acd_desk.proofs.Replays.Reading.{then_fault}
-use Rattle.acd_desk.proofs.Replays.ReadsAhead.{read_fault}
+use Rattle.acd_book.proofs.Reading.{then_fault}
+use Rattle.acd_book.proofs.ReadsAhead.{read_fault}
 use Rattle.acd_desk.proofs.replay.next_step.Goals as goal
 
 whole_of_switch : (a b : BookState) (found : Result Bool BookFault) (lent held : Rows) → lent ≡ held → Reads a b found (λ (c : Content) (holds : Bool). Decides holds (IsEnd c lent))

@@ -3,7 +3,7 @@ use Rattle.acd_book.specs.Content.{Content}
 use Rattle.acd_desk.specs.declared.replay.Course.{Course}
 use Rattle.acd_desk.specs.Replay.{Knows, IsReplayed}
 use Rattle.acd_desk.proofs.Replays.Comparing.{replayed_on, not_replayed}
-use Rattle.acd_desk.proofs.Replays.ReadsAhead.{read_ok, read_nothing}
+use Rattle.acd_book.proofs.ReadsAhead.{read_ok, read_nothing}
 use Rattle.acd_desk.proofs.replay.replayed.Goals as goal
 
 pub returns-in_err-matches-clause-read : goal.returns-in_err-matches-clause-read

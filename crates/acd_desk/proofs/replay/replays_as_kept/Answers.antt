@@ -4,7 +4,7 @@ use Rattle.acd_book.specs.Content.{Content}
 use Rattle.acd_desk.specs.Pages.{IsPageOf}
 use Rattle.acd_desk.specs.Replay.{Knows, Matches}
 use Rattle.acd_desk.proofs.Replays.Comparing.{matches_decided}
-use Rattle.acd_desk.proofs.Replays.ReadsAhead.{none_alone, read_more}
+use Rattle.acd_book.proofs.ReadsAhead.{none_alone, read_more}
 use Rattle.acd_desk.proofs.replay.replays_as_kept.Goals as goal
 
 pub returns-in_err-prepared-clause-read : goal.returns-in_err-prepared-clause-read

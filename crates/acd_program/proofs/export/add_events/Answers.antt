@@ -1,5 +1,5 @@
 use Rattle.std.proofs.Common.{max, ap, ◌∙◌, rules}
-use Rattle.acd_desk.proofs.Replays.ReadsAhead.{by_read, read_twice}
+use Rattle.acd_book.proofs.ReadsAhead.{by_read, read_twice}
 use Rattle.acd_program.proofs.Exports.{ends_after, ends_read, rise_of}
 use Rattle.acd_program.proofs.export.add_events.Goals as goal
 

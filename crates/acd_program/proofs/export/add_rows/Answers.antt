@@ -1,5 +1,5 @@
 use Rattle.std.proofs.Common.{refl, rules, string_bytes}
-use Rattle.acd_desk.proofs.Replays.ReadsAhead.{known, read_no_memory}
+use Rattle.acd_book.proofs.ReadsAhead.{known, read_no_memory}
 use Rattle.acd_program.proofs.Exports.{ends_after, rows_end, rows_on}
 use Rattle.acd_program.proofs.export.add_rows.Goals as goal
 

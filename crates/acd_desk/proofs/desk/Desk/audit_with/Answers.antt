@@ -3,7 +3,7 @@ use Rattle.acd_book.specs.Content.{Content}
 use Rattle.acd_desk.specs.declared.audit.ArchiveAudit.{ArchiveAudit}
 use Rattle.acd_desk.specs.declared.audit.AuditFault.{AuditFault}
 use Rattle.acd_desk.specs.AuditedWith.{desk_part, archive_part, audit_fault}
-use Rattle.acd_desk.specs.Pages.{ReadsIfOpen}
+use Rattle.acd_book.specs.BookReading.{ReadsIfOpen}
 use Rattle.acd_desk.specs.Standing.{standing}
 use Rattle.acd_desk.specs.ReadDone.{ReadDone}
 use Rattle.acd_desk.specs.ReplayWith.{AuditsInOrder}

@@ -2,7 +2,7 @@ use Rattle.std.proofs.Common.{rules, ◌≡◌, ◌∙◌, List, ap, Vec, Global
 use Rattle.acd_terms.specs.declared.event.Event.{Event}
 use Rattle.acd_book.specs.Content.{Content, events_after}
 use Rattle.acd_desk.specs.Pages.{IsPageOf}
-use Rattle.acd_desk.proofs.Replays.ReadsAhead.{read_ok, read_nothing, read_no_memory}
+use Rattle.acd_book.proofs.ReadsAhead.{read_ok, read_nothing, read_no_memory}
 use Rattle.acd_desk.proofs.page.Page.events_after.Goals as goal
 
 pub returns-in_err-reach : goal.returns-in_err-reach

@@ -1,5 +1,5 @@
 -- A list that begins with what another one has above a number.
-use Rattle.std.proofs.Common.{◌≡◌, ℕ, ◌+◌, ◌-◌, ◌<◌, ◌≤◌, List, [], ◌∷◌, ◌++◌, take, filter, cond, min, Option, Some, None, refl, sym, ap, ap₂, subst, ◌∙◌, arith, append_assoc, append-nil, Bool, true, false, nat_lt, ltb-true, ltb-false, lt-ltb}
+use Rattle.std.proofs.Common.{◌≡◌, ℕ, ◌+◌, ◌-◌, ◌<◌, ◌≤◌, List, [], ◌∷◌, ◌++◌, take, filter, cond, min, refl, sym, ap, ap₂, subst, ◌∙◌, arith, append_assoc, append-nil, Bool, true, false, nat_lt, ltb-true, ltb-false, lt-ltb}
 use Rattle.std.proofs.Math.Nat.{le_refl}
 use Rattle.std.proofs.lemmas.Bool.{le-ltb}
 use Rattle.std.proofs.lemmas.List.{append_cancel_left}
@@ -7,9 +7,7 @@ use Rattle.std.proofs.lemmas.List.Elements.{filter-append}
 use Rattle.acd_terms.specs.Lists.{Every}
 use Rattle.acd_book.specs.Order.{Rises}
 use Rattle.acd_lemmas.proofs.Lists.{every-append, head_is, tail_is}
-use Rattle.acd_desk.specs.Sharing.{IsSplit, Begins, cut_before}
-use Rattle.acd_desk.specs.declared.overlap.Next.TheVariants.{Same, Other}
-use Rattle.acd_desk.specs.Overlap.{IsOther, IsFirstUpTo, IsNextOf, IsOtherPlace}
+use Rattle.acd_book.specs.Sharing.{IsSplit, Begins, cut_before}
 
 -- ---- numbers in order ----
 
@@ -246,17 +244,17 @@ next_left {T = T} f n xs past left s =
 current_split : {T : Type 0} (f : T → ℕ) (cut n : ℕ) (archived current : List T) (s : Shares f cut n archived current) → IsSplit f n current s.done s.rest
 current_split f cut n archived current s = record { whole = s.mine; below = s.done_low; above = s.rest_high }
 
-archived_left : {T : Type 0} (f : T → ℕ) (cut n : ℕ) (archived current : List T) (s : Shares f cut n archived current) → take 1 (filter (λ (x : T). nat_lt n (f x)) archived) ≡ take 1 s.left
+pub archived_left : {T : Type 0} (f : T → ℕ) (cut n : ℕ) (archived current : List T) (s : Shares f cut n archived current) → take 1 (filter (λ (x : T). nat_lt n (f x)) archived) ≡ take 1 s.left
 archived_left f cut n archived current s = next_left f n archived (s.past ++ s.done) s.left (archived_split f cut n archived current s)
 
-current_left : {T : Type 0} (f : T → ℕ) (cut n : ℕ) (archived current : List T) (s : Shares f cut n archived current) → take 1 (filter (λ (x : T). nat_lt n (f x)) current) ≡ take 1 s.rest
+pub current_left : {T : Type 0} (f : T → ℕ) (cut n : ℕ) (archived current : List T) (s : Shares f cut n archived current) → take 1 (filter (λ (x : T). nat_lt n (f x)) current) ≡ take 1 s.rest
 current_left f cut n archived current s = next_left f n current s.done s.rest (current_split f cut n archived current s)
 
-first_is : {T : Type 0} (x : T) (xs ys : List T) → take 1 xs ≡ x ∷ ys → (tail : List T) × (xs ≡ x ∷ tail)
+pub first_is : {T : Type 0} (x : T) (xs ys : List T) → take 1 xs ≡ x ∷ ys → (tail : List T) × (xs ≡ x ∷ tail)
 first_is x [] ys h = absurd (cons_not_nil x ys (sym h))
 first_is {T = T} x (y ∷ xs) ys h = (xs, ap (λ (z : T). z ∷ xs) (head_is y x [] ys h))
 
-none_first : {T : Type 0} (xs : List T) → take 1 xs ≡ [] → xs ≡ []
+pub none_first : {T : Type 0} (xs : List T) → take 1 xs ≡ [] → xs ≡ []
 none_first [] h = refl
 none_first (x ∷ xs) h = absurd (cons_not_nil x [] h)
 
@@ -276,25 +274,6 @@ other_next {T = T} f cut n last archived current s x xs is_archived other b =
     let rest : s.rest ≡ x ∷ (left.0 ++ b.rest) = begins_left f cut n last archived current s b ∙ ap (λ (l : List T). l ++ b.rest) left.1 in
     other (current_left f cut n archived current s ∙ ap (take 1) rest ∙ sym (ap (take 1) left.1) ∙ sym (archived_left f cut n archived current s))
 
--- nothing is left of the other one, and what is left of this one is looked at
-pub over_first : {T : Type 0} (f : T → ℕ) (cut n last : ℕ) (archived current : List T) (s : Shares f cut n archived current) (found : Option ℕ)
-    → take 1 (filter (λ (x : T). nat_lt n (f x)) archived) ≡ [] → IsFirstUpTo f last (take 1 (filter (λ (x : T). nat_lt n (f x)) current)) found → IsOther (Begins f cut last archived current) found
-over_first {T = T} f cut n last archived current s None none first =
-    let empty : s.left ≡ [] = none_first s.left (sym (archived_left f cut n archived current s) ∙ none) in
-    let newer : (l : List T) → take 1 (filter (λ (x : T). nat_lt n (f x)) current) ≡ take 1 l → Rises f n l → Rises f last l
-    = λ l. elim l as (λ l. take 1 (filter (λ (x : T). nat_lt n (f x)) current) ≡ take 1 l → Rises f n l → Rises f last l) [
-      | [] ↦ λ is up. tt
-      | x ∷ xs ↦ λ is up. (first x [] is, up.1)
-    ] in
-    shares_all f cut n last archived current s empty (newer s.rest (current_left f cut n archived current s) s.rest_high)
-over_first {T = T} f cut n last archived current s (Some place) none first =
-    λ b.
-    let empty : s.left ≡ [] = none_first s.left (sym (archived_left f cut n archived current s) ∙ none) in
-    let rest : s.rest ≡ b.rest = begins_left f cut n last archived current s b ∙ ap (λ (l : List T). l ++ b.rest) empty in
-    let mine = first_is first.0 s.rest first.1 (sym (current_left f cut n archived current s) ∙ first.2) in
-    let up : Rises f last (first.0 ∷ mine.0) = subst (Rises f last) (sym rest ∙ mine.1) b.newer in
-    not_both last (f first.0) up.0 first.3
-
 -- the last number is reached
 pub reached : {T : Type 0} (f : T → ℕ) (cut n last : ℕ) (archived current : List T) (s : Shares f cut n archived current) → last ≤ n → Every (λ (x : T). f x ≤ last) archived → Begins f cut last archived current
 reached {T = T} f cut n last archived current s le low =
@@ -308,31 +287,3 @@ reached {T = T} f cut n last archived current s le low =
   where
     clash : (last n k : ℕ) → last ≤ n → k ≤ last → n < k → ⊥
     clash last n k le h up = omega (arith, le, h, up)
-
--- ---- a step of a comparison ----
-
-abbrev pub next_above : {T : Type 0} → (T → ℕ) → ℕ → List T → List T
-next_above {T} f n xs = take 1 (filter (λ (x : T). nat_lt n (f x)) xs)
-
-pub next_shares : {T : Type 0} (f : T → ℕ) (cut n count place : ℕ) (archived current : List T) → Shares f cut n archived current → count ≤ n → IsNextOf f (next_above f n archived) (next_above f n current) (Same place)
-    → Shares f cut place archived current × (count + 1 ≤ place)
-next_shares {T = T} f cut n count place archived current s le next =
-    let x : T = next.0 in
-    let left = first_is x s.left next.1 (sym (archived_left f cut n archived current s) ∙ next.3) in
-    let high : Rises f n (x ∷ left.0) = subst (Rises f n) left.1 s.left_high in
-    let is : f x ≡ place = sym next.5 in (
-      subst (λ (m : ℕ). Shares f cut m archived current) is (same_next f cut n archived current s x next.1 next.2 next.3 next.4),
-      more count n (f x) place le high.0 is,
-    )
-  where
-    more : (count n k place : ℕ) → count ≤ n → n < k → k ≡ place → count + 1 ≤ place
-    more count n k place le lt is = omega (arith, le, lt, is)
-
-pub other_shares : {T : Type 0} (f : T → ℕ) (cut n last place : ℕ) (archived current : List T) → Shares f cut n archived current → IsNextOf f (next_above f n archived) (next_above f n current) (Other place) → ¬ Begins f cut last archived current
-other_shares f cut n last place archived current s next = other_next f cut n last archived current s next.0 next.1 next.2 next.3
-
-pub other_low : {T : Type 0} (f : T → ℕ) (cut n last place : ℕ) (archived current : List T) → Shares f cut n archived current → Every (λ (x : T). f x ≤ last) archived → IsOtherPlace f (next_above f n archived) (Other place) → place ≤ last
-other_low {T = T} f cut n last place archived current s low at =
-    let left = first_is at.0 s.left at.1 (sym (archived_left f cut n archived current s) ∙ at.2) in
-    let lows : Every (λ (x : T). f x ≤ last) s.left = every_back (λ (x : T). f x ≤ last) s.done s.left (every_back (λ (x : T). f x ≤ last) s.past (s.done ++ s.left) (subst (Every (λ (x : T). f x ≤ last)) s.split.whole low)) in
-    within place (f at.0) last at.3 (subst (Every (λ (x : T). f x ≤ last)) left.1 lows).0

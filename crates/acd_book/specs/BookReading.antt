@@ -1,11 +1,20 @@
 -- Reads of a book, by what it says of itself.
-use Rattle.std.specs.Prelude.{Bool, Result}
+use Rattle.std.specs.Prelude.{Bool, Result, IfOk, OnOk, IsErrOf}
 use Rattle.std.specs.Bool.{Decides}
-use Rattle.acd_book.specs.Content.{Content}
+use Rattle.acd_book.specs.Content.{Content, Within, HasRisen}
 use Rattle.acd_book.specs.Order.{IsOrdered}
-use Rattle.acd_book.specs.State.{BookState, Reads}
+use Rattle.acd_book.specs.State.{BookState, Reads, IfHonest, BookStep, Unchanged}
 use Rattle.acd_book.specs.declared.fault.BookFault.{BookFault}
-use Rattle.acd_desk.specs.Pages.{ReadsIfOpen}
+use Rattle.acd_book.specs.declared.fault.BookFault.TheVariants.{Store}
+
+-- a read of an open book, or none where an earlier read gives the answer: then nothing shows whether the book is open
+pub record ReadsIfOpen {A : Type 0} (old new : BookState) (result : Result A BookFault) (IsAnswer : Content → A → Type 0) : Type 0 where
+  pub step : BookStep (IsErrOf result Store) old new
+  pub unchanged : Unchanged old new
+  pub value : IfHonest old new (old.is_open → IfOk result (IsAnswer old.content))
+  pub stays : OnOk result (IfHonest old new (old.is_open → new.is_open))
+  pub keeps : IfHonest old new (new.is_open → Within old.stops new.stops)
+  pub cause : IsErrOf result Store → HasRisen old.failures new.failures
 
 -- nothing is said of what is found
 abbrev pub Anything : {T : Type 0} → Content → T → Type 0
