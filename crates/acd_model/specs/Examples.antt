@@ -10,3 +10,4 @@ pub mod Refusals
 pub mod Priorities
 pub mod Rejections
 pub mod Corrections
+pub mod Faults

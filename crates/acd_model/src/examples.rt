@@ -13,6 +13,7 @@ ghost use Rattle.acd_model.specs.Examples.Releases.{ReleasedAfterAnAnswer, Relea
 ghost use Rattle.acd_model.specs.Examples.Refusals.{RefusalsOfPlanAndCalls, RefusalsOfAnAnsweredCall, RefusalsOfAHeldCall, RefusalsOfAnOfferedCall, RefusalsOfAnUnansweredCall, RefusalsOfAgents};
 ghost use Rattle.acd_model.specs.Examples.Rejections.{RejectedToTheSecondAgent, RejectedByOneAfterTheOther, RejectedWithNobodyReady, RejectedAfterAnOlderCall, ReleasedByARejection, RejectedInAFurtherGroup, RejectedWithoutARingTime, RejectedAndGivenUp, RejectionAndTick, RefusalsOfRejections};
 ghost use Rattle.acd_model.specs.Examples.Corrections.{RingShortened, RingProlonged, WrapShortened, WrapProlonged, WrapOfTheLeastGroup, ChangedGroup, ChangedAgent, ChangedAgentKeepsTheTurn, ChangedToTheSame, NamesOfOneAndForty, RefusalsOfCorrections};
+ghost use Rattle.acd_model.specs.Examples.Faults.{DigitsThatWereRead, FaultsOfDevices, FaultsOfAgents, FaultsOfNames, FaultsOfRequesters, RowsThatBreakARule};
 
 /// Numbers of identifiers, records as they are added, and monitors.
 pub fn plan()
@@ -130,4 +131,14 @@ pub fn corrections()
     ensures changed_to_the_same { ChangedToTheSame }
     ensures names_of_one_and_forty { NamesOfOneAndForty }
     ensures refusals_of_corrections { RefusalsOfCorrections }
+{}
+
+/// What is an identifier, a name and a requester, the first fault of what is none, and the first rule that rows break.
+pub fn faults()
+    ensures digits_that_were_read { DigitsThatWereRead }
+    ensures faults_of_devices { FaultsOfDevices }
+    ensures faults_of_agents { FaultsOfAgents }
+    ensures faults_of_names { FaultsOfNames }
+    ensures faults_of_requesters { FaultsOfRequesters }
+    ensures rows_that_break_a_rule { RowsThatBreakARule }
 {}
