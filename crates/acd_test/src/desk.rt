@@ -1,55 +1,47 @@
 //! A desk over a book that fails: at each of its calls in a short session, and at chosen ones.
 
-use crate::book::{FailingBook, Reopened};
+use crate::book::{FailingBook, Summed};
 use crate::player::wide;
 use crate::streams::Pieces;
 use crate::texts::text_in;
 use acd_book::{Book, MemoryBook};
 use acd_desk::Desk;
-use acd_http::lines_with_reads;
-use acd_lines::{lines, lines_until_failed};
+use acd_lines::lines;
 use acd_terms::Limits;
 use std::alloc::Global;
 use std::process::Abort;
 
-// What fails, the sessions, and what the book then reads. A session is how it is read, the letters of its lines, at `/` in
-// two readings, those of their answers, how often it was written, and how many bytes are left; or the fault at its
-// opening. Before each session the book is opened again.
+// What fails, the sessions, and what the book then reads. A session is the letters of its lines, at `/` in two readings,
+// those of their answers, and how often it was written; or the fault at its opening. A second session is over the book
+// that the first one leaves.
 //
 // A new group, a new station, and the first request again: the book's calls are 1 the rows at the opening; 2 and 3 the
 // key of the first request and its commit; 4 and 5 those of the second; 6 the key of the repeat. Where call 5 finds no
-// memory, call 6 is the key of the next request, and call 7 its load. At last the lines go on after a store fault, end
-// with it, end with none, and have a read among them.
+// memory, call 6 is the key of the next request, and call 7 its load. At last the lines go on after a store fault.
 fn rows() -> &'static [u8] {
     br#"
-|lines gsg=mpm 1 0|executed 2, groups 1, stations 1, failures 0, reads 1
-2:noMemory|lines gsg=npm 1 0|executed 2, groups 1, stations 1, failures 0, reads 1
-3:noMemory|lines gsg=npm 1 0|executed 2, groups 1, stations 1, failures 0, reads 2
-4:noMemory|lines gsg=mnm 1 0|executed 1, groups 1, stations 0, failures 0, reads 1
-5:noMemory|lines gsg=mnm 1 0|executed 1, groups 1, stations 0, failures 0, reads 1
-6:noMemory|lines gsg=mpn 1 0|executed 2, groups 1, stations 1, failures 0, reads 1
-2:store|lines gsg=fff 1 0;lines gsg=mpm 1 0|executed 2, groups 1, stations 1, failures 1, reads 2
-3:store|lines gsg=fff 1 0;lines gsg=mpm 1 0|executed 2, groups 1, stations 1, failures 1, reads 2
-3:made|lines gsg=fff 1 0|executed 1, groups 1, stations 0, failures 1, reads 1
-3:made|lines gsg=fff 1 0;lines gsg=mpm 1 0|executed 2, groups 1, stations 1, failures 1, reads 2
-4:store|lines gsg=mff 1 0;lines gsg=mpm 1 0|executed 2, groups 1, stations 1, failures 1, reads 2
-5:store|lines gsg=mff 1 0;lines gsg=mpm 1 0|executed 2, groups 1, stations 1, failures 1, reads 2
-5:made|lines gsg=mff 1 0;lines sg=pm 1 0|executed 2, groups 1, stations 1, failures 1, reads 2
-6:store|lines gsg=mpf 1 0;lines gsg=mpm 1 0|executed 2, groups 1, stations 1, failures 1, reads 2
+|gsg=mpm 1|executed 2, groups 1, stations 1, failures 0, reads 1
+2:noMemory|gsg=npm 1|executed 2, groups 1, stations 1, failures 0, reads 1
+3:noMemory|gsg=npm 1|executed 2, groups 1, stations 1, failures 0, reads 2
+4:noMemory|gsg=mnm 1|executed 1, groups 1, stations 0, failures 0, reads 1
+5:noMemory|gsg=mnm 1|executed 1, groups 1, stations 0, failures 0, reads 1
+6:noMemory|gsg=mpn 1|executed 2, groups 1, stations 1, failures 0, reads 1
+2:store|gsg=fff 1;gsg=mpm 1|executed 2, groups 1, stations 1, failures 1, reads 2
+3:store|gsg=fff 1;gsg=mpm 1|executed 2, groups 1, stations 1, failures 1, reads 2
+4:store|gsg=mff 1;gsg=mpm 1|executed 2, groups 1, stations 1, failures 1, reads 2
+5:store|gsg=mff 1;gsg=mpm 1|executed 2, groups 1, stations 1, failures 1, reads 2
+6:store|gsg=mpf 1;gsg=mpm 1|executed 2, groups 1, stations 1, failures 1, reads 2
 1:noMemory|out of memory|executed 0, groups 0, stations 0, failures 0, reads 1
 1:store|the store has failed|executed 0, groups 0, stations 0, failures 1, reads 1
-5:noMemory|lines gs=mn 1 0|executed 1, groups 1, stations 0, failures 0, reads 1
-5:noMemory|lines gsgtsu=mnmqpr 1 0|executed 4, groups 1, stations 3, failures 0, reads 2
-5:noMemory 7:noMemory|lines gssgs=mnnmp 1 0|executed 2, groups 1, stations 1, failures 0, reads 3
-5:noMemory 7:store|lines gssgs=mnfff 1 0|executed 1, groups 1, stations 0, failures 1, reads 2
-5:store|lines gs/c=mff 2 0|executed 1, groups 1, stations 0, failures 1, reads 1
-5:store|until gsc/c=mff 1 91|executed 1, groups 1, stations 0, failures 1, reads 1
-|until gs/c=mpk 2 0|executed 3, groups 1, stations 1, failures 0, reads 1
-5:store|reads gsac=mfff 4 0|executed 1, groups 1, stations 0, failures 1, reads 1
+5:noMemory|gs=mn 1|executed 1, groups 1, stations 0, failures 0, reads 1
+5:noMemory|gsgtsu=mnmqpr 1|executed 4, groups 1, stations 3, failures 0, reads 2
+5:noMemory 7:noMemory|gssgs=mnnmp 1|executed 2, groups 1, stations 1, failures 0, reads 3
+5:noMemory 7:store|gssgs=mnfff 1|executed 1, groups 1, stations 0, failures 1, reads 2
+5:store|gs/c=mff 2|executed 1, groups 1, stations 0, failures 1, reads 1
 "#
 }
 
-// The line of a letter: a request, a read, or an answer.
+// The line of a letter: a request, or an answer.
 fn line_of(letter: u8) -> &'static str {
     match letter {
         b'g' => {
@@ -61,12 +53,10 @@ fn line_of(letter: u8) -> &'static str {
         b'c' => {
             r#"10 {"requester":"pbx","invoke":1,"service":"arriveCall","caller":"0301234","called":"100"}"#
         }
-        b'a' => "9 GET /queues/100",
         b'm' => r#"200 {"invoke":1,"requester":"plan","result":{}}"#,
         b'p' => r#"200 {"invoke":2,"requester":"plan","result":{}}"#,
         b'q' => r#"200 {"invoke":3,"requester":"plan","result":{}}"#,
         b'r' => r#"200 {"invoke":4,"requester":"plan","result":{}}"#,
-        b'k' => r#"200 {"invoke":1,"requester":"pbx","result":{"call":1}}"#,
         b'n' => r#"503 {"error":{"code":33,"name":"noMemory"}}"#,
         _ => r#"503 {"error":{"code":34,"name":"storeFault"}}"#,
     }
@@ -80,42 +70,30 @@ fn push_lines(rt: &impl Abort, text: &mut String, letters: &str) {
     }
 }
 
-// What the desk answers, how often it was written, and how many bytes are left.
-fn answered<B: Book>(
-    rt: &impl Abort,
-    alloc: Global,
-    desk: &mut Desk<B>,
-    kind: &str,
-    asked: &str,
-) -> String {
+// What the desk answers, and how often it was written.
+fn answered<B: Book>(rt: &impl Abort, alloc: Global, desk: &mut Desk<B>, asked: &str) -> String {
     let (first, second) = asked.split_once('/').unwrap_or((asked, ""));
     let mut text = String::new(alloc);
     push_lines(rt, &mut text, first);
-    let size = if kind == "reads" { 1 } else { text.len() };
+    let size = text.len();
     push_lines(rt, &mut text, second);
-    let mut reader = Pieces::new(text.as_bytes(), size, false);
+    let mut reader = Pieces::new(text.as_bytes(), size);
     let mut writer = wide(alloc);
-    let ended = match kind {
-        "until" => lines_until_failed(alloc, desk, &mut reader, &mut writer),
-        "reads" => lines_with_reads(alloc, desk, false, &mut reader, &mut writer),
-        _ => lines(alloc, desk, &mut reader, &mut writer),
-    };
+    let ended = lines(alloc, desk, &mut reader, &mut writer);
     assert!(rt; ended.is_ok());
     let written = text_in(rt, &writer.taken);
-    let (calls, left) = (writer.calls, reader.left.len());
-    format!(in alloc; "{written} {calls} {left}").expect(rt, "memory")
+    format!(in alloc; "{written} {}", writer.calls).expect(rt, "memory")
 }
 
 // The desk plays a session.
 fn play<B: Book>(rt: &impl Abort, alloc: Global, desk: &mut Desk<B>, session: &str) {
-    let (kind, said) = session.split_once(' ').expect(rt, "letters");
-    let (asked, said) = said.split_once('=').expect(rt, "answers");
-    let (answers, counts) = said.split_once(' ').expect(rt, "counts");
+    let (asked, said) = session.split_once('=').expect(rt, "answers");
+    let (answers, calls) = said.split_once(' ').expect(rt, "how often it is written");
     let mut wanted = String::new(alloc);
     push_lines(rt, &mut wanted, answers);
     wanted.push_str(" ").expect(rt, "memory");
-    wanted.push_str(counts).expect(rt, "memory");
-    let found = answered(rt, alloc, desk, kind, asked);
+    wanted.push_str(calls).expect(rt, "memory");
+    let found = answered(rt, alloc, desk, asked);
     assert!(rt; found.as_str() == wanted.as_str(), "{session}: {found}");
 }
 
@@ -135,14 +113,14 @@ fn played<B: Book + Drop>(rt: &impl Abort, alloc: Global, book: B, session: &str
 }
 
 // What the book reads, once the sessions are played.
-fn summary_after<B: Book + Reopened + Drop>(
+fn summary_after<B: Book + Summed + Drop>(
     rt: &impl Abort,
     alloc: Global,
     mut book: B,
     sessions: &str,
 ) -> String {
     for session in sessions.split(';') {
-        book = played(rt, alloc, book.again(), session);
+        book = played(rt, alloc, book, session);
     }
     book.summary(rt, alloc)
 }

@@ -1,7 +1,7 @@
-//! Tests of what no clause says and no request shows, by public calls: identifiers and their faults, streams that are
-//! called again, a desk whose book fails, turns of a service by a clock of their own, and rows and commits that no
-//! request makes. They are in one crate, since each program of tests is linked with all that it reaches, and no other
-//! crate is proved a second time for them. What the program shows is tried over the process, by `tests/trials`.
+//! Tests of what no clause says and no request shows, by public calls: streams that are called again, a desk whose
+//! book fails, and rows and commits that no request makes. They are in one crate, since each program of tests is linked
+//! with all that it reaches, and no other crate is proved a second time for them. What the program shows is tried over
+//! the process, by `tests/trials`, so that no HTTP and no program is reached.
 #![tactic(auto)]
 
 #[cfg(test)]
@@ -10,8 +10,6 @@ mod book;
 mod comparing;
 #[cfg(test)]
 mod desk;
-#[cfg(test)]
-mod http;
 #[cfg(test)]
 mod io;
 #[cfg(test)]
@@ -23,10 +21,8 @@ mod stored;
 #[cfg(test)]
 mod streams;
 #[cfg(test)]
-mod terms;
-#[cfg(test)]
 mod texts;
 #[cfg(test)]
-mod turns;
-#[cfg(test)]
 mod watched;
+#[cfg(test)]
+mod words;

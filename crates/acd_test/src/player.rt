@@ -27,22 +27,17 @@ pub fn executes<B: Book>(
     text: &[u8],
     requests: u64,
 ) {
-    let mut reader = Pieces::new(text, usize::MAX, false);
+    let mut reader = Pieces::new(text, usize::MAX);
     let mut writer = wide(alloc);
     let ended = lines(alloc, desk, &mut reader, &mut writer);
     assert!(rt; ended.is_ok());
     expect_executed(rt, desk, requests);
 }
 
-/// A desk over the book.
-pub fn desk_over<B: Book + Drop>(rt: &impl Abort, alloc: Global, book: B) -> Desk<B> {
-    match Desk::open(alloc, book) {
+/// A new desk with the greatest limits.
+pub fn new_desk(rt: &impl Abort, alloc: Global) -> Desk<MemoryBook> {
+    match Desk::open(alloc, MemoryBook::new(alloc, Limits::GREATEST)) {
         Ok(desk) => desk,
         Err(_) => panic!(rt; "no desk"),
     }
-}
-
-/// A new desk with the greatest limits.
-pub fn new_desk(rt: &impl Abort, alloc: Global) -> Desk<MemoryBook> {
-    desk_over(rt, alloc, MemoryBook::new(alloc, Limits::GREATEST))
 }

@@ -1,15 +1,14 @@
-//! Rows and commits that no request makes: which of them the switch, the tables and a book in memory refuse.
+//! Rows and commits that no request makes: which of them the tables and a book in memory refuse.
 
 use crate::comparing::same;
 use crate::player::{executes, new_desk};
 use acd_book::{Book, BookFault, Kept, MemoryBook, Text};
 use acd_model::Change;
 use acd_services::change;
-use acd_switch::{RowFault, Switch};
 use acd_tables::Tables;
 use acd_terms::{
     AgentRecord, AgentState, Command, ConnectionRecord, ConnectionState, DeviceId, Event, Groups,
-    Invoke, Listed, Report, Request, Requester, Rows, Rule,
+    Invoke, Listed, Report, Request, Requester, Rows,
 };
 use std::alloc::Global;
 use std::process::Abort;
@@ -56,57 +55,6 @@ fn turned<T: Copy>(rt: &impl Abort, alloc: Global, items: &[T]) -> Listed<T> {
     let mut turned = items.to_vec(alloc).expect(rt, "memory");
     turned.reverse();
     Listed::new(turned)
-}
-
-// The agents, of whom those at a station have these groups.
-fn regrouped(
-    rt: &impl Abort,
-    alloc: Global,
-    agents: &[AgentRecord],
-    groups: Groups,
-) -> Listed<AgentRecord> {
-    let mut changed = Vec::new(alloc);
-    for agent in agents {
-        let groups = if agent.station.is_some() {
-            groups
-        } else {
-            agent.groups
-        };
-        changed
-            .push(AgentRecord { groups, ..*agent })
-            .expect(rt, "memory");
-    }
-    Listed::new(changed)
-}
-
-fn fault_in(alloc: Global, rows: &Rows) -> Option<RowFault> {
-    match Switch::from_rows(alloc, rows) {
-        Ok(_) => None,
-        Err(fault) => Some(fault),
-    }
-}
-
-// An agent's second group may be planned, and is not, or is a station. At last the connections are out of order. In a file
-// references refuse such groups, and all rows are in order.
-#[test]
-fn rows_that_break_a_rule(rt: HostRuntime) {
-    let alloc = rt.alloc();
-    let mut book = answered_call(&rt, alloc);
-    let mut rows = rows_of(&rt, &mut book);
-    same(&rt, &fault_in(alloc, &rows), &None);
-    for (second, broken) in [
-        ("05", None),
-        ("110", Some(RowFault::Broken(Rule::Agent))),
-        ("04", Some(RowFault::Broken(Rule::Agent))),
-        ("202", Some(RowFault::Broken(Rule::Agent))),
-    ] {
-        let groups = two_groups(&rt, second);
-        rows.agents = regrouped(&rt, alloc, rows.agents.as_slice(), groups);
-        same(&rt, &fault_in(alloc, &rows), &broken);
-    }
-    rows.connections = turned(&rt, alloc, rows.connections.as_slice());
-    let broken = Some(RowFault::Broken(Rule::Order));
-    same(&rt, &fault_in(alloc, &rows), &broken);
 }
 
 // Agent 8 is ready at a station.

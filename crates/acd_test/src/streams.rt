@@ -2,21 +2,19 @@
 
 use std::io::{self, ErrorKind, Read, Write};
 
-/// Gives at most so many bytes at a time, and is interrupted before each time. At its end it may fail for good.
+/// Gives at most so many bytes at a time, and is interrupted before each time.
 #[derive(Drop)]
 pub struct Pieces<'a> {
-    pub left: &'a [u8],
+    left: &'a [u8],
     size: usize,
-    fails: bool,
     interrupted: bool,
 }
 
 impl<'a> Pieces<'a> {
-    pub fn new(left: &'a [u8], size: usize, fails: bool) -> Pieces<'a> {
+    pub fn new(left: &'a [u8], size: usize) -> Pieces<'a> {
         Pieces {
             left,
             size,
-            fails,
             interrupted: false,
         }
     }
@@ -27,9 +25,6 @@ impl Read for Pieces<'_> {
         self.interrupted = !self.interrupted;
         if self.interrupted {
             return Err(io::Error::from(ErrorKind::Interrupted));
-        }
-        if self.fails && self.left.is_empty() {
-            return Err(io::Error::from(ErrorKind::ConnectionReset));
         }
         let count = buf.len().min(self.left.len()).min(self.size);
         buf[..count].copy_from_slice(&self.left[..count]);
