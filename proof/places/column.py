@@ -117,7 +117,6 @@ after(SCENES + "reads.txt", ("~ 21 UPDATE agents SET since = 24 WHERE agent = 17
 put(SCENES + "corrections.txt", ('"group":"100","name":"Anabel"', '"group":"100","logged":5,"name":"Anabel"'), ('"group":"100","name":"B"', '"group":"100","logged":5,"name":"B"'))
 put(SCENES + "limits.txt", ('"900000000001007"],"name"', '"900000000001007"],"logged":5,"name"'))
 put(BOOKS + "several.txt", ("NULL,NULL,NULL,4,0);", "NULL,NULL,NULL,4,0,NULL);"), ("NULL,NULL,NULL,5,0);", "NULL,NULL,NULL,5,0,NULL);"), ("grp = 1100 AND since = 20", "grp = 1100 AND since = 20 AND logged = 15"))
-put("crates/acd_test/src/stored.rt", (", NULL, 5, 10);", ", NULL, 5, 10, 5);", 2), (", NULL, 5, 10)\n", ", NULL, 5, 10, 5)\n", 2))
 put(BOOKS + "adopted.txt", ("stamp INTEGER NOT NULL, since INTEGER NOT NULL) STRICT;", "stamp INTEGER NOT NULL, since INTEGER NOT NULL, logged INTEGER) STRICT;"),
     ("1201, 1501, 1, 0);", "1201, 1501, 1, 0, 0);"), ("'Ben', 0, NULL, NULL, NULL, 1, 0)", "'Ben', 0, NULL, NULL, NULL, 1, 0, NULL)"), ("'Cem', 0, NULL, NULL, NULL, 1, 0)", "'Cem', 0, NULL, NULL, NULL, 1, 0, NULL)"))
 after(BOOKS + "adopted.txt", ("bad row in agents: UPDATE agents SET since = 4294967296\n", "bad row in agents: UPDATE agents SET logged = 4294967296\n"))

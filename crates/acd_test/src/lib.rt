@@ -1,7 +1,7 @@
 //! Tests of what no clause says and no request shows, by public calls: streams that are called again, a desk whose
 //! book fails, and rows and commits that no request makes. They are in one crate, since each program of tests is linked
 //! with all that it reaches, and no other crate is proved a second time for them. What the program shows is tried over
-//! the process, by `tests/trials`, so that no HTTP and no program is reached.
+//! the process, by `tests/trials`, so that no HTTP, no SQLite and no program is reached.
 #![tactic(auto)]
 
 #[cfg(test)]
@@ -16,8 +16,6 @@ mod io;
 mod player;
 #[cfg(test)]
 mod state;
-#[cfg(test)]
-mod stored;
 #[cfg(test)]
 mod streams;
 #[cfg(test)]
