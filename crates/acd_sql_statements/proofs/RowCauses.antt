@@ -1,9 +1,10 @@
 -- Why no records are made of the rows that were read.
-use Rattle.std.proofs.Common.{◌≡◌, ◌⊎◌, inl, inr, ℕ, zero, suc, nat_lt, ◌==◌, ◌<◌, ◌-◌, ◌^◌, min, List, [], ◌∷◌, length, get_or, slice_get, map, filter, find, take, Bool, true, false, cond, Option, None, Some, Result, Ok, Err, IfErr, IfSome, sym, ap, subst, ◌∙◌, arith}
+use Rattle.std.proofs.Common.{◌≡◌, ◌⊎◌, inl, inr, ℕ, zero, suc, nat_lt, ◌==◌, ◌<◌, ◌+◌, ◌-◌, ◌^◌, min, List, [], ◌∷◌, ◌++◌, length, get_or, slice_get, map, filter, find, take, Bool, true, false, cond, Option, None, Some, Result, Ok, Err, IfErr, IfSome, sym, ap, subst, ◌∙◌, arith}
 use Rattle.std.specs.Prelude.{Vec, option_to_list}
 use Rattle.std.specs.Option.{is_some}
 use Rattle.std.specs.declared.alloc.Global.{Global}
 use Rattle.std.proofs.lemmas.Bool.{and_parts}
+use Rattle.std.proofs.lemmas.List.{map-append, take_more}
 use Rattle.sqlite_value.specs.Order.{Row}
 use Rattle.sqlite_rules.specs.Lists.{Has}
 use Rattle.sqlite_rules.proofs.ProbeLemmas.{has_mapped, mapped_has}
@@ -77,6 +78,11 @@ module _ {R : Type 0} (in_row : Row → Option R) where
   -- as a `?` in a loop over them hands it on
   pub none_decoded : {A : Type 0} (i : ℕ) (rows : List Row) (row d : Row) (e : Error) (r : Result A Error) → r ≡ Err e → row ≡ get_or rows i d → i < length rows → FailsToDecode in_row (row ∷ []) e → IfErr r (FailsToDecode in_row rows)
   none_decoded i rows row d e r is at low h = subst (λ r. IfErr r (FailsToDecode in_row rows)) (sym is) (bad_at i rows row d e at low h)
+
+  -- one more of them represents one more record
+  pub one_more_decoded : (i : ℕ) (rows : List Row) (row d : Row) (before after : List R) (one : R) → row ≡ get_or rows i d → i < length rows → map Some before ≡ map in_row (take i rows) → Some one ≡ in_row row → after ≡ before ++ one ∷ []
+      → map Some after ≡ map in_row (take (i + 1) rows)
+  one_more_decoded i rows row d before after one at low so_far is added = rw (added, map-append, so_far, is, at, take_more rows i d low, map-append)
 
   module _ (t : Table) (decides : (row : Row) → is_good t row ≡ is_some (in_row row)) where
     pub cause_records : {B : Type 0} (old new : State) (rows : Vec Row Global) (r : Result B Error) (shown : Content → List Row) → ((c : Content) (row : Row) → Has (shown c) row → Has (values_of t c) row)

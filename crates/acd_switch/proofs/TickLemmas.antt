@@ -1,6 +1,6 @@
 -- A tick ends only offers that ring and the work of agents in after-call work.
-use Rattle.std.proofs.Common.{◌≡◌, ℕ, ◌≤◌, Bool, true, false, ◌&&◌, cond, List, [], ◌∷◌, ◌++◌, drop, length, Option, Some, None, is_some, refl, ap, sym, ◌∙◌}
-use Rattle.std.proofs.lemmas.List.{drop_all, append-nil}
+use Rattle.std.proofs.Common.{◌≡◌, ℕ, ◌≤◌, Bool, true, false, ◌&&◌, cond, List, [], ◌∷◌, ◌++◌, drop, length, get_or, ◌<◌, ◌+◌, Option, Some, None, is_some, refl, ap, sym, ◌∙◌}
+use Rattle.std.proofs.lemmas.List.{drop_all, append-nil, append_assoc, at_drop_more}
 use Rattle.std.specs.Prelude.{◌||◌, filter}
 use Rattle.std.specs.List.{list_any, filter_map, cons_option}
 use Rattle.std.proofs.lemmas.Bool.{and_parts, and_from, false_from_ne_true}
@@ -50,6 +50,17 @@ nobody_rested s m (_ ∷ _) z e = absurd (cc (z))
 -- a filter that has tested all
 pub gone_through : {X : Type 0} (p : X → Bool) (done items : List X) (i : ℕ) → length items ≤ i → done ++ filter p (drop i items) ≡ filter p items → done ≡ filter p items
 gone_through p done items i h e = sym (append-nil done) ∙ ap (λ l. done ++ filter p l) (sym (drop_all i items h)) ∙ e
+
+-- a filter that has tested one more
+module _ {X : Type 0} (p : X → Bool) (done items new : List X) (i : ℕ) (there : i < length items) (before : done ++ filter p (drop i items) ≡ filter p items) (x d : X) (is : x ≡ get_or items i d) where
+  tested : (b : Bool) → b ≡ p x → done ++ cond b (x ∷ filter p (drop (i + 1) items)) (filter p (drop (i + 1) items)) ≡ filter p items
+  tested b h = ap (λ b. done ++ cond b (x ∷ filter p (drop (i + 1) items)) (filter p (drop (i + 1) items))) h ∙ ap (λ y. done ++ filter p (y ∷ drop (i + 1) items)) is ∙ sym (at_drop_more (λ l. done ++ filter p l) items i d there) ∙ before
+
+  pub keeps_one : true ≡ p x → new ≡ done ++ x ∷ [] → new ++ filter p (drop (i + 1) items) ≡ filter p items
+  keeps_one h e = ap (λ l. l ++ filter p (drop (i + 1) items)) e ∙ append_assoc done (x ∷ []) (filter p (drop (i + 1) items)) ∙ tested true h
+
+  pub leaves_one : false ≡ p x → new ≡ done → new ++ filter p (drop (i + 1) items) ≡ filter p items
+  leaves_one h e = ap (λ l. l ++ filter p (drop (i + 1) items)) e ∙ tested false h
 
 -- a test of what may be there
 abbrev pub passes : {T : Type 0} → (T → Bool) → Option T → Bool
