@@ -2,7 +2,7 @@
 
 usage: ./test [--only STAGE,..] [--trials] [--install] [--may-lack FILE] [WORD ..]
 
-Stages, in their order: `shape` (what has to be believed, sizes of clauses and pages), `proof` (rt ci: an hour or two), `program` (trials of the process that this
+Stages, in their order: `shape` (what has to be believed, sizes of clauses and pages, cuts of wrong bodies), `proof` (rt ci: an hour or two), `program` (trials of the process that this
 built, some minutes), `python` (lint, types, unit tests and trials of what stands around it, some minutes), `release` (whether release/ is of these sources; the
 subjects of the log). All of them run unless --only chooses; `--only coverage` runs the unit tests and prints how many branches of each module they take, `--trials`
 what takes hours or needs a browser, a booted system, etcd, a telephone exchange or root, one trial after the other, as far as this machine has that. A WORD
@@ -109,7 +109,8 @@ def chosen(words: list[str], jobs: list[Job]) -> list[Job]:
 
 
 def run_shape(options: argparse.Namespace, total: Total) -> bool:
-    return all(run([job], total) for job in (one("count-shape", "proof/count-shape"), one("believed", "proof/believed", "--check")))
+    jobs = one("count-shape", "proof/count-shape"), one("believed", "proof/believed", "--check"), one("cuts", "proof/cut-edits", "--check")
+    return all(run([job], total) for job in jobs)
 
 
 def run_proof(options: argparse.Namespace, total: Total) -> bool:
