@@ -3,8 +3,8 @@
 
 usage: proof/places/service.py COPY    (COPY is a clone of the repository, which is changed)
 
-It prints each place, by crate and kind, and counts them: CONTRIBUTING's list 'A service' is of these. Status 1 says that a text doesn't stand
-as often as is said here; then mend it here, and the list there. After it `rt check` in the crates of COPY says whether places are missing.
+It prints each place, by crate and kind, and counts them: CONTRIBUTING, 'A service', has these numbers. Status 1 says that a text doesn't stand
+as often as is said here; then mend it here, and the numbers there. After it `rt check` in the crates of COPY says whether places are missing.
 A service with moves of its own needs a constructor of `Deed` and its cases too."""
 from places import copy_of_command_line
 
