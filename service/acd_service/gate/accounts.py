@@ -4,6 +4,7 @@ Root's files come first, and the gate never writes them. Its own are beside its 
 them counts only where its login is none of root's files and can be told from all of these by its requesters, and where
 its role is one that an office may give. So whoever writes these files, the gate itself if it were broken, gives
 nobody a right that root didn't mean an office to give, and takes nothing from root's logins."""
+import asyncio
 import json
 import os
 from collections.abc import Callable, Iterable
@@ -73,9 +74,25 @@ class Accounts:
         self.roots: tuple[dict[str, Role], dict[str, str]] = {}, {}
         self.made_of: tuple[object, ...] = ()
         self.made: tuple[dict[str, Role], dict[str, str]] = {}, {}
+        # both, as they were at the last look of this turn
+        self.seen, self.has_looked = NOBODYS, False
 
     def both(self) -> tuple[dict[str, Role], dict[str, str]]:
-        """The role and the hash of each login."""
+        """The role and the hash of each login. It looks at the files once in a turn of the loop, however many ask:
+        whatever comes of a write into them is done in a later one."""
+        try:
+            loop = asyncio.get_running_loop()
+        except RuntimeError:  # a thread of its own
+            return self.look()
+        if not self.has_looked:
+            self.seen, self.has_looked = self.look(), True
+            loop.call_soon(self.look_again)
+        return self.seen
+
+    def look_again(self) -> None:
+        self.has_looked = False
+
+    def look(self) -> tuple[dict[str, Role], dict[str, str]]:
         roots = self.roots_roles.now(), self.roots_users.now()
         if self.folder is None:
             return roots

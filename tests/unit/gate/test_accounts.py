@@ -2,6 +2,7 @@
 """Tests of the logins, roles and names that an office gives, beside root's files.   usage: tests/unit/gate/test_accounts.py
 
 Needs python3-aiohttp, python3-passlib and python3-bcrypt (Debian packages)."""
+import asyncio
 import contextlib
 import io
 import json
@@ -9,6 +10,7 @@ import os
 import unittest
 from pathlib import Path
 from tempfile import TemporaryDirectory
+from unittest import mock
 
 from standing import SECRET, Named
 
@@ -146,6 +148,22 @@ class AccountsTest(Named):
             with contextlib.redirect_stderr(io.StringIO()) as printed:
                 self.assertEqual(self.accounts.names(), wanted, text)
             self.assertEqual("it must be a JSON object" in printed.getvalue(), text in ("[]", "{"), text)
+
+    def test_one_look_in_a_turn_of_the_loop(self):
+        """However many ask; without a loop each looks."""
+        with mock.patch.object(self.accounts, "look", side_effect=self.accounts.look) as looked:
+            async def ask():
+                roles, users = self.accounts.roles.now(), self.accounts.users.now()
+                self.assertEqual((looked.call_count, roles["sup"].name, list(users)), (1, "supervisor", ["pbx", "chef", "boss"]))
+                self.roles.write_text("sup lead groups=100\n")
+                self.assertEqual(self.accounts.roles.now(), roles)
+                await asyncio.sleep(0)
+                self.assertEqual((self.accounts.roles.now()["sup"].name, looked.call_count), ("lead", 2))
+
+            asyncio.run(ask())
+            self.roles.write_text("sup office\n")
+            for count in (3, 4):
+                self.assertEqual((self.accounts.roles.now()["sup"].name, looked.call_count), ("office", count))
 
 
 if __name__ == "__main__":
