@@ -36,6 +36,7 @@ from acd_service.gate.sessions import Secrets, Session, Sessions, cookie_field
 from acd_service.gate.streams import Stream
 from acd_service.gate.texts import as_json
 from acd_service.gate.traces import Traces
+from acd_service.gate.turns import OneByOne
 from acd_service.rules.reading import REQUESTER
 
 # who asks for these needs no login, or is judged by what they ask
@@ -88,6 +89,7 @@ class Gate:
         self.rates, self.replies, self.held = Rates(), Replies(), Held()
         self.following = Following(desk.ask_soon, is_rules=self.is_rules, rules=rules, shown=self.accounts.shown)
         self.reading, self.recorded = asyncio.Semaphore(READ_AT_ONCE), Recorded(records)
+        self.pictures = OneByOne()
         self.traces = Traces()
         self.door = Door(self.roles, self.passwords, self.sessions, self.rates, self.traces, secrets)
         self.metrics = Metrics(self, self.following, desk, copy)
@@ -252,8 +254,11 @@ class Gate:
             raise Refused(error(501))
         stream = Stream(login, self.stays(login, role, self.door.token_behind(question)), sight, agent or "",
                         groups or frozenset())
-        state = await self.following.known()
+        await self.following.known()
+        # a first picture takes long: where many pages come at once, others are answered between
+        await self.pictures.turn()
         question.stay()
+        state = self.following.state
         if state is None:
             raise Refused(NO_DESK)
         try:

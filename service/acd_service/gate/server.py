@@ -108,6 +108,7 @@ class Server(web.Server):
         self.answer, self.most, self.open = answer, most, 0
         self.room = asyncio.Event()
         self.room.set()
+        self.beginning: set[asyncio.Task[None]] = set()
         # connections that haven't asked for anything yet, with the moment at which they came
         self.silent: dict[object, tuple[Connection, float]] = {}
 
@@ -130,7 +131,8 @@ class Server(web.Server):
         return self.open < self.most / 2
 
     async def listen(self, listening: socket.socket) -> None:
-        """Takes connections for ever; who comes beyond the most waits."""
+        """Takes connections for ever; who comes beyond the most waits. It takes all that have come before any of them
+        is answered: what is short never waits until connections before it have had what is long."""
         sweeper = asyncio.create_task(self.sweep())
         try:
             while True:
@@ -149,11 +151,17 @@ class Server(web.Server):
         self.open += 1
         if self.open >= self.most:
             self.room.clear()
+        beginning = loop.create_task(self.begin(connection))
+        self.beginning.add(beginning)
+        beginning.add_done_callback(self.beginning.discard)
+
+    async def begin(self, connection: socket.socket) -> None:
         try:
-            await loop.connect_accepted_socket(self, connection)
+            await asyncio.get_running_loop().connect_accepted_socket(self, connection)
         except OSError:
-            self.open -= 1
             connection.close()
+            self.open -= 1
+            self.room.set()
 
     async def sweep(self) -> None:
         """Closes connections on which nothing came."""

@@ -7,6 +7,7 @@ import contextlib
 import http.client
 import io
 import json
+import socket
 import threading
 import time
 import unittest
@@ -403,6 +404,32 @@ class RouteTest(DoorTest):
             self.assertEqual([self.ask(login, None, "GET", "/stream")[0] for login in ("sup", "ana")], [429, 429])
         with mock.patch.object(boards, "MOST_VIEWS", 0):
             self.assertEqual(self.ask("sup", None, "GET", "/stream")[0], 429)
+
+    def test_others_are_answered_between_first_pictures(self):
+        """Where many pages come at once, a question that comes after all of them, by a connection of its own, doesn't wait for all."""
+        self.next(self.opened("sup"))
+        begun, begin, held = [], self.gate.following.streams.begin, threading.Event()
+
+        def begin_slowly(*words):
+            begun.append(words)
+            time.sleep(0.02)
+            begin(*words)
+
+        with mock.patch.object(self.gate.following.streams, "begin", begin_slowly):
+            self.standing.loop.call_soon_threadsafe(held.wait, PATIENCE)
+            pages = [self.sent(b"GET /stream HTTP/1.1\r\nX-Login: sup\r\n\r\n") for _ in range(40)]
+            other = self.sent(b"GET /who HTTP/1.1\r\nX-Login: sup\r\n\r\n")
+            held.set()
+            self.assertTrue(other.recv(100).startswith(b"HTTP/1.1 200 "))
+            self.assertLess(len(begun), 20)
+            for page in pages:
+                self.assertTrue(page.recv(100).startswith(b"HTTP/1.1 200 "))
+
+    def sent(self, request):
+        """A connection on which that was sent."""
+        found = self.enterContext(socket.create_connection(("127.0.0.1", self.port), timeout=PATIENCE))
+        found.sendall(request)
+        return found
 
     def test_a_page_that_does_not_read(self):
         """It loses its stream, and nobody else waits."""
