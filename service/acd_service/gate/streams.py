@@ -7,7 +7,7 @@ import asyncio
 import re
 import time
 from collections import defaultdict
-from collections.abc import Callable, Iterable
+from collections.abc import Callable, Iterable, Iterator
 from dataclasses import dataclass, field
 from typing import TYPE_CHECKING
 
@@ -27,6 +27,8 @@ MOST_OF_LOGIN, MOST = 8, 4000
 # seconds: between two turns, two events of a board's lines or an agent's queues, two looks at the rights of a stream,
 # two signs that it is alive; and for which a view is kept that nobody looks at
 EVERY, QUEUES_EVERY, JUDGED_EVERY, BEAT, KEPT = 0.25, 1.0, 2.0, 5.0, 60.0
+# and for which a turn goes on before others, who wait for the gate, are answered
+STEP = 0.005
 
 
 def gone() -> asyncio.Future[None]:
@@ -249,7 +251,8 @@ class Streams:
             began = self.clock()
             self.following.want()
             try:
-                self.take_turn(began)
+                for _ in self.take_turn(began):
+                    await asyncio.sleep(0)
             except Exception as fault:  # what nobody foresaw: whoever looks begins anew
                 command.report(f"streams begin anew: {fault!r}")
                 for stream in list(self.all):
@@ -257,16 +260,20 @@ class Streams:
             await asyncio.sleep(max(0.05, began + EVERY - self.clock()))
         self.task = None
 
-    def take_turn(self, now: float) -> None:
-        state = self.following.state
-        self.turn_boards(state, now)
+    def take_turn(self, now: float) -> Iterator[None]:
+        """In steps: where all pages get everything anew, others are answered between."""
+        self.turn_boards(self.following.state, now)
+        since = self.clock()
         for stream in list(self.all):
             if stream.pipe is None or stream.pipe.is_gone():
                 stream.end("left")
             elif now - stream.judged >= JUDGED_EVERY and not self.judge(stream, now):
                 stream.end("rights")
-            else:
-                self.turn_stream(stream, state, now)
+            elif not stream.ended.done():
+                self.turn_stream(stream, self.following.state, now)
+            if self.clock() - since >= STEP:
+                yield
+                since = self.clock()
 
     def judge(self, stream: Stream, now: float) -> bool:
         stream.judged = now

@@ -184,11 +184,11 @@ class Streamed(Trial):
                 follower.renewed = 0 if number % 250 == 0 else float("inf")
                 state = await follower.catch_up()
                 clock += 1.1
-                streams.take_turn(clock)
+                list(streams.take_turn(clock))
                 went_on += await self.by_chance(begun, chance)
             if number % 100 == 0:
                 clock += 1.1
-                streams.take_turn(clock)
+                list(streams.take_turn(clock))
                 compared += self.compare(streams, state, begun, number)
         losses = sum(page.losses for page in begun)
         print(f"    {losses} losses, {went_on} times a page went on, {compared} pages compared with a new picture")

@@ -188,8 +188,8 @@ class Given(Named, unittest.IsolatedAsyncioTestCase):
             told.clear()
             await self.give("ana", {"agent": "7", "reason": "lunch"})
             self.assertTrue(any('"given":{"calls":[],"reason":"lunch"}' in text for text in told), told)
-            self.following.streams.take_turn(10.0)
-            self.following.streams.take_turn(20.0)
+            list(self.following.streams.take_turn(10.0))
+            list(self.following.streams.take_turn(20.0))
         self.assertTrue(any('"reasons":{"7":{"reason":"lunch"}}' in text for text in told), told)
         self.following.streams.boards.close()
 

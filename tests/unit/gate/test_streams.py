@@ -73,7 +73,7 @@ class StreamsTest(Named, unittest.IsolatedAsyncioTestCase):
         for task in list(self.streams.boards.tasks if self.streams.boards else ()):
             await task
         self.now += seconds
-        self.streams.take_turn(self.now)
+        list(self.streams.take_turn(self.now))
         await asyncio.sleep(0)
 
     async def test_a_board(self):
@@ -204,7 +204,7 @@ class StreamsTest(Named, unittest.IsolatedAsyncioTestCase):
         self.assertEqual([kind for kind, _, _ in page.told], ["beat"])
         page.told.clear()
         self.following.heard -= following.AWAY
-        self.streams.take_turn(self.now)
+        list(self.streams.take_turn(self.now))
         await self.turn(0.0)
         self.assertEqual([members["live"] for members in page.of("beat")], [False, True])
 
@@ -237,6 +237,23 @@ class StreamsTest(Named, unittest.IsolatedAsyncioTestCase):
         with mock.patch.object(streams, "picture", side_effect=streams.picture) as made:
             pages = [await self.page(f"sup-{number}") for number in range(5)]
             self.assertEqual((made.call_count, len({json.dumps(page.told[0][2]["agents"]) for page in pages})), (1, 1))
+
+    async def test_a_turn_is_taken_in_steps(self):
+        """Where all get everything anew, others go between; and who leaves meanwhile is told nothing more."""
+        pages = [await self.page("ana", agent="7") for _ in range(4)]
+        for page in pages:
+            page.told.clear()
+        self.following.change_all()
+        self.now += streams.QUEUES_EVERY
+        # each look at the clock takes half a step
+        with mock.patch.object(self.streams, "clock", side_effect=(streams.STEP / 2 * count for count in range(100))):
+            steps = self.streams.take_turn(self.now)
+            next(steps)
+            told = [len(page.told) for page in pages]
+            self.assertEqual((sum(told), max(told)), (2, 1), told)
+            pages[3].stream.end("streams")
+            list(steps)
+        self.assertEqual([[kind for kind, _, _ in page.told] for page in pages], [["picture"]] * 3 + [["end"]])
 
     async def test_a_view_without_room(self):
         """The stream ends, and says why."""
