@@ -13,9 +13,9 @@ ERRORS = {
 
 
 class Pipe(Protocol):
-    """A connection on which an answer goes on: what is written is sent at once, and nobody waits for that."""
+    """A connection on which an answer goes on: what is written is sent at once, in one, and nobody waits for that."""
 
-    def write(self, data: bytes) -> None: ...
+    def write(self, *parts: bytes) -> None: ...
 
     def is_gone(self) -> bool: ...
 

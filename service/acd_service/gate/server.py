@@ -18,6 +18,7 @@ from acd_service import listening
 from acd_service.command import report
 from acd_service.gate.desk import Place
 from acd_service.gate.exchanges import Answer, Left, Pipe, Question, Refused, error
+from acd_service.gate.packing import Packed, takes_gzip
 
 # connections, beyond which others wait; behind half of these none stays open. 4,000 questions may be held in all
 MOST_OPEN = 7000
@@ -55,7 +56,8 @@ class Open:
     def __init__(self, transport: asyncio.Transport, is_chunked: bool) -> None:
         self.transport, self.is_chunked = transport, is_chunked
 
-    def write(self, data: bytes) -> None:
+    def write(self, *parts: bytes) -> None:
+        data = b"".join(parts)
         if self.transport.get_write_buffer_size() > MOST_UNREAD:
             self.transport.abort()
         if not self.transport.is_closing():
@@ -73,7 +75,9 @@ class Open:
 async def go_on(request: web.BaseRequest, answer: Answer,
                 writes: Callable[[Pipe], Awaitable[None]]) -> web.StreamResponse:
     """An answer without an end of its own."""
-    made = web.StreamResponse(status=answer.status, headers={**dict(answer.fields), "Content-Type": answer.kind})
+    packs = takes_gzip(request.headers.get("Accept-Encoding", ""))
+    fields = {**dict(answer.fields), "Content-Type": answer.kind, **({"Content-Encoding": "gzip"} if packs else {})}
+    made = web.StreamResponse(status=answer.status, headers=fields)
     made.force_close()
     if request.version >= HttpVersion11:
         made.enable_chunked_encoding()
@@ -82,7 +86,12 @@ async def go_on(request: web.BaseRequest, answer: Answer,
         raise Left
     await made.prepare(request)
     opened = Open(transport, request.version >= HttpVersion11)
-    await writes(opened)
+    if packs:
+        packed = Packed(opened)
+        await writes(packed)
+        packed.end()
+    else:
+        await writes(opened)
     opened.end()
     return made
 

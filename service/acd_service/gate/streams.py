@@ -56,11 +56,13 @@ class Stream:
     told: float = 0.0
     ended: asyncio.Future[None] = field(default_factory=gone)
 
-    def write(self, kind: str, members: str, name: str = "") -> None:
-        """An event; `name` is its number with the epoch, for those from which one may go on."""
+    def write(self, kind: str, members: str, name: str = "", shared: bytes = b"") -> None:
+        """An event; `name` is its number with the epoch, for those from which one may go on, and `shared` has further
+        members that several pages are told."""
         if self.pipe is not None:
             line = f"id: {name}\n" if name else ""
-            self.pipe.write(f"event: {kind}\n{line}data: {{{members}}}\n\n".encode())
+            told = f"event: {kind}\n{line}data: {{{members}".encode()
+            self.pipe.write(*((told + b",", shared, b"}\n\n") if shared else (told + b"}\n\n",)))
 
     def end(self, why: str) -> None:
         if not self.ended.done():
@@ -78,9 +80,11 @@ class Streams:
         self.boards: Boards | None = None
         self.boarded = 0.0
         # the pictures of views by their serial numbers, as they are at a number
-        self.pictures: tuple[int, dict[int, str]] = 0, {}
+        self.pictures: tuple[int, dict[int, bytes]] = 0, {}
+        # and what changed of them since a number
+        self.changes: tuple[int, dict[tuple[int, int], bytes]] = 0, {}
         self.queue_texts: dict[str, tuple[int, str]] = {}
-        self.names = 0, ""
+        self.names = 0, b""
         self.task: asyncio.Task[None] | None = None
 
     # who looks
@@ -177,21 +181,30 @@ class Streams:
             return stream.end("views")
         number = self.number_of(stream, after)
         if number is not None and goes_on(view.tables, number):
-            found = changes(view.tables, number)
-            stream.write("change", f"{self.head(stream)},{found}" if found else self.head(stream), self.name(stream))
+            stream.write("change", self.head(stream), self.name(stream), self.changes_of(view, number))
         else:
-            stream.write("picture", f"{self.head(stream)},{self.picture_of(view)}", self.name(stream))
+            stream.write("picture", self.head(stream), self.name(stream), self.picture_of(view))
         stream.number = self.following.number
 
-    def picture_of(self, view: View) -> str:
+    def picture_of(self, view: View) -> bytes:
         """Made once for all that come at the same time."""
         number, made = self.pictures
         if number != self.following.number:
             made = {}
             self.pictures = self.following.number, made
         if view.serial not in made:
-            made[view.serial] = picture(view.tables)
+            made[view.serial] = picture(view.tables).encode()
         return made[view.serial]
+
+    def changes_of(self, view: View, number: int) -> bytes:
+        """Made once for all that were told the same before."""
+        now, made = self.changes
+        if now != self.following.number:
+            made = {}
+            self.changes = self.following.number, made
+        if (view.serial, number) not in made:
+            made[view.serial, number] = changes(view.tables, number).encode()
+        return made[view.serial, number]
 
     def tell_agent(self, stream: Stream, state: State, is_whole: bool = False) -> None:
         """The agent's own state, calls and day, at once."""
@@ -214,15 +227,16 @@ class Streams:
         told = ",".join(f'"{queue}":{self.queue_of(state, queue)}' for queue in queues)
         if told or is_whole:
             parts.append(f'"groups":{{{told}}}')
+        names = b""
         if self.following.names_changed > stream.names:
-            parts.append(f'"names":{self.names_now(state)}')
-            stream.names = self.following.names_changed
-        stream.write("picture" if is_whole else "change", ",".join([self.head(stream), *parts]), self.name(stream))
+            names, stream.names = self.names_now(state), self.following.names_changed
+        stream.write("picture" if is_whole else "change", ",".join([self.head(stream), *parts]), self.name(stream),
+                     names)
 
-    def names_now(self, state: State) -> str:
+    def names_now(self, state: State) -> bytes:
         """The names, made once for all pages."""
         if self.names[0] != self.following.names_changed:
-            self.names = self.following.names_changed, names_text(state)
+            self.names = self.following.names_changed, f'"names":{names_text(state)}'.encode()
         return self.names[1]
 
     def queue_of(self, state: State, queue: str) -> str:
@@ -307,11 +321,11 @@ class Streams:
             return self.begin_board(stream, sight, state)
         view.seen = now
         if stream.number < self.following.number and now - stream.told >= QUEUES_EVERY:
-            found = changes(view.tables, stream.number)
+            found = self.changes_of(view, stream.number)
             stream.number = self.following.number
             if found:
                 stream.told = now
-                stream.write("change", f"{self.head(stream)},{found}", self.name(stream))
+                stream.write("change", self.head(stream), self.name(stream), found)
 
     def turn_agent(self, stream: Stream, state: State, now: float) -> None:
         """Queues and names, once in a second at most."""

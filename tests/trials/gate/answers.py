@@ -34,8 +34,8 @@ def refusal(status, more="", before=""):
 
 
 class Answers(Place):
-    # where pages are pushed what changes: the address, and what comes packed by gzip
-    STREAM, PACKED = "/stream", "gzip"
+    # where pages are pushed what changes
+    STREAM = "/stream"
     # `ana` reads own, `blind` nothing, `follow` /requests alone; `lineless` and `odd` have no line that can be read
     ROLES = {"sup": "supervisor", "ana": "agent agent=7", "blind": "office reads=none", "copy": "follow", "pbx": "exchange", "lineless": None, "odd": "office agent=7", "tried": "supervisor"}
 
@@ -123,9 +123,9 @@ class Answers(Place):
 
     def try_pushed(self):
         """A picture at once, in few bytes for who takes that, then signs of life; and an end soon after the session's."""
-        for login, member, packed, wanted in (("sup", "sums", "gzip", self.PACKED), ("ana", "doing", "identity", "identity")):
+        for login, member, packed in (("sup", "sums", "gzip"), ("ana", "doing", "identity")):
             with Pushed(self.port, self.STREAM, {**self.password(login), "Accept-Encoding": packed}) as pushed:
-                self.expect(f"{login}, {packed}", (pushed.status, pushed.kind, pushed.packed), (200, "text/event-stream", wanted))
+                self.expect(f"{login}, {packed}", (pushed.status, pushed.kind, pushed.packed), (200, "text/event-stream", packed))
                 told = pushed.until("\nevent: beat\n")
                 self.see(f"{login} has a picture", told.startswith("event: picture\n") and f'"{member}":' in told, told)
                 self.see(f"{login} hears that it lives", "\nevent: beat\n" in told, told)

@@ -72,7 +72,7 @@ class OlderSessions(Older, Sessions):
 
 
 class OlderAnswers(Older, Answers):
-    STREAM, PACKED = "/mine?stream", "identity"
+    STREAM = "/mine?stream"
 
     def stranger(self, path, how):
         """The gate's verdict too."""

@@ -25,8 +25,8 @@ class Page:
         self.streams, self.login, self.sees = streams, login, sees
         self.picture, self.name, self.stream, self.task, self.losses = {}, "", None, None, 0
 
-    def write(self, data):
-        kind, *lines = data.decode().rstrip("\n").split("\n")
+    def write(self, *parts):
+        kind, *lines = b"".join(parts).decode().rstrip("\n").split("\n")
         told = dict(line.split(": ", 1) for line in lines)
         self.name = told.get("id", self.name)
         members = {name: value for name, value in json.loads(told["data"]).items() if name not in MEMBERS}

@@ -178,7 +178,7 @@ class Given(Named, unittest.IsolatedAsyncioTestCase):
 
     async def test_streams(self):
         told = []
-        pipe = types.SimpleNamespace(write=lambda data: told.append(data.decode()), is_gone=lambda: False)
+        pipe = types.SimpleNamespace(write=lambda *parts: told.append(b"".join(parts).decode()), is_gone=lambda: False)
         with mock.patch.object(self.following.streams, "run", lambda: asyncio.sleep(0)):
             for stream in (Stream("ana", lambda: True, agent="7"), Stream("sup", lambda: True, sight=Sight(0))):
                 task = asyncio.create_task(self.following.streams.hold(stream, pipe, ""))

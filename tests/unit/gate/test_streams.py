@@ -4,6 +4,7 @@
 Needs python3-aiohttp, python3-passlib and python3-bcrypt (Debian packages)."""
 import asyncio
 import contextlib
+import gzip
 import http.client
 import io
 import json
@@ -11,6 +12,7 @@ import socket
 import threading
 import time
 import unittest
+import zlib
 from unittest import mock
 
 from standing import FORBIDDEN, NO_DESK, PATIENCE, ROLES, SECRET, USERS, DoorTest, Named, basic
@@ -36,8 +38,8 @@ class Page:
     def __init__(self):
         self.told, self.is_closed = [], False
 
-    def write(self, data):
-        self.told.append(read(data))
+    def write(self, *parts):
+        self.told.append(read(b"".join(parts)))
 
     def is_gone(self):
         return self.is_closed
@@ -238,6 +240,17 @@ class StreamsTest(Named, unittest.IsolatedAsyncioTestCase):
             pages = [await self.page(f"sup-{number}") for number in range(5)]
             self.assertEqual((made.call_count, len({json.dumps(page.told[0][2]["agents"]) for page in pages})), (1, 1))
 
+    async def test_changes_are_made_once(self):
+        """For those that see the same, and were told the same before."""
+        pages = [await self.page(f"sup-{number}") for number in range(4)]
+        await self.turn()
+        others = [await self.page("sup-5"), await self.page("sup-6", sight=Sight(7))]
+        self.desk.events.append(logged_on(1))
+        with mock.patch.object(streams, "changes", side_effect=streams.changes) as made:
+            await self.turn()
+        self.assertEqual([page.of("change")[-1]["agents"]["7"]["since"] for page in (*pages, *others)], [1001] * 6)
+        self.assertEqual(made.call_count, 2)
+
     async def test_a_turn_is_taken_in_steps(self):
         """Where all get everything anew, others go between; and who leaves meanwhile is told nothing more."""
         pages = [await self.page("ana", agent="7") for _ in range(4)]
@@ -349,6 +362,24 @@ class RouteTest(DoorTest):
         _, number, _ = self.next(self.opened("sup"))
         for reply in (self.opened("sup", f"?after={number}"), self.opened("sup", "?after=x", Last_Event_ID=number)):
             self.assertEqual(self.next(reply)[0], "change")
+
+    def test_packed(self):
+        """By gzip, for who takes that: each event can be read at once, and the whole is whole once it ends."""
+        for field, wanted in (("gzip, deflate, br", "gzip"), ("identity", None)):
+            reply = self.opened("sup", Accept_Encoding=field)
+            self.assertEqual((reply.status, reply.headers["content-encoding"]), (200, wanted))
+        reply, unpacked, got, told = self.opened("ana", Accept_Encoding="gzip"), zlib.decompressobj(zlib.MAX_WBITS | 16), b"", b""
+        while not told.endswith(b"\n\n"):
+            part = reply.read1()
+            got, told = got + part, told + unpacked.decompress(part)
+        self.assertIn("names", read(told)[2])
+        self.standing.do(self.end_all())
+        told = gzip.decompress(got + reply.read()).decode()
+        self.assertTrue(told.endswith('event: end\ndata: {"why":"rights"}\n\n'), told)
+
+    async def end_all(self):
+        for stream in list(self.gate.following.streams.all):
+            stream.end("rights")
 
     def test_http_of_before(self):
         """Without chunks, up to the end of the connection."""

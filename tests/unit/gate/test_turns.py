@@ -28,7 +28,8 @@ class TurnsTest(unittest.IsolatedAsyncioTestCase):
             self.done.clear()
             await asyncio.gather(*map(self.page, "abc"), self.others(9))
             pages = [place for place, name in enumerate(self.done) if name != "other"]
-            self.assertEqual(("".join(self.done[place] for place in pages), [later - place for place, later in zip(pages, pages[1:])]), ("abc", [2, 2]), self.done)
+            self.assertEqual("".join(self.done[place] for place in pages), "abc")
+            self.assertEqual([later - place for place, later in zip(pages, pages[1:])], [2, 2], self.done)
 
     async def test_who_comes_while_one_goes_on(self):
         async def page_and_another():
