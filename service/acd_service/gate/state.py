@@ -28,6 +28,8 @@ class State:
         self.groups: dict[str, Group] = {}
         self.stations: dict[str, Station] = {}
         self.calls: dict[int, Call] = {}
+        # those that may be without a caller
+        self.nameless: dict[int, None] = {}
         self.touched: set[str] = set()
         self.dirty: set[str] = set()
         self.moved: set[int] = set()
@@ -94,6 +96,7 @@ class State:
         found = self.calls.get(number)
         if found is None:
             found = self.calls[number] = Call(number, since)
+            self.nameless[number] = None
         return found
 
     def assign_groups(self, agent: Agent, text: Text) -> None:
@@ -287,8 +290,10 @@ class State:
             self.mark(call)
 
     def callers_unknown(self) -> list[int]:
-        """The calls whose caller no report named."""
-        return [call.number for call in self.calls.values() if call.caller is None or call.called is None]
+        """The calls whose caller no report named, the newest last."""
+        left = ((number, self.calls.get(number)) for number in self.nameless)
+        self.nameless = {number: None for number, call in left if call and None in (call.caller, call.called)}
+        return list(self.nameless)
 
     def calls_of(self, agent: Agent) -> list[Call]:
         """The calls at the agent's station."""
