@@ -261,7 +261,9 @@ class Certificates(Fronting):
         silent.sendall(b"\x16")
         self.until(lambda: self.server.handshakes.many == 1)
         self.in_loop(lambda: self.server.handshakes.give_up(network_of("127.0.0.1")))
-        self.assertEqual((read_all(silent), self.server.handshakes.many, self.server.open), (b"", 0, 0))
+        with contextlib.suppress(ConnectionError):     # a reset where the byte wasn't read yet
+            self.assertEqual(read_all(silent), b"")
+        self.until(lambda: (self.server.handshakes.many, self.server.open) == (0, 0))
 
     def test_a_handshake_is_over_in_time(self):
         """However often a byte comes."""
