@@ -22,8 +22,8 @@ let free = [''], offered = [''];
 /** @type {Places} */ let places;
 /** @type {Requests} */ let requests;
 /** @type {Who} */ let who = {};
-// milliseconds: the server's clock less this one's; when the desk was last known, and a click
-let ahead = 0, known = 0, clicked = 0, fades = 0;
+// milliseconds: the server's clock less this one's; when the desk was last known, and a click, of which the first is no second one
+let ahead = 0, known = 0, clicked = -SECOND, fades = 0;
 
 const age = () => Date.now() - known;
 const isLive = () => mine?.live && !lost && age() < OLD;
