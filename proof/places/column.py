@@ -25,45 +25,9 @@ after("crates/acd_services/src/agent_moves.rt", ("        groups,\n        stamp
 after("crates/acd_services/src/add_agent.rt", ("        since: at.moment,\n", "        logged: None,\n"))
 after("crates/acd_desk_laws/specs/OldStep.antt", ("groups = group ∷ []; stamp = turn.stamp; since = turn.moment", "; logged = Some turn.moment"))
 
-# ---- examples: when the agent logged on, in each that says what becomes of one
+# ---- examples: when an agent of theirs logged on
 
-EXAMPLES = "crates/acd_model/specs/Examples/"
-for who in "ana", "ben":
-    put(EXAMPLES + "Words.antt", (f"abbrev pub {who}_in : Device → AgentState → Option Pending → Stamp → Moment → Option AgentRecord\n{who}_in group state pending stamp since =",
-                                  f"abbrev pub {who}_in : Device → AgentState → Option Pending → Stamp → Moment → Moment → Option AgentRecord\n{who}_in group state pending stamp since logged ="))
-put(EXAMPLES + "Words.antt",
-    ("groups = group ∷ []; stamp = stamp; since = since }", "groups = group ∷ []; stamp = stamp; since = since; logged = Some logged }", 2),
-    ("the state, what is pending, and the stamp and moment of the state", "the state, what is pending, the stamp and moment of the state, and the moment of the log-on"),
-    ("ana_logged_off : Stamp → Moment → Option AgentRecord\nana_logged_off stamp since =", "ana_logged_off : Stamp → Moment → Option Moment → Option AgentRecord\nana_logged_off stamp since logged ="),
-    ("groups = []; stamp = stamp; since = since }", "groups = []; stamp = stamp; since = since; logged = logged }"))
-after(EXAMPLES + "Priorities.antt", ("groups = billing ∷ claims ∷ []; stamp = stamp; since = since", "; logged = Some 15"))
-after(EXAMPLES + "Corrections.antt", ("groups = billing ∷ []; stamp = stamp; since = since", "; logged = Some 15"), ("groups = []; stamp = stamp; since = 0", "; logged = None"),
-      ("groups = billing ∷ []; stamp = 8; since = 6", "; logged = Some 5"))
-WHEN = """
-Agents: logged_off 11 40 = 15; a Ready (Some pending.Ready) 8 18 = 15; a NotReady None 15 40 = 15; a WorkingAfterCall None 10 33 = 15 x2; a Ready None 8 18 = 15; a Busy None 9 25 = 15
-Corrections: a NotReady None 10 28 = 15; a Ready None 12 40 = 15; a Ready None 13 41 = 15; a WorkingAfterCall None 10 30 = 15; a Ready None 9 7 = 5
-HandedOn: a Ready None 7 6 = 5; a NotReady None 11 13 = 5; a Busy None 13 20 = 5; b Ready None 10 7 = 5; a WorkingAfterCall None 17 30 = 5; b WorkingAfterCall None 17 30 = 5
-Plan: logged_off 2 60 = None
-Queue: a Ready None 8 18 = 15; a Busy None 9 25 = 15; a Ready None 9 7 = 5; b Ready None 8 6 = 5; a Ready None 16 82 = 5; b Ready None 16 82 = 5
-Queue: a WorkingAfterCall None 15 52 = 5; b WorkingAfterCall None 14 50 = 5; a NotReady None 10 120 = 90
-Rejections: a Ready None 9 7 = 5; b NotReady None 11 15 = 5; a NotReady None 19 15 = 2; b NotReady None 22 18 = 2; a NotReady None 9 20 = 15 x2; a NotReady None 9 35 = 15
-Rejections: a NotReady None 10 35 = 15 x2; a WorkingAfterCall None 10 35 = 15; logged_off 10 35 = 15; c NotReady None 10 10 = 2; a NotReady None 9 38 = 5 x2
-Releases: a WorkingAfterCall None 10 40 = 15 x3; a Ready None 11 40 = 15; a NotReady None 11 40 = 15; a WorkingAfterCall None 11 40 = 15; logged_off 11 40 = 15
-Releases: a Ready None 8 18 = 15 x2; a NotReady None 10 40 = 15 x3; logged_off 10 40 = 15 x2; a NotReady None 9 40 = 15
-Stations: a Busy None 9 25 = 15; a Ready None 7 6 = 5 x2; logged_off 9 8 = 5; a Ready None 9 6 = 5; a Busy None 16 13 = 5
-Waiting: a NotReady None 13 61 = 5; b NotReady None 13 61 = 5; a Ready None 21 126 = 5; b NotReady None 21 126 = 5; c WorkingAfterCall None 12 9002 = 2
-Waiting: a NotReady None 16 15 = 5; b Ready None 9 7 = 5; c Ready None 13 36 = 2; b Ready None 13 36 = 3
-"""
-WORDS = {"a": "ana_in billing", "b": "ben_in billing", "c": "ana_in claims", "logged_off": "ana_logged_off"}
-for line in WHEN.split("\n")[1:-1]:
-    file, calls = line.split(": ")
-    for call in calls.split("; "):
-        said, logged = call.split(" = ")
-        word, said = said.split(" ", 1)
-        logged, _, times = logged.partition(" x")
-        if word == "logged_off" and logged != "None":
-            logged = f"(Some {logged})"
-        put(f"{EXAMPLES}{file}.antt", (f"{WORDS[word]} {said})", f"{WORDS[word]} {said} {logged})", int(times or 1)))
+after("crates/acd_model/specs/Examples/Words.antt", ("stamp = 4; since = 0", "; logged = None"), ("groups = billing ∷ []; since = moment", "; logged = Some moment"))
 
 # ---- proofs that write a whole record, or each of its fields
 
@@ -73,7 +37,6 @@ put("crates/acd_lemmas/proofs/SameRecords.antt",
 after("crates/acd_laws/proofs/Rules/KeptPlan.antt", ("groups = gs; stamp = turn.stamp; since = turn.moment", "; logged = Some turn.moment"))
 after("crates/acd_laws/proofs/Rules/BoundsStep.antt", ("groups = groups; stamp = k; since = m", "; logged = Some m"))
 after("crates/acd_laws/proofs/Watched/SoundDeeds.antt", ("groups = groups; stamp = turn.stamp; since = turn.moment", "; logged = Some turn.moment"))
-after("crates/acd_laws/proofs/Starved.antt", ("stamp = n.stamp; since = n.moment", "; logged = Some 15"), ("groups = []; stamp = 5; since = 0", "; logged = None"))
 
 # ---- JSON
 

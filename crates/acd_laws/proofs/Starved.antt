@@ -23,9 +23,11 @@ use Rattle.acd_terms.specs.declared.event.Event.{Event}
 use Rattle.acd_model.specs.Figures.{sum_of_figures}
 use Rattle.acd_model.specs.Step.{step}
 use Rattle.acd_model.specs.Run.{TimedCommand, AfterRun, run, then_run}
-use Rattle.acd_model.specs.Examples.Words.{billing, claims, first_station, second_station, ana, ben, caller, second_caller}
+use Rattle.acd_model.specs.Examples.Words.{billing, claims, first_station, second_station, ana, caller, second_caller, planned_billing, planned_ben, first_call}
+use Rattle.acd_model.specs.Examples.Priorities.{ana_of_both}
 use Rattle.acd_model.proofs.OnLiterals.{switch_on_literals}
 use Rattle.acd_model.specs.Scans.{agent_of, connection_of}
+use Rattle.acd_model.specs.Services.AddGroup.{no_figures}
 use Rattle.acd_terms.specs.Columns.{columns_of}
 use Rattle.acd_terms.specs.declared.answer.Outcome.{Outcome}
 use Rattle.acd_lemmas.proofs.Lists.{count-append, every-append}
@@ -42,17 +44,17 @@ record Numbers : Type 0 where
 
 -- Ana in a state that she has since the last request
 abbrev ana_in : Numbers → AgentState → AgentRecord
-ana_in n state = record { agent = ana; name = codes "Ana"; state = state; pending = None; station = Some first_station; groups = billing ∷ claims ∷ []; stamp = n.stamp; since = n.moment }
+ana_in n state = record ana_of_both { state = state; stamp = n.stamp; since = n.moment }
 
 -- the state with these calls and connections beside call 1 and its connection
 abbrev stands : Numbers → AgentRecord → List CallRecord → List ConnectionRecord → Rows
 stands n a calls connections = record {
   limits = greatest_limits;
-  groups = record { device = billing; name = codes "Billing"; ring = 20; wrap = 30; priority = 0; figures = record { entered = 1; answered = 0; abandoned = 0; moved = 0; waited = 0 } }
-      ∷ record { device = claims; name = codes "Claims"; ring = 20; wrap = 45; priority = 5; figures = n.figures } ∷ [];
+  groups = record planned_billing { figures = record no_figures { entered = 1 } }
+      ∷ record planned_billing { device = claims; name = codes "Claims"; wrap = 45; priority = 5; figures = n.figures } ∷ [];
   stations = record { device = first_station } ∷ record { device = second_station } ∷ [];
-  agents = a ∷ record { agent = ben; name = codes "Ben"; state = A.Null; pending = None; station = None; groups = []; stamp = 5; since = 0 } ∷ [];
-  calls = record { call = 1; caller = caller; called = billing; since = 10 } ∷ calls;
+  agents = a ∷ planned_ben ∷ [];
+  calls = first_call ∷ calls;
   connections = queueing 1 billing (Some 8) (Some 10) ∷ plain 1 caller Connected ∷ connections;
   monitors = [];
   last_stamp = n.stamp;
@@ -67,7 +69,7 @@ abbrev between : Numbers → Rows
 between n = stands n (ana_in n A.WorkingAfterCall) [] []
 
 abbrev first_numbers : Numbers
-first_numbers = record { stamp = 10; moment = 18; call = 1; event = 3; figures = record { entered = 0; answered = 0; abandoned = 0; moved = 0; waited = 0 } }
+first_numbers = record { stamp = 10; moment = 18; call = 1; event = 3; figures = no_figures }
 
 begins : begun ≡ between first_numbers
 unfolding switch_on_literals
@@ -114,7 +116,7 @@ stand n h =
     }
 
 abbrev more : Figures → ℕ → ℕ → ℕ → Figures
-more f entered answered waited = sum_of_figures f (record { entered = entered; answered = answered; abandoned = 0; moved = 0; waited = waited })
+more f entered answered waited = sum_of_figures f (record no_figures { entered = entered; answered = answered; waited = waited })
 
 abbrev its_call : Numbers → CallRecord
 its_call n = record { call = next n; caller = second_caller; called = claims; since = minute n }

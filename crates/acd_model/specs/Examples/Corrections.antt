@@ -1,9 +1,8 @@
 -- Worked examples: groups and agents that are corrected.
-use Rattle.std.specs.Prelude.{◌≡◌, ℕ, List, [], ◌∷◌, ◌++◌, codes, Option, Some, None, Ok, Err}
+use Rattle.std.specs.Prelude.{◌≡◌, ℕ, List, [], ◌∷◌, ◌++◌, codes, Some, Ok, Err}
 use Rattle.acd_terms.specs.Forms.{read_text, is_name_byte}
-use Rattle.acd_terms.specs.Numbers.{Agent, Moment, Seconds, Stamp, Priority, EventNumber}
+use Rattle.acd_terms.specs.Numbers.{Moment, Stamp, EventNumber}
 use Rattle.acd_terms.specs.declared.rows.Rows.{Rows}
-use Rattle.acd_terms.specs.declared.record.Figures.{Figures}
 use Rattle.acd_terms.specs.declared.record.GroupRecord.{GroupRecord}
 use Rattle.acd_terms.specs.declared.record.AgentRecord.{AgentRecord}
 use Rattle.acd_terms.specs.declared.record.CallRecord.{CallRecord}
@@ -12,11 +11,9 @@ use Rattle.acd_terms.specs.declared.name.NameFault.TheVariants as name_fault
 use Rattle.acd_terms.specs.declared.event.Cause.TheVariants as cause
 use Rattle.acd_terms.specs.declared.event.Report.TheVariants.{Queued, Delivered, Diverted, Established, AgentNotReady, AgentReady, AgentBusy}
 use Rattle.acd_terms.specs.declared.command.Command.TheVariants.{AddGroup, ArriveCall, AnswerCall, ClearConnection, SetGroupPriority, ChangeGroup, ChangeAgent, Tick}
-use Rattle.acd_terms.specs.declared.state.Pending.{Pending}
 use Rattle.acd_terms.specs.declared.state.Pending.TheVariants as pending
-use Rattle.acd_terms.specs.declared.state.AgentState.{AgentState}
 use Rattle.acd_terms.specs.declared.state.ConnectionState.TheVariants.{Connected}
-use Rattle.acd_terms.specs.declared.state.AgentState.TheVariants.{Null, NotReady, Ready, Busy, WorkingAfterCall}
+use Rattle.acd_terms.specs.declared.state.AgentState.TheVariants.{NotReady, Ready, Busy, WorkingAfterCall}
 use Rattle.acd_terms.specs.declared.answer.Outcome.TheVariants.{Done}
 use Rattle.acd_terms.specs.declared.answer.Refusal.TheVariants.{UnknownDevice, UnknownAgent, NotGroup}
 use Rattle.acd_terms.specs.declared.answer.Answer.TheVariants as answer
@@ -24,7 +21,7 @@ use Rattle.acd_model.specs.Scans.{waiting_in, connection_of, agent_of}
 use Rattle.acd_model.specs.CallMoves.{plain, queueing}
 use Rattle.acd_model.specs.Services.AddGroup.{no_figures}
 use Rattle.acd_model.specs.Run.{TimedCommand}
-use Rattle.acd_model.specs.Examples.Words.{billing, claims, first_station, second_station, ana, ben, caller, second_caller, at, logs_on, asks_for, plan, run_after, event, figures_in, counts, ana_in, ringing_from, talking_from, offered, answered}
+use Rattle.acd_model.specs.Examples.Words.{billing, claims, first_station, second_station, ana, ben, caller, second_caller, at, logs_on, asks_for, plan, run_after, event, figures_in, planned_billing, planned_ana, planned_ben, early_ana, early_ben, first_call, offered_ana, offered_connection, answered_connection, offered, answered}
 use Rattle.acd_model.specs.Examples.Refusals.{RefusesEach, rows_after, nowhere, nobody}
 use Rattle.acd_model.specs.Examples.Priorities.{two_groups, ana_ready_in_both, ana_of_both}
 
@@ -39,12 +36,12 @@ RingShortened =
     × (r.events ≡ event 6 28 (Diverted 1 first_station billing cause.NoAnswer (Some billing)) ∷ event 7 28 (Queued 1 billing cause.NoAnswer)
     ∷ event 8 28 (AgentNotReady ana first_station) ∷ [])
     × (waiting_in r.rows billing ≡ queueing 1 billing (Some 6) (Some 10) ∷ [])
-    × (agent_of r.rows ana ≡ ana_in billing NotReady None 10 28)
+    × (agent_of r.rows ana ≡ Some (record offered_ana { state = NotReady; stamp = 10; since = 28 }))
     × (eleven.events ≡ event 6 29 (Diverted 1 first_station billing cause.NoAnswer (Some billing)) ∷ event 7 29 (Queued 1 billing cause.NoAnswer)
     ∷ event 8 29 (AgentNotReady ana first_station) ∷ [])
     × (in_time.outcomes ≡ Done answer.Nothing ∷ Done answer.Nothing ∷ Done answer.Nothing ∷ [])
     × (in_time.events ≡ event 6 29 (Established 1 first_station (Some (record { group = billing; seconds = 19 }))) ∷ event 7 29 (AgentBusy ana first_station) ∷ [])
-    × (figures_in in_time.rows billing ≡ counts 1 1 0 0 19)
+    × (figures_in in_time.rows billing ≡ Some (record no_figures { entered = 1; answered = 1; waited = 19 }))
 
 -- where the ring is prolonged to a minute before the twenty seconds are over, it rings for a minute; where it is 0, until there is one again
 abbrev pub RingProlonged : Type 0
@@ -55,7 +52,7 @@ RingProlonged =
     (r.events ≡ event 6 78 (Diverted 1 first_station billing cause.NoAnswer (Some billing)) ∷ event 7 78 (Queued 1 billing cause.NoAnswer)
     ∷ event 8 78 (AgentNotReady ana first_station) ∷ [])
     × (never.outcomes ≡ Done answer.Nothing ∷ Done answer.Nothing ∷ []) × (never.events ≡ [])
-    × (connection_of never.rows 1 first_station ≡ Some (ringing_from billing 1 first_station 6 10 18))
+    × (connection_of never.rows 1 first_station ≡ Some offered_connection)
     × (again.events ≡ event 6 9000 (Diverted 1 first_station billing cause.NoAnswer (Some billing)) ∷ event 7 9000 (Queued 1 billing cause.NoAnswer)
     ∷ event 8 9000 (AgentNotReady ana first_station) ∷ [])
 
@@ -70,9 +67,9 @@ WrapShortened =
     let eleven = run_after wrapping_up (at 40 (ChangeGroup billing (codes "Billing") 20 11) ∷ at 40 Tick ∷ at 41 Tick ∷ []) in
     (r.outcomes ≡ Done answer.Nothing ∷ Done answer.Nothing ∷ [])
     × (r.events ≡ event 12 40 (AgentReady ana first_station) ∷ [])
-    × (agent_of r.rows ana ≡ ana_in billing Ready None 12 40)
+    × (agent_of r.rows ana ≡ Some (record offered_ana { stamp = 12; since = 40 }))
     × (eleven.events ≡ event 12 41 (AgentReady ana first_station) ∷ [])
-    × (agent_of eleven.rows ana ≡ ana_in billing Ready None 13 41)
+    × (agent_of eleven.rows ana ≡ Some (record offered_ana { stamp = 13; since = 41 }))
 
 -- where the wrap is prolonged to a minute it lasts for a minute; where it is 0, until there is one again
 abbrev pub WrapProlonged : Type 0
@@ -82,7 +79,7 @@ WrapProlonged =
     let again = run_after (wrapping_up ++ at 40 (ChangeGroup billing (codes "Billing") 20 0) ∷ []) (at 9000 (ChangeGroup billing (codes "Billing") 20 30) ∷ at 9000 Tick ∷ []) in
     (r.events ≡ event 12 90 (AgentReady ana first_station) ∷ [])
     × (never.outcomes ≡ Done answer.Nothing ∷ Done answer.Nothing ∷ []) × (never.events ≡ [])
-    × (agent_of never.rows ana ≡ ana_in billing WorkingAfterCall None 10 30)
+    × (agent_of never.rows ana ≡ Some (record offered_ana { state = WorkingAfterCall; stamp = 10; since = 30 }))
     × (again.events ≡ event 12 9000 (AgentReady ana first_station) ∷ [])
 
 -- of an agent of two groups the wrap of the least one counts, with its value of then: the other one's is changed in vain
@@ -93,26 +90,8 @@ WrapOfTheLeastGroup =
     (r.outcomes ≡ Done answer.Nothing ∷ Done answer.Nothing ∷ Done answer.Nothing ∷ Done answer.Nothing ∷ [])
     × (r.events ≡ event 13 41 (AgentReady ana first_station)
     ∷ event 14 41 (Diverted 2 claims first_station cause.Distributed (Some claims)) ∷ event 15 41 (Delivered 2 first_station cause.Distributed (Some claims)) ∷ [])
-    × (agent_of r.rows ana ≡ Some (ana_of_both Ready 16 41))
-    × (connection_of r.rows 2 first_station ≡ Some (ringing_from claims 2 first_station 8 11 41))
-
--- Billing as it is planned, with a priority and figures, or with another name, ring and wrap
-abbrev pub billing_as : List ℕ → Seconds → Seconds → Priority → Figures → GroupRecord
-billing_as name ring wrap priority figures = record { device = billing; name = name; ring = ring; wrap = wrap; priority = priority; figures = figures }
-
-abbrev pub entered_and_answered : ℕ → ℕ → Seconds → Figures
-entered_and_answered entered answered waited = record { entered = entered; answered = answered; abandoned = 0; moved = 0; waited = waited }
-
-abbrev pub ana_as : List ℕ → AgentState → Option Pending → Stamp → Moment → AgentRecord
-ana_as name state pending stamp since =
-    record { agent = ana; name = name; state = state; pending = pending; station = Some first_station; groups = billing ∷ []; stamp = stamp; since = since }
-
--- an agent who was planned at a stamp and never logged on
-abbrev pub planned_as : Agent → List ℕ → Stamp → AgentRecord
-planned_as agent name stamp = record { agent = agent; name = name; state = Null; pending = None; station = None; groups = []; stamp = stamp; since = 0 }
-
-abbrev pub first_call : CallRecord
-first_call = record { call = 1; caller = caller; called = billing; since = 10 }
+    × (agent_of r.rows ana ≡ Some (record ana_of_both { stamp = 16; since = 41 }))
+    × (connection_of r.rows 2 first_station ≡ Some (record offered_connection { call = 2; group = Some claims; place = Some 8; queued = Some 11; offered = Some 41 }))
 
 -- the rows of a plan with two stations hold these records and counters
 abbrev pub Holds : Rows → List GroupRecord → List AgentRecord → List CallRecord → List ConnectionRecord → Stamp → Moment → EventNumber → Type 0
@@ -127,11 +106,11 @@ ChangedGroup =
     let r = run_after (answered ++ at 26 (ArriveCall second_caller billing) ∷ at 27 (AddGroup claims (codes "Claims") 20 45) ∷ at 28 (SetGroupPriority billing 3) ∷ [])
     (at 30 (ChangeGroup billing (codes "Invoices") 7 8) ∷ []) in
     (r.outcomes ≡ Done answer.Nothing ∷ []) × (r.events ≡ [])
-    × Holds r.rows (billing_as (codes "Invoices") 7 8 3 (entered_and_answered 2 1 15)
-    ∷ record { device = claims; name = codes "Claims"; ring = 20; wrap = 45; priority = 0; figures = no_figures } ∷ [])
-    (ana_as (codes "Ana") Busy None 9 25 ∷ planned_as ben (codes "Ben") 5 ∷ [])
-    (first_call ∷ record { call = 2; caller = second_caller; called = billing; since = 26 } ∷ [])
-    (talking_from billing 1 first_station ∷ plain 1 caller Connected ∷ queueing 2 billing (Some 10) (Some 26) ∷ plain 2 second_caller Connected ∷ [])
+    × Holds r.rows (record planned_billing { name = codes "Invoices"; ring = 7; wrap = 8; priority = 3; figures = record no_figures { entered = 2; answered = 1; waited = 15 } }
+    ∷ record planned_billing { device = claims; name = codes "Claims"; wrap = 45 } ∷ [])
+    (record offered_ana { state = Busy; stamp = 9; since = 25 } ∷ planned_ben ∷ [])
+    (first_call ∷ record first_call { call = 2; caller = second_caller; since = 26 } ∷ [])
+    (answered_connection ∷ plain 1 caller Connected ∷ queueing 2 billing (Some 10) (Some 26) ∷ plain 2 second_caller Connected ∷ [])
     13 30 8
 
 -- a busy agent with a state pending, and one who is logged on nowhere, have another name, and all else is as it was
@@ -139,27 +118,27 @@ abbrev pub ChangedAgent : Type 0
 ChangedAgent =
     let r = run_after (answered ++ asks_for 26 ana pending.LoggedOff ∷ []) (at 27 (ChangeAgent ana (codes "Anna")) ∷ at 28 (ChangeAgent ben (codes "Benno")) ∷ []) in
     (r.outcomes ≡ Done answer.Nothing ∷ Done answer.Nothing ∷ []) × (r.events ≡ [])
-    × Holds r.rows (billing_as (codes "Billing") 20 30 0 (entered_and_answered 1 1 15) ∷ [])
-    (ana_as (codes "Anna") Busy (Some pending.LoggedOff) 9 25 ∷ planned_as ben (codes "Benno") 5 ∷ [])
-    (first_call ∷ []) (talking_from billing 1 first_station ∷ plain 1 caller Connected ∷ []) 12 28 7
+    × Holds r.rows (record planned_billing { figures = record no_figures { entered = 1; answered = 1; waited = 15 } } ∷ [])
+    (record offered_ana { name = codes "Anna"; state = Busy; pending = Some pending.LoggedOff; stamp = 9; since = 25 } ∷ record planned_ben { name = codes "Benno" } ∷ [])
+    (first_call ∷ []) (answered_connection ∷ plain 1 caller Connected ∷ []) 12 28 7
 
 -- who was ready longest still is
 abbrev pub ChangedAgentKeepsTheTurn : Type 0
 ChangedAgentKeepsTheTurn =
     let r = run_after plan (logs_on 5 ana first_station billing ∷ logs_on 5 ben second_station billing
     ∷ asks_for 6 ben pending.Ready ∷ asks_for 7 ana pending.Ready ∷ at 8 (ChangeAgent ben (codes "Benno")) ∷ at 10 (ArriveCall caller billing) ∷ []) in
-    (connection_of r.rows 1 second_station ≡ Some (ringing_from billing 1 second_station 11 10 10))
-    × (agent_of r.rows ben ≡ Some (record { agent = ben; name = codes "Benno"; state = Ready; pending = None; station = Some second_station; groups = billing ∷ []; stamp = 8; since = 6 }))
-    × (agent_of r.rows ana ≡ ana_in billing Ready None 9 7)
+    (connection_of r.rows 1 second_station ≡ Some (record offered_connection { device = second_station; place = Some 11; offered = Some 10 }))
+    × (agent_of r.rows ben ≡ Some (record early_ben { name = codes "Benno"; state = Ready; stamp = 8; since = 6 }))
+    × (agent_of r.rows ana ≡ Some (record early_ana { state = Ready; stamp = 9; since = 7 }))
 
 -- a change to the same values takes a stamp and a moment, and changes nothing else
 abbrev pub ChangedToTheSame : Type 0
 ChangedToTheSame =
     let r = run_after offered (at 20 (ChangeGroup billing (codes "Billing") 20 30) ∷ at 21 (ChangeAgent ana (codes "Ana")) ∷ []) in
     (r.outcomes ≡ Done answer.Nothing ∷ Done answer.Nothing ∷ []) × (r.events ≡ [])
-    × Holds r.rows (billing_as (codes "Billing") 20 30 0 (entered_and_answered 1 0 0) ∷ [])
-    (ana_as (codes "Ana") Ready None 8 18 ∷ planned_as ben (codes "Ben") 5 ∷ [])
-    (first_call ∷ []) (ringing_from billing 1 first_station 6 10 18 ∷ plain 1 caller Connected ∷ []) 10 21 5
+    × Holds r.rows (record planned_billing { figures = record no_figures { entered = 1 } } ∷ [])
+    (offered_ana ∷ planned_ben ∷ [])
+    (first_call ∷ []) (offered_connection ∷ plain 1 caller Connected ∷ []) 10 21 5
 
 -- names of 40 and 41 characters
 abbrev pub longest_name : List ℕ
@@ -174,9 +153,9 @@ NamesOfOneAndForty =
     let r = run_after plan (at 1 (ChangeGroup billing (codes "B") 20 30) ∷ at 2 (ChangeAgent ana longest_name) ∷ at 3 (ChangeAgent ben (codes "b")) ∷ []) in
     let longer = run_after plan (at 1 (ChangeGroup billing longest_name 20 30) ∷ []) in
     (r.outcomes ≡ Done answer.Nothing ∷ Done answer.Nothing ∷ Done answer.Nothing ∷ [])
-    × (r.rows.groups ≡ billing_as (codes "B") 20 30 0 no_figures ∷ [])
-    × (r.rows.agents ≡ planned_as ana longest_name 4 ∷ planned_as ben (codes "b") 5 ∷ [])
-    × (longer.rows.groups ≡ billing_as longest_name 20 30 0 no_figures ∷ [])
+    × (r.rows.groups ≡ record planned_billing { name = codes "B" } ∷ [])
+    × (r.rows.agents ≡ record planned_ana { name = longest_name } ∷ record planned_ben { name = codes "b" } ∷ [])
+    × (longer.rows.groups ≡ record planned_billing { name = longest_name } ∷ [])
     × (read_text is_name_byte 40 (codes "B") ≡ Ok (codes "B")) × (read_text is_name_byte 40 longest_name ≡ Ok longest_name)
     × (read_text is_name_byte 40 [] ≡ Err name_fault.Empty) × (read_text is_name_byte 40 too_long_name ≡ Err name_fault.TooLong)
 

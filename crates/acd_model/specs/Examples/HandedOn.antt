@@ -12,7 +12,8 @@ use Rattle.acd_terms.specs.declared.answer.Answer.TheVariants as answer
 use Rattle.acd_model.specs.Scans.{connections_of, call_of, connection_of, agent_of}
 use Rattle.acd_model.specs.CallMoves.{plain, queueing}
 use Rattle.acd_model.specs.Run.{TimedCommand}
-use Rattle.acd_model.specs.Examples.Words.{billing, claims, first_station, second_station, third_station, ana, ben, caller, at, logs_on, asks_for, plan, run_after, event, figures_in, counts, ana_in, ben_in, ringing_from, talking_from}
+use Rattle.acd_model.specs.Services.AddGroup.{no_figures}
+use Rattle.acd_model.specs.Examples.Words.{billing, claims, first_station, second_station, third_station, ana, ben, caller, at, logs_on, asks_for, plan, run_after, event, figures_in, early_ana, early_ben, first_call, offered_connection, answered_connection}
 
 abbrev pub to_another_queue : List TimedCommand
 to_another_queue =
@@ -26,8 +27,8 @@ DeflectedToAnotherQueue =
     × (r.events ≡ event 1 10 (Queued 1 billing cause.NewCall)
     ∷ event 2 20 (Diverted 1 billing claims cause.Deflected (Some billing)) ∷ event 3 20 (Queued 1 claims cause.Deflected) ∷ [])
     × (connections_of r.rows 1 ≡ queueing 1 claims (Some 8) (Some 20) ∷ plain 1 caller Connected ∷ [])
-    × (figures_in r.rows billing ≡ counts 1 0 0 1 0)
-    × (figures_in r.rows claims ≡ counts 1 0 0 0 0)
+    × (figures_in r.rows billing ≡ Some (record no_figures { entered = 1; moved = 1 }))
+    × (figures_in r.rows claims ≡ Some (record no_figures { entered = 1 }))
 
 -- the call is sent on to a station and back to its first group, where there is nothing to hold or transfer
 abbrev pub DeflectedFromQueueToStationAndBack : Type 0
@@ -39,9 +40,9 @@ DeflectedFromQueueToStationAndBack =
     ∷ event 5 21 (Delivered 1 second_station cause.Deflected None)
     ∷ event 6 22 (Diverted 1 second_station billing cause.Deflected None) ∷ event 7 22 (Queued 1 billing cause.Deflected) ∷ [])
     × (connections_of r.rows 1 ≡ queueing 1 billing (Some 10) (Some 22) ∷ plain 1 caller Connected ∷ [])
-    × (call_of r.rows 1 ≡ Some (record { call = 1; caller = caller; called = billing; since = 10 }))
-    × (figures_in r.rows billing ≡ counts 2 0 0 1 0)
-    × (figures_in r.rows claims ≡ counts 1 0 0 1 0)
+    × (call_of r.rows 1 ≡ Some first_call)
+    × (figures_in r.rows billing ≡ Some (record no_figures { entered = 2; moved = 1 }))
+    × (figures_in r.rows claims ≡ Some (record no_figures { entered = 1; moved = 1 }))
 
 abbrev pub to_its_own_group : List TimedCommand
 to_its_own_group =
@@ -60,9 +61,9 @@ DeflectedToItsOwnGroup =
     ∷ event 6 11 (Diverted 1 first_station billing cause.Deflected (Some billing)) ∷ event 7 11 (Queued 1 billing cause.Deflected)
     ∷ event 8 11 (Diverted 1 billing first_station cause.Distributed (Some billing))
     ∷ event 9 11 (Delivered 1 first_station cause.Distributed (Some billing)) ∷ [])
-    × (connection_of r.rows 1 first_station ≡ Some (ringing_from billing 1 first_station 9 11 11))
-    × (agent_of r.rows ana ≡ ana_in billing Ready None 7 6)
-    × (figures_in r.rows billing ≡ counts 2 0 0 1 0)
+    × (connection_of r.rows 1 first_station ≡ Some (record offered_connection { place = Some 9; queued = Some 11; offered = Some 11 }))
+    × (agent_of r.rows ana ≡ Some (record early_ana { state = Ready; stamp = 7; since = 6 }))
+    × (figures_in r.rows billing ≡ Some (record no_figures { entered = 2; moved = 1 }))
 
 -- then it is deflected to a station, with a state pending: the release is the last event
 abbrev pub DeflectedWithAStatePending : Type 0
@@ -72,8 +73,8 @@ DeflectedWithAStatePending =
     × (r.events ≡ event 10 13 (Diverted 1 first_station second_station cause.Deflected (Some billing))
     ∷ event 11 13 (Delivered 1 second_station cause.Deflected None) ∷ event 12 13 (AgentNotReady ana first_station) ∷ [])
     × (connections_of r.rows 1 ≡ plain 1 second_station Alerting ∷ plain 1 caller Connected ∷ [])
-    × (agent_of r.rows ana ≡ ana_in billing NotReady None 11 13)
-    × (figures_in r.rows billing ≡ counts 2 0 0 2 0)
+    × (agent_of r.rows ana ≡ Some (record early_ana { stamp = 11; since = 13 }))
+    × (figures_in r.rows billing ≡ Some (record no_figures { entered = 2; moved = 2 }))
 
 abbrev pub between_two_agents : List TimedCommand
 between_two_agents =
@@ -98,9 +99,9 @@ TransferredWhileHeld =
     ∷ event 13 22 (Transferred 1 third_station billing) ∷ event 14 22 (Queued 1 billing cause.Transferred)
     ∷ event 15 22 (Diverted 1 billing second_station cause.Distributed (Some billing))
     ∷ event 16 22 (Delivered 1 second_station cause.Distributed (Some billing)) ∷ [])
-    × (connections_of r.rows 1 ≡ record (talking_from billing 1 first_station) { state = Hold } ∷ ringing_from billing 1 second_station 15 22 22 ∷ [])
-    × (agent_of r.rows ana ≡ ana_in billing Busy None 13 20)
-    × (agent_of r.rows ben ≡ ben_in billing Ready None 10 7)
+    × (connections_of r.rows 1 ≡ record answered_connection { state = Hold } ∷ record offered_connection { device = second_station; place = Some 15; queued = Some 22; offered = Some 22 } ∷ [])
+    × (agent_of r.rows ana ≡ Some (record early_ana { state = Busy; stamp = 13; since = 20 }))
+    × (agent_of r.rows ben ≡ Some (record early_ben { state = Ready; stamp = 10; since = 7 }))
 
 -- a call between two agents ends: the one at the named station is released first
 abbrev pub TwoAgentsReleased : Type 0
@@ -110,9 +111,9 @@ TwoAgentsReleased =
     × (r.events ≡ event 17 25 (Established 1 second_station (Some (record { group = billing; seconds = 3 }))) ∷ event 18 25 (AgentBusy ben second_station)
     ∷ event 19 30 (ConnectionCleared 1 second_station) ∷ event 20 30 (ConnectionCleared 1 first_station) ∷ event 21 30 (CallCleared 1 None)
     ∷ event 22 30 (AgentWorkingAfterCall ben second_station) ∷ event 23 30 (AgentWorkingAfterCall ana first_station) ∷ [])
-    × (agent_of r.rows ana ≡ ana_in billing WorkingAfterCall None 17 30)
-    × (agent_of r.rows ben ≡ ben_in billing WorkingAfterCall None 17 30)
-    × (figures_in r.rows billing ≡ counts 2 2 0 0 9)
+    × (agent_of r.rows ana ≡ Some (record early_ana { state = WorkingAfterCall; stamp = 17; since = 30 }))
+    × (agent_of r.rows ben ≡ Some (record early_ben { state = WorkingAfterCall; stamp = 17; since = 30 }))
+    × (figures_in r.rows billing ≡ Some (record no_figures { entered = 2; answered = 2; waited = 9 }))
     × (r.rows.calls ≡ []) × (r.rows.connections ≡ [])
 
 -- a call is transferred, and transferred back to the station that made it
@@ -130,4 +131,4 @@ TransferredBack =
     ∷ event 7 8 (Established 1 third_station None)
     ∷ event 8 9 (Transferred 1 third_station first_station) ∷ event 9 9 (Delivered 1 first_station cause.Transferred None) ∷ [])
     × (connections_of r.rows 1 ≡ plain 1 first_station Alerting ∷ plain 1 second_station Connected ∷ [])
-    × (call_of r.rows 1 ≡ Some (record { call = 1; caller = first_station; called = second_station; since = 4 }))
+    × (call_of r.rows 1 ≡ Some (record first_call { caller = first_station; called = second_station; since = 4 }))

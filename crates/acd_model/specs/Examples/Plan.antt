@@ -1,12 +1,12 @@
 -- Worked examples: records as they are added, and monitors.
-use Rattle.std.specs.Prelude.{◌≡◌, [], ◌∷◌, codes}
+use Rattle.std.specs.Prelude.{◌≡◌, [], ◌∷◌, codes, Some}
 use Rattle.acd_terms.specs.declared.event.Cause.TheVariants as cause
 use Rattle.acd_terms.specs.declared.event.Report.TheVariants.{Queued}
 use Rattle.acd_terms.specs.declared.command.Command.TheVariants.{AddStation, AddAgent, ArriveCall, MonitorStart, MonitorStop}
 use Rattle.acd_terms.specs.declared.answer.Outcome.TheVariants.{Done}
 use Rattle.acd_terms.specs.declared.answer.Answer.TheVariants as answer
 use Rattle.acd_model.specs.Scans.{agent_of}
-use Rattle.acd_model.specs.Examples.Words.{billing, first_station, ana, ana_logged_off, caller, at, plan, run_after, event}
+use Rattle.acd_model.specs.Examples.Words.{billing, first_station, ana, caller, at, plan, run_after, event, planned_ana}
 
 -- an agent is new since the request that added it, and is logged on nowhere
 abbrev pub RecordsOfTheEmptyState : Type 0
@@ -15,7 +15,7 @@ RecordsOfTheEmptyState =
     (r.outcomes ≡ Done answer.Nothing ∷ Done answer.Nothing ∷ [])
     × (r.events ≡ [])
     × (r.rows.stations ≡ record { device = first_station } ∷ [])
-    × (agent_of r.rows ana ≡ ana_logged_off 2 60)
+    × (agent_of r.rows ana ≡ Some (record planned_ana { stamp = 2; since = 60 }))
 
 -- a monitor of a group or a station reports what comes after its start; a number of a monitor isn't used again
 abbrev pub Monitors : Type 0

@@ -12,7 +12,8 @@ use Rattle.acd_terms.specs.declared.answer.Answer.TheVariants as answer
 use Rattle.acd_model.specs.Scans.{waiting_in, connections_of, connection_of, call_of, agent_of}
 use Rattle.acd_model.specs.CallMoves.{plain, queueing}
 use Rattle.acd_model.specs.Run.{TimedCommand}
-use Rattle.acd_model.specs.Examples.Words.{billing, first_station, second_station, ana, ben, caller, second_caller, third_caller, at, logs_on, asks_for, plan, run_after, event, figures_in, counts, ana_in, ben_in, ringing_from, talking_from, call_arrives, ana_becomes_ready, offered}
+use Rattle.acd_model.specs.Services.AddGroup.{no_figures}
+use Rattle.acd_model.specs.Examples.Words.{billing, first_station, second_station, ana, ben, caller, second_caller, third_caller, at, logs_on, asks_for, plan, run_after, event, figures_in, planned_ana, logged_on, early_ana, early_ben, first_call, offered_ana, offered_connection, answered_connection, call_arrives, ana_becomes_ready, offered}
 
 -- a call that arrives with no agent ready waits in the queue
 abbrev pub CallWaits : Type 0
@@ -21,7 +22,7 @@ CallWaits =
     (r.outcomes ≡ Done (answer.Call 1) ∷ [])
     × (r.events ≡ event 1 10 (Queued 1 billing cause.NewCall) ∷ [])
     × (connections_of r.rows 1 ≡ queueing 1 billing (Some 6) (Some 10) ∷ plain 1 caller Connected ∷ [])
-    × (call_of r.rows 1 ≡ Some (record { call = 1; caller = caller; called = billing; since = 10 }))
+    × (call_of r.rows 1 ≡ Some first_call)
 
 -- it is offered to the agent who becomes ready
 abbrev pub OfferedToTheReadyAgent : Type 0
@@ -31,9 +32,9 @@ OfferedToTheReadyAgent =
     × (r.events ≡ event 2 15 (AgentLoggedOn ana first_station (Some billing)) ∷ event 3 18 (AgentReady ana first_station)
     ∷ event 4 18 (Diverted 1 billing first_station cause.Distributed (Some billing))
     ∷ event 5 18 (Delivered 1 first_station cause.Distributed (Some billing)) ∷ [])
-    × (connections_of r.rows 1 ≡ ringing_from billing 1 first_station 6 10 18 ∷ plain 1 caller Connected ∷ [])
-    × (agent_of r.rows ana ≡ ana_in billing Ready None 8 18)
-    × (figures_in r.rows billing ≡ counts 1 0 0 0 0)
+    × (connections_of r.rows 1 ≡ offered_connection ∷ plain 1 caller Connected ∷ [])
+    × (agent_of r.rows ana ≡ Some offered_ana)
+    × (figures_in r.rows billing ≡ Some (record no_figures { entered = 1 }))
 
 -- and answered
 abbrev pub AnsweredCall : Type 0
@@ -41,9 +42,9 @@ AnsweredCall =
     let r = run_after offered (at 25 (AnswerCall 1 first_station) ∷ []) in
     (r.outcomes ≡ Done answer.Nothing ∷ [])
     × (r.events ≡ event 6 25 (Established 1 first_station (Some (record { group = billing; seconds = 15 }))) ∷ event 7 25 (AgentBusy ana first_station) ∷ [])
-    × (connections_of r.rows 1 ≡ talking_from billing 1 first_station ∷ plain 1 caller Connected ∷ [])
-    × (agent_of r.rows ana ≡ ana_in billing Busy None 9 25)
-    × (figures_in r.rows billing ≡ counts 1 1 0 0 15)
+    × (connections_of r.rows 1 ≡ answered_connection ∷ plain 1 caller Connected ∷ [])
+    × (agent_of r.rows ana ≡ Some (record offered_ana { state = Busy; stamp = 9; since = 25 }))
+    × (figures_in r.rows billing ≡ Some (record no_figures { entered = 1; answered = 1; waited = 15 }))
 
 abbrev pub two_ready : List TimedCommand
 two_ready =
@@ -60,9 +61,9 @@ LongestReadyFirst =
     ∷ event 5 10 (Queued 1 billing cause.NewCall)
     ∷ event 6 10 (Diverted 1 billing second_station cause.Distributed (Some billing))
     ∷ event 7 10 (Delivered 1 second_station cause.Distributed (Some billing)) ∷ [])
-    × (connection_of r.rows 1 second_station ≡ Some (ringing_from billing 1 second_station 10 10 10))
-    × (agent_of r.rows ana ≡ ana_in billing Ready None 9 7)
-    × (agent_of r.rows ben ≡ ben_in billing Ready None 8 6)
+    × (connection_of r.rows 1 second_station ≡ Some (record offered_connection { device = second_station; place = Some 10; offered = Some 10 }))
+    × (agent_of r.rows ana ≡ Some (record early_ana { state = Ready; stamp = 9; since = 7 }))
+    × (agent_of r.rows ben ≡ Some (record early_ben { state = Ready; stamp = 8; since = 6 }))
 
 abbrev pub two_calls : List TimedCommand
 two_calls =
@@ -78,10 +79,10 @@ WrapUpAndTick =
     ∷ event 25 83 (Queued 3 billing cause.NewCall)
     ∷ event 26 83 (Diverted 3 billing first_station cause.Distributed (Some billing))
     ∷ event 27 83 (Delivered 3 first_station cause.Distributed (Some billing)) ∷ [])
-    × (connection_of r.rows 3 first_station ≡ Some (ringing_from billing 3 first_station 17 83 83))
-    × (agent_of r.rows ana ≡ ana_in billing Ready None 16 82)
-    × (agent_of r.rows ben ≡ ben_in billing Ready None 16 82)
-    × (figures_in r.rows billing ≡ counts 3 2 0 0 4)
+    × (connection_of r.rows 3 first_station ≡ Some (record offered_connection { call = 3; place = Some 17; queued = Some 83; offered = Some 83 }))
+    × (agent_of r.rows ana ≡ Some (record early_ana { state = Ready; stamp = 16; since = 82 }))
+    × (agent_of r.rows ben ≡ Some (record early_ben { state = Ready; stamp = 16; since = 82 }))
+    × (figures_in r.rows billing ≡ Some (record no_figures { entered = 3; answered = 2; waited = 4 }))
 
 -- the two calls before it
 abbrev pub TwoCallsAnswered : Type 0
@@ -97,9 +98,9 @@ TwoCallsAnswered =
     ∷ event 18 50 (AgentWorkingAfterCall ben second_station)
     ∷ event 19 52 (ConnectionCleared 2 second_caller) ∷ event 20 52 (ConnectionCleared 2 first_station) ∷ event 21 52 (CallCleared 2 None)
     ∷ event 22 52 (AgentWorkingAfterCall ana first_station) ∷ [])
-    × (agent_of r.rows ana ≡ ana_in billing WorkingAfterCall None 15 52)
-    × (agent_of r.rows ben ≡ ben_in billing WorkingAfterCall None 14 50)
-    × (figures_in r.rows billing ≡ counts 2 2 0 0 4)
+    × (agent_of r.rows ana ≡ Some (record early_ana { state = WorkingAfterCall; stamp = 15; since = 52 }))
+    × (agent_of r.rows ben ≡ Some (record early_ben { state = WorkingAfterCall; stamp = 14; since = 50 }))
+    × (figures_in r.rows billing ≡ Some (record no_figures { entered = 2; answered = 2; waited = 4 }))
     × (r.rows.calls ≡ []) × (r.rows.connections ≡ [])
 
 -- an offer that rings too long returns to its old place, and its agent is not ready
@@ -111,8 +112,8 @@ NoAnswerReturnsToItsPlace =
     × (r.events ≡ event 6 120 (Diverted 1 first_station billing cause.NoAnswer (Some billing))
     ∷ event 7 120 (Queued 1 billing cause.NoAnswer) ∷ event 8 120 (AgentNotReady ana first_station) ∷ [])
     × (waiting_in r.rows billing ≡ queueing 1 billing (Some 8) (Some 100) ∷ [])
-    × (agent_of r.rows ana ≡ ana_in billing NotReady None 10 120)
-    × (figures_in r.rows billing ≡ counts 1 0 0 0 0)
+    × (agent_of r.rows ana ≡ Some (record (logged_on 90 first_station planned_ana) { stamp = 10; since = 120 }))
+    × (figures_in r.rows billing ≡ Some (record no_figures { entered = 1 }))
 
 -- a moment before the last one counts as the last one
 abbrev pub MomentNeverGoesBack : Type 0
@@ -121,7 +122,7 @@ MomentNeverGoesBack =
     (r.outcomes ≡ Done (answer.Call 1) ∷ Done (answer.Call 2) ∷ [])
     × (r.events ≡ event 1 100 (Queued 1 billing cause.NewCall) ∷ event 2 100 (Queued 2 billing cause.NewCall) ∷ [])
     × (waiting_in r.rows billing ≡ queueing 1 billing (Some 6) (Some 100) ∷ queueing 2 billing (Some 7) (Some 100) ∷ [])
-    × (call_of r.rows 2 ≡ Some (record { call = 2; caller = second_caller; called = billing; since = 100 }))
+    × (call_of r.rows 2 ≡ Some (record first_call { call = 2; caller = second_caller; since = 100 }))
     × (r.rows.last_moment ≡ 100)
 
 -- a refused request takes a stamp and a moment, and changes nothing else
@@ -153,7 +154,7 @@ CallerNumberShared =
     ∷ event 3 12 (ConnectionCleared 1 caller) ∷ event 4 12 (ConnectionCleared 1 billing) ∷ event 5 12 (CallCleared 1 (Some billing))
     ∷ event 6 14 (ConnectionCleared 2 caller) ∷ event 7 14 (ConnectionCleared 2 billing) ∷ event 8 14 (CallCleared 2 (Some billing)) ∷ [])
     × (r.rows.stations ≡ record { device = first_station } ∷ record { device = second_station } ∷ record { device = caller } ∷ [])
-    × (figures_in r.rows billing ≡ counts 2 0 2 0 0)
+    × (figures_in r.rows billing ≡ Some (record no_figures { entered = 2; abandoned = 2 }))
 
 -- a call that comes back to its group by a deflection waits after one that came in the meantime
 abbrev pub LeastPlaceFirst : Type 0
@@ -168,9 +169,9 @@ LeastPlaceFirst =
     ∷ event 5 13 (Diverted 1 first_station billing cause.Deflected None) ∷ event 6 13 (Queued 1 billing cause.Deflected)
     ∷ event 7 14 (AgentLoggedOn ana first_station (Some billing)) ∷ event 8 15 (AgentReady ana first_station)
     ∷ event 9 15 (Diverted 2 billing first_station cause.Distributed (Some billing)) ∷ event 10 15 (Delivered 2 first_station cause.Distributed (Some billing)) ∷ [])
-    × (connection_of r.rows 2 first_station ≡ Some (ringing_from billing 2 first_station 7 11 15))
+    × (connection_of r.rows 2 first_station ≡ Some (record offered_connection { call = 2; place = Some 7; queued = Some 11; offered = Some 15 }))
     × (waiting_in r.rows billing ≡ queueing 1 billing (Some 9) (Some 13) ∷ [])
-    × (figures_in r.rows billing ≡ counts 3 0 0 1 0)
+    × (figures_in r.rows billing ≡ Some (record no_figures { entered = 3; moved = 1 }))
 
 -- a call that is cleared in the queue is abandoned
 abbrev pub AbandonedInQueue : Type 0
@@ -178,5 +179,5 @@ AbandonedInQueue =
     let r = run_after (plan ++ call_arrives) (at 12 (ClearConnection 1 caller) ∷ []) in
     (r.outcomes ≡ Done answer.Nothing ∷ [])
     × (r.events ≡ event 2 12 (ConnectionCleared 1 caller) ∷ event 3 12 (ConnectionCleared 1 billing) ∷ event 4 12 (CallCleared 1 (Some billing)) ∷ [])
-    × (figures_in r.rows billing ≡ counts 1 0 1 0 0)
+    × (figures_in r.rows billing ≡ Some (record no_figures { entered = 1; abandoned = 1 }))
     × (r.rows.calls ≡ []) × (r.rows.connections ≡ [])

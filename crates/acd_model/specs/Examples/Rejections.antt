@@ -1,5 +1,5 @@
 -- Worked examples: calls that ring at an agent and are rejected.
-use Rattle.std.specs.Prelude.{◌≡◌, List, [], ◌∷◌, ◌++◌, codes, Some, None}
+use Rattle.std.specs.Prelude.{◌≡◌, List, [], ◌∷◌, ◌++◌, codes, Some}
 use Rattle.acd_terms.specs.Numbers.{Device, Agent}
 use Rattle.acd_terms.specs.declared.event.Cause.TheVariants as cause
 use Rattle.acd_terms.specs.declared.event.Report.TheVariants.{Queued, Delivered, Diverted, Established, ConnectionCleared, CallCleared, AgentLoggedOn, AgentLoggedOff, AgentNotReady, AgentReady, AgentBusy, AgentWorkingAfterCall}
@@ -13,7 +13,8 @@ use Rattle.acd_terms.specs.declared.answer.Answer.TheVariants as answer
 use Rattle.acd_model.specs.Scans.{waiting_in, connections_of, connection_of, agent_of}
 use Rattle.acd_model.specs.CallMoves.{plain, queueing}
 use Rattle.acd_model.specs.Run.{TimedCommand, AfterRun}
-use Rattle.acd_model.specs.Examples.Words.{billing, claims, first_station, second_station, third_station, ana, ben, caller, second_caller, third_caller, late_caller, at, logs_on, asks_for, plan, run_after, event, figures_in, counts, ana_in, ben_in, ana_logged_off, ringing_from, call_arrives, offered, answered}
+use Rattle.acd_model.specs.Services.AddGroup.{no_figures}
+use Rattle.acd_model.specs.Examples.Words.{billing, claims, first_station, second_station, third_station, ana, ben, caller, second_caller, third_caller, late_caller, at, logs_on, asks_for, plan, run_after, event, figures_in, planned_ana, planned_ben, logged_on, logged_off, early_ana, early_ben, offered_ana, offered_connection, call_arrives, offered, answered}
 use Rattle.acd_model.specs.Examples.Queue.{two_ready}
 use Rattle.acd_model.specs.Examples.Releases.{Released, and_asks}
 use Rattle.acd_model.specs.Examples.Refusals.{RefusesEach, rows_after, nowhere}
@@ -31,12 +32,12 @@ RejectedToTheSecondAgent =
     ∷ event 9 15 (Queued 1 billing cause.NoAnswer) ∷ event 10 15 (AgentNotReady ben second_station)
     ∷ event 11 15 (Diverted 1 billing first_station cause.Distributed (Some billing))
     ∷ event 12 15 (Delivered 1 first_station cause.Distributed (Some billing)) ∷ [])
-    × (connections_of r.rows 1 ≡ ringing_from billing 1 first_station 10 10 15 ∷ plain 1 caller Connected ∷ [])
-    × (agent_of r.rows ana ≡ ana_in billing Ready None 9 7)
-    × (agent_of r.rows ben ≡ ben_in billing NotReady None 11 15)
-    × (figures_in r.rows billing ≡ counts 1 0 0 0 0)
+    × (connections_of r.rows 1 ≡ record offered_connection { place = Some 10; offered = Some 15 } ∷ plain 1 caller Connected ∷ [])
+    × (agent_of r.rows ana ≡ Some (record early_ana { state = Ready; stamp = 9; since = 7 }))
+    × (agent_of r.rows ben ≡ Some (record early_ben { stamp = 11; since = 15 }))
+    × (figures_in r.rows billing ≡ Some (record no_figures { entered = 1 }))
     × (later.events ≡ event 13 20 (Established 1 first_station (Some (record { group = billing; seconds = 10 }))) ∷ event 14 20 (AgentBusy ana first_station) ∷ [])
-    × (figures_in later.rows billing ≡ counts 1 1 0 0 10)
+    × (figures_in later.rows billing ≡ Some (record no_figures { entered = 1; answered = 1; waited = 10 }))
 
 abbrev pub fourth_station : Device
 fourth_station = 1204
@@ -73,9 +74,9 @@ RejectedByOneAfterTheOther =
     ∷ event 27 18 (Diverted 1 second_station billing cause.NoAnswer (Some billing)) ∷ event 28 18 (Queued 1 billing cause.NoAnswer)
     ∷ event 29 18 (AgentNotReady ben second_station) ∷ [])
     × (waiting_in r.rows billing ≡ queueing 1 billing (Some 18) (Some 10) ∷ [])
-    × (agent_of r.rows ana ≡ ana_in billing NotReady None 19 15)
-    × (agent_of r.rows ben ≡ ben_in billing NotReady None 22 18)
-    × (figures_in r.rows billing ≡ counts 1 0 0 0 0)
+    × (agent_of r.rows ana ≡ Some (record (logged_on 2 first_station planned_ana) { stamp = 19; since = 15 }))
+    × (agent_of r.rows ben ≡ Some (record (logged_on 2 second_station planned_ben) { stamp = 22; since = 18 }))
+    × (figures_in r.rows billing ≡ Some (record no_figures { entered = 1 }))
 
 -- with nobody else ready it waits at its old place, and comes back to the same agent, who is ready again
 abbrev pub RejectedWithNobodyReady : Type 0
@@ -86,12 +87,12 @@ RejectedWithNobodyReady =
     × (r.events ≡ event 6 20 (Diverted 1 first_station billing cause.NoAnswer (Some billing))
     ∷ event 7 20 (Queued 1 billing cause.NoAnswer) ∷ event 8 20 (AgentNotReady ana first_station) ∷ [])
     × (connections_of r.rows 1 ≡ queueing 1 billing (Some 6) (Some 10) ∷ plain 1 caller Connected ∷ [])
-    × (agent_of r.rows ana ≡ ana_in billing NotReady None 9 20)
-    × (figures_in r.rows billing ≡ counts 1 0 0 0 0)
+    × (agent_of r.rows ana ≡ Some (record offered_ana { state = NotReady; stamp = 9; since = 20 }))
+    × (figures_in r.rows billing ≡ Some (record no_figures { entered = 1 }))
     × (later.outcomes ≡ Done (answer.State Ready) ∷ [])
     × (later.events ≡ event 9 22 (AgentReady ana first_station)
     ∷ event 10 22 (Diverted 1 billing first_station cause.Distributed (Some billing)) ∷ event 11 22 (Delivered 1 first_station cause.Distributed (Some billing)) ∷ [])
-    × (connection_of later.rows 1 first_station ≡ Some (ringing_from billing 1 first_station 6 10 22))
+    × (connection_of later.rows 1 first_station ≡ Some (record offered_connection { offered = Some 22 }))
 
 -- three calls came, one after the other; the first rings at Ana's station and the second at Ben's
 abbrev pub two_of_three_ring : List TimedCommand
@@ -114,10 +115,10 @@ RejectedAfterAnOlderCall =
     ∷ event 19 24 (Diverted 1 billing second_station cause.Distributed (Some billing)) ∷ event 20 24 (Delivered 1 second_station cause.Distributed (Some billing))
     ∷ event 21 25 (AgentReady ana first_station)
     ∷ event 22 25 (Diverted 2 billing first_station cause.Distributed (Some billing)) ∷ event 23 25 (Delivered 2 first_station cause.Distributed (Some billing)) ∷ [])
-    × (connection_of r.rows 1 second_station ≡ Some (ringing_from billing 1 second_station 8 10 24))
-    × (connection_of r.rows 2 first_station ≡ Some (ringing_from billing 2 first_station 9 11 25))
+    × (connection_of r.rows 1 second_station ≡ Some (record offered_connection { device = second_station; place = Some 8; offered = Some 24 }))
+    × (connection_of r.rows 2 first_station ≡ Some (record offered_connection { call = 2; place = Some 9; queued = Some 11; offered = Some 25 }))
     × (waiting_in r.rows billing ≡ queueing 3 billing (Some 10) (Some 12) ∷ [])
-    × (figures_in r.rows billing ≡ counts 3 0 0 0 0)
+    × (figures_in r.rows billing ≡ Some (record no_figures { entered = 3 }))
 
 abbrev pub rejected_after : List TimedCommand → AfterRun
 rejected_after before = run_after before (at 35 (RejectCall 1 first_station) ∷ [])
@@ -125,11 +126,15 @@ rejected_after before = run_after before (at 35 (RejectCall 1 first_station) ∷
 -- the agent changes to the pending state; with nothing or ready pending it is not ready
 abbrev pub ReleasedByARejection : Type 0
 ReleasedByARejection =
-    Released 2 (rejected_after offered) (event 8 35 (AgentNotReady ana first_station) ∷ []) (ana_in billing NotReady None 9 35)
-    × Released 2 (rejected_after (and_asks offered pending.Ready)) (event 8 35 (AgentNotReady ana first_station) ∷ []) (ana_in billing NotReady None 10 35)
-    × Released 2 (rejected_after (and_asks offered pending.NotReady)) (event 8 35 (AgentNotReady ana first_station) ∷ []) (ana_in billing NotReady None 10 35)
-    × Released 2 (rejected_after (and_asks offered pending.WorkingAfterCall)) (event 8 35 (AgentWorkingAfterCall ana first_station) ∷ []) (ana_in billing WorkingAfterCall None 10 35)
-    × Released 2 (rejected_after (and_asks offered pending.LoggedOff)) (event 8 35 (AgentLoggedOff ana first_station) ∷ []) (ana_logged_off 10 35)
+    Released 2 (rejected_after offered) (event 8 35 (AgentNotReady ana first_station) ∷ []) (record offered_ana { state = NotReady; stamp = 9; since = 35 })
+    × Released 2 (rejected_after (and_asks offered pending.Ready)) (event 8 35 (AgentNotReady ana first_station) ∷ [])
+    (record offered_ana { state = NotReady; stamp = 10; since = 35 })
+    × Released 2 (rejected_after (and_asks offered pending.NotReady)) (event 8 35 (AgentNotReady ana first_station) ∷ [])
+    (record offered_ana { state = NotReady; stamp = 10; since = 35 })
+    × Released 2 (rejected_after (and_asks offered pending.WorkingAfterCall)) (event 8 35 (AgentWorkingAfterCall ana first_station) ∷ [])
+    (record offered_ana { state = WorkingAfterCall; stamp = 10; since = 35 })
+    × Released 2 (rejected_after (and_asks offered pending.LoggedOff)) (event 8 35 (AgentLoggedOff ana first_station) ∷ [])
+    (record (logged_off offered_ana) { stamp = 10; since = 35 })
 
 -- a call of the group of higher priority returns there, and comes again before one of the other group that came sooner
 abbrev pub RejectedInAFurtherGroup : Type 0
@@ -140,11 +145,11 @@ RejectedInAFurtherGroup =
     × (r.events ≡ event 7 20 (Diverted 2 first_station claims cause.NoAnswer (Some claims)) ∷ event 8 20 (Queued 2 claims cause.NoAnswer)
     ∷ event 9 20 (AgentNotReady ana first_station) ∷ event 10 22 (AgentReady ana first_station)
     ∷ event 11 22 (Diverted 2 claims first_station cause.Distributed (Some claims)) ∷ event 12 22 (Delivered 2 first_station cause.Distributed (Some claims)) ∷ [])
-    × (connection_of r.rows 2 first_station ≡ Some (ringing_from claims 2 first_station 9 11 22))
+    × (connection_of r.rows 2 first_station ≡ Some (record offered_connection { call = 2; group = Some claims; place = Some 9; queued = Some 11; offered = Some 22 }))
     × (waiting_in r.rows billing ≡ queueing 1 billing (Some 8) (Some 10) ∷ [])
-    × (agent_of r.rows ana ≡ Some (ana_of_both Ready 13 22))
-    × (figures_in r.rows billing ≡ counts 1 0 0 0 0)
-    × (figures_in r.rows claims ≡ counts 1 0 0 0 0)
+    × (agent_of r.rows ana ≡ Some (record ana_of_both { stamp = 13; since = 22 }))
+    × (figures_in r.rows billing ≡ Some (record no_figures { entered = 1 }))
+    × (figures_in r.rows claims ≡ Some (record no_figures { entered = 1 }))
 
 -- neither how long the call rings nor the group's ring time matters: here none, and it is rejected at once
 abbrev pub RejectedWithoutARingTime : Type 0
@@ -158,7 +163,7 @@ RejectedWithoutARingTime =
     ∷ event 6 10 (Diverted 1 first_station claims cause.NoAnswer (Some claims)) ∷ event 7 10 (Queued 1 claims cause.NoAnswer)
     ∷ event 8 10 (AgentNotReady ana first_station) ∷ [])
     × (waiting_in r.rows claims ≡ queueing 1 claims (Some 9) (Some 10) ∷ [])
-    × (agent_of r.rows ana ≡ ana_in claims NotReady None 10 10)
+    × (agent_of r.rows ana ≡ Some (record (logged_on 2 first_station planned_ana) { groups = claims ∷ []; stamp = 10; since = 10 }))
 
 -- a rejection abandons nothing: the call is abandoned once its caller clears it
 abbrev pub RejectedAndGivenUp : Type 0
@@ -168,8 +173,8 @@ RejectedAndGivenUp =
     × (r.events ≡ event 6 20 (Diverted 1 first_station billing cause.NoAnswer (Some billing)) ∷ event 7 20 (Queued 1 billing cause.NoAnswer)
     ∷ event 8 20 (AgentNotReady ana first_station)
     ∷ event 9 21 (ConnectionCleared 1 caller) ∷ event 10 21 (ConnectionCleared 1 billing) ∷ event 11 21 (CallCleared 1 (Some billing)) ∷ [])
-    × (agent_of r.rows ana ≡ ana_in billing NotReady None 9 20)
-    × (figures_in r.rows billing ≡ counts 1 0 1 0 0)
+    × (agent_of r.rows ana ≡ Some (record offered_ana { state = NotReady; stamp = 9; since = 20 }))
+    × (figures_in r.rows billing ≡ Some (record no_figures { entered = 1; abandoned = 1 }))
     × (r.rows.calls ≡ []) × (r.rows.connections ≡ [])
 
 -- in the second in which the ring is over, a rejection and a tick come to the same: the first one takes the call back, the other finds nothing, and an
@@ -183,15 +188,15 @@ RejectionAndTick =
     ∷ event 8 38 (AgentNotReady ana first_station) ∷ [] in
     (r.outcomes ≡ Done answer.Nothing ∷ Done answer.Nothing ∷ []) × (r.events ≡ back)
     × (turned.outcomes ≡ Done answer.Nothing ∷ Refused UnknownConnection ∷ []) × (turned.events ≡ back)
-    × (agent_of r.rows ana ≡ ana_in billing NotReady None 9 38)
-    × (agent_of turned.rows ana ≡ ana_in billing NotReady None 9 38)
+    × (agent_of r.rows ana ≡ Some (record offered_ana { state = NotReady; stamp = 9; since = 38 }))
+    × (agent_of turned.rows ana ≡ Some (record offered_ana { state = NotReady; stamp = 9; since = 38 }))
     × (waiting_in r.rows billing ≡ queueing 1 billing (Some 6) (Some 10) ∷ [])
     × (waiting_in turned.rows billing ≡ queueing 1 billing (Some 6) (Some 10) ∷ [])
     × (offered_again.outcomes ≡ Done answer.Nothing ∷ Done answer.Nothing ∷ [])
     × (offered_again.events ≡ event 8 30 (Diverted 1 second_station billing cause.NoAnswer (Some billing)) ∷ event 9 30 (Queued 1 billing cause.NoAnswer)
     ∷ event 10 30 (AgentNotReady ben second_station)
     ∷ event 11 30 (Diverted 1 billing first_station cause.Distributed (Some billing)) ∷ event 12 30 (Delivered 1 first_station cause.Distributed (Some billing)) ∷ [])
-    × (connection_of offered_again.rows 1 first_station ≡ Some (ringing_from billing 1 first_station 10 10 30))
+    × (connection_of offered_again.rows 1 first_station ≡ Some (record offered_connection { place = Some 10; offered = Some 30 }))
 
 -- the refusals, in their order: of an offered call, an answered and a held one, one that waits and one that failed, one that was rejected; of calls that
 -- ring because they were deflected, transferred, called privately or from outside; and of a private call to the group, which rings

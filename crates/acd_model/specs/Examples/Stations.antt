@@ -11,7 +11,8 @@ use Rattle.acd_terms.specs.declared.answer.Answer.TheVariants as answer
 use Rattle.acd_model.specs.Scans.{connections_of, call_of, connection_of, agent_of}
 use Rattle.acd_model.specs.CallMoves.{plain}
 use Rattle.acd_model.specs.Run.{TimedCommand}
-use Rattle.acd_model.specs.Examples.Words.{billing, first_station, second_station, third_station, ana, caller, late_caller, at, logs_on, asks_for, plan, run_after, event, answered, figures_in, counts, ana_in, ana_logged_off, ringing_from, talking_from}
+use Rattle.acd_model.specs.Services.AddGroup.{no_figures}
+use Rattle.acd_model.specs.Examples.Words.{billing, first_station, second_station, third_station, ana, caller, late_caller, at, logs_on, asks_for, plan, run_after, event, figures_in, logged_off, early_ana, first_call, offered_ana, offered_connection, answered_connection, answered}
 
 -- a call to a busy station fails, and when it is cleared the agent there is still busy
 abbrev pub BusyStationFails : Type 0
@@ -20,8 +21,8 @@ BusyStationFails =
     (r.outcomes ≡ Done (answer.Call 2) ∷ Done answer.Nothing ∷ [])
     × (r.events ≡ event 8 26 (Failed 2 first_station)
     ∷ event 9 27 (ConnectionCleared 2 late_caller) ∷ event 10 27 (ConnectionCleared 2 first_station) ∷ event 11 27 (CallCleared 2 None) ∷ [])
-    × (agent_of r.rows ana ≡ ana_in billing Busy None 9 25)
-    × (connections_of r.rows 1 ≡ talking_from billing 1 first_station ∷ plain 1 caller Connected ∷ [])
+    × (agent_of r.rows ana ≡ Some (record offered_ana { state = Busy; stamp = 9; since = 25 }))
+    × (connections_of r.rows 1 ≡ answered_connection ∷ plain 1 caller Connected ∷ [])
 
 -- while an agent's station has a private call no call is offered there
 abbrev pub PrivateCallThenDistribution : Type 0
@@ -34,8 +35,8 @@ PrivateCallThenDistribution =
     ∷ event 6 9 (Queued 2 billing cause.NewCall)
     ∷ event 7 20 (ConnectionCleared 1 first_station) ∷ event 8 20 (ConnectionCleared 1 second_station) ∷ event 9 20 (CallCleared 1 None)
     ∷ event 10 20 (Diverted 2 billing first_station cause.Distributed (Some billing)) ∷ event 11 20 (Delivered 2 first_station cause.Distributed (Some billing)) ∷ [])
-    × (connection_of r.rows 2 first_station ≡ Some (ringing_from billing 2 first_station 10 9 20))
-    × (agent_of r.rows ana ≡ ana_in billing Ready None 7 6)
+    × (connection_of r.rows 2 first_station ≡ Some (record offered_connection { call = 2; place = Some 10; queued = Some 9; offered = Some 20 }))
+    × (agent_of r.rows ana ≡ Some (record early_ana { state = Ready; stamp = 7; since = 6 }))
 
 -- an agent who isn't occupied logs off at once, a private call or not, and gets no call any more
 abbrev pub LoggedOffWithAPrivateCall : Type 0
@@ -48,7 +49,7 @@ LoggedOffWithAPrivateCall =
     × (r.events ≡ event 1 5 (AgentLoggedOn ana first_station (Some billing)) ∷ event 2 6 (AgentReady ana first_station)
     ∷ event 3 7 (ServiceInitiated 1 first_station) ∷ event 4 8 (AgentLoggedOff ana first_station)
     ∷ event 5 9 (ConnectionCleared 1 first_station) ∷ event 6 9 (CallCleared 1 None) ∷ event 7 10 (Queued 2 billing cause.NewCall) ∷ [])
-    × (agent_of r.rows ana ≡ ana_logged_off 9 8)
+    × (agent_of r.rows ana ≡ Some (record (logged_off early_ana) { stamp = 9; since = 8 }))
 
 -- a call on hold keeps its station from being idle: another call to it fails, and none is offered there
 abbrev pub HeldPrivateCall : Type 0
@@ -64,8 +65,8 @@ HeldPrivateCall =
     ∷ event 8 11 (Queued 2 billing cause.NewCall) ∷ event 9 12 (Failed 3 first_station)
     ∷ event 10 13 (ConnectionCleared 1 second_station) ∷ event 11 13 (ConnectionCleared 1 first_station) ∷ event 12 13 (CallCleared 1 None)
     ∷ event 13 13 (Diverted 2 billing first_station cause.Distributed (Some billing)) ∷ event 14 13 (Delivered 2 first_station cause.Distributed (Some billing)) ∷ [])
-    × (connection_of r.rows 2 first_station ≡ Some (ringing_from billing 2 first_station 12 11 13))
-    × (agent_of r.rows ana ≡ ana_in billing Ready None 7 6)
+    × (connection_of r.rows 2 first_station ≡ Some (record offered_connection { call = 2; place = Some 12; queued = Some 11; offered = Some 13 }))
+    × (agent_of r.rows ana ≡ Some (record early_ana { state = Ready; stamp = 7; since = 6 }))
 
 abbrev pub two_private_calls : List TimedCommand
 two_private_calls =
@@ -84,7 +85,7 @@ CallToABusyAgentStation =
     ∷ event 4 7 (ServiceInitiated 2 third_station) ∷ event 5 8 (Originated 2 third_station first_station) ∷ event 6 8 (Failed 2 first_station) ∷ [])
     × (connections_of r.rows 1 ≡ plain 1 first_station Initiated ∷ [])
     × (connections_of r.rows 2 ≡ plain 2 first_station Fail ∷ plain 2 third_station Connected ∷ [])
-    × (agent_of r.rows ana ≡ ana_in billing Ready None 9 6)
+    × (agent_of r.rows ana ≡ Some (record early_ana { state = Ready; stamp = 9; since = 6 }))
 
 -- private calls change no agent: the one whose private call is transferred stays ready and gets it from the group, and stays busy where the other one ends
 abbrev pub PrivateCalls : Type 0
@@ -98,7 +99,7 @@ PrivateCalls =
     ∷ event 13 12 (Diverted 1 billing first_station cause.Distributed (Some billing)) ∷ event 14 12 (Delivered 1 first_station cause.Distributed (Some billing))
     ∷ event 15 13 (Established 1 first_station (Some (record { group = billing; seconds = 1 }))) ∷ event 16 13 (AgentBusy ana first_station)
     ∷ event 17 14 (ConnectionCleared 2 first_station) ∷ event 18 14 (ConnectionCleared 2 third_station) ∷ event 19 14 (CallCleared 2 None) ∷ [])
-    × (agent_of r.rows ana ≡ ana_in billing Busy None 16 13)
-    × (connections_of r.rows 1 ≡ talking_from billing 1 first_station ∷ plain 1 second_station Hold ∷ [])
-    × (call_of r.rows 1 ≡ Some (record { call = 1; caller = first_station; called = second_station; since = 4 }))
-    × (figures_in r.rows billing ≡ counts 1 1 0 0 1)
+    × (agent_of r.rows ana ≡ Some (record early_ana { state = Busy; stamp = 16; since = 13 }))
+    × (connections_of r.rows 1 ≡ answered_connection ∷ plain 1 second_station Hold ∷ [])
+    × (call_of r.rows 1 ≡ Some (record first_call { caller = first_station; called = second_station; since = 4 }))
+    × (figures_in r.rows billing ≡ Some (record no_figures { entered = 1; answered = 1; waited = 1 }))

@@ -10,7 +10,8 @@ use Rattle.acd_terms.specs.declared.answer.Answer.TheVariants as answer
 use Rattle.acd_model.specs.Scans.{waiting_in, connection_of, agent_of}
 use Rattle.acd_model.specs.CallMoves.{queueing}
 use Rattle.acd_model.specs.Run.{TimedCommand}
-use Rattle.acd_model.specs.Examples.Words.{billing, claims, first_station, second_station, ana, ben, caller, second_caller, at, logs_on, asks_for, plan, run_after, event, figures_in, counts, ana_in, ben_in, ringing_from}
+use Rattle.acd_model.specs.Services.AddGroup.{no_figures}
+use Rattle.acd_model.specs.Examples.Words.{billing, claims, first_station, second_station, ana, ben, caller, second_caller, at, logs_on, asks_for, plan, run_after, event, figures_in, planned_ana, planned_ben, logged_on, early_ana, early_ben, offered_connection}
 
 abbrev pub two_offers_in_vain : List TimedCommand
 two_offers_in_vain =
@@ -35,9 +36,9 @@ OffersGoBack =
     ∷ event 14 61 (Diverted 2 second_station billing cause.NoAnswer (Some billing)) ∷ event 15 61 (Queued 2 billing cause.NoAnswer)
     ∷ event 16 61 (AgentNotReady ben second_station) ∷ [])
     × (waiting_in r.rows billing ≡ queueing 1 billing (Some 8) (Some 10) ∷ queueing 2 billing (Some 9) (Some 11) ∷ [])
-    × (agent_of r.rows ana ≡ ana_in billing NotReady None 13 61)
-    × (agent_of r.rows ben ≡ ben_in billing NotReady None 13 61)
-    × (figures_in r.rows billing ≡ counts 2 0 0 0 0)
+    × (agent_of r.rows ana ≡ Some (record early_ana { stamp = 13; since = 61 }))
+    × (agent_of r.rows ben ≡ Some (record early_ben { stamp = 13; since = 61 }))
+    × (figures_in r.rows billing ≡ Some (record no_figures { entered = 2 }))
 
 -- offers and after-call work end when their time is over and not before; at one tick the offers return first, and a call that returned is offered again
 abbrev pub Ticks : Type 0
@@ -60,10 +61,10 @@ Ticks =
     ∷ event 35 126 (Diverted 2 second_station billing cause.NoAnswer (Some billing)) ∷ event 36 126 (Queued 2 billing cause.NoAnswer)
     ∷ event 37 126 (AgentNotReady ben second_station) ∷ event 38 126 (AgentReady ana first_station)
     ∷ event 39 126 (Diverted 2 billing first_station cause.Distributed (Some billing)) ∷ event 40 126 (Delivered 2 first_station cause.Distributed (Some billing)) ∷ [])
-    × (connection_of r.rows 2 first_station ≡ Some (ringing_from billing 2 first_station 9 11 126))
-    × (agent_of r.rows ana ≡ ana_in billing Ready None 21 126)
-    × (agent_of r.rows ben ≡ ben_in billing NotReady None 21 126)
-    × (figures_in r.rows billing ≡ counts 2 1 0 0 65)
+    × (connection_of r.rows 2 first_station ≡ Some (record offered_connection { call = 2; place = Some 9; queued = Some 11; offered = Some 126 }))
+    × (agent_of r.rows ana ≡ Some (record early_ana { state = Ready; stamp = 21; since = 126 }))
+    × (agent_of r.rows ben ≡ Some (record early_ben { stamp = 21; since = 126 }))
+    × (figures_in r.rows billing ≡ Some (record no_figures { entered = 2; answered = 1; waited = 65 }))
 
 -- with no ring time and no wrap time nothing ends by itself
 abbrev pub Never : Type 0
@@ -78,9 +79,9 @@ Never =
     ∷ event 6 9001 (Established 1 first_station (Some (record { group = claims; seconds = 8991 }))) ∷ event 7 9001 (AgentBusy ana first_station)
     ∷ event 8 9002 (ConnectionCleared 1 first_station) ∷ event 9 9002 (ConnectionCleared 1 caller) ∷ event 10 9002 (CallCleared 1 None)
     ∷ event 11 9002 (AgentWorkingAfterCall ana first_station) ∷ [])
-    × (agent_of r.rows ana ≡ ana_in claims WorkingAfterCall None 12 9002)
-    × (figures_in r.rows claims ≡ counts 1 1 0 0 8991)
-    × (figures_in r.rows billing ≡ counts 0 0 0 0 0)
+    × (agent_of r.rows ana ≡ Some (record (logged_on 2 first_station planned_ana) { state = WorkingAfterCall; groups = claims ∷ []; stamp = 12; since = 9002 }))
+    × (figures_in r.rows claims ≡ Some (record no_figures { entered = 1; answered = 1; waited = 8991 }))
+    × (figures_in r.rows billing ≡ Some no_figures)
 
 -- neither asking for the present state nor an offer that ends unanswered takes an agent's turn; what is pending waits until the call ends
 abbrev pub WhoIsReadyLongest : Type 0
@@ -102,9 +103,9 @@ WhoIsReadyLongest =
     ∷ event 14 14 (Established 2 first_station (Some (record { group = billing; seconds = 2 }))) ∷ event 15 14 (AgentBusy ana first_station)
     ∷ event 16 15 (ConnectionCleared 2 first_station) ∷ event 17 15 (ConnectionCleared 2 second_caller) ∷ event 18 15 (CallCleared 2 None)
     ∷ event 19 15 (AgentNotReady ana first_station) ∷ [])
-    × (agent_of r.rows ana ≡ ana_in billing NotReady None 16 15)
-    × (agent_of r.rows ben ≡ ben_in billing Ready None 9 7)
-    × (figures_in r.rows billing ≡ counts 2 1 1 0 2)
+    × (agent_of r.rows ana ≡ Some (record early_ana { stamp = 16; since = 15 }))
+    × (agent_of r.rows ben ≡ Some (record early_ben { state = Ready; stamp = 9; since = 7 }))
+    × (figures_in r.rows billing ≡ Some (record no_figures { entered = 2; answered = 1; abandoned = 1; waited = 2 }))
 
 -- after-call work ends in two groups at one tick: all agents become ready, and then the group of least number precedes
 abbrev pub TwoGroupsAtOnce : Type 0
@@ -120,7 +121,7 @@ TwoGroupsAtOnce =
     ∷ event 7 36 (AgentReady ana first_station) ∷ event 8 36 (AgentReady ben second_station)
     ∷ event 9 36 (Diverted 2 billing second_station cause.Distributed (Some billing)) ∷ event 10 36 (Delivered 2 second_station cause.Distributed (Some billing))
     ∷ event 11 36 (Diverted 1 claims first_station cause.Distributed (Some claims)) ∷ event 12 36 (Delivered 1 first_station cause.Distributed (Some claims)) ∷ [])
-    × (connection_of r.rows 1 first_station ≡ Some (ringing_from claims 1 first_station 11 10 36))
-    × (connection_of r.rows 2 second_station ≡ Some (ringing_from billing 2 second_station 12 11 36))
-    × (agent_of r.rows ana ≡ ana_in claims Ready None 13 36)
-    × (agent_of r.rows ben ≡ ben_in billing Ready None 13 36)
+    × (connection_of r.rows 1 first_station ≡ Some (record offered_connection { group = Some claims; place = Some 11; offered = Some 36 }))
+    × (connection_of r.rows 2 second_station ≡ Some (record offered_connection { call = 2; device = second_station; place = Some 12; queued = Some 11; offered = Some 36 }))
+    × (agent_of r.rows ana ≡ Some (record (logged_on 2 first_station planned_ana) { state = Ready; groups = claims ∷ []; stamp = 13; since = 36 }))
+    × (agent_of r.rows ben ≡ Some (record (logged_on 3 second_station planned_ben) { state = Ready; stamp = 13; since = 36 }))

@@ -1,25 +1,26 @@
 -- The words of the worked examples: a plan, who calls whom, and what is asked at which moment.
-use Rattle.std.specs.Prelude.{◌≡◌, ℕ, List, [], ◌∷◌, ◌++◌, codes, Option, Some, None, option_map, Ok}
+use Rattle.std.specs.Prelude.{◌≡◌, List, [], ◌∷◌, ◌++◌, codes, Option, Some, None, option_map, Ok}
 use Rattle.acd_terms.specs.Forms.{read_id}
 use Rattle.acd_terms.specs.Limits.{greatest_limits}
 use Rattle.acd_terms.specs.Rows.{empty_rows}
-use Rattle.acd_terms.specs.Numbers.{Device, Agent, CallId, Moment, Seconds, Stamp, EventNumber}
+use Rattle.acd_terms.specs.Numbers.{Device, Agent, Moment, EventNumber}
 use Rattle.acd_terms.specs.declared.rows.Rows.{Rows}
 use Rattle.acd_terms.specs.declared.record.Figures.{Figures}
 use Rattle.acd_terms.specs.declared.record.GroupRecord.{GroupRecord}
 use Rattle.acd_terms.specs.declared.record.AgentRecord.{AgentRecord}
+use Rattle.acd_terms.specs.declared.record.CallRecord.{CallRecord}
 use Rattle.acd_terms.specs.declared.record.ConnectionRecord.{ConnectionRecord}
 use Rattle.acd_terms.specs.declared.event.Event.{Event}
 use Rattle.acd_terms.specs.declared.event.Report.{Report}
 use Rattle.acd_terms.specs.declared.command.Command.{Command}
 use Rattle.acd_terms.specs.declared.command.Command.TheVariants.{AddGroup, AddStation, AddAgent, ArriveCall, AnswerCall, SetAgentState}
 use Rattle.acd_terms.specs.declared.command.Requested.TheVariants.{LoggedOn, State}
-use Rattle.acd_terms.specs.declared.state.AgentState.{AgentState}
-use Rattle.acd_terms.specs.declared.state.AgentState.TheVariants.{Null}
+use Rattle.acd_terms.specs.declared.state.AgentState.TheVariants.{Null, NotReady, Ready}
 use Rattle.acd_terms.specs.declared.state.ConnectionState.TheVariants.{Alerting, Connected}
 use Rattle.acd_terms.specs.declared.state.Pending.{Pending}
 use Rattle.acd_terms.specs.declared.state.Pending.TheVariants as pending
 use Rattle.acd_model.specs.Scans.{group_of}
+use Rattle.acd_model.specs.Services.AddGroup.{no_figures}
 use Rattle.acd_model.specs.Run.{TimedCommand, AfterRun, run}
 
 -- the groups 100 and 110, the stations 201 to 203, the agents 7 and 8, and the callers 0301234, 0309999, 0305555 and 0401
@@ -91,31 +92,42 @@ event number moment report = record { number = number; moment = moment; report =
 abbrev pub figures_in : Rows → Device → Option Figures
 figures_in s group = option_map (λ (g : GroupRecord). g.figures) (group_of s group)
 
-abbrev pub counts : ℕ → ℕ → ℕ → ℕ → Seconds → Option Figures
-counts entered answered abandoned moved waited = Some (record { entered = entered; answered = answered; abandoned = abandoned; moved = moved; waited = waited })
+-- what the plan's records are; what an example says of another is how it differs from one of these
+abbrev pub planned_billing : GroupRecord
+planned_billing = record { device = billing; name = codes "Billing"; ring = 20; wrap = 30; priority = 0; figures = no_figures }
 
--- Ana at the first station and Ben at the second, in a group: the state, what is pending, and the stamp and moment of the state
-abbrev pub ana_in : Device → AgentState → Option Pending → Stamp → Moment → Option AgentRecord
-ana_in group state pending stamp since =
-    Some (record { agent = ana; name = codes "Ana"; state = state; pending = pending; station = Some first_station; groups = group ∷ []; stamp = stamp; since = since })
+abbrev pub planned_ana : AgentRecord
+planned_ana = record { agent = ana; name = codes "Ana"; state = Null; pending = None; station = None; groups = []; stamp = 4; since = 0 }
 
-abbrev pub ben_in : Device → AgentState → Option Pending → Stamp → Moment → Option AgentRecord
-ben_in group state pending stamp since =
-    Some (record { agent = ben; name = codes "Ben"; state = state; pending = pending; station = Some second_station; groups = group ∷ []; stamp = stamp; since = since })
+abbrev pub planned_ben : AgentRecord
+planned_ben = record planned_ana { agent = ben; name = codes "Ben"; stamp = 5 }
 
--- Ana is logged on nowhere
-abbrev pub ana_logged_off : Stamp → Moment → Option AgentRecord
-ana_logged_off stamp since =
-    Some (record { agent = ana; name = codes "Ana"; state = Null; pending = None; station = None; groups = []; stamp = stamp; since = since })
+-- an agent who logged on at a moment, at a station and in Billing, and one who logged off
+abbrev pub logged_on : Moment → Device → AgentRecord → AgentRecord
+logged_on moment station agent = record agent { state = NotReady; station = Some station; groups = billing ∷ []; since = moment }
 
--- a call that rings at a station, offered from a group at a moment, with the place and the moment at which it entered the queue there
-abbrev pub ringing_from : Device → CallId → Device → Stamp → Moment → Moment → ConnectionRecord
-ringing_from group call station place queued offered =
-    record { call = call; device = station; state = Alerting; group = Some group; place = Some place; queued = Some queued; offered = Some offered }
+abbrev pub logged_off : AgentRecord → AgentRecord
+logged_off agent = record agent { state = Null; station = None; groups = [] }
 
--- a call of a group that was answered at a station
-abbrev pub talking_from : Device → CallId → Device → ConnectionRecord
-talking_from group call station = record { call = call; device = station; state = Connected; group = Some group; place = None; queued = None; offered = None }
+-- Ana and Ben log on at 5, before the first call
+abbrev pub early_ana : AgentRecord
+early_ana = record (logged_on 5 first_station planned_ana) { stamp = 6 }
+
+abbrev pub early_ben : AgentRecord
+early_ben = record (logged_on 5 second_station planned_ben) { stamp = 7 }
+
+-- the first call, and Ana, who logs on at 15, as it is offered to her
+abbrev pub first_call : CallRecord
+first_call = record { call = 1; caller = caller; called = billing; since = 10 }
+
+abbrev pub offered_ana : AgentRecord
+offered_ana = record (logged_on 15 first_station planned_ana) { state = Ready; stamp = 8; since = 18 }
+
+abbrev pub offered_connection : ConnectionRecord
+offered_connection = record { call = 1; device = first_station; state = Alerting; group = Some billing; place = Some 6; queued = Some 10; offered = Some 18 }
+
+abbrev pub answered_connection : ConnectionRecord
+answered_connection = record offered_connection { state = Connected; place = None; queued = None; offered = None }
 
 -- the first call arrives at the group
 abbrev pub call_arrives : List TimedCommand
