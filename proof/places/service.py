@@ -91,37 +91,23 @@ after("crates/acd_services/src/serving.rt", ("use crate::monitor_stop::monitor_s
 # ---- JSON
 
 CODEC = "crates/acd_codec/"
-as_variant(CODEC + "specs/Reading.antt", ("command_in service.ChangeAgent d = at_agent ChangeAgent d\n", "command_in service.ParkHere d = at_connection ParkHere d\n"))
-as_variant(CODEC + "specs/RequestTexts.antt", ("request_members q i (ChangeAgent agent name) = at_agent (q, i) service.ChangeAgent agent name\n", "request_members q i (ParkHere call device) = at_connection (q, i) service.ParkHere call device\n"))
-as_variant(CODEC + "specs/Services.antt", ("service_name ChangeAgent = codes \"changeAgent\"\n", "service_name ParkHere = codes \"parkHere\"\n"), ("∷ ChangeGroup ∷ ChangeAgent", " ∷ ParkHere"),
-           ("service_of_command (command.ChangeAgent agent name) = ChangeAgent\n", "service_of_command (command.ParkHere call device) = ParkHere\n"))
-as_variant(CODEC + "specs/Formed.antt", ("IsCommand (ChangeAgent agent name) = IsAgent agent × IsName name\n", "IsCommand (ParkHere call device) = IsSerial call × IsDevice device\n"))
-after(CODEC + "specs/OldReading.antt", ("old_command_in service.ChangeAgent d = Err member.Service\n", "old_command_in service.ParkHere d = Err member.Service\n"))
-after(CODEC + "src/service.rt", ("    ChangeAgent,\n", "    ParkHere,\n"), *[(line, line.replace("ChangeAgent", "ParkHere").replace("changeAgent", "parkHere")) for line in [
-    "            Command::ChangeAgent { .. } => Service::ChangeAgent,\n", "            \"changeAgent\" => Some(Service::ChangeAgent),\n", "            Service::ChangeAgent => \"changeAgent\",\n"]])
+as_variant(CODEC + "specs/Services.antt", ("row ChangeAgent = (codes \"changeAgent\", of_agent command.ChangeAgent)\n", "row ParkHere = (codes \"parkHere\", of_connection command.ParkHere)\n"),
+      ("∷ ChangeGroup ∷ ChangeAgent", " ∷ ParkHere"),
+      ("taken_apart (command.ChangeAgent agent name) = (ChangeAgent, Agent agent name)\n", "taken_apart (command.ParkHere call device) = (ParkHere, Connection call device)\n"))
+after(CODEC + "src/service.rt", ("    ChangeAgent,\n", "    ParkHere,\n"), ("            RejectCall \"rejectCall\" reject_call_in Connection { call, device },\n", "            ParkHere \"parkHere\" park_here_in Connection { call, device },\n"))
 put(CODEC + "src/reading.rt", ("fn retrieve_call_in(", """\
 fn park_here_in(document: &Document<'_>) -> Result<Command, Member>
-    ensures { result ≡ at_connection Command.ParkHere (data_of document.now) }
+    ensures { result ≡ form_in (of_connection Command.ParkHere) (data_of document.now) }
 {
     let (call, device) = connection_in(document)?;
     Ok(Command::ParkHere { call, device })
 }
 
-fn retrieve_call_in("""), ("        Service::ChangeAgent => change_agent_in(document),\n", "        Service::ChangeAgent => change_agent_in(document),\n        Service::ParkHere => park_here_in(document),\n"))
-for file in "requests", "laws":
-    after(f"{CODEC}src/{file}.rt", ("        | Command::RejectCall { call, device }", "\n        | Command::ParkHere { call, device }"))
-SENT = "(word _ refl, small 1 1000000000 call (lit< tt) hc.0, (word _ refl, digits_word 15 device hc.1, (word _ refl, small 1 999999999 i (lit< tt) hi, (word _ refl, requester_word q hq, (word _ refl, word _ refl, tt)))))\n"
-KEYED = "rw (number_of-decimal i (small 1 999999999 i (lit< tt) hi), number_of-decimal call (small 1 1000000000 call (lit< tt) hc.0)) refl\n"
-TAKEN = "rw (text_again is_requester_byte 32 q hq, number_again 1 999999999 i hi, number_again 1 1000000000 call hc.0, id_again 15 device hc.1) refl\n"
-as_variant(CODEC + "proofs/RoundTrip.antt", *[(f"{start} (RejectCall call device){given} = {proof}", f"{start} (ParkHere call device){given} = {proof}") for start, given, proof in [
-    ("plain q i", " hq hi hc", SENT), ("keyed q i", " hi hc", KEYED), ("shallow q i", "", "lit≤ tt\n"), ("taken q i", " hq hi hc", TAKEN)]])
-after(CODEC + "proofs/OldReadings.antt", ("service.ChangeGroup ∷ service.ChangeAgent", " ∷ service.ParkHere"), ("kept_command service.ChangeAgent d = λ c e. absurd (cc (e))\n", "kept_command service.ParkHere d = λ c e. absurd (cc (e))\n"))
+fn retrieve_call_in("""))
 
-# ---- the desk: sizes, outcomes, and the desk of old
+# ---- the desk: outcomes, and the desk of old
 
 DESK = "crates/acd_desk_laws/"
-as_variant(DESK + "proofs/TextSizes.antt", ("service_short service.ChangeAgent = leb-true _ 20 refl\n", "service_short service.ParkHere = leb-true _ 20 refl\n"),
-           ("  takes_request (ChangeAgent a t) h = weaker _ 222 347 (takes_at_agent service.ChangeAgent a t h.0 h.1) (omega arith)\n", "  takes_request (ParkHere c d) h = weaker _ 156 347 (takes_at_connection service.ParkHere c d h.0 h.1) (omega arith)\n"))
 as_variant(DESK + "proofs/Outcomes.antt", (", change_group, change_agent", ", park_here"), (" change_group change_agent", " park_here"),
            ("served_next s turn (RejectCall number device) = party number device _ _ _ (λ c x. unless _ _ _ nothing)\n", "served_next s turn (ParkHere number device) = party number device _ _ _ (λ c x. unless _ _ _ (unless _ _ _ nothing))\n"))
 as_variant(DESK + "specs/OldStep.antt", ("old_serve s turn (ChangeAgent agent name) = Err NotGroup\n", "old_serve s turn (ParkHere call device) = Err NotGroup\n"))

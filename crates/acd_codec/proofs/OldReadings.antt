@@ -16,10 +16,10 @@ use Rattle.acd_codec.specs.declared.service.RequestedState.TheVariants as reques
 use Rattle.acd_codec.specs.declared.service.Service.{Service}
 use Rattle.acd_codec.specs.declared.service.Service.TheVariants as service
 use Rattle.acd_codec.specs.Members.{member_name}
-use Rattle.acd_codec.specs.Services.{service_name, service_of}
+use Rattle.acd_codec.specs.Services.{service_name, first_services, later_services, service_of}
 use Rattle.acd_codec.specs.MemberReading.{text_in, is_there, device_of, device_in, agent_in, requester_in, invoke_in, service_in, requested_state_in}
 use Rattle.acd_codec.specs.Reading.{two_devices_in, one_group_in, chosen_in, requested_in, set_agent_state_in, command_in, request_in, request_from, reads_as}
-use Rattle.acd_codec.specs.OldReading.{old_services, old_service_of, old_service_in, old_requested_in, old_set_agent_state_in, old_command_in, old_request_in, old_request_from, old_reads_as, OldReadsTheSame}
+use Rattle.acd_codec.specs.OldReading.{old_service_of, old_service_in, old_requested_in, old_set_agent_state_in, old_command_in, old_request_in, old_request_from, old_reads_as, OldReadsTheSame}
 
 -- the second reading gives what the first one gives
 abbrev Kept : {A : Type 0} → Result A Member → Result A Member → Type 0
@@ -37,17 +37,13 @@ then_kept {A} {B} x f g k = kept_then x x f g (λ a e. e) k
 found_first : {A : Type 0} (p : A → Bool) (xs ys : List A) (a : A) → find p xs ≡ Some a → find p (xs ++ ys) ≡ Some a
 found_first {A} p xs ys a e = find-append p xs ys ∙ rw e refl
 
--- those that came since
-abbrev later_services : List Service
-later_services = service.SetGroupPriority ∷ service.RejectCall ∷ service.ChangeGroup ∷ service.ChangeAgent ∷ []
-
 kept_name : (o : Option (List ℕ)) → Kept (ok_or (option_and_then old_service_of o) member.Service) (ok_or (option_and_then service_of o) member.Service)
 kept_name None s e = e
 kept_name (Some text) s e = by (old_service_of text) refl e
   where
     by : (found : Option Service) → old_service_of text ≡ found → ok_or found member.Service ≡ Ok s → ok_or (service_of text) member.Service ≡ Ok s
     by None q e = absurd (cc (e))
-    by (Some t) q e = rw (found_first (λ s. bytes_eq text (service_name s)) old_services later_services t q) e
+    by (Some t) q e = rw (found_first (λ s. bytes_eq text (service_name s)) first_services later_services t q) e
 
 kept_service : (d : Data) → Kept (old_service_in d) (service_in d)
 unfolding old_service_in service_in
@@ -89,12 +85,8 @@ kept_set_agent_state d =
     then_kept (agent_in d) _ _ (λ agent. then_kept (requested_state_in d) _ _ (λ state. kept_then (old_requested_in d state) (requested_in d state) _ _ (kept_requested d state) (λ r c e. e)))
 
 kept_command : (s : Service) (d : Data) → Kept (old_command_in s d) (command_in s d)
-unfolding old_command_in command_in
+unfolding old_command_in
 kept_command service.SetAgentState d = kept_set_agent_state d
-kept_command service.SetGroupPriority d = λ c e. absurd (cc (e))
-kept_command service.RejectCall d = λ c e. absurd (cc (e))
-kept_command service.ChangeGroup d = λ c e. absurd (cc (e))
-kept_command service.ChangeAgent d = λ c e. absurd (cc (e))
 kept_command s d = λ c e. e
 
 kept_request : (d : Data) → Kept (old_request_in d) (request_in d)

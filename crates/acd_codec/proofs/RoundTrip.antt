@@ -1,5 +1,5 @@
 -- The text written for a request reads as that request.
-use Rattle.std.proofs.Common.{◌≡◌, ℕ, ◌^◌, ◌<◌, ◌≤◌, List, [], ◌∷◌, true, Some, Result, Ok, Err, refl, sym, ap, ◌∙◌, lit≤, lit<, arith, true≢false, IsUtf8}
+use Rattle.std.proofs.Common.{◌≡◌, ℕ, ◌^◌, ◌<◌, ◌≤◌, List, [], ◌∷◌, true, Option, Some, None, Result, Ok, Err, refl, sym, ap, ◌∙◌, lit≤, lit<, arith, true≢false, IsUtf8}
 use Rattle.json.specs.Tree as tree
 use Rattle.json.proofs.Printed.Utf8.{IsUtf8-are_ascii, are_ascii}
 use Rattle.serde_json.specs.Data.{Data, object, Members}
@@ -15,19 +15,23 @@ use Rattle.acd_terms.specs.declared.state.Pending.TheVariants as pending
 use Rattle.acd_terms.specs.declared.command.Request.{Request}
 use Rattle.acd_terms.specs.declared.command.Requested.TheVariants as requested
 use Rattle.acd_terms.specs.declared.command.Command.{Command}
-use Rattle.acd_terms.specs.declared.command.Command.TheVariants.{AddGroup, AddStation, AddAgent, ArriveCall, MakeCall, PhoneOffHook, AnswerCall, HoldCall, RetrieveCall, ClearConnection, DeflectCall, SingleStepTransfer, SetAgentState, MonitorStart, MonitorStop, Tick, SetGroupPriority, RejectCall, ChangeGroup, ChangeAgent}
+use Rattle.acd_terms.specs.declared.command.Command.TheVariants as command
 use Rattle.acd_terms.proofs.Identifiers.{ascii_name, ascii_requester, digits_ascii}
 use Rattle.acd_terms.proofs.Texts.{utf8_ascii}
 use Rattle.acd_terms.proofs.ReadBack.{id_again, text_again, number_again}
 use Rattle.acd_codec.specs.declared.member.Member.{Member}
 use Rattle.acd_codec.specs.declared.member.Member.TheVariants as member
+use Rattle.acd_codec.specs.declared.service.Details.{Details}
+use Rattle.acd_codec.specs.declared.service.Details.TheVariants as details
 use Rattle.acd_codec.specs.declared.service.RequestedState.TheVariants as requested_state
-use Rattle.acd_codec.specs.Services.{requested_state_of}
+use Rattle.acd_codec.specs.declared.service.Service.{Service}
+use Rattle.acd_codec.specs.declared.service.Service.TheVariants as service
+use Rattle.acd_codec.specs.Services.{Form, of_group, of_agent, of_device, of_arrival, of_making, of_connection, of_transfer, of_state, of_monitor, of_priority, of_nothing, row, service_name, service_of, taken_apart, requested_state_of}
 use Rattle.acd_codec.specs.MemberReading.{list_in, device_in, agent_in, name_in, requester_in, invoke_in, seconds_in, priority_in, serial_in, service_in, requested_state_in, devices_of, groups_in}
-use Rattle.acd_codec.specs.Reading.{reads_as, request_in, command_in, group_in, named_agent_in, two_devices_in, connection_in, one_group_in, chosen_in, requested_in, set_agent_state_in, set_group_priority_in}
+use Rattle.acd_codec.specs.Reading.{reads_as, request_in, command_in, form_in, group_in, named_agent_in, two_devices_in, connection_in, one_group_in, chosen_in, requested_in, set_agent_state_in}
 use Rattle.acd_codec.specs.Parts.{digits_data, groups_parts, items_of, written_before}
-use Rattle.acd_codec.specs.RequestTexts.{request_members, request_data, request_text}
-use Rattle.acd_codec.specs.Formed.{IsDevice, IsCommand, IsRequest}
+use Rattle.acd_codec.specs.RequestTexts.{service_members, request_data, request_text}
+use Rattle.acd_codec.specs.Formed.{IsDevice, AreFormed, IsRequest}
 use Rattle.acd_codec.proofs.Choosing.{choice_again}
 use Rattle.acd_codec.proofs.Plain.{IsPlain, ItemsArePlain, MembersArePlain, read_plain, utf8_text}
 use Rattle.acd_codec.proofs.Readings.{reads_object}
@@ -62,87 +66,45 @@ plain_groups [] more h rest = rest
 plain_groups (g ∷ []) more h rest = (word _ refl, digits_word 15 g h.0, rest)
 plain_groups (g ∷ k ∷ gs) more h rest = (word _ refl, plain_items (g ∷ k ∷ gs) h, rest)
 
-plain : (q : List ℕ) (i : ℕ) (c : Command) → IsRequester q → IsBetween 1 999999999 i → IsCommand c → MembersArePlain (request_members q i c)
-plain q i (AddGroup device name ring wrap) hq hi hc = (word _ refl, digits_word 15 device hc.0, (word _ refl, small 1 999999999 i (lit< tt) hi, (word _ refl, name_word name hc.1, (word _ refl, requester_word q hq, (word _ refl, small 0 3600 ring (lit< tt) hc.2, (word _ refl, word _ refl, (word _ refl, small 0 3600 wrap (lit< tt) hc.3, tt)))))))
-plain q i (AddStation device) hq hi hc = (word _ refl, digits_word 15 device hc, (word _ refl, small 1 999999999 i (lit< tt) hi, (word _ refl, requester_word q hq, (word _ refl, word _ refl, tt))))
-plain q i (AddAgent agent name) hq hi hc = (word _ refl, digits_word 9 agent hc.0, (word _ refl, small 1 999999999 i (lit< tt) hi, (word _ refl, name_word name hc.1, (word _ refl, requester_word q hq, (word _ refl, word _ refl, tt)))))
-plain q i (ArriveCall caller called) hq hi hc = (word _ refl, digits_word 15 called hc.1, (word _ refl, digits_word 15 caller hc.0, (word _ refl, small 1 999999999 i (lit< tt) hi, (word _ refl, requester_word q hq, (word _ refl, word _ refl, tt)))))
-plain q i (MakeCall device called) hq hi hc = (word _ refl, digits_word 15 called hc.1, (word _ refl, digits_word 15 device hc.0, (word _ refl, small 1 999999999 i (lit< tt) hi, (word _ refl, requester_word q hq, (word _ refl, word _ refl, tt)))))
-plain q i (PhoneOffHook call device) hq hi hc = (word _ refl, small 1 1000000000 call (lit< tt) hc.0, (word _ refl, digits_word 15 device hc.1, (word _ refl, small 1 999999999 i (lit< tt) hi, (word _ refl, requester_word q hq, (word _ refl, word _ refl, tt)))))
-plain q i (AnswerCall call device) hq hi hc = (word _ refl, small 1 1000000000 call (lit< tt) hc.0, (word _ refl, digits_word 15 device hc.1, (word _ refl, small 1 999999999 i (lit< tt) hi, (word _ refl, requester_word q hq, (word _ refl, word _ refl, tt)))))
-plain q i (HoldCall call device) hq hi hc = (word _ refl, small 1 1000000000 call (lit< tt) hc.0, (word _ refl, digits_word 15 device hc.1, (word _ refl, small 1 999999999 i (lit< tt) hi, (word _ refl, requester_word q hq, (word _ refl, word _ refl, tt)))))
-plain q i (RetrieveCall call device) hq hi hc = (word _ refl, small 1 1000000000 call (lit< tt) hc.0, (word _ refl, digits_word 15 device hc.1, (word _ refl, small 1 999999999 i (lit< tt) hi, (word _ refl, requester_word q hq, (word _ refl, word _ refl, tt)))))
-plain q i (ClearConnection call device) hq hi hc = (word _ refl, small 1 1000000000 call (lit< tt) hc.0, (word _ refl, digits_word 15 device hc.1, (word _ refl, small 1 999999999 i (lit< tt) hi, (word _ refl, requester_word q hq, (word _ refl, word _ refl, tt)))))
-plain q i (DeflectCall call device to) hq hi hc = (word _ refl, small 1 1000000000 call (lit< tt) hc.0, (word _ refl, digits_word 15 device hc.1, (word _ refl, small 1 999999999 i (lit< tt) hi, (word _ refl, requester_word q hq, (word _ refl, word _ refl, (word _ refl, digits_word 15 to hc.2, tt))))))
-plain q i (SingleStepTransfer call device to) hq hi hc = (word _ refl, small 1 1000000000 call (lit< tt) hc.0, (word _ refl, digits_word 15 device hc.1, (word _ refl, small 1 999999999 i (lit< tt) hi, (word _ refl, requester_word q hq, (word _ refl, word _ refl, (word _ refl, digits_word 15 to hc.2, tt))))))
-plain q i (SetAgentState agent (requested.LoggedOn device groups)) hq hi hc = (word _ refl, digits_word 9 agent hc.0, (word _ refl, digits_word 15 device hc.1.0, plain_groups groups _ hc.1.2 (word _ refl, small 1 999999999 i (lit< tt) hi, (word _ refl, word _ refl, (word _ refl, requester_word q hq, (word _ refl, word _ refl, tt))))))
-plain q i (SetAgentState agent (requested.State state)) hq hi hc = (word _ refl, digits_word 9 agent hc.0, (word _ refl, small 1 999999999 i (lit< tt) hi, (word _ refl, state_word state, (word _ refl, requester_word q hq, (word _ refl, word _ refl, tt)))))
-plain q i (MonitorStart device) hq hi hc = (word _ refl, digits_word 15 device hc, (word _ refl, small 1 999999999 i (lit< tt) hi, (word _ refl, requester_word q hq, (word _ refl, word _ refl, tt))))
-plain q i (MonitorStop monitor) hq hi hc = (word _ refl, small 1 999999999 i (lit< tt) hi, (word _ refl, small 1 1000000000 monitor (lit< tt) hc, (word _ refl, requester_word q hq, (word _ refl, word _ refl, tt))))
-plain q i (SetGroupPriority device priority) hq hi hc = (word _ refl, digits_word 15 device hc.0, (word _ refl, small 1 999999999 i (lit< tt) hi, (word _ refl, small 0 9 priority (lit< tt) hc.1, (word _ refl, requester_word q hq, (word _ refl, word _ refl, tt)))))
-plain q i (RejectCall call device) hq hi hc = (word _ refl, small 1 1000000000 call (lit< tt) hc.0, (word _ refl, digits_word 15 device hc.1, (word _ refl, small 1 999999999 i (lit< tt) hi, (word _ refl, requester_word q hq, (word _ refl, word _ refl, tt)))))
-plain q i (ChangeGroup device name ring wrap) hq hi hc = (word _ refl, digits_word 15 device hc.0, (word _ refl, small 1 999999999 i (lit< tt) hi, (word _ refl, name_word name hc.1, (word _ refl, requester_word q hq, (word _ refl, small 0 3600 ring (lit< tt) hc.2, (word _ refl, word _ refl, (word _ refl, small 0 3600 wrap (lit< tt) hc.3, tt)))))))
-plain q i (ChangeAgent agent name) hq hi hc = (word _ refl, digits_word 9 agent hc.0, (word _ refl, small 1 999999999 i (lit< tt) hi, (word _ refl, name_word name hc.1, (word _ refl, requester_word q hq, (word _ refl, word _ refl, tt)))))
-plain q i Tick hq hi hc = (word _ refl, small 1 999999999 i (lit< tt) hi, (word _ refl, requester_word q hq, (word _ refl, word _ refl, tt)))
+service_word : (s : Service) → IsUtf8 (service_name s)
+service_word service.AddGroup = word _ refl
+service_word s = word _ refl
+
+plain : (q : List ℕ) (i : ℕ) (s : Service) (x : Details) → IsRequester q → IsBetween 1 999999999 i → AreFormed x → MembersArePlain (service_members (q, i) s x)
+plain q i s (details.Group device name ring wrap) hq hi hx = (word _ refl, digits_word 15 device hx.0, (word _ refl, small 1 999999999 i (lit< tt) hi, (word _ refl, name_word name hx.1, (word _ refl, requester_word q hq, (word _ refl, small 0 3600 ring (lit< tt) hx.2, (word _ refl, service_word s, (word _ refl, small 0 3600 wrap (lit< tt) hx.3, tt)))))))
+plain q i s (details.Device device) hq hi hx = (word _ refl, digits_word 15 device hx, (word _ refl, small 1 999999999 i (lit< tt) hi, (word _ refl, requester_word q hq, (word _ refl, service_word s, tt))))
+plain q i s (details.Agent agent name) hq hi hx = (word _ refl, digits_word 9 agent hx.0, (word _ refl, small 1 999999999 i (lit< tt) hi, (word _ refl, name_word name hx.1, (word _ refl, requester_word q hq, (word _ refl, service_word s, tt)))))
+plain q i s (details.Arrival caller called) hq hi hx = (word _ refl, digits_word 15 called hx.1, (word _ refl, digits_word 15 caller hx.0, (word _ refl, small 1 999999999 i (lit< tt) hi, (word _ refl, requester_word q hq, (word _ refl, service_word s, tt)))))
+plain q i s (details.Making device called) hq hi hx = (word _ refl, digits_word 15 called hx.1, (word _ refl, digits_word 15 device hx.0, (word _ refl, small 1 999999999 i (lit< tt) hi, (word _ refl, requester_word q hq, (word _ refl, service_word s, tt)))))
+plain q i s (details.Connection call device) hq hi hx = (word _ refl, small 1 1000000000 call (lit< tt) hx.0, (word _ refl, digits_word 15 device hx.1, (word _ refl, small 1 999999999 i (lit< tt) hi, (word _ refl, requester_word q hq, (word _ refl, service_word s, tt)))))
+plain q i s (details.Transfer call device to) hq hi hx = (word _ refl, small 1 1000000000 call (lit< tt) hx.0, (word _ refl, digits_word 15 device hx.1, (word _ refl, small 1 999999999 i (lit< tt) hi, (word _ refl, requester_word q hq, (word _ refl, service_word s, (word _ refl, digits_word 15 to hx.2, tt))))))
+plain q i s (details.State agent (requested.LoggedOn device groups)) hq hi hx = (word _ refl, digits_word 9 agent hx.0, (word _ refl, digits_word 15 device hx.1.0, plain_groups groups _ hx.1.2 (word _ refl, small 1 999999999 i (lit< tt) hi, (word _ refl, word _ refl, (word _ refl, requester_word q hq, (word _ refl, service_word s, tt))))))
+plain q i s (details.State agent (requested.State state)) hq hi hx = (word _ refl, digits_word 9 agent hx.0, (word _ refl, small 1 999999999 i (lit< tt) hi, (word _ refl, state_word state, (word _ refl, requester_word q hq, (word _ refl, service_word s, tt)))))
+plain q i s (details.Monitor monitor) hq hi hx = (word _ refl, small 1 999999999 i (lit< tt) hi, (word _ refl, small 1 1000000000 monitor (lit< tt) hx, (word _ refl, requester_word q hq, (word _ refl, service_word s, tt))))
+plain q i s (details.Priority device priority) hq hi hx = (word _ refl, digits_word 15 device hx.0, (word _ refl, small 1 999999999 i (lit< tt) hi, (word _ refl, small 0 9 priority (lit< tt) hx.1, (word _ refl, requester_word q hq, (word _ refl, service_word s, tt)))))
+plain q i s details.Nothing hq hi hx = (word _ refl, small 1 999999999 i (lit< tt) hi, (word _ refl, requester_word q hq, (word _ refl, service_word s, tt)))
 
 listed_again : (gs : List ℕ) → of_items (items_outline (items_of digits_data gs)) ≡ Some (items_of digits_data gs)
 listed_again [] = refl
 listed_again (g ∷ gs) = rw (listed_again gs) refl
 
 -- the keys are distinct and in order
-keyed : (q : List ℕ) (i : ℕ) (c : Command) → IsBetween 1 999999999 i → IsCommand c → of_json (outline (object (request_members q i c))) ≡ Some (object (request_members q i c))
-keyed q i (AddGroup device name ring wrap) hi hc = rw (number_of-decimal i (small 1 999999999 i (lit< tt) hi), number_of-decimal ring (small 0 3600 ring (lit< tt) hc.2), number_of-decimal wrap (small 0 3600 wrap (lit< tt) hc.3)) refl
-keyed q i (AddStation device) hi hc = rw (number_of-decimal i (small 1 999999999 i (lit< tt) hi)) refl
-keyed q i (AddAgent agent name) hi hc = rw (number_of-decimal i (small 1 999999999 i (lit< tt) hi)) refl
-keyed q i (ArriveCall caller called) hi hc = rw (number_of-decimal i (small 1 999999999 i (lit< tt) hi)) refl
-keyed q i (MakeCall device called) hi hc = rw (number_of-decimal i (small 1 999999999 i (lit< tt) hi)) refl
-keyed q i (PhoneOffHook call device) hi hc = rw (number_of-decimal i (small 1 999999999 i (lit< tt) hi), number_of-decimal call (small 1 1000000000 call (lit< tt) hc.0)) refl
-keyed q i (AnswerCall call device) hi hc = rw (number_of-decimal i (small 1 999999999 i (lit< tt) hi), number_of-decimal call (small 1 1000000000 call (lit< tt) hc.0)) refl
-keyed q i (HoldCall call device) hi hc = rw (number_of-decimal i (small 1 999999999 i (lit< tt) hi), number_of-decimal call (small 1 1000000000 call (lit< tt) hc.0)) refl
-keyed q i (RetrieveCall call device) hi hc = rw (number_of-decimal i (small 1 999999999 i (lit< tt) hi), number_of-decimal call (small 1 1000000000 call (lit< tt) hc.0)) refl
-keyed q i (ClearConnection call device) hi hc = rw (number_of-decimal i (small 1 999999999 i (lit< tt) hi), number_of-decimal call (small 1 1000000000 call (lit< tt) hc.0)) refl
-keyed q i (DeflectCall call device to) hi hc = rw (number_of-decimal i (small 1 999999999 i (lit< tt) hi), number_of-decimal call (small 1 1000000000 call (lit< tt) hc.0)) refl
-keyed q i (SingleStepTransfer call device to) hi hc = rw (number_of-decimal i (small 1 999999999 i (lit< tt) hi), number_of-decimal call (small 1 1000000000 call (lit< tt) hc.0)) refl
-keyed q i (SetAgentState agent (requested.LoggedOn device [])) hi hc = rw (number_of-decimal i (small 1 999999999 i (lit< tt) hi)) refl
-keyed q i (SetAgentState agent (requested.LoggedOn device (g ∷ []))) hi hc = rw (number_of-decimal i (small 1 999999999 i (lit< tt) hi)) refl
-keyed q i (SetAgentState agent (requested.LoggedOn device (g ∷ k ∷ gs))) hi hc = rw (number_of-decimal i (small 1 999999999 i (lit< tt) hi), listed_again gs) refl
-keyed q i (SetAgentState agent (requested.State state)) hi hc = rw (number_of-decimal i (small 1 999999999 i (lit< tt) hi)) refl
-keyed q i (MonitorStart device) hi hc = rw (number_of-decimal i (small 1 999999999 i (lit< tt) hi)) refl
-keyed q i (MonitorStop monitor) hi hc = rw (number_of-decimal i (small 1 999999999 i (lit< tt) hi), number_of-decimal monitor (small 1 1000000000 monitor (lit< tt) hc)) refl
-keyed q i (SetGroupPriority device priority) hi hc = rw (number_of-decimal i (small 1 999999999 i (lit< tt) hi), number_of-decimal priority (small 0 9 priority (lit< tt) hc.1)) refl
-keyed q i (RejectCall call device) hi hc = rw (number_of-decimal i (small 1 999999999 i (lit< tt) hi), number_of-decimal call (small 1 1000000000 call (lit< tt) hc.0)) refl
-keyed q i (ChangeGroup device name ring wrap) hi hc = rw (number_of-decimal i (small 1 999999999 i (lit< tt) hi), number_of-decimal ring (small 0 3600 ring (lit< tt) hc.2), number_of-decimal wrap (small 0 3600 wrap (lit< tt) hc.3)) refl
-keyed q i (ChangeAgent agent name) hi hc = rw (number_of-decimal i (small 1 999999999 i (lit< tt) hi)) refl
-keyed q i Tick hi hc = rw (number_of-decimal i (small 1 999999999 i (lit< tt) hi)) refl
+keyed : (q : List ℕ) (i : ℕ) (s : Service) (x : Details) → IsBetween 1 999999999 i → AreFormed x → of_json (outline (object (service_members (q, i) s x))) ≡ Some (object (service_members (q, i) s x))
+keyed q i s (details.Group device name ring wrap) hi hx = rw (number_of-decimal i (small 1 999999999 i (lit< tt) hi), number_of-decimal ring (small 0 3600 ring (lit< tt) hx.2), number_of-decimal wrap (small 0 3600 wrap (lit< tt) hx.3)) refl
+keyed q i s (details.Connection call device) hi hx = rw (number_of-decimal i (small 1 999999999 i (lit< tt) hi), number_of-decimal call (small 1 1000000000 call (lit< tt) hx.0)) refl
+keyed q i s (details.Transfer call device to) hi hx = rw (number_of-decimal i (small 1 999999999 i (lit< tt) hi), number_of-decimal call (small 1 1000000000 call (lit< tt) hx.0)) refl
+keyed q i s (details.State agent (requested.LoggedOn device (g ∷ k ∷ gs))) hi hx = rw (number_of-decimal i (small 1 999999999 i (lit< tt) hi), listed_again gs) refl
+keyed q i s (details.Monitor monitor) hi hx = rw (number_of-decimal i (small 1 999999999 i (lit< tt) hi), number_of-decimal monitor (small 1 1000000000 monitor (lit< tt) hx)) refl
+keyed q i s (details.Priority device priority) hi hx = rw (number_of-decimal i (small 1 999999999 i (lit< tt) hi), number_of-decimal priority (small 0 9 priority (lit< tt) hx.1)) refl
+keyed q i s x hi hx = rw (number_of-decimal i (small 1 999999999 i (lit< tt) hi)) refl
 
 flat : (gs : List ℕ) → tree.items_depth (items_outline (items_of digits_data gs)) ≡ 0
 flat [] = refl
 flat (g ∷ gs) = rw (flat gs) refl
 
-shallow : (q : List ℕ) (i : ℕ) (c : Command) → tree.depth (outline (object (request_members q i c))) ≤ max_depth
-shallow q i (AddGroup device name ring wrap) = lit≤ tt
-shallow q i (AddStation device) = lit≤ tt
-shallow q i (AddAgent agent name) = lit≤ tt
-shallow q i (ArriveCall caller called) = lit≤ tt
-shallow q i (MakeCall device called) = lit≤ tt
-shallow q i (PhoneOffHook call device) = lit≤ tt
-shallow q i (AnswerCall call device) = lit≤ tt
-shallow q i (HoldCall call device) = lit≤ tt
-shallow q i (RetrieveCall call device) = lit≤ tt
-shallow q i (ClearConnection call device) = lit≤ tt
-shallow q i (DeflectCall call device to) = lit≤ tt
-shallow q i (SingleStepTransfer call device to) = lit≤ tt
-shallow q i (SetAgentState agent (requested.LoggedOn device [])) = lit≤ tt
-shallow q i (SetAgentState agent (requested.LoggedOn device (g ∷ []))) = lit≤ tt
-shallow q i (SetAgentState agent (requested.LoggedOn device (g ∷ k ∷ gs))) = rw (flat gs) (lit≤ tt)
-shallow q i (SetAgentState agent (requested.State state)) = lit≤ tt
-shallow q i (MonitorStart device) = lit≤ tt
-shallow q i (MonitorStop monitor) = lit≤ tt
-shallow q i (SetGroupPriority device priority) = lit≤ tt
-shallow q i (RejectCall call device) = lit≤ tt
-shallow q i (ChangeGroup device name ring wrap) = lit≤ tt
-shallow q i (ChangeAgent agent name) = lit≤ tt
-shallow q i Tick = lit≤ tt
+shallow : (q : List ℕ) (i : ℕ) (s : Service) (x : Details) → tree.depth (outline (object (service_members (q, i) s x))) ≤ max_depth
+shallow q i s (details.State agent (requested.LoggedOn device (g ∷ k ∷ gs))) = rw (flat gs) (lit≤ tt)
+shallow q i s x = lit≤ tt
 
 state_again : (p : Pending) → requested_state_of (pending_name p) ≡ Some (requested_state.State p)
 state_again pending.LoggedOff = refl
@@ -158,43 +120,78 @@ groups_again : (d : Data) (gs : List ℕ) → list_in member.Groups d ≡ Some (
 unfolding groups_in
 groups_again d gs e choice h = rw (e, devices_again gs h, choice_again gs choice) refl
 
+service_again : (s : Service) → service_of (service_name s) ≡ Some s
+service_again service.AddGroup = refl
+service_again s = refl
+
+-- the command that a form makes of these members
+abbrev made : Form → Details → Option Command
+made (of_group make) (details.Group device name ring wrap) = Some (make device name ring wrap)
+made (of_agent make) (details.Agent agent name) = Some (make agent name)
+made (of_device make) (details.Device device) = Some (make device)
+made of_arrival (details.Arrival caller called) = Some (command.ArriveCall caller called)
+made of_making (details.Making device called) = Some (command.MakeCall device called)
+made (of_connection make) (details.Connection call device) = Some (make call device)
+made (of_transfer make) (details.Transfer call device to) = Some (make call device to)
+made of_state (details.State agent requested) = Some (command.SetAgentState agent requested)
+made of_monitor (details.Monitor monitor) = Some (command.MonitorStop monitor)
+made of_priority (details.Priority device priority) = Some (command.SetGroupPriority device priority)
+made of_nothing details.Nothing = Some command.Tick
+made f x = None
+
+made_again : (c : Command) → made (row (taken_apart c).0).1 (taken_apart c).1 ≡ Some c
+made_again command.Tick = refl
+made_again c = refl
+
+-- reading the members of a form
+form_again : (q : List ℕ) (i : ℕ) (s : Service) (f : Form) (x : Details) (c : Command) → AreFormed x → made f x ≡ Some c → form_in f (object (service_members (q, i) s x)) ≡ Ok c
+unfolding device_in agent_in name_in seconds_in serial_in requested_state_in group_in named_agent_in two_devices_in connection_in one_group_in chosen_in requested_in set_agent_state_in priority_in
+form_again q i s (of_group make) (details.Group device name ring wrap) c hx e = rw (id_again 15 device hx.0, text_again is_name_byte 40 name hx.1, number_again 0 3600 ring hx.2, number_again 0 3600 wrap hx.3) (cc (e))
+form_again q i s (of_device make) (details.Device device) c hx e = rw (id_again 15 device hx) (cc (e))
+form_again q i s (of_agent make) (details.Agent agent name) c hx e = rw (id_again 9 agent hx.0, text_again is_name_byte 40 name hx.1) (cc (e))
+form_again q i s of_arrival (details.Arrival caller called) c hx e = rw (id_again 15 caller hx.0, id_again 15 called hx.1) (cc (e))
+form_again q i s of_making (details.Making device called) c hx e = rw (id_again 15 device hx.0, id_again 15 called hx.1) (cc (e))
+form_again q i s (of_connection make) (details.Connection call device) c hx e = rw (number_again 1 1000000000 call hx.0, id_again 15 device hx.1) (cc (e))
+form_again q i s (of_transfer make) (details.Transfer call device to) c hx e = rw (number_again 1 1000000000 call hx.0, id_again 15 device hx.1, id_again 15 to hx.2) (cc (e))
+form_again q i s of_state (details.State agent (requested.LoggedOn device [])) c hx e = absurd (true≢false (sym hx.1.1))
+form_again q i s of_state (details.State agent (requested.LoggedOn device (g ∷ []))) c hx e = rw (id_again 9 agent hx.0, id_again 15 device hx.1.0, id_again 15 g hx.1.2.0) (cc (e))
+form_again q i s of_state (details.State agent (requested.LoggedOn device (g ∷ k ∷ gs))) c hx e =
+    let d = object (service_members (q, i) s (details.State agent (requested.LoggedOn device (g ∷ k ∷ gs)))) in
+    rw (id_again 9 agent hx.0, id_again 15 device hx.1.0, groups_again d (g ∷ k ∷ gs) refl hx.1.1 hx.1.2) (cc (e))
+form_again q i s of_state (details.State agent (requested.State state)) c hx e = rw (id_again 9 agent hx.0, state_again state) (cc (e))
+form_again q i s of_monitor (details.Monitor monitor) c hx e = rw (number_again 1 1000000000 monitor hx) (cc (e))
+form_again q i s of_priority (details.Priority device priority) c hx e = rw (id_again 15 device hx.0, number_again 0 9 priority hx.1) (cc (e))
+form_again q i s of_nothing details.Nothing c hx e = cc (e)
+form_again q i s f x c hx e = absurd (cc (e))
+
+-- the key and the service that are read of the value
+record IsKeyed (q : List ℕ) (i : ℕ) (s : Service) (d : Data) : Type 0 where
+  requester : requester_in d ≡ Ok q
+  invoke : invoke_in d ≡ Ok i
+  service : service_in d ≡ Ok s
+
+key_again : (q : List ℕ) (i : ℕ) (s : Service) (x : Details) → IsRequester q → IsBetween 1 999999999 i → IsKeyed q i s (object (service_members (q, i) s x))
+unfolding requester_in invoke_in service_in
+key_again q i s (details.State agent (requested.LoggedOn device (g ∷ k ∷ gs))) hq hi =
+    record { requester = rw (text_again is_requester_byte 32 q hq) refl; invoke = rw (number_again 1 999999999 i hi) refl; service = rw (service_again s) refl }
+key_again q i s x hq hi = record { requester = rw (text_again is_requester_byte 32 q hq) refl; invoke = rw (number_again 1 999999999 i hi) refl; service = rw (service_again s) refl }
+
 -- reading the members of the value
-taken : (q : List ℕ) (i : ℕ) (c : Command) → IsRequester q → IsBetween 1 999999999 i → IsCommand c → request_in (object (request_members q i c)) ≡ Ok (record { requester = q; invoke = i; command = c })
-unfolding request_in requester_in invoke_in service_in command_in device_in agent_in name_in seconds_in serial_in requested_state_in group_in named_agent_in two_devices_in connection_in one_group_in chosen_in requested_in set_agent_state_in priority_in set_group_priority_in
-taken q i (AddGroup device name ring wrap) hq hi hc = rw (text_again is_requester_byte 32 q hq, number_again 1 999999999 i hi, id_again 15 device hc.0, text_again is_name_byte 40 name hc.1, number_again 0 3600 ring hc.2, number_again 0 3600 wrap hc.3) refl
-taken q i (AddStation device) hq hi hc = rw (text_again is_requester_byte 32 q hq, number_again 1 999999999 i hi, id_again 15 device hc) refl
-taken q i (AddAgent agent name) hq hi hc = rw (text_again is_requester_byte 32 q hq, number_again 1 999999999 i hi, id_again 9 agent hc.0, text_again is_name_byte 40 name hc.1) refl
-taken q i (ArriveCall caller called) hq hi hc = rw (text_again is_requester_byte 32 q hq, number_again 1 999999999 i hi, id_again 15 caller hc.0, id_again 15 called hc.1) refl
-taken q i (MakeCall device called) hq hi hc = rw (text_again is_requester_byte 32 q hq, number_again 1 999999999 i hi, id_again 15 device hc.0, id_again 15 called hc.1) refl
-taken q i (PhoneOffHook call device) hq hi hc = rw (text_again is_requester_byte 32 q hq, number_again 1 999999999 i hi, number_again 1 1000000000 call hc.0, id_again 15 device hc.1) refl
-taken q i (AnswerCall call device) hq hi hc = rw (text_again is_requester_byte 32 q hq, number_again 1 999999999 i hi, number_again 1 1000000000 call hc.0, id_again 15 device hc.1) refl
-taken q i (HoldCall call device) hq hi hc = rw (text_again is_requester_byte 32 q hq, number_again 1 999999999 i hi, number_again 1 1000000000 call hc.0, id_again 15 device hc.1) refl
-taken q i (RetrieveCall call device) hq hi hc = rw (text_again is_requester_byte 32 q hq, number_again 1 999999999 i hi, number_again 1 1000000000 call hc.0, id_again 15 device hc.1) refl
-taken q i (ClearConnection call device) hq hi hc = rw (text_again is_requester_byte 32 q hq, number_again 1 999999999 i hi, number_again 1 1000000000 call hc.0, id_again 15 device hc.1) refl
-taken q i (DeflectCall call device to) hq hi hc = rw (text_again is_requester_byte 32 q hq, number_again 1 999999999 i hi, number_again 1 1000000000 call hc.0, id_again 15 device hc.1, id_again 15 to hc.2) refl
-taken q i (SingleStepTransfer call device to) hq hi hc = rw (text_again is_requester_byte 32 q hq, number_again 1 999999999 i hi, number_again 1 1000000000 call hc.0, id_again 15 device hc.1, id_again 15 to hc.2) refl
-taken q i (SetAgentState agent (requested.LoggedOn device [])) hq hi hc = absurd (true≢false (sym hc.1.1))
-taken q i (SetAgentState agent (requested.LoggedOn device (g ∷ []))) hq hi hc = rw (text_again is_requester_byte 32 q hq, number_again 1 999999999 i hi, id_again 9 agent hc.0, id_again 15 device hc.1.0, id_again 15 g hc.1.2.0) refl
-taken q i (SetAgentState agent (requested.LoggedOn device (g ∷ k ∷ gs))) hq hi hc =
-    let d = object (request_members q i (SetAgentState agent (requested.LoggedOn device (g ∷ k ∷ gs)))) in
-    rw (text_again is_requester_byte 32 q hq, number_again 1 999999999 i hi, id_again 9 agent hc.0, id_again 15 device hc.1.0, groups_again d (g ∷ k ∷ gs) refl hc.1.1 hc.1.2) refl
-taken q i (SetAgentState agent (requested.State state)) hq hi hc = rw (text_again is_requester_byte 32 q hq, number_again 1 999999999 i hi, id_again 9 agent hc.0, state_again state) refl
-taken q i (MonitorStart device) hq hi hc = rw (text_again is_requester_byte 32 q hq, number_again 1 999999999 i hi, id_again 15 device hc) refl
-taken q i (MonitorStop monitor) hq hi hc = rw (text_again is_requester_byte 32 q hq, number_again 1 999999999 i hi, number_again 1 1000000000 monitor hc) refl
-taken q i (SetGroupPriority device priority) hq hi hc = rw (text_again is_requester_byte 32 q hq, number_again 1 999999999 i hi, id_again 15 device hc.0, number_again 0 9 priority hc.1) refl
-taken q i (RejectCall call device) hq hi hc = rw (text_again is_requester_byte 32 q hq, number_again 1 999999999 i hi, number_again 1 1000000000 call hc.0, id_again 15 device hc.1) refl
-taken q i (ChangeGroup device name ring wrap) hq hi hc = rw (text_again is_requester_byte 32 q hq, number_again 1 999999999 i hi, id_again 15 device hc.0, text_again is_name_byte 40 name hc.1, number_again 0 3600 ring hc.2, number_again 0 3600 wrap hc.3) refl
-taken q i (ChangeAgent agent name) hq hi hc = rw (text_again is_requester_byte 32 q hq, number_again 1 999999999 i hi, id_again 9 agent hc.0, text_again is_name_byte 40 name hc.1) refl
-taken q i Tick hq hi hc = rw (text_again is_requester_byte 32 q hq, number_again 1 999999999 i hi) refl
+taken : (q : List ℕ) (i : ℕ) (s : Service) (d : Data) (c : Command) → IsKeyed q i s d → command_in s d ≡ Ok c → request_in d ≡ Ok (record { requester = q; invoke = i; command = c })
+unfolding request_in
+taken q i s d c k e = rw (k.requester, k.invoke, k.service, e) refl
 
 -- the text written for a request reads as it
 pub reads_back : (r : Request) → IsRequest r → reads_as (request_text r) ≡ Ok r
 unfolding request_data request_text
 reads_back r h =
+    let s = (taken_apart r.command).0 in
+    let x = (taken_apart r.command).1 in
     let d = request_data r in
-    let flat : IsPlain d = plain r.requester r.invoke r.command h.requester h.invoke h.command in
-    let again : read (compact_text d) ≡ Some d = read_plain d flat (shallow r.requester r.invoke r.command) (keyed r.requester r.invoke r.command h.invoke h.command) in
-    reads_object (compact_text d) d (utf8_text d flat) again refl ∙ taken r.requester r.invoke r.command h.requester h.invoke h.command
+    let flat : IsPlain d = plain r.requester r.invoke s x h.requester h.invoke h.command in
+    let again : read (compact_text d) ≡ Some d = read_plain d flat (shallow r.requester r.invoke s x) (keyed r.requester r.invoke s x h.invoke h.command) in
+    let command = form_again r.requester r.invoke s (row s).1 x r.command h.command (made_again r.command) in
+    reads_object (compact_text d) d (utf8_text d flat) again refl ∙ taken r.requester r.invoke s d r.command (key_again r.requester r.invoke s x h.requester h.invoke) command
 
 abbrev or_else : Request → Result Request Member → Request
 or_else d (Ok x) = x

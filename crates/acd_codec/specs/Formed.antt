@@ -7,7 +7,9 @@ use Rattle.acd_terms.specs.declared.command.Request.{Request}
 use Rattle.acd_terms.specs.declared.command.Requested.{Requested}
 use Rattle.acd_terms.specs.declared.command.Requested.TheVariants as requested
 use Rattle.acd_terms.specs.declared.command.Command.{Command}
-use Rattle.acd_terms.specs.declared.command.Command.TheVariants.{AddGroup, AddStation, AddAgent, ArriveCall, MakeCall, PhoneOffHook, AnswerCall, HoldCall, RetrieveCall, ClearConnection, DeflectCall, SingleStepTransfer, SetAgentState, MonitorStart, MonitorStop, Tick, SetGroupPriority, RejectCall, ChangeGroup, ChangeAgent}
+use Rattle.acd_codec.specs.declared.service.Details.{Details}
+use Rattle.acd_codec.specs.declared.service.Details.TheVariants.{Group, Agent, Device, Arrival, Making, Connection, Transfer, State, Monitor, Priority, Nothing}
+use Rattle.acd_codec.specs.Services.{taken_apart}
 
 abbrev pub IsDevice : ℕ → Type 0
 IsDevice n = IsNumberOf device_digits n
@@ -29,27 +31,21 @@ abbrev pub IsRequested : Requested → Type 0
 IsRequested (requested.LoggedOn device groups) = IsDevice device × (is_choice groups ≡ true) × Every IsDevice groups
 IsRequested (requested.State state) = Unit {0}
 
+abbrev pub AreFormed : Details → Type 0
+AreFormed (Group device name ring wrap) = IsDevice device × IsName name × IsSeconds ring × IsSeconds wrap
+AreFormed (Agent agent name) = IsAgent agent × IsName name
+AreFormed (Device device) = IsDevice device
+AreFormed (Arrival caller called) = IsDevice caller × IsDevice called
+AreFormed (Making device called) = IsDevice device × IsDevice called
+AreFormed (Connection call device) = IsSerial call × IsDevice device
+AreFormed (Transfer call device to) = IsSerial call × IsDevice device × IsDevice to
+AreFormed (State agent requested) = IsAgent agent × IsRequested requested
+AreFormed (Monitor monitor) = IsSerial monitor
+AreFormed (Priority device priority) = IsDevice device × IsPriority priority
+AreFormed Nothing = Unit {0}
+
 abbrev pub IsCommand : Command → Type 0
-IsCommand (AddGroup device name ring wrap) = IsDevice device × IsName name × IsSeconds ring × IsSeconds wrap
-IsCommand (AddStation device) = IsDevice device
-IsCommand (AddAgent agent name) = IsAgent agent × IsName name
-IsCommand (ArriveCall caller called) = IsDevice caller × IsDevice called
-IsCommand (MakeCall device called) = IsDevice device × IsDevice called
-IsCommand (PhoneOffHook call device) = IsSerial call × IsDevice device
-IsCommand (AnswerCall call device) = IsSerial call × IsDevice device
-IsCommand (HoldCall call device) = IsSerial call × IsDevice device
-IsCommand (RetrieveCall call device) = IsSerial call × IsDevice device
-IsCommand (ClearConnection call device) = IsSerial call × IsDevice device
-IsCommand (DeflectCall call device to) = IsSerial call × IsDevice device × IsDevice to
-IsCommand (SingleStepTransfer call device to) = IsSerial call × IsDevice device × IsDevice to
-IsCommand (SetAgentState agent requested) = IsAgent agent × IsRequested requested
-IsCommand (MonitorStart device) = IsDevice device
-IsCommand (MonitorStop monitor) = IsSerial monitor
-IsCommand Tick = Unit {0}
-IsCommand (SetGroupPriority device priority) = IsDevice device × IsPriority priority
-IsCommand (RejectCall call device) = IsSerial call × IsDevice device
-IsCommand (ChangeGroup device name ring wrap) = IsDevice device × IsName name × IsSeconds ring × IsSeconds wrap
-IsCommand (ChangeAgent agent name) = IsAgent agent × IsName name
+IsCommand c = AreFormed (taken_apart c).1
 
 -- each part is of its form
 pub record IsRequest (r : Request) : Type 0 where

@@ -12,27 +12,20 @@ use Rattle.acd_terms.specs.declared.command.Request.{Request}
 use Rattle.acd_terms.specs.declared.command.Requested.{Requested}
 use Rattle.acd_terms.specs.declared.command.Requested.TheVariants as requested
 use Rattle.acd_terms.specs.declared.command.Command.{Command}
-use Rattle.acd_terms.specs.declared.command.Command.TheVariants.{AddGroup, AddStation, AddAgent, ArriveCall, MakeCall, PhoneOffHook, AnswerCall, HoldCall, RetrieveCall, ClearConnection, DeflectCall, SingleStepTransfer, SetAgentState, MonitorStart, Tick}
+use Rattle.acd_terms.specs.declared.command.Command.TheVariants.{SetAgentState}
 use Rattle.acd_codec.specs.declared.member.Member.{Member}
 use Rattle.acd_codec.specs.declared.member.Member.TheVariants as member
 use Rattle.acd_codec.specs.declared.service.RequestedState.{RequestedState}
 use Rattle.acd_codec.specs.declared.service.RequestedState.TheVariants as requested_state
 use Rattle.acd_codec.specs.declared.service.Service.{Service}
 use Rattle.acd_codec.specs.declared.service.Service.TheVariants as service
-use Rattle.acd_codec.specs.Services.{service_name}
+use Rattle.acd_codec.specs.Services.{service_name, first_services}
 use Rattle.acd_codec.specs.MemberReading.{read_in, agent_in, requester_in, invoke_in, requested_state_in}
-use Rattle.acd_codec.specs.Reading.{two_devices_in, at_group, at_agent, at_device, at_devices, at_connection, to_device, monitor_stop_in, reads_as}
+use Rattle.acd_codec.specs.Reading.{two_devices_in, command_in, reads_as}
 
--- the sixteen services
-abbrev pub old_services : List Service
-old_services =
-    service.AddGroup ∷ service.AddStation ∷ service.AddAgent ∷ service.ArriveCall ∷ service.MakeCall
-    ∷ service.PhoneOffHook ∷ service.AnswerCall ∷ service.HoldCall ∷ service.RetrieveCall
-    ∷ service.ClearConnection ∷ service.DeflectCall ∷ service.SingleStepTransfer ∷ service.SetAgentState
-    ∷ service.MonitorStart ∷ service.MonitorStop ∷ service.Tick ∷ []
-
+-- one of the sixteen services
 abbrev pub old_service_of : List ℕ → Option Service
-old_service_of text = find (λ s. bytes_eq text (service_name s)) old_services
+old_service_of text = find (λ s. bytes_eq text (service_name s)) first_services
 
 unfoldable pub old_service_in : Data → Result Service Member
 old_service_in d = read_in old_service_of member.Service d
@@ -51,28 +44,10 @@ old_set_agent_state_in d = do
   requested ← old_requested_in d state
   Ok (SetAgentState agent requested)
 
--- no name of the later services could be read
+-- no name of the later services could be read, and the members of the others are read as they were
 unfoldable pub old_command_in : Service → Data → Result Command Member
-old_command_in service.AddGroup d = at_group AddGroup d
-old_command_in service.AddStation d = at_device AddStation d
-old_command_in service.AddAgent d = at_agent AddAgent d
-old_command_in service.ArriveCall d = at_devices ArriveCall member.Caller member.Called d
-old_command_in service.MakeCall d = at_devices MakeCall member.Device member.Called d
-old_command_in service.PhoneOffHook d = at_connection PhoneOffHook d
-old_command_in service.AnswerCall d = at_connection AnswerCall d
-old_command_in service.HoldCall d = at_connection HoldCall d
-old_command_in service.RetrieveCall d = at_connection RetrieveCall d
-old_command_in service.ClearConnection d = at_connection ClearConnection d
-old_command_in service.DeflectCall d = to_device DeflectCall d
-old_command_in service.SingleStepTransfer d = to_device SingleStepTransfer d
 old_command_in service.SetAgentState d = old_set_agent_state_in d
-old_command_in service.MonitorStart d = at_device MonitorStart d
-old_command_in service.MonitorStop d = monitor_stop_in d
-old_command_in service.Tick d = Ok Tick
-old_command_in service.SetGroupPriority d = Err member.Service
-old_command_in service.RejectCall d = Err member.Service
-old_command_in service.ChangeGroup d = Err member.Service
-old_command_in service.ChangeAgent d = Err member.Service
+old_command_in s d = command_in s d
 
 unfoldable pub old_request_in : Data → Result Request Member
 old_request_in d = do

@@ -10,7 +10,7 @@ use Rattle.acd_terms.specs.declared.command.Request.{Request}
 use Rattle.acd_terms.specs.declared.command.Requested.{Requested}
 use Rattle.acd_terms.specs.declared.command.Requested.TheVariants as requested
 use Rattle.acd_terms.specs.declared.command.Command.{Command}
-use Rattle.acd_terms.specs.declared.command.Command.TheVariants.{AddGroup, AddStation, AddAgent, ArriveCall, MakeCall, PhoneOffHook, AnswerCall, HoldCall, RetrieveCall, ClearConnection, DeflectCall, SingleStepTransfer, SetAgentState, MonitorStart, MonitorStop, Tick, SetGroupPriority, RejectCall, ChangeGroup, ChangeAgent}
+use Rattle.acd_terms.specs.declared.command.Command.TheVariants.{ArriveCall, MakeCall, SetAgentState, MonitorStop, Tick, SetGroupPriority}
 use Rattle.acd_codec.specs.declared.member.Member.{Member}
 use Rattle.acd_codec.specs.declared.member.Member.TheVariants as member
 use Rattle.acd_codec.specs.declared.fault.ReadFault.{ReadFault}
@@ -18,7 +18,7 @@ use Rattle.acd_codec.specs.declared.fault.ReadFault.TheVariants.{Malformed, NoMe
 use Rattle.acd_codec.specs.declared.service.RequestedState.{RequestedState}
 use Rattle.acd_codec.specs.declared.service.RequestedState.TheVariants as requested_state
 use Rattle.acd_codec.specs.declared.service.Service.{Service}
-use Rattle.acd_codec.specs.declared.service.Service.TheVariants as service
+use Rattle.acd_codec.specs.Services.{Form, of_group, of_agent, of_device, of_arrival, of_making, of_connection, of_transfer, of_state, of_monitor, of_priority, of_nothing, row}
 use Rattle.acd_codec.specs.MemberReading.{is_there, device_in, agent_in, name_in, requester_in, invoke_in, seconds_in, priority_in, serial_in, service_in, requested_state_in, groups_in}
 
 -- a group, its name, its ring and its wrap, the first faulty one first
@@ -29,12 +29,6 @@ group_in d = do
   ring ← seconds_in member.Ring d
   wrap ← seconds_in member.Wrap d
   Ok (device, name, ring, wrap)
-
--- a service that says of a group what a plan says of it
-abbrev pub at_group : (ℕ → List ℕ → ℕ → ℕ → Command) → Data → Result Command Member
-at_group make d = do
-  g ← group_in d
-  Ok (make g.0 g.1 g.2 g.3)
 
 -- two devices, the first member before the second
 unfoldable pub two_devices_in : Member → Member → Data → Result (ℕ × ℕ) Member
@@ -78,31 +72,6 @@ set_agent_state_in d = do
   requested ← requested_in d state
   Ok (SetAgentState agent requested)
 
--- a service on a connection
-abbrev pub at_connection : (ℕ → ℕ → Command) → Data → Result Command Member
-at_connection make d = do
-  c ← connection_in d
-  Ok (make c.0 c.1)
-
--- a service that gives a connection's call to another device
-abbrev pub to_device : (ℕ → ℕ → ℕ → Command) → Data → Result Command Member
-to_device make d = do
-  c ← connection_in d
-  to ← device_in member.To d
-  Ok (make c.0 c.1 to)
-
--- a service on two devices
-abbrev pub at_devices : (ℕ → ℕ → Command) → Member → Member → Data → Result Command Member
-at_devices make m n d = do
-  p ← two_devices_in m n d
-  Ok (make p.0 p.1)
-
--- a service on a device
-abbrev pub at_device : (ℕ → Command) → Data → Result Command Member
-at_device make d = do
-  device ← device_in member.Device d
-  Ok (make device)
-
 -- an agent, then a name
 unfoldable pub named_agent_in : Data → Result (ℕ × List ℕ) Member
 named_agent_in d = do
@@ -110,46 +79,43 @@ named_agent_in d = do
   name ← name_in d
   Ok (agent, name)
 
--- a service that says of an agent what a plan says of it
-abbrev pub at_agent : (ℕ → List ℕ → Command) → Data → Result Command Member
-at_agent make d = do
+-- the members of a form, in their order
+abbrev pub form_in : Form → Data → Result Command Member
+form_in (of_group make) d = do
+  g ← group_in d
+  Ok (make g.0 g.1 g.2 g.3)
+form_in (of_agent make) d = do
   a ← named_agent_in d
   Ok (make a.0 a.1)
-
-abbrev pub monitor_stop_in : Data → Result Command Member
-monitor_stop_in d = do
+form_in (of_device make) d = do
+  device ← device_in member.Device d
+  Ok (make device)
+form_in of_arrival d = do
+  p ← two_devices_in member.Caller member.Called d
+  Ok (ArriveCall p.0 p.1)
+form_in of_making d = do
+  p ← two_devices_in member.Device member.Called d
+  Ok (MakeCall p.0 p.1)
+form_in (of_connection make) d = do
+  c ← connection_in d
+  Ok (make c.0 c.1)
+form_in (of_transfer make) d = do
+  c ← connection_in d
+  to ← device_in member.To d
+  Ok (make c.0 c.1 to)
+form_in of_state d = set_agent_state_in d
+form_in of_monitor d = do
   monitor ← serial_in member.Monitor d
   Ok (MonitorStop monitor)
-
--- a group, then its priority
-unfoldable pub set_group_priority_in : Data → Result Command Member
-set_group_priority_in d = do
+form_in of_priority d = do
   device ← device_in member.Device d
   priority ← priority_in d
   Ok (SetGroupPriority device priority)
+form_in of_nothing d = Ok Tick
 
--- the members of a service, in their order
-unfoldable pub command_in : Service → Data → Result Command Member
-command_in service.AddGroup d = at_group AddGroup d
-command_in service.AddStation d = at_device AddStation d
-command_in service.AddAgent d = at_agent AddAgent d
-command_in service.ArriveCall d = at_devices ArriveCall member.Caller member.Called d
-command_in service.MakeCall d = at_devices MakeCall member.Device member.Called d
-command_in service.PhoneOffHook d = at_connection PhoneOffHook d
-command_in service.AnswerCall d = at_connection AnswerCall d
-command_in service.HoldCall d = at_connection HoldCall d
-command_in service.RetrieveCall d = at_connection RetrieveCall d
-command_in service.ClearConnection d = at_connection ClearConnection d
-command_in service.DeflectCall d = to_device DeflectCall d
-command_in service.SingleStepTransfer d = to_device SingleStepTransfer d
-command_in service.SetAgentState d = set_agent_state_in d
-command_in service.MonitorStart d = at_device MonitorStart d
-command_in service.MonitorStop d = monitor_stop_in d
-command_in service.Tick d = Ok Tick
-command_in service.SetGroupPriority d = set_group_priority_in d
-command_in service.RejectCall d = at_connection RejectCall d
-command_in service.ChangeGroup d = at_group ChangeGroup d
-command_in service.ChangeAgent d = at_agent ChangeAgent d
+-- those of a service
+abbrev pub command_in : Service → Data → Result Command Member
+command_in s d = form_in (row s).1 d
 
 -- the key, then the service, then its members; all other members are ignored
 unfoldable pub request_in : Data → Result Request Member

@@ -2,11 +2,12 @@
 
 ghost use Rattle.std.specs.Prelude.{◌≡◌, ◌↔◌, Ok};
 ghost use Rattle.acd_terms.specs.Lists.{Every};
-ghost use Rattle.acd_codec.specs.Formed.{IsSerial, IsDevice, IsRequested, IsCommand, IsRequest};
+ghost use Rattle.acd_codec.specs.Formed.{IsSerial, IsDevice, IsRequested, AreFormed, IsCommand, IsRequest};
 ghost use Rattle.acd_codec.specs.Reading.{reads_as};
 ghost use Rattle.acd_codec.specs.OldReading.{OldReadsTheSame};
 ghost use Rattle.acd_codec.specs.RequestTexts.{request_text};
 
+use crate::service::{Details, taken_apart};
 use acd_terms::{Command, DeviceId, Request, Requested, Serial};
 
 fn connection_formed(call: &Serial, device: &DeviceId)
@@ -34,17 +35,11 @@ fn requested_formed(requested: &Requested)
     }
 }
 
-fn command_formed(command: &Command)
-    ensures { IsCommand command.now }
+fn details_formed(details: &Details)
+    ensures { AreFormed details.now }
 {
-    match command {
-        Command::AddGroup {
-            device,
-            name,
-            ring,
-            wrap,
-        }
-        | Command::ChangeGroup {
+    match details {
+        Details::Group {
             device,
             name,
             ring,
@@ -55,45 +50,46 @@ fn command_formed(command: &Command)
             ring.number();
             wrap.number();
         }
-        Command::AddStation { device } | Command::MonitorStart { device } => {
-            device.number();
-        }
-        Command::AddAgent { agent, name } | Command::ChangeAgent { agent, name } => {
+        Details::Agent { agent, name } => {
             agent.number();
             name.as_str();
         }
-        Command::ArriveCall {
+        Details::Device { device } => {
+            device.number();
+        }
+        Details::Arrival {
             caller: device,
             called,
         }
-        | Command::MakeCall { device, called } => {
+        | Details::Making { device, called } => {
             device.number();
             called.number();
         }
-        Command::PhoneOffHook { call, device }
-        | Command::AnswerCall { call, device }
-        | Command::HoldCall { call, device }
-        | Command::RetrieveCall { call, device }
-        | Command::ClearConnection { call, device }
-        | Command::RejectCall { call, device } => connection_formed(call, device),
-        Command::DeflectCall { call, device, to }
-        | Command::SingleStepTransfer { call, device, to } => {
+        Details::Connection { call, device } => connection_formed(call, device),
+        Details::Transfer { call, device, to } => {
             connection_formed(call, device);
             to.number();
         }
-        Command::SetAgentState { agent, requested } => {
+        Details::State { agent, requested } => {
             agent.number();
             requested_formed(requested);
         }
-        Command::MonitorStop { monitor } => {
+        Details::Monitor { monitor } => {
             monitor.number();
         }
-        Command::Tick => {}
-        Command::SetGroupPriority { device, priority } => {
+        Details::Priority { device, priority } => {
             device.number();
             priority.number();
         }
+        Details::Nothing => {}
     }
+}
+
+fn command_formed(command: &Command)
+    ensures { IsCommand command.now }
+{
+    let (_, details) = taken_apart(command);
+    details_formed(&details);
 }
 
 /// Each part of a request is of its form.

@@ -1,12 +1,13 @@
 //! Requests out of JSON.
 
-ghost use Rattle.std.specs.Prelude.{◌≡◌, [], Some, option_and_then, IfOk};
+ghost use Rattle.std.specs.Prelude.{◌≡◌, [], Some, Ok, option_and_then, IfOk};
 ghost use Rattle.std.specs.Str.{bytes_eq};
 ghost use Rattle.serde_json.specs.Find.{as_str};
 ghost use Rattle.acd_terms.specs.Groups.{with_all};
 ghost use Rattle.acd_codec.specs.Documents.{data_of, value_data};
 ghost use Rattle.acd_codec.specs.MemberReading.{device_of, device_in, agent_in, name_in, requester_in, invoke_in, seconds_in, priority_in, serial_in, service_in, requested_state_in, choice_of, groups_in, devices_named};
-ghost use Rattle.acd_codec.specs.Reading.{Gives, at_group, at_agent, at_connection, at_device, at_devices, to_device, group_in, named_agent_in, monitor_stop_in, two_devices_in, connection_in, one_group_in, chosen_in, requested_in, set_agent_state_in, set_group_priority_in, command_in, request_in, request_from, reads_as};
+ghost use Rattle.acd_codec.specs.Services.{of_group, of_agent, of_device, of_arrival, of_making, of_connection, of_transfer, of_monitor, of_priority};
+ghost use Rattle.acd_codec.specs.Reading.{Gives, form_in, group_in, named_agent_in, two_devices_in, connection_in, one_group_in, chosen_in, requested_in, set_agent_state_in, command_in, request_in, request_from, reads_as};
 ghost use Rattle.acd_codec.specs.RequestTexts.{request_text};
 ghost use Rattle.acd_codec.specs.KeptTexts.{request_of_text};
 
@@ -16,7 +17,7 @@ use crate::guess::guessed;
 use crate::laws::reads_back;
 use crate::member::Member;
 use crate::requests::request_bytes;
-use crate::service::{RequestedState, Service};
+use crate::service::{RequestedState, Service, services};
 use acd_terms::{
     AgentId, Command, DeviceId, Groups, Invoke, Name, Priority, Request, Requested, Requester,
     Seconds, Serial, SomeGroups,
@@ -181,7 +182,7 @@ fn group_in(document: &Document<'_>) -> Result<(DeviceId, Name, Seconds, Seconds
 }
 
 fn add_group_in(document: &Document<'_>) -> Result<Command, Member>
-    ensures { result ≡ at_group Command.AddGroup (data_of document.now) }
+    ensures { result ≡ form_in (of_group Command.AddGroup) (data_of document.now) }
 {
     let (device, name, ring, wrap) = group_in(document)?;
     Ok(Command::AddGroup {
@@ -193,7 +194,7 @@ fn add_group_in(document: &Document<'_>) -> Result<Command, Member>
 }
 
 fn change_group_in(document: &Document<'_>) -> Result<Command, Member>
-    ensures { result ≡ at_group Command.ChangeGroup (data_of document.now) }
+    ensures { result ≡ form_in (of_group Command.ChangeGroup) (data_of document.now) }
 {
     let (device, name, ring, wrap) = group_in(document)?;
     Ok(Command::ChangeGroup {
@@ -215,14 +216,14 @@ fn named_agent_in(document: &Document<'_>) -> Result<(AgentId, Name), Member>
 }
 
 fn add_agent_in(document: &Document<'_>) -> Result<Command, Member>
-    ensures { result ≡ at_agent Command.AddAgent (data_of document.now) }
+    ensures { result ≡ form_in (of_agent Command.AddAgent) (data_of document.now) }
 {
     let (agent, name) = named_agent_in(document)?;
     Ok(Command::AddAgent { agent, name })
 }
 
 fn change_agent_in(document: &Document<'_>) -> Result<Command, Member>
-    ensures { result ≡ at_agent Command.ChangeAgent (data_of document.now) }
+    ensures { result ≡ form_in (of_agent Command.ChangeAgent) (data_of document.now) }
 {
     let (agent, name) = named_agent_in(document)?;
     Ok(Command::ChangeAgent { agent, name })
@@ -299,72 +300,70 @@ fn set_agent_state_in(document: &Document<'_>) -> Result<Command, Member>
 }
 
 fn add_station_in(document: &Document<'_>) -> Result<Command, Member>
-    ensures { result ≡ at_device Command.AddStation (data_of document.now) }
+    ensures { result ≡ form_in (of_device Command.AddStation) (data_of document.now) }
 {
     let device = device_in(document, Member::Device)?;
     Ok(Command::AddStation { device })
 }
 
 fn arrive_call_in(document: &Document<'_>) -> Result<Command, Member>
-    ensures { result ≡ at_devices Command.ArriveCall Member.Caller Member.Called
-        (data_of document.now) }
+    ensures { result ≡ form_in of_arrival (data_of document.now) }
 {
     let (caller, called) = two_devices_in(document, Member::Caller, Member::Called)?;
     Ok(Command::ArriveCall { caller, called })
 }
 
 fn make_call_in(document: &Document<'_>) -> Result<Command, Member>
-    ensures { result ≡ at_devices Command.MakeCall Member.Device Member.Called
-        (data_of document.now) }
+    ensures { result ≡ form_in of_making (data_of document.now) }
 {
     let (device, called) = two_devices_in(document, Member::Device, Member::Called)?;
     Ok(Command::MakeCall { device, called })
 }
 
 fn phone_off_hook_in(document: &Document<'_>) -> Result<Command, Member>
-    ensures { result ≡ at_connection Command.PhoneOffHook (data_of document.now) }
+    ensures { result ≡ form_in (of_connection Command.PhoneOffHook) (data_of document.now) }
 {
     let (call, device) = connection_in(document)?;
     Ok(Command::PhoneOffHook { call, device })
 }
 
 fn answer_call_in(document: &Document<'_>) -> Result<Command, Member>
-    ensures { result ≡ at_connection Command.AnswerCall (data_of document.now) }
+    ensures { result ≡ form_in (of_connection Command.AnswerCall) (data_of document.now) }
 {
     let (call, device) = connection_in(document)?;
     Ok(Command::AnswerCall { call, device })
 }
 
 fn hold_call_in(document: &Document<'_>) -> Result<Command, Member>
-    ensures { result ≡ at_connection Command.HoldCall (data_of document.now) }
+    ensures { result ≡ form_in (of_connection Command.HoldCall) (data_of document.now) }
 {
     let (call, device) = connection_in(document)?;
     Ok(Command::HoldCall { call, device })
 }
 
 fn retrieve_call_in(document: &Document<'_>) -> Result<Command, Member>
-    ensures { result ≡ at_connection Command.RetrieveCall (data_of document.now) }
+    ensures { result ≡ form_in (of_connection Command.RetrieveCall) (data_of document.now) }
 {
     let (call, device) = connection_in(document)?;
     Ok(Command::RetrieveCall { call, device })
 }
 
 fn clear_connection_in(document: &Document<'_>) -> Result<Command, Member>
-    ensures { result ≡ at_connection Command.ClearConnection (data_of document.now) }
+    ensures { result ≡ form_in (of_connection Command.ClearConnection) (data_of document.now) }
 {
     let (call, device) = connection_in(document)?;
     Ok(Command::ClearConnection { call, device })
 }
 
 fn reject_call_in(document: &Document<'_>) -> Result<Command, Member>
-    ensures { result ≡ at_connection Command.RejectCall (data_of document.now) }
+    ensures { result ≡ form_in (of_connection Command.RejectCall) (data_of document.now) }
 {
     let (call, device) = connection_in(document)?;
     Ok(Command::RejectCall { call, device })
 }
 
 fn deflect_call_in(document: &Document<'_>) -> Result<Command, Member>
-    ensures { result ≡ to_device Command.DeflectCall (data_of document.now) }
+    ensures { result ≡ form_in (of_transfer Command.DeflectCall) (data_of document.now) }
 {
     let (call, device) = connection_in(document)?;
     let to = device_in(document, Member::To)?;
@@ -372,7 +371,7 @@ fn deflect_call_in(document: &Document<'_>) -> Result<Command, Member>
 }
 
 fn single_step_transfer_in(document: &Document<'_>) -> Result<Command, Member>
-    ensures { result ≡ to_device Command.SingleStepTransfer (data_of document.now) }
+    ensures { result ≡ form_in (of_transfer Command.SingleStepTransfer) (data_of document.now) }
 {
     let (call, device) = connection_in(document)?;
     let to = device_in(document, Member::To)?;
@@ -380,55 +379,46 @@ fn single_step_transfer_in(document: &Document<'_>) -> Result<Command, Member>
 }
 
 fn monitor_start_in(document: &Document<'_>) -> Result<Command, Member>
-    ensures { result ≡ at_device Command.MonitorStart (data_of document.now) }
+    ensures { result ≡ form_in (of_device Command.MonitorStart) (data_of document.now) }
 {
     let device = device_in(document, Member::Device)?;
     Ok(Command::MonitorStart { device })
 }
 
 fn monitor_stop_in(document: &Document<'_>) -> Result<Command, Member>
-    ensures { result ≡ monitor_stop_in (data_of document.now) }
+    ensures { result ≡ form_in of_monitor (data_of document.now) }
 {
     let monitor = serial_in(document, Member::Monitor)?;
     Ok(Command::MonitorStop { monitor })
 }
 
-#[tactic(auto, unfolding(crate::specs::Reading::set_group_priority_in))]
 fn set_group_priority_in(document: &Document<'_>) -> Result<Command, Member>
-    ensures { result ≡ set_group_priority_in (data_of document.now) }
+    ensures { result ≡ form_in of_priority (data_of document.now) }
 {
     let device = device_in(document, Member::Device)?;
     let priority = priority_in(document)?;
     Ok(Command::SetGroupPriority { device, priority })
 }
 
+fn tick_in(_document: &Document<'_>) -> Result<Command, Member>
+    ensures { result ≡ Ok Command.Tick }
+{
+    Ok(Command::Tick)
+}
+
+macro_rules! read {
+    ($of:ident, $document:ident, $($service:ident $name:literal $read:ident $details:ident $fields:tt),*) => {
+        match $of {
+            $(Service::$service => $read($document),)*
+        }
+    };
+}
+
 // The members of a service, in their order.
-#[tactic(auto, unfolding(crate::specs::Reading::command_in))]
 fn command_in(service: Service, document: &Document<'_>) -> Result<Command, Member>
     ensures { result ≡ command_in service (data_of document.now) }
 {
-    match service {
-        Service::AddGroup => add_group_in(document),
-        Service::AddStation => add_station_in(document),
-        Service::AddAgent => add_agent_in(document),
-        Service::ArriveCall => arrive_call_in(document),
-        Service::MakeCall => make_call_in(document),
-        Service::PhoneOffHook => phone_off_hook_in(document),
-        Service::AnswerCall => answer_call_in(document),
-        Service::HoldCall => hold_call_in(document),
-        Service::RetrieveCall => retrieve_call_in(document),
-        Service::ClearConnection => clear_connection_in(document),
-        Service::DeflectCall => deflect_call_in(document),
-        Service::SingleStepTransfer => single_step_transfer_in(document),
-        Service::SetAgentState => set_agent_state_in(document),
-        Service::MonitorStart => monitor_start_in(document),
-        Service::MonitorStop => monitor_stop_in(document),
-        Service::Tick => Ok(Command::Tick),
-        Service::SetGroupPriority => set_group_priority_in(document),
-        Service::RejectCall => reject_call_in(document),
-        Service::ChangeGroup => change_group_in(document),
-        Service::ChangeAgent => change_agent_in(document),
-    }
+    services!(read, service, document)
 }
 
 #[tactic(auto, unfolding(crate::specs::Reading::request_in))]

@@ -3,15 +3,15 @@
 ghost use Rattle.std.specs.Prelude.{◌≡◌, codes, IfOk, string_bytes};
 ghost use Rattle.serde_json.specs.Data.{string, no_members};
 ghost use Rattle.acd_codec.specs.Services.{service_name};
-ghost use Rattle.acd_codec.specs.RequestTexts.{named, asked, at_group, at_agent, arrive_call, make_call, at_device, at_connection, to_device, set_agent_state, set_group_priority, monitor_stop, sent, request_text, members_of, whose};
+ghost use Rattle.acd_codec.specs.RequestTexts.{named, asked, sent, service_members, request_text, members_of, whose};
 ghost use Rattle.acd_codec.specs.Tokens.{AddsMembers, AddsMember};
 
-use crate::service::{RequestedState, Service};
+use crate::service::{Details, RequestedState, Service, taken_apart};
 use crate::writing::{
     begun, begun_in, ended, ended_bytes, put_agent, put_device, put_groups, put_invoke,
     put_priority, put_requester, put_seconds, put_serial, put_text, put_whom,
 };
-use acd_terms::{AgentId, Command, DeviceId, Name, Priority, Request, Requested, Seconds, Serial};
+use acd_terms::{AgentId, DeviceId, Name, Priority, Request, Requested, Seconds, Serial};
 use json::Writer;
 use std::alloc::{AllocError, Global};
 
@@ -52,7 +52,7 @@ fn put_at_group(
     wrap: Seconds,
 ) -> Result<(), AllocError>
     ensures { AddsMembers result out.old out.new
-        (at_group (whose request.now) service device name.now (ring, wrap)) }
+        (service_members (whose request.now) service (Details.Group device name.now ring wrap)) }
 {
     put_device(out, "device", Some(device))?;
     put_named(out, request, name)?;
@@ -69,7 +69,7 @@ fn put_at_agent(
     name: &Name,
 ) -> Result<(), AllocError>
     ensures { AddsMembers result out.old out.new
-        (at_agent (whose request.now) service agent name.now) }
+        (service_members (whose request.now) service (Details.Agent agent name.now)) }
 {
     put_agent(out, "agent", Some(agent))?;
     put_named(out, request, name)?;
@@ -82,7 +82,8 @@ fn put_at_device(
     service: Service,
     device: DeviceId,
 ) -> Result<(), AllocError>
-    ensures { AddsMembers result out.old out.new (at_device (whose request.now) service device) }
+    ensures { AddsMembers result out.old out.new
+        (service_members (whose request.now) service (Details.Device device)) }
 {
     put_device(out, "device", Some(device))?;
     put_sent(out, request, service)
@@ -96,7 +97,7 @@ fn put_at_connection(
     device: DeviceId,
 ) -> Result<(), AllocError>
     ensures { AddsMembers result out.old out.new
-        (at_connection (whose request.now) service call device) }
+        (service_members (whose request.now) service (Details.Connection call device)) }
 {
     put_serial(out, "call", call)?;
     put_at_device(out, request, service, device)
@@ -111,7 +112,7 @@ fn put_to_device(
     to: DeviceId,
 ) -> Result<(), AllocError>
     ensures { AddsMembers result out.old out.new
-        (to_device (whose request.now) service call device to) }
+        (service_members (whose request.now) service (Details.Transfer call device to)) }
 {
     put_at_connection(out, request, service, call, device)?;
     put_device(out, "to", Some(to))
@@ -120,129 +121,147 @@ fn put_to_device(
 fn put_arrive_call(
     out: &mut Writer,
     request: &Request,
+    service: Service,
     caller: DeviceId,
     called: DeviceId,
 ) -> Result<(), AllocError>
-    ensures { AddsMembers result out.old out.new (arrive_call (whose request.now) caller called) }
+    ensures { AddsMembers result out.old out.new
+        (service_members (whose request.now) service (Details.Arrival caller called)) }
 {
     put_device(out, "called", Some(called))?;
     put_device(out, "caller", Some(caller))?;
-    put_sent(out, request, Service::ArriveCall)
+    put_sent(out, request, service)
 }
 
 fn put_make_call(
     out: &mut Writer,
     request: &Request,
+    service: Service,
     device: DeviceId,
     called: DeviceId,
 ) -> Result<(), AllocError>
-    ensures { AddsMembers result out.old out.new (make_call (whose request.now) device called) }
+    ensures { AddsMembers result out.old out.new
+        (service_members (whose request.now) service (Details.Making device called)) }
 {
     put_device(out, "called", Some(called))?;
-    put_at_device(out, request, Service::MakeCall, device)
+    put_at_device(out, request, service, device)
 }
 
 // Writes whose request it is, what the agent is asked for between, and the service.
-fn put_asked(out: &mut Writer, request: &Request, state: RequestedState) -> Result<(), AllocError>
-    ensures { AddsMembers result out.old out.new (asked (whose request.now) state) }
+fn put_asked(
+    out: &mut Writer,
+    request: &Request,
+    service: Service,
+    state: RequestedState,
+) -> Result<(), AllocError>
+    ensures { AddsMembers result out.old out.new (asked (whose request.now) service state) }
 {
     put_invoke(out, request.invoke)?;
     put_text(out, "requested", state.name())?;
     put_requester(out, &request.requester)?;
-    put_service(out, Service::SetAgentState)
+    put_service(out, service)
 }
 
 fn put_set_agent_state(
     out: &mut Writer,
     request: &Request,
+    service: Service,
     agent: AgentId,
     requested: Requested,
 ) -> Result<(), AllocError>
     ensures { AddsMembers result out.old out.new
-        (set_agent_state (whose request.now) agent requested) }
+        (service_members (whose request.now) service (Details.State agent requested)) }
 {
     put_agent(out, "agent", Some(agent))?;
     match requested {
         Requested::LoggedOn { device, groups } => {
             put_device(out, "device", Some(device))?;
             put_groups(out, &groups.groups())?;
-            put_asked(out, request, RequestedState::LoggedOn)
+            put_asked(out, request, service, RequestedState::LoggedOn)
         }
-        Requested::State(state) => put_asked(out, request, RequestedState::State(state)),
+        Requested::State(state) => put_asked(out, request, service, RequestedState::State(state)),
     }
 }
 
-fn put_monitor_stop(out: &mut Writer, request: &Request, monitor: Serial) -> Result<(), AllocError>
-    ensures { AddsMembers result out.old out.new (monitor_stop (whose request.now) monitor) }
+fn put_monitor_stop(
+    out: &mut Writer,
+    request: &Request,
+    service: Service,
+    monitor: Serial,
+) -> Result<(), AllocError>
+    ensures { AddsMembers result out.old out.new
+        (service_members (whose request.now) service (Details.Monitor monitor)) }
 {
     put_invoke(out, request.invoke)?;
     put_serial(out, "monitor", monitor)?;
     put_requester(out, &request.requester)?;
-    put_service(out, Service::MonitorStop)
+    put_service(out, service)
 }
 
 fn put_set_group_priority(
     out: &mut Writer,
     request: &Request,
+    service: Service,
     device: DeviceId,
     priority: Priority,
 ) -> Result<(), AllocError>
     ensures { AddsMembers result out.old out.new
-        (set_group_priority (whose request.now) device priority) }
+        (service_members (whose request.now) service (Details.Priority device priority)) }
 {
     put_device(out, "device", Some(device))?;
     put_invoke(out, request.invoke)?;
     put_priority(out, priority)?;
     put_requester(out, &request.requester)?;
-    put_service(out, Service::SetGroupPriority)
+    put_service(out, service)
 }
 
-fn put_request(out: &mut Writer, request: &Request) -> Result<(), AllocError>
-    ensures { AddsMembers result out.old out.new (members_of request.now) }
+// Writes the key, the service and its members.
+fn put_members(
+    out: &mut Writer,
+    request: &Request,
+    service: Service,
+    details: &Details,
+) -> Result<(), AllocError>
+    ensures { AddsMembers result out.old out.new
+        (service_members (whose request.now) service details.now) }
 {
-    let service = Service::of(&request.command);
-    match &request.command {
-        Command::AddGroup {
-            device,
-            name,
-            ring,
-            wrap,
-        }
-        | Command::ChangeGroup {
+    match details {
+        Details::Group {
             device,
             name,
             ring,
             wrap,
         } => put_at_group(out, request, service, *device, name, *ring, *wrap),
-        Command::AddAgent { agent, name } | Command::ChangeAgent { agent, name } => {
-            put_at_agent(out, request, service, *agent, name)
+        Details::Agent { agent, name } => put_at_agent(out, request, service, *agent, name),
+        Details::Device { device } => put_at_device(out, request, service, *device),
+        Details::Arrival { caller, called } => {
+            put_arrive_call(out, request, service, *caller, *called)
         }
-        Command::AddStation { device } | Command::MonitorStart { device } => {
-            put_at_device(out, request, service, *device)
+        Details::Making { device, called } => {
+            put_make_call(out, request, service, *device, *called)
         }
-        Command::ArriveCall { caller, called } => put_arrive_call(out, request, *caller, *called),
-        Command::MakeCall { device, called } => put_make_call(out, request, *device, *called),
-        Command::PhoneOffHook { call, device }
-        | Command::AnswerCall { call, device }
-        | Command::HoldCall { call, device }
-        | Command::RetrieveCall { call, device }
-        | Command::ClearConnection { call, device }
-        | Command::RejectCall { call, device } => {
+        Details::Connection { call, device } => {
             put_at_connection(out, request, service, *call, *device)
         }
-        Command::DeflectCall { call, device, to }
-        | Command::SingleStepTransfer { call, device, to } => {
+        Details::Transfer { call, device, to } => {
             put_to_device(out, request, service, *call, *device, *to)
         }
-        Command::SetAgentState { agent, requested } => {
-            put_set_agent_state(out, request, *agent, *requested)
+        Details::State { agent, requested } => {
+            put_set_agent_state(out, request, service, *agent, *requested)
         }
-        Command::MonitorStop { monitor } => put_monitor_stop(out, request, *monitor),
-        Command::Tick => put_sent(out, request, service),
-        Command::SetGroupPriority { device, priority } => {
-            put_set_group_priority(out, request, *device, *priority)
+        Details::Monitor { monitor } => put_monitor_stop(out, request, service, *monitor),
+        Details::Priority { device, priority } => {
+            put_set_group_priority(out, request, service, *device, *priority)
         }
+        Details::Nothing => put_sent(out, request, service),
     }
+}
+
+fn put_request(out: &mut Writer, request: &Request) -> Result<(), AllocError>
+    ensures { AddsMembers result out.old out.new (members_of request.now) }
+{
+    let (service, details) = taken_apart(&request.command);
+    put_members(out, request, service, &details)
 }
 
 /// Writes the one text of a request into a buffer, in place of what it holds.

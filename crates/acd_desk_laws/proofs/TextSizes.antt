@@ -22,22 +22,22 @@ use Rattle.acd_terms.specs.declared.answer.Outcome.{Outcome}
 use Rattle.acd_terms.specs.declared.answer.Outcome.TheVariants.{Done, Refused}
 use Rattle.acd_terms.specs.declared.answer.Refusal.{Refusal}
 use Rattle.acd_terms.specs.declared.answer.Refusal.TheVariants as refusal
-use Rattle.acd_terms.specs.declared.command.Command.{Command}
-use Rattle.acd_terms.specs.declared.command.Command.TheVariants.{AddGroup, AddStation, AddAgent, ArriveCall, MakeCall, PhoneOffHook, AnswerCall, HoldCall, RetrieveCall, ClearConnection, DeflectCall, SingleStepTransfer, SetAgentState, MonitorStart, MonitorStop, Tick, SetGroupPriority, RejectCall, ChangeGroup, ChangeAgent}
 use Rattle.acd_terms.specs.declared.command.Request.{Request}
 use Rattle.acd_terms.specs.declared.command.Requested.{Requested}
 use Rattle.acd_terms.specs.declared.command.Requested.TheVariants as requested
 use Rattle.acd_codec.specs.declared.member.Member.{Member}
 use Rattle.acd_codec.specs.declared.member.Member.TheVariants as m
+use Rattle.acd_codec.specs.declared.service.Details.{Details}
+use Rattle.acd_codec.specs.declared.service.Details.TheVariants as details
 use Rattle.acd_codec.specs.declared.service.RequestedState.{RequestedState}
 use Rattle.acd_codec.specs.declared.service.RequestedState.TheVariants as requested_state
 use Rattle.acd_codec.specs.declared.service.Service.{Service}
 use Rattle.acd_codec.specs.declared.service.Service.TheVariants as service
-use Rattle.acd_codec.specs.Formed.{IsDevice, IsAgent, IsSeconds, IsPriority, IsSerial, IsRequested, IsCommand, IsRequest}
+use Rattle.acd_codec.specs.Formed.{IsDevice, IsAgent, IsSeconds, IsPriority, IsSerial, IsRequested, AreFormed, IsRequest}
 use Rattle.acd_codec.specs.Members.{member_name}
 use Rattle.acd_codec.specs.Parts.{items_of, digits_data, groups_parts, written_before}
-use Rattle.acd_codec.specs.Services.{service_name, requested_state_name}
-use Rattle.acd_codec.specs.RequestTexts.{text, whole, digits, sent, named, at_group, at_agent, at_device, at_connection, to_device, asked, set_agent_state, request_members, request_data, request_text}
+use Rattle.acd_codec.specs.Services.{service_name, taken_apart, requested_state_name}
+use Rattle.acd_codec.specs.RequestTexts.{text, whole, digits, sent, named, asked, service_members, request_data, request_text}
 use Rattle.acd_codec.specs.ReplyTexts.{to_whom, reply_data, reply_text}
 use Rattle.acd_desk_laws.specs.PageSizes.{IsOutcome}
 
@@ -243,25 +243,7 @@ groups_key = leb-true _ 11 refl
 service_short : (s : Service) → length (quoted (service_name s)) ≤ 20
 unfolding escape_byte
 service_short service.AddGroup = leb-true _ 20 refl
-service_short service.AddStation = leb-true _ 20 refl
-service_short service.AddAgent = leb-true _ 20 refl
-service_short service.ArriveCall = leb-true _ 20 refl
-service_short service.MakeCall = leb-true _ 20 refl
-service_short service.PhoneOffHook = leb-true _ 20 refl
-service_short service.AnswerCall = leb-true _ 20 refl
-service_short service.HoldCall = leb-true _ 20 refl
-service_short service.RetrieveCall = leb-true _ 20 refl
-service_short service.ClearConnection = leb-true _ 20 refl
-service_short service.DeflectCall = leb-true _ 20 refl
-service_short service.SingleStepTransfer = leb-true _ 20 refl
-service_short service.SetAgentState = leb-true _ 20 refl
-service_short service.MonitorStart = leb-true _ 20 refl
-service_short service.MonitorStop = leb-true _ 20 refl
-service_short service.Tick = leb-true _ 20 refl
-service_short service.SetGroupPriority = leb-true _ 20 refl
-service_short service.RejectCall = leb-true _ 20 refl
-service_short service.ChangeGroup = leb-true _ 20 refl
-service_short service.ChangeAgent = leb-true _ 20 refl
+service_short s = leb-true _ 20 refl
 
 pending_short : (p : Pending) → length (quoted (pending_name p)) ≤ 18
 unfolding escape_byte
@@ -410,29 +392,29 @@ module _ (q : List ℕ) (i : ℕ) (hq : IsRequester q) (hi : IsBetween 1 9999999
   takes_named t ht more b rest =
       takes_invoke _ (142 + b) (164 + b) (takes_name t ht _ (47 + b) (142 + b) (takes_requester more b (47 + b) rest (omega arith)) (omega arith)) (omega arith)
 
-  takes_at_device : (s : Service) (d : ℕ) → IsDevice d → Takes 133 (at_device (q, i) s d)
+  takes_at_device : (s : Service) (d : ℕ) → IsDevice d → Takes 133 (service_members (q, i) s (details.Device d))
   takes_at_device s d hd = takes_device m.Device d hd _ 103 133 (takes_sent s no_members 1 none_takes) (omega arith)
 
-  takes_at_connection : (s : Service) (c d : ℕ) → IsSerial c → IsDevice d → Takes 156 (at_connection (q, i) s c d)
+  takes_at_connection : (s : Service) (c d : ℕ) → IsSerial c → IsDevice d → Takes 156 (service_members (q, i) s (details.Connection c d))
   takes_at_connection s c d hc hd = takes_serial m.Call c hc _ 133 156 (takes_at_device s d hd) (omega arith)
 
-  takes_to_device : (s : Service) (c d t : ℕ) → IsSerial c → IsDevice d → IsDevice t → Takes 186 (to_device (q, i) s c d t)
+  takes_to_device : (s : Service) (c d t : ℕ) → IsSerial c → IsDevice d → IsDevice t → Takes 186 (service_members (q, i) s (details.Transfer c d t))
   takes_to_device s c d t hc hd ht =
       takes_serial m.Call c hc _ 163 186 (takes_device m.Device d hd _ 133 163 (takes_sent s _ 31 (takes_device m.To t ht no_members 1 31 none_takes (omega arith))) (omega arith)) (omega arith)
 
-  takes_at_agent : (s : Service) (a : ℕ) (t : List ℕ) → IsAgent a → IsName t → Takes 222 (at_agent (q, i) s a t)
+  takes_at_agent : (s : Service) (a : ℕ) (t : List ℕ) → IsAgent a → IsName t → Takes 222 (service_members (q, i) s (details.Agent a t))
   takes_at_agent s a t ha ht = takes_agent a ha _ 198 222 (takes_named t ht _ 34 (takes_last s)) (omega arith)
 
-  takes_at_group : (s : Service) (d : ℕ) (t : List ℕ) (ring wrap : ℕ) → IsDevice d → IsName t → IsSeconds ring → IsSeconds wrap → Takes 262 (at_group (q, i) s d t (ring, wrap))
+  takes_at_group : (s : Service) (d : ℕ) (t : List ℕ) (ring wrap : ℕ) → IsDevice d → IsName t → IsSeconds ring → IsSeconds wrap → Takes 262 (service_members (q, i) s (details.Group d t ring wrap))
   takes_at_group s d t ring wrap hd ht hr hw =
       takes_device m.Device d hd _ 232 262 (takes_named t ht _ 68
       (takes_seconds m.Ring ring hr _ 51 68 (takes_service s _ 18 51 (takes_seconds m.Wrap wrap hw no_members 1 18 none_takes (omega arith)) (omega arith)) (omega arith)))
       (omega arith)
 
-  takes_asked : (r : RequestedState) → Takes 134 (asked (q, i) r)
-  takes_asked r =
+  takes_asked : (s : Service) (r : RequestedState) → Takes 134 (asked (q, i) s r)
+  takes_asked s r =
       takes_invoke _ 112 134 (takes _ _ _ 18 81 112 (member_short m.Requested) (requested_short r)
-      (takes_requester _ 34 81 (takes_last service.SetAgentState) (omega arith)) (omega arith)) (omega arith)
+      (takes_requester _ 34 81 (takes_last s) (omega arith)) (omega arith)) (omega arith)
 
   takes_groups : (gs : List ℕ) → is_choice gs ≡ true → Every IsDevice gs → (more : Members) → Takes 134 more → Takes 293 (written_before (groups_parts gs) more)
   takes_groups [] some hg more rest = weaker more 134 293 rest (omega arith)
@@ -442,41 +424,35 @@ module _ (q : List ℕ) (i : ℕ) (hq : IsRequester q) (hi : IsBetween 1 9999999
       let e = groups_short (g ∷ h ∷ gs) false hg in
       takes _ _ more 146 134 293 groups_key (omega (arith, few, e)) rest (omega arith)
 
-  takes_state : (a : ℕ) (r : Requested) → IsAgent a → IsRequested r → Takes 347 (set_agent_state (q, i) a r)
-  takes_state a (requested.LoggedOn d gs) ha hr =
-      takes_agent a ha _ 323 347 (takes_device m.Device d hr.0 _ 293 323 (takes_groups gs hr.1 hr.2 _ (takes_asked requested_state.LoggedOn)) (omega arith)) (omega arith)
-  takes_state a (requested.State p) ha hr = takes_agent a ha _ 134 347 (takes_asked (requested_state.State p)) (omega arith)
+  takes_state : (s : Service) (a : ℕ) (r : Requested) → IsAgent a → IsRequested r → Takes 347 (service_members (q, i) s (details.State a r))
+  takes_state s a (requested.LoggedOn d gs) ha hr =
+      takes_agent a ha _ 323 347 (takes_device m.Device d hr.0 _ 293 323 (takes_groups gs hr.1 hr.2 _ (takes_asked s requested_state.LoggedOn)) (omega arith)) (omega arith)
+  takes_state s a (requested.State p) ha hr = takes_agent a ha _ 134 347 (takes_asked s (requested_state.State p)) (omega arith)
 
-  takes_request : (c : Command) → IsCommand c → Takes 347 (request_members q i c)
-  takes_request (AddGroup d t ring wrap) h = weaker _ 262 347 (takes_at_group service.AddGroup d t ring wrap h.0 h.1 h.2 h.3) (omega arith)
-  takes_request (AddStation d) h = weaker _ 133 347 (takes_at_device service.AddStation d h) (omega arith)
-  takes_request (AddAgent a t) h = weaker _ 222 347 (takes_at_agent service.AddAgent a t h.0 h.1) (omega arith)
-  takes_request (ArriveCall caller called) h =
-      takes_device m.Called called h.1 _ 133 347 (takes_device m.Caller caller h.0 _ 103 133 (takes_sent service.ArriveCall no_members 1 none_takes) (omega arith)) (omega arith)
-  takes_request (MakeCall d called) h = takes_device m.Called called h.1 _ 133 347 (takes_at_device service.MakeCall d h.0) (omega arith)
-  takes_request (PhoneOffHook c d) h = weaker _ 156 347 (takes_at_connection service.PhoneOffHook c d h.0 h.1) (omega arith)
-  takes_request (AnswerCall c d) h = weaker _ 156 347 (takes_at_connection service.AnswerCall c d h.0 h.1) (omega arith)
-  takes_request (HoldCall c d) h = weaker _ 156 347 (takes_at_connection service.HoldCall c d h.0 h.1) (omega arith)
-  takes_request (RetrieveCall c d) h = weaker _ 156 347 (takes_at_connection service.RetrieveCall c d h.0 h.1) (omega arith)
-  takes_request (ClearConnection c d) h = weaker _ 156 347 (takes_at_connection service.ClearConnection c d h.0 h.1) (omega arith)
-  takes_request (DeflectCall c d t) h = weaker _ 186 347 (takes_to_device service.DeflectCall c d t h.0 h.1 h.2) (omega arith)
-  takes_request (SingleStepTransfer c d t) h = weaker _ 186 347 (takes_to_device service.SingleStepTransfer c d t h.0 h.1 h.2) (omega arith)
-  takes_request (SetAgentState a r) h = takes_state a r h.0 h.1
-  takes_request (MonitorStart d) h = weaker _ 133 347 (takes_at_device service.MonitorStart d h) (omega arith)
-  takes_request (MonitorStop w) h =
-      takes_invoke _ 104 347 (takes_serial m.Monitor w h _ 81 104 (takes_requester _ 34 81 (takes_last service.MonitorStop) (omega arith)) (omega arith)) (omega arith)
-  takes_request Tick h = weaker _ 103 347 (takes_sent service.Tick no_members 1 none_takes) (omega arith)
-  takes_request (SetGroupPriority d p) h =
+  takes_members : (s : Service) (x : Details) → AreFormed x → Takes 347 (service_members (q, i) s x)
+  takes_members s (details.Group d t ring wrap) h = weaker _ 262 347 (takes_at_group s d t ring wrap h.0 h.1 h.2 h.3) (omega arith)
+  takes_members s (details.Agent a t) h = weaker _ 222 347 (takes_at_agent s a t h.0 h.1) (omega arith)
+  takes_members s (details.Device d) h = weaker _ 133 347 (takes_at_device s d h) (omega arith)
+  takes_members s (details.Arrival caller called) h =
+      takes_device m.Called called h.1 _ 133 347 (takes_device m.Caller caller h.0 _ 103 133 (takes_sent s no_members 1 none_takes) (omega arith)) (omega arith)
+  takes_members s (details.Making d called) h = takes_device m.Called called h.1 _ 133 347 (takes_at_device s d h.0) (omega arith)
+  takes_members s (details.Connection c d) h = weaker _ 156 347 (takes_at_connection s c d h.0 h.1) (omega arith)
+  takes_members s (details.Transfer c d t) h = weaker _ 186 347 (takes_to_device s c d t h.0 h.1 h.2) (omega arith)
+  takes_members s (details.State a r) h = takes_state s a r h.0 h.1
+  takes_members s (details.Monitor w) h =
+      takes_invoke _ 104 347 (takes_serial m.Monitor w h _ 81 104 (takes_requester _ 34 81 (takes_last s) (omega arith)) (omega arith)) (omega arith)
+  takes_members s (details.Priority d p) h =
       takes_device m.Device d h.0 _ 117 347 (takes_invoke _ 95 117 (takes _ _ _ 1 81 95 (member_short m.Priority) (priority_short p h.1)
-      (takes_requester _ 34 81 (takes_last service.SetGroupPriority) (omega arith)) (omega arith)) (omega arith)) (omega arith)
-  takes_request (RejectCall c d) h = weaker _ 156 347 (takes_at_connection service.RejectCall c d h.0 h.1) (omega arith)
-  takes_request (ChangeGroup d t ring wrap) h = weaker _ 262 347 (takes_at_group service.ChangeGroup d t ring wrap h.0 h.1 h.2 h.3) (omega arith)
-  takes_request (ChangeAgent a t) h = weaker _ 222 347 (takes_at_agent service.ChangeAgent a t h.0 h.1) (omega arith)
+      (takes_requester _ 34 81 (takes_last s) (omega arith)) (omega arith)) (omega arith)) (omega arith)
+  takes_members s details.Nothing h = weaker _ 103 347 (takes_sent s no_members 1 none_takes) (omega arith)
 
 -- the longest is a log-on in eight groups
 pub request_short : (r : Request) → IsRequest r → length (request_text r) ≤ 348
 unfolding request_text request_data
-request_short r h = object_short (request_members r.requester r.invoke r.command) 347 (takes_request r.requester r.invoke h.requester h.invoke r.command h.command)
+request_short r h =
+    let s = (taken_apart r.command).0 in
+    let x = (taken_apart r.command).1 in
+    object_short (service_members (r.requester, r.invoke) s x) 347 (takes_members r.requester r.invoke h.requester h.invoke s x h.command)
 
 -- ---- replies ----
 
