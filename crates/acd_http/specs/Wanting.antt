@@ -101,4 +101,4 @@ IsSmall (want.Look question) = Unit {0}
 -- for private clauses: a head as it was read; it asks for no body where there was no memory to read it
 abbrev pub IsHeadRead : List ℕ → Option (Bool × Result Wanted AllocError) → Type 0
 IsHeadRead head None = IsUnread head
-IsHeadRead head (Some read) = (h : RequestHead) × IsWhole head h × (read.0 ≡ has_no_body h) × MatchResult read.1 (λ (w : Wanted). w ≡ wanted_of h) (λ (e : AllocError). is_body (wanted_of h) ≡ false)
+IsHeadRead head (Some read) = (h : RequestHead) × IsWhole head h × (read.0 ≡ has_no_body h) × MatchResult read.1 (λ w. w ≡ wanted_of h) (λ e. is_body (wanted_of h) ≡ false)
