@@ -36,7 +36,8 @@ module _ {F G : Type 0} {a b d : BookState} (one : BookStep F a b) (two : BookSt
     stops = λ clean sound c at. first.stops (two.clean clean) sound c (second.stops clean (one.sound (two.clean clean) sound) c at);
   }
 
-  pub keeps_then : Unchanged b d → IfHonest a b (b.is_open → Within a.stops b.stops) → IfHonest b d (d.is_open → Within b.stops d.stops) → IfHonest a d (d.is_open → Within a.stops d.stops)
+  pub keeps_then : Unchanged b d → IfHonest a b (b.is_open → Within a.stops b.stops) → IfHonest b d (d.is_open → Within b.stops d.stops)
+      → IfHonest a d (d.is_open → Within a.stops d.stops)
   keeps_then same first second = λ clean sound opened c at.
       let there = one.sound (two.clean clean) sound in
       second clean there opened c (first (two.clean clean) sound (same.same clean there opened).0 c at)

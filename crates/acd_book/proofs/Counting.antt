@@ -29,16 +29,19 @@ none_here d e other = ap (λ (b : Bool). cond b 1 0) (eqb_swap d e ∙ other)
 -- ---- how many watch a device
 
 -- a monitor was removed
-pub one_less : (m gone d : ℕ) (old new : Monitors) → Some gone ≡ get_by (λ (k : ℕ). m == k) old → IsPermutation (remove_entry (λ (k : ℕ). m == k) old.entries) new.entries
+pub one_less : (m gone d : ℕ) (old new : Monitors) → Some gone ≡ get_by (λ (k : ℕ). m == k) old
+    → IsPermutation (remove_entry (λ (k : ℕ). m == k) old.entries) new.entries
     → sum_by (is_one d) (values new) + is_one d gone ≡ sum_by (is_one d) (values old)
 one_less m gone d old new is same =
     let rest = sum_by-remove_entry (is_one d) (λ (k : ℕ). m == k) old.entries in
     let moved = sum_by_values_permutation (is_one d) (remove_entry (λ (k : ℕ). m == k) old.entries) new.entries same in
-    let there : unwrap_or (option_map (is_one d) (get_by (λ (k : ℕ). m == k) old)) 0 ≡ is_one d gone = ap (λ (o : Option ℕ). unwrap_or (option_map (is_one d) o) 0) (sym is) in
+    let there : unwrap_or (option_map (is_one d) (get_by (λ (k : ℕ). m == k) old)) 0 ≡ is_one d gone =
+    ap (λ (o : Option ℕ). unwrap_or (option_map (is_one d) o) 0) (sym is) in
     omega (arith, rest, moved, there)
 
 -- one was put in that wasn't there
-pub one_more : (m come d : ℕ) (old new : Monitors) → get_by (λ (k : ℕ). m == k) old ≡ None → PutsEntry (λ (a b : ℕ). a == b) old new m come (get_by (λ (k : ℕ). m == k) old)
+pub one_more : (m come d : ℕ) (old new : Monitors) → get_by (λ (k : ℕ). m == k) old ≡ None
+    → PutsEntry (λ (a b : ℕ). a == b) old new m come (get_by (λ (k : ℕ). m == k) old)
     → sum_by (is_one d) (values new) ≡ sum_by (is_one d) (values old) + is_one d come
 one_more m come d old new none puts =
     let all = sum_by_puts_entry (is_one d) (λ (a b : ℕ). a == b) old new m come (get_by (λ (k : ℕ). m == k) old) refl puts in
@@ -46,7 +49,8 @@ one_more m come d old new none puts =
     omega (arith, all, no)
 
 -- it was put in
-pub put_in : {E : Type 0} (r : Result (Option ℕ) E) (m come d : ℕ) (old new : Monitors) → true ≡ is_ok r → get_by (λ (k : ℕ). m == k) old ≡ None → IfOk r (λ o. o ≡ get_by (λ (k : ℕ). m == k) old)
+pub put_in : {E : Type 0} (r : Result (Option ℕ) E) (m come d : ℕ) (old new : Monitors) → true ≡ is_ok r → get_by (λ (k : ℕ). m == k) old ≡ None
+    → IfOk r (λ o. o ≡ get_by (λ (k : ℕ). m == k) old)
     → IfOk r (PutsEntry (λ (a b : ℕ). a == b) old new m come) → sum_by (is_one d) (values new) ≡ sum_by (is_one d) (values old) + is_one d come
 put_in (Ok o) m come d old new there none was puts = one_more m come d old new none (subst (PutsEntry (λ (a b : ℕ). a == b) old new m come) was puts)
 put_in (Err e) m come d old new there none was puts = absurd (cc (there))
@@ -100,17 +104,20 @@ module _ (old mid new : Watched) (lists : mid.lists ≡ old.lists) (kept : Keeps
   same_watching d same = ap (λ (m : Monitors). sum_by (is_one d) (values m)) same
 
   -- a monitor of the device was removed, and then its list counts one less
-  pub less_kept : (gone : ℕ) → ((d : ℕ) → watching d mid + is_one d gone ≡ watching d old) → CountsAt gone (λ (o n : Option ℕ). n ≡ fewer o) mid new → KeepsWatched new
+  pub less_kept : (gone : ℕ) → ((d : ℕ) → watching d mid + is_one d gone ≡ watching d old) → CountsAt gone (λ (o n : Option ℕ). n ≡ fewer o) mid new
+      → KeepsWatched new
   less_kept gone less counts d =
       (elim (gone == d) as (λ (b : Bool). (gone == d) ≡ b → IfSome (counted new d) (IsUpTo (watching d new))) [
         | true ↦ λ same.
             let here : gone ≡ d = eqb-true gone d same in
             let one : counted new d ≡ fewer (counted old d) = subst (λ (k : ℕ). counted new k ≡ fewer (counted mid k)) here counts.one ∙ ap fewer (before d) in
             same_counted (fewer (counted old d)) (counted new d) (watching d mid) (watching d new) one (sym (same_watching d counts.devices))
-            (fewer_counted (counted old d) (watching d old) (watching d mid) (ap (λ (n : ℕ). watching d mid + n) (sym (one_here d gone same)) ∙ less d) (kept d))
+            (fewer_counted (counted old d) (watching d old) (watching d mid) (ap (λ (n : ℕ). watching d mid + n) (sym (one_here d gone same)) ∙ less d)
+            (kept d))
         | false ↦ λ other.
             same_counted (counted old d) (counted new d) (watching d old) (watching d new) (counts.others d other ∙ before d)
-            (sym (less d) ∙ ap (λ (n : ℕ). watching d mid + n) (none_here d gone other) ∙ add-zero (watching d mid) ∙ sym (same_watching d counts.devices)) (kept d)
+            (sym (less d) ∙ ap (λ (n : ℕ). watching d mid + n) (none_here d gone other) ∙ add-zero (watching d mid) ∙ sym (same_watching d counts.devices))
+            (kept d)
       ]) refl
 
   -- one was put in, and then its list counts one more
@@ -119,7 +126,8 @@ module _ (old mid new : Watched) (lists : mid.lists ≡ old.lists) (kept : Keeps
       (elim (come == d) as (λ (b : Bool). (come == d) ≡ b → IfSome (counted new d) (IsUpTo (watching d new))) [
         | true ↦ λ same.
             let here : come ≡ d = eqb-true come d same in
-            let one : IsMore (counted old d) (counted new d) = subst (λ (o : Option ℕ). IsMore o (counted new d)) (before d) (subst (λ (k : ℕ). IsMore (counted mid k) (counted new k)) here counts.one) in
+            let one : IsMore (counted old d) (counted new d) =
+            subst (λ (o : Option ℕ). IsMore o (counted new d)) (before d) (subst (λ (k : ℕ). IsMore (counted mid k) (counted new k)) here counts.one) in
             more_counted (counted old d) (counted new d) (watching d old) (watching d new)
             (same_watching d counts.devices ∙ more d ∙ ap (λ (n : ℕ). watching d old + n) (one_here d come same)) one (kept d)
         | false ↦ λ other.
@@ -128,15 +136,19 @@ module _ (old mid new : Watched) (lists : mid.lists ≡ old.lists) (kept : Keeps
       ]) refl
 
 -- a list may go, and else counts what it counted
-pub rest_kept : (old new : Watched) → new.devices.entries ≡ old.devices.entries → ((d : ℕ) → (counted new d ≡ counted old d) ⊎ (counted new d ≡ None)) → KeepsWatched old → KeepsWatched new
+pub rest_kept : (old new : Watched) → new.devices.entries ≡ old.devices.entries → ((d : ℕ) → (counted new d ≡ counted old d) ⊎ (counted new d ≡ None))
+    → KeepsWatched old → KeepsWatched new
 rest_kept old new same counts kept d = by (counts d)
   where
     by : (counted new d ≡ counted old d) ⊎ (counted new d ≡ None) → IfSome (counted new d) (IsUpTo (watching d new))
-    by (inl is) = same_counted (counted old d) (counted new d) (watching d old) (watching d new) is (sym (ap (λ (es : List (ℕ × ℕ)). sum_by (is_one d) (values_of es)) same)) (kept d)
+    by (inl is) =
+        same_counted (counted old d) (counted new d) (watching d old) (watching d new) is
+        (sym (ap (λ (es : List (ℕ × ℕ)). sum_by (is_one d) (values_of es)) same)) (kept d)
     by (inr none) = subst (λ (o : Option ℕ). IfSome o (IsUpTo (watching d new))) (sym none) tt
 
 -- that of one device, where the others count what they counted
-pub rest_counted : (device : ℕ) (old new : Watched) → (counted new device ≡ counted old device) ⊎ (counted new device ≡ None) → ((d : ℕ) → (device == d) ≡ false → counted new d ≡ counted old d)
+pub rest_counted : (device : ℕ) (old new : Watched) → (counted new device ≡ counted old device) ⊎ (counted new device ≡ None)
+    → ((d : ℕ) → (device == d) ≡ false → counted new d ≡ counted old d)
     → (d : ℕ) → (counted new d ≡ counted old d) ⊎ (counted new d ≡ None)
 rest_counted device old new one others d =
     (elim (device == d) as (λ (b : Bool). (device == d) ≡ b → (counted new d ≡ counted old d) ⊎ (counted new d ≡ None)) [
@@ -147,7 +159,8 @@ rest_counted device old new one others d =
 -- ---- the monitors that are indexed
 
 -- something was said of one monitor
-pub said_one : (n : ℕ) (said : Option ℕ) (old new : Watched) → (recorded_at new n ≡ said) ⊎ (recorded_at new n ≡ None) → ((q : ℕ) → (n == q) ≡ false → recorded_at new q ≡ recorded_at old q)
+pub said_one : (n : ℕ) (said : Option ℕ) (old new : Watched) → (recorded_at new n ≡ said) ⊎ (recorded_at new n ≡ None)
+    → ((q : ℕ) → (n == q) ≡ false → recorded_at new q ≡ recorded_at old q)
     → (q : ℕ) → IsRecordedAs (or_before (cond (q == n) (Some said) None) None) (recorded_at old q) (recorded_at new q)
 said_one n said old new one others q =
     (elim (q == n) as (λ (b : Bool). (q == n) ≡ b → IsRecordedAs (or_before (cond b (Some said) None) None) (recorded_at old q) (recorded_at new q)) [
@@ -157,7 +170,8 @@ said_one n said old new one others q =
 
 -- after a stop the monitor isn't indexed
 pub unrecorded : (n : ℕ) (old new : Watched) → RecordsChanges (RemoveMonitor n ∷ []) old new → recorded_at new n ≡ None
-unrecorded n old new records = by (subst (λ (b : Bool). IsRecordedAs (or_before (cond b (Some None) None) None) (recorded_at old n) (recorded_at new n)) (eqb_self n) (records n))
+unrecorded n old new records =
+    by (subst (λ (b : Bool). IsRecordedAs (or_before (cond b (Some None) None) None) (recorded_at old n) (recorded_at new n)) (eqb_self n) (records n))
   where
     by : (recorded_at new n ≡ None) ⊎ (recorded_at new n ≡ None) → recorded_at new n ≡ None
     by (inl h) = h
@@ -165,9 +179,11 @@ unrecorded n old new records = by (subst (λ (b : Bool). IsRecordedAs (or_before
 
 -- and each other one is as before
 pub recorded_still : (n q : ℕ) (old new : Watched) → RecordsChanges (RemoveMonitor n ∷ []) old new → (n == q) ≡ false → recorded_at new q ≡ recorded_at old q
-recorded_still n q old new records other = subst (λ (b : Bool). IsRecordedAs (or_before (cond b (Some None) None) None) (recorded_at old q) (recorded_at new q)) (eqb_swap q n ∙ other) (records q)
+recorded_still n q old new records other =
+    subst (λ (b : Bool). IsRecordedAs (or_before (cond b (Some None) None) None) (recorded_at old q) (recorded_at new q)) (eqb_swap q n ∙ other) (records q)
 
-said_push : (before : Option (Option ℕ)) (xs : List Change) (c : Change) (m : ℕ) → said_last before (xs ++ c ∷ []) m ≡ or_before (said_of m c) (said_last before xs m)
+said_push : (before : Option (Option ℕ)) (xs : List Change) (c : Change) (m : ℕ)
+    → said_last before (xs ++ c ∷ []) m ≡ or_before (said_of m c) (said_last before xs m)
 said_push before [] c m = refl
 said_push before (x ∷ xs) c m = said_push (or_before (said_of m x) before) xs c m
 
@@ -176,16 +192,19 @@ recorded_twice None t a b d first next = subst (λ (o : Option ℕ). IsRecordedA
 recorded_twice (Some said) t a b d first next = next
 
 -- one more change
-pub recorded_on : (xs : List Change) (c : Change) (old mid new : Watched) → RecordsChanges xs old mid → RecordsChanges (c ∷ []) mid new → RecordsChanges (xs ++ c ∷ []) old new
+pub recorded_on : (xs : List Change) (c : Change) (old mid new : Watched) → RecordsChanges xs old mid → RecordsChanges (c ∷ []) mid new
+    → RecordsChanges (xs ++ c ∷ []) old new
 recorded_on xs c old mid new first next m =
     subst (λ (s : Option (Option ℕ)). IsRecordedAs s (recorded_at old m) (recorded_at new m)) (sym (said_push None xs c m))
     (recorded_twice (said_of m c) (said_last None xs m) (recorded_at old m) (recorded_at mid m) (recorded_at new m) (first m) (next m))
 
 -- the same for monitors that were started one after the other, none of which was indexed before
-pub started_on : (xs : List MonitorRecord) (r : MonitorRecord) (mid new : Watched) → ((m : ℕ) → IsRecordedAs (said_last None (map PutMonitor xs) m) None (recorded_at mid m)) → RecordsChanges (PutMonitor r ∷ []) mid new
+pub started_on : (xs : List MonitorRecord) (r : MonitorRecord) (mid new : Watched)
+    → ((m : ℕ) → IsRecordedAs (said_last None (map PutMonitor xs) m) None (recorded_at mid m)) → RecordsChanges (PutMonitor r ∷ []) mid new
     → (m : ℕ) → IsRecordedAs (said_last None (map PutMonitor (xs ++ r ∷ [])) m) None (recorded_at new m)
 started_on xs r mid new first next m =
-    subst (λ (s : Option (Option ℕ)). IsRecordedAs s None (recorded_at new m)) (sym (ap (λ (l : List Change). said_last None l m) (mapped xs r) ∙ said_push None (map PutMonitor xs) (PutMonitor r) m))
+    subst (λ (s : Option (Option ℕ)). IsRecordedAs s None (recorded_at new m))
+    (sym (ap (λ (l : List Change). said_last None l m) (mapped xs r) ∙ said_push None (map PutMonitor xs) (PutMonitor r) m))
     (recorded_twice (said_of m (PutMonitor r)) (said_last None (map PutMonitor xs) m) None (recorded_at mid m) (recorded_at new m) (first m) (next m))
   where
     mapped : (xs : List MonitorRecord) (r : MonitorRecord) → map PutMonitor (xs ++ r ∷ []) ≡ map PutMonitor xs ++ PutMonitor r ∷ []

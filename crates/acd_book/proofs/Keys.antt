@@ -46,4 +46,5 @@ pub same_kept : (x : Kept) (k : Key) → same_key (key_of x) k ≡ is_kept_under
 same_kept x k = agree (same_key (key_of x) k) (is_kept_under k x)
     (λ h. subst (λ (k : Key). is_kept_under k x ≡ true) (same_is (key_of x) k h) (key_itself x.request))
     (λ h. let parts = key_same k.requester k.invoke x.request h in
-    subst (λ (k : Key). same_key (key_of x) k ≡ true) (ap₂ (λ (p : List ℕ) (q : ℕ). record { requester = p; invoke = q }) parts.0 parts.1) (same_itself (key_of x)))
+    subst (λ (k : Key). same_key (key_of x) k ≡ true) (ap₂ (λ (p : List ℕ) (q : ℕ). record { requester = p; invoke = q }) parts.0 parts.1)
+    (same_itself (key_of x)))

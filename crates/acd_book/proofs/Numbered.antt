@@ -19,7 +19,8 @@ zero_plus n = omega arith
 pub first : {T : Type 0} (f : T → ℕ) (b : ℕ) (x : T) (xs : List T) → is_numbered f b (x ∷ xs) ≡ true → (f x ≡ b + 1) × (is_numbered f (b + 1) xs ≡ true)
 first f b x xs h = let h = and_parts (f x == b + 1) (is_numbered f (b + 1) xs) h in (eqb-true (f x) (b + 1) h.0, h.1)
 
-pub numbered-append : {T : Type 0} (f : T → ℕ) (b : ℕ) (xs ys : List T) → is_numbered f b xs ≡ true → is_numbered f (b + length xs) ys ≡ true → is_numbered f b (xs ++ ys) ≡ true
+pub numbered-append : {T : Type 0} (f : T → ℕ) (b : ℕ) (xs ys : List T) → is_numbered f b xs ≡ true → is_numbered f (b + length xs) ys ≡ true
+    → is_numbered f b (xs ++ ys) ≡ true
 numbered-append f b [] ys h more = subst (λ n. is_numbered f n ys ≡ true) (plus_zero b) more
 numbered-append f b (x ∷ xs) ys h more =
     let parts = and_parts (f x == b + 1) (is_numbered f (b + 1) xs) h in
@@ -30,7 +31,9 @@ numbered-append f b (x ∷ xs) ys h more =
 -- one more than the last
 pub numbered-push : {T : Type 0} (f : T → ℕ) (xs : List T) (x : T) → is_numbered f 0 xs ≡ true → f x ≡ length xs + 1 → is_numbered f 0 (xs ++ x ∷ []) ≡ true
 numbered-push {T} f xs x h next =
-    numbered-append f 0 xs (x ∷ []) h (subst (λ (n : ℕ). is_numbered f n (x ∷ []) ≡ true) (sym (zero_plus (length xs))) (and_from (f x == length xs + 1) true (eq-eqb (f x) (length xs + 1) next) refl))
+    numbered-append f 0 xs (x
+    ∷ []) h (subst (λ (n : ℕ). is_numbered f n (x ∷ []) ≡ true) (sym (zero_plus (length xs)))
+    (and_from (f x == length xs + 1) true (eq-eqb (f x) (length xs + 1) next) refl))
 
 -- all are above the number from which they are numbered on
 below_all : (b m n : ℕ) (kept : List Kept) → is_numbered stamp_of b kept ≡ true → m ≤ b + 1 → Every (λ (other : Kept). n < other.stamp → m ≤ other.stamp) kept
@@ -52,20 +55,23 @@ kept_after_from b zero (k ∷ kept) h =
 kept_after_from b (suc n) (k ∷ kept) h =
     let parts = first stamp_of b k kept h in
     let same : (b + 1) + n ≡ b + suc n = omega arith in
-    kept_after_more k kept (b + suc n) (slice_get kept n) (omega (arith, parts.0)) (subst (λ (m : ℕ). IsKeptAfter kept m (slice_get kept n)) same (kept_after_from (b + 1) n kept parts.1))
+    kept_after_more k kept (b + suc n) (slice_get kept n) (omega (arith, parts.0))
+    (subst (λ (m : ℕ). IsKeptAfter kept m (slice_get kept n)) same (kept_after_from (b + 1) n kept parts.1))
 
 -- the record of the least greater stamp is at the place of the stamp
 pub kept_after_at : (n : ℕ) (kept : List Kept) → is_numbered stamp_of 0 kept ≡ true → IsKeptAfter kept n (slice_get kept n)
 kept_after_at n kept h = subst (λ (m : ℕ). IsKeptAfter kept m (slice_get kept n)) (zero_plus n) (kept_after_from 0 n kept h)
 
-filter_all : {T : Type 0} (f : T → ℕ) (p : T → Bool) (b m : ℕ) (xs : List T) → is_numbered f b xs ≡ true → m ≤ b → filter (λ x. p x && nat_lt m (f x)) xs ≡ filter p xs
+filter_all : {T : Type 0} (f : T → ℕ) (p : T → Bool) (b m : ℕ) (xs : List T) → is_numbered f b xs ≡ true → m ≤ b
+    → filter (λ x. p x && nat_lt m (f x)) xs ≡ filter p xs
 filter_all f p b m [] h below = refl
 filter_all f p b m (x ∷ xs) h below =
     let parts = first f b x xs h in
     let rest = filter_all f p (b + 1) m xs parts.1 (omega (arith, below)) in
     ap₂ (λ (c : Bool) (l : List _). cond c (x ∷ l) l) (ap (λ (c : Bool). p x && c) (lt-ltb m (f x) (omega (arith, parts.0, below))) ∙ and-true (p x)) rest
 
-filter_numbered : {T : Type 0} (f : T → ℕ) (p : T → Bool) (b n : ℕ) (xs : List T) → is_numbered f b xs ≡ true → filter (λ x. p x && nat_lt (b + n) (f x)) xs ≡ filter p (drop n xs)
+filter_numbered : {T : Type 0} (f : T → ℕ) (p : T → Bool) (b n : ℕ) (xs : List T) → is_numbered f b xs ≡ true
+    → filter (λ x. p x && nat_lt (b + n) (f x)) xs ≡ filter p (drop n xs)
 filter_numbered f p b zero xs h = filter_all f p b (b + 0) xs h (omega arith)
 filter_numbered f p b (suc n) [] h = refl
 filter_numbered f p b (suc n) (x ∷ xs) h =
@@ -77,8 +83,10 @@ filter_numbered f p b (suc n) (x ∷ xs) h =
     ∙ filter_numbered f p (b + 1) n xs parts.1
 
 -- the entries above a number that pass, after the place of that number
-pub filter_above : {T : Type 0} (f : T → ℕ) (p : T → Bool) (n : ℕ) (xs : List T) → is_numbered f 0 xs ≡ true → filter (λ x. p x && nat_lt n (f x)) xs ≡ filter p (drop n xs)
-filter_above {T} f p n xs h = subst (λ (m : ℕ). filter (λ (x : T). p x && nat_lt m (f x)) xs ≡ filter p (drop n xs)) (zero_plus n) (filter_numbered f p 0 n xs h)
+pub filter_above : {T : Type 0} (f : T → ℕ) (p : T → Bool) (n : ℕ) (xs : List T) → is_numbered f 0 xs ≡ true
+    → filter (λ x. p x && nat_lt n (f x)) xs ≡ filter p (drop n xs)
+filter_above {T} f p n xs h =
+    subst (λ (m : ℕ). filter (λ (x : T). p x && nat_lt m (f x)) xs ≡ filter p (drop n xs)) (zero_plus n) (filter_numbered f p 0 n xs h)
 
 -- all above a number
 pub above : {T : Type 0} (f : T → ℕ) (n : ℕ) (xs : List T) → is_numbered f 0 xs ≡ true → filter (λ x. nat_lt n (f x)) xs ≡ drop n xs

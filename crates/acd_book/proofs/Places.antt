@@ -60,10 +60,12 @@ no_places : (b : ℕ) → b ≡ b + 0
 no_places b = omega arith
 
 -- one more that passes, where none did
-position_one : {T : Type 0} (p : T → Bool) (b : ℕ) (xs : List T) (x : T) → p x ≡ true → position_from p b xs ≡ None → position_from p b (xs ++ x ∷ []) ≡ Some (b + length xs)
+position_one : {T : Type 0} (p : T → Bool) (b : ℕ) (xs : List T) (x : T) → p x ≡ true → position_from p b xs ≡ None
+    → position_from p b (xs ++ x ∷ []) ≡ Some (b + length xs)
 position_one p b [] x h none = ap (λ (c : Bool). cond c (Some b) None) h ∙ ap Some (no_places b)
 position_one p b (y ∷ xs) x h none =
-    (elim (p y) as (λ c. cond c (Some b) (position_from p (b + 1) xs) ≡ None → cond c (Some b) (position_from p (b + 1) (xs ++ x ∷ [])) ≡ Some (b + suc (length xs))) [
+    (elim (p y) as (λ c. cond c (Some b) (position_from p (b + 1) xs) ≡ None
+    → cond c (Some b) (position_from p (b + 1) (xs ++ x ∷ [])) ≡ Some (b + suc (length xs))) [
       | true ↦ λ none. absurd (none-some b (sym none))
       | false ↦ λ none. position_one p (b + 1) xs x h none ∙ ap Some (more_places b (length xs))
     ]) none
@@ -82,7 +84,8 @@ pub unkept : (places : Places) (kept : List Kept) (p : List ℕ) (q : ℕ) → H
 unkept places kept p q placed h = found_none (is_kept_under (key p q)) 0 kept (sym (placed (key p q)) ∙ h)
 
 -- and one that it has under the record at its place
-pub kept_at : (places : Places) (kept : List Kept) (p : List ℕ) (q i : ℕ) → HasPlaces places kept → get same_key places (key p q) ≡ Some i → kept_of kept p q ≡ slice_get kept i
+pub kept_at : (places : Places) (kept : List Kept) (p : List ℕ) (q i : ℕ) → HasPlaces places kept → get same_key places (key p q) ≡ Some i
+    → kept_of kept p q ≡ slice_get kept i
 kept_at places kept p q i placed h =
     (found_from (is_kept_under (key p q)) 0 i kept (sym (placed (key p q)) ∙ h)).1 ∙ ap (slice_get kept) (minus_zero i)
 
@@ -90,10 +93,12 @@ kept_at places kept p q i placed h =
 pub placed_push : (old new : Places) (kept : List Kept) (x : Kept) → HasPlaces old kept → kept_of kept x.request.requester x.request.invoke ≡ None
     → ((k : Key) → get same_key new k ≡ cond (same_key (key_of x) k) (Some (length kept)) (get same_key old k)) → HasPlaces new (kept ++ x ∷ [])
 placed_push old new kept x placed unkept updates k =
-    (elim (same_key (key_of x) k) as (λ c. same_key (key_of x) k ≡ c → get same_key new k ≡ cond c (Some (length kept)) (get same_key old k) → get same_key new k ≡ position_from (is_kept_under k) 0 (kept ++ x ∷ [])) [
+    (elim (same_key (key_of x) k) as (λ c. same_key (key_of x) k ≡ c → get same_key new k ≡ cond c (Some (length kept)) (get same_key old k)
+    → get same_key new k ≡ position_from (is_kept_under k) 0 (kept ++ x ∷ [])) [
       | true ↦ λ same at.
           let one : key_of x ≡ k = same_is (key_of x) k same in
-          let none : position_from (is_kept_under k) 0 kept ≡ None = subst (λ (k : Key). position_from (is_kept_under k) 0 kept ≡ None) one (none_found (is_kept_under (key_of x)) 0 kept unkept) in
+          let none : position_from (is_kept_under k) 0 kept ≡ None =
+          subst (λ (k : Key). position_from (is_kept_under k) 0 kept ≡ None) one (none_found (is_kept_under (key_of x)) 0 kept unkept) in
           at ∙ ap Some (sym (zero_plus (length kept))) ∙ sym (position_one (is_kept_under k) 0 kept x (sym (same_kept x k) ∙ same) none)
       | false ↦ λ other at. at ∙ placed k ∙ sym (position_other (is_kept_under k) 0 kept x (sym (same_kept x k) ∙ other))
     ]) refl (updates k)
@@ -104,7 +109,8 @@ pub put_back : (first mid last : Places) (key : Key) (old place : ℕ) → get s
     → ((k : Key) → get same_key last k ≡ cond (same_key key k) (Some old) (get same_key mid k))
     → (k : Key) → get same_key last k ≡ get same_key first k
 put_back first mid last key old place there one two k =
-    (elim (same_key key k) as (λ c. same_key key k ≡ c → get same_key mid k ≡ cond c (Some place) (get same_key first k) → get same_key last k ≡ cond c (Some old) (get same_key mid k) → get same_key last k ≡ get same_key first k) [
+    (elim (same_key key k) as (λ c. same_key key k ≡ c → get same_key mid k ≡ cond c (Some place) (get same_key first k)
+    → get same_key last k ≡ cond c (Some old) (get same_key mid k) → get same_key last k ≡ get same_key first k) [
       | true ↦ λ same put back. back ∙ sym (subst (λ (k : Key). get same_key first k ≡ Some old) (same_is key k same) there)
       | false ↦ λ other put back. back ∙ put
     ]) refl (one k) (two k)

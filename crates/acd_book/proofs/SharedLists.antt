@@ -29,7 +29,8 @@ pub rises_lower : {T : Type 0} (f : T → ℕ) (m n : ℕ) (xs : List T) → m �
 rises_lower f m n [] le h = tt
 rises_lower f m n (x ∷ xs) le h = (below m n (f x) le h.0, h.1)
 
-pub rises_append : {T : Type 0} (f : T → ℕ) (m top : ℕ) (xs ys : List T) → m ≤ top → Rises f m xs → Every (λ (x : T). f x ≤ top) xs → Rises f top ys → Rises f m (xs ++ ys)
+pub rises_append : {T : Type 0} (f : T → ℕ) (m top : ℕ) (xs ys : List T) → m ≤ top → Rises f m xs → Every (λ (x : T). f x ≤ top) xs → Rises f top ys
+    → Rises f m (xs ++ ys)
 rises_append f m top [] ys le h all more = rises_lower f m top ys le more
 rises_append f m top (x ∷ xs) ys le h all more = (h.0, rises_append f (f x) top xs ys all.0 h.1 all.1 more)
 
@@ -89,7 +90,8 @@ pub cons_not_nil : {T : Type 0} (x : T) (xs : List T) → x ∷ xs ≡ [] → �
 cons_not_nil x xs h = cc
 
 -- there is one way
-pub split_once : {T : Type 0} (f : T → ℕ) (n : ℕ) (past left old new : List T) → past ++ left ≡ old ++ new → Every (λ (x : T). f x ≤ n) past → Every (λ (x : T). f x ≤ n) old → Rises f n left → Rises f n new
+pub split_once : {T : Type 0} (f : T → ℕ) (n : ℕ) (past left old new : List T) → past ++ left ≡ old ++ new → Every (λ (x : T). f x ≤ n) past
+    → Every (λ (x : T). f x ≤ n) old → Rises f n left → Rises f n new
     → (past ≡ old) × (left ≡ new)
 split_once f n [] left [] new is low lows up ups = (refl, is)
 split_once f n [] [] (y ∷ old) new is low lows up ups = absurd (cons_not_nil y (old ++ new) (sym is))
@@ -115,14 +117,27 @@ pub record Shares {T : Type 0} (f : T → ℕ) (cut n : ℕ) (archived current :
   pub rest_high : Rises f n rest
   pub above : cut ≤ n
 
-pub shares_nothing : {T : Type 0} (f : T → ℕ) (cut : ℕ) (archived current : List T) → Rises f 0 archived → Rises f cut current → Shares f cut cut archived current
+pub shares_nothing : {T : Type 0} (f : T → ℕ) (cut : ℕ) (archived current : List T) → Rises f 0 archived → Rises f cut current
+    → Shares f cut cut archived current
 shares_nothing f cut archived current rise current_rise =
     let two = split_at f 0 cut archived (omega arith) rise in
     let split : IsSplit f cut archived two.0 two.1 = two.2 in
-    record { past = two.0; done = []; left = two.1; rest = current; split = split; mine = refl; done_low = tt; left_high = split.above; rest_high = current_rise; above = omega arith }
+    record {
+      past = two.0;
+      done = [];
+      left = two.1;
+      rest = current;
+      split = split;
+      mine = refl;
+      done_low = tt;
+      left_high = split.above;
+      rest_high = current_rise;
+      above = omega arith;
+    }
 
 -- all that the other one has up to there
-pub archived_split : {T : Type 0} (f : T → ℕ) (cut n : ℕ) (archived current : List T) (s : Shares f cut n archived current) → IsSplit f n archived (s.past ++ s.done) s.left
+pub archived_split : {T : Type 0} (f : T → ℕ) (cut n : ℕ) (archived current : List T) (s : Shares f cut n archived current)
+    → IsSplit f n archived (s.past ++ s.done) s.left
 archived_split {T = T} f cut n archived current s = record {
   whole = s.split.whole ∙ sym (append_assoc s.past s.done s.left);
   below = every-append (λ (x : T). f x ≤ n) s.past s.done (every_upto f cut n s.past s.above s.split.below) s.done_low;
@@ -130,7 +145,8 @@ archived_split {T = T} f cut n archived current s = record {
 }
 
 -- both have this next
-pub shares_next : {T : Type 0} (f : T → ℕ) (cut n : ℕ) (archived current : List T) (s : Shares f cut n archived current) (x : T) (left rest : List T) → s.left ≡ x ∷ left → s.rest ≡ x ∷ rest → Shares f cut (f x) archived current
+pub shares_next : {T : Type 0} (f : T → ℕ) (cut n : ℕ) (archived current : List T) (s : Shares f cut n archived current) (x : T) (left rest : List T)
+    → s.left ≡ x ∷ left → s.rest ≡ x ∷ rest → Shares f cut (f x) archived current
 shares_next {T = T} f cut n archived current s x left rest is_left is_rest =
     let high : Rises f n (x ∷ left) = subst (Rises f n) is_left s.left_high in
     let highs : Rises f n (x ∷ rest) = subst (Rises f n) is_rest s.rest_high in
@@ -150,7 +166,8 @@ shares_next {T = T} f cut n archived current s x left rest is_left is_rest =
     }
 
 -- nothing is left of the other one
-pub shares_all : {T : Type 0} (f : T → ℕ) (cut n last : ℕ) (archived current : List T) (s : Shares f cut n archived current) → s.left ≡ [] → Rises f last s.rest → Begins f cut last archived current
+pub shares_all : {T : Type 0} (f : T → ℕ) (cut n last : ℕ) (archived current : List T) (s : Shares f cut n archived current) → s.left ≡ [] → Rises f last s.rest
+    → Begins f cut last archived current
 shares_all {T = T} f cut n last archived current s none newer = record {
   past = s.past;
   carried = s.done;
@@ -161,9 +178,13 @@ shares_all {T = T} f cut n last archived current s none newer = record {
 }
 
 -- where one begins so, what is left of it begins with what is left of the other one
-pub begins_left : {T : Type 0} (f : T → ℕ) (cut n last : ℕ) (archived current : List T) (s : Shares f cut n archived current) (b : Begins f cut last archived current) → s.rest ≡ s.left ++ b.rest
+pub begins_left : {T : Type 0} (f : T → ℕ) (cut n last : ℕ) (archived current : List T) (s : Shares f cut n archived current)
+    (b : Begins f cut last archived current)
+    → s.rest ≡ s.left ++ b.rest
 begins_left {T = T} f cut n last archived current s b =
-    let once = split_once f cut s.past (s.done ++ s.left) b.past b.carried (sym s.split.whole ∙ b.split.whole) s.split.below b.split.below s.split.above b.split.above in
+    let once =
+    split_once f cut s.past (s.done ++ s.left) b.past b.carried (sym s.split.whole ∙ b.split.whole) s.split.below b.split.below s.split.above
+    b.split.above in
     append_cancel_left s.done s.rest (s.left ++ b.rest)
     (sym s.mine ∙ b.mine ∙ ap (λ (l : List T). l ++ b.rest) (sym once.1) ∙ append_assoc s.done s.left b.rest)
 
@@ -184,7 +205,8 @@ cut_within f last (x ∷ xs) = less last (f x)
     less last n = omega arith
 
 -- wherever the other one was cut, that is the cut
-pub split_there : {T : Type 0} (f : T → ℕ) (last : ℕ) (archived current past carried rest : List T) → archived ≡ past ++ carried → current ≡ carried ++ rest → Rises f 0 archived → Every (λ (x : T). f x ≤ last) archived → Rises f last rest
+pub split_there : {T : Type 0} (f : T → ℕ) (last : ℕ) (archived current past carried rest : List T) → archived ≡ past ++ carried → current ≡ carried ++ rest
+    → Rises f 0 archived → Every (λ (x : T). f x ≤ last) archived → Rises f last rest
     → IsSplit f (cut_before f last current) archived past carried
 split_there {T = T} f last archived current past [] rest whole mine rise low newer =
     let far : (l : List T) → Rises f last l → cut_before f last l ≡ last = λ l. elim l as (λ l. Rises f last l → cut_before f last l ≡ last) [
@@ -194,7 +216,9 @@ split_there {T = T} f last archived current past [] rest whole mine rise low new
     let cut : cut_before f last current ≡ last = ap (cut_before f last) mine ∙ far rest newer in
     record {
       whole = whole;
-      below = subst (λ (n : ℕ). Every (λ (x : T). f x ≤ n) past) (sym cut) (every_front (λ (x : T). f x ≤ last) past [] (subst (Every (λ (x : T). f x ≤ last)) whole low));
+      below =
+          subst (λ (n : ℕ). Every (λ (x : T). f x ≤ n) past) (sym cut)
+          (every_front (λ (x : T). f x ≤ last) past [] (subst (Every (λ (x : T). f x ≤ last)) whole low));
       above = tt;
     }
   where
@@ -223,7 +247,8 @@ split_there {T = T} f last archived current past (x ∷ carried) rest whole mine
 pub none_above : {T : Type 0} (f : T → ℕ) (n : ℕ) (xs : List T) → Every (λ (x : T). f x ≤ n) xs → filter (λ (x : T). nat_lt n (f x)) xs ≡ []
 none_above f n [] low = refl
 none_above {T = T} f n (x ∷ xs) low =
-    ap (λ (b : Bool). cond b (x ∷ filter (λ (y : T). nat_lt n (f y)) xs) (filter (λ (y : T). nat_lt n (f y)) xs)) (le-ltb n (f x) low.0) ∙ none_above f n xs low.1
+    ap (λ (b : Bool). cond b (x ∷ filter (λ (y : T). nat_lt n (f y)) xs) (filter (λ (y : T). nat_lt n (f y)) xs)) (le-ltb n (f x) low.0)
+    ∙ none_above f n xs low.1
 
 pub all_above : {T : Type 0} (f : T → ℕ) (n m : ℕ) (xs : List T) → n ≤ m → Rises f m xs → filter (λ (x : T). nat_lt n (f x)) xs ≡ xs
 all_above f n m [] le up = refl
@@ -235,7 +260,8 @@ all_above {T = T} f n m (x ∷ xs) le up =
     further n m k le lt = omega (arith, le, lt)
 
 -- a book reads above a number what is left there
-pub next_left : {T : Type 0} (f : T → ℕ) (n : ℕ) (xs past left : List T) → IsSplit f n xs past left → take 1 (filter (λ (x : T). nat_lt n (f x)) xs) ≡ take 1 left
+pub next_left : {T : Type 0} (f : T → ℕ) (n : ℕ) (xs past left : List T) → IsSplit f n xs past left
+    → take 1 (filter (λ (x : T). nat_lt n (f x)) xs) ≡ take 1 left
 next_left {T = T} f n xs past left s =
     let p : T → Bool = λ (x : T). nat_lt n (f x) in
     ap (λ (l : List T). take 1 (filter p l)) s.whole
@@ -244,10 +270,12 @@ next_left {T = T} f n xs past left s =
 current_split : {T : Type 0} (f : T → ℕ) (cut n : ℕ) (archived current : List T) (s : Shares f cut n archived current) → IsSplit f n current s.done s.rest
 current_split f cut n archived current s = record { whole = s.mine; below = s.done_low; above = s.rest_high }
 
-pub archived_left : {T : Type 0} (f : T → ℕ) (cut n : ℕ) (archived current : List T) (s : Shares f cut n archived current) → take 1 (filter (λ (x : T). nat_lt n (f x)) archived) ≡ take 1 s.left
+pub archived_left : {T : Type 0} (f : T → ℕ) (cut n : ℕ) (archived current : List T) (s : Shares f cut n archived current)
+    → take 1 (filter (λ (x : T). nat_lt n (f x)) archived) ≡ take 1 s.left
 archived_left f cut n archived current s = next_left f n archived (s.past ++ s.done) s.left (archived_split f cut n archived current s)
 
-pub current_left : {T : Type 0} (f : T → ℕ) (cut n : ℕ) (archived current : List T) (s : Shares f cut n archived current) → take 1 (filter (λ (x : T). nat_lt n (f x)) current) ≡ take 1 s.rest
+pub current_left : {T : Type 0} (f : T → ℕ) (cut n : ℕ) (archived current : List T) (s : Shares f cut n archived current)
+    → take 1 (filter (λ (x : T). nat_lt n (f x)) current) ≡ take 1 s.rest
 current_left f cut n archived current s = next_left f n current s.done s.rest (current_split f cut n archived current s)
 
 pub first_is : {T : Type 0} (x : T) (xs ys : List T) → take 1 xs ≡ x ∷ ys → (tail : List T) × (xs ≡ x ∷ tail)
@@ -260,7 +288,8 @@ none_first (x ∷ xs) h = absurd (cons_not_nil x [] h)
 
 -- both have the same next
 pub same_next : {T : Type 0} (f : T → ℕ) (cut n : ℕ) (archived current : List T) (s : Shares f cut n archived current) (x : T) (xs ys : List T)
-    → take 1 (filter (λ (x : T). nat_lt n (f x)) archived) ≡ x ∷ xs → take 1 (filter (λ (x : T). nat_lt n (f x)) current) ≡ x ∷ ys → Shares f cut (f x) archived current
+    → take 1 (filter (λ (x : T). nat_lt n (f x)) archived) ≡ x ∷ xs → take 1 (filter (λ (x : T). nat_lt n (f x)) current) ≡ x ∷ ys
+    → Shares f cut (f x) archived current
 same_next f cut n archived current s x xs ys is_archived is_current =
     let left = first_is x s.left xs (sym (archived_left f cut n archived current s) ∙ is_archived) in
     let rest = first_is x s.rest ys (sym (current_left f cut n archived current s) ∙ is_current) in
@@ -268,16 +297,20 @@ same_next f cut n archived current s x xs ys is_archived is_current =
 
 -- they haven't
 pub other_next : {T : Type 0} (f : T → ℕ) (cut n last : ℕ) (archived current : List T) (s : Shares f cut n archived current) (x : T) (xs : List T)
-    → take 1 (filter (λ (x : T). nat_lt n (f x)) archived) ≡ x ∷ xs → (take 1 (filter (λ (x : T). nat_lt n (f x)) current) ≡ take 1 (filter (λ (x : T). nat_lt n (f x)) archived) → ⊥) → ¬ Begins f cut last archived current
+    → take 1 (filter (λ (x : T). nat_lt n (f x)) archived) ≡ x ∷ xs
+    → (take 1 (filter (λ (x : T). nat_lt n (f x)) current) ≡ take 1 (filter (λ (x : T). nat_lt n (f x)) archived) → ⊥) → ¬ Begins f cut last archived current
 other_next {T = T} f cut n last archived current s x xs is_archived other b =
     let left = first_is x s.left xs (sym (archived_left f cut n archived current s) ∙ is_archived) in
     let rest : s.rest ≡ x ∷ (left.0 ++ b.rest) = begins_left f cut n last archived current s b ∙ ap (λ (l : List T). l ++ b.rest) left.1 in
     other (current_left f cut n archived current s ∙ ap (take 1) rest ∙ sym (ap (take 1) left.1) ∙ sym (archived_left f cut n archived current s))
 
 -- the last number is reached
-pub reached : {T : Type 0} (f : T → ℕ) (cut n last : ℕ) (archived current : List T) (s : Shares f cut n archived current) → last ≤ n → Every (λ (x : T). f x ≤ last) archived → Begins f cut last archived current
+pub reached : {T : Type 0} (f : T → ℕ) (cut n last : ℕ) (archived current : List T) (s : Shares f cut n archived current) → last ≤ n
+    → Every (λ (x : T). f x ≤ last) archived → Begins f cut last archived current
 reached {T = T} f cut n last archived current s le low =
-    let left_low : Every (λ (x : T). f x ≤ last) s.left = every_back (λ (x : T). f x ≤ last) s.done s.left (every_back (λ (x : T). f x ≤ last) s.past (s.done ++ s.left) (subst (Every (λ (x : T). f x ≤ last)) s.split.whole low)) in
+    let left_low : Every (λ (x : T). f x ≤ last) s.left =
+    every_back (λ (x : T). f x ≤ last) s.done s.left
+    (every_back (λ (x : T). f x ≤ last) s.past (s.done ++ s.left) (subst (Every (λ (x : T). f x ≤ last)) s.split.whole low)) in
     let empty : (l : List T) → Every (λ (x : T). f x ≤ last) l → Rises f n l → l ≡ []
     = λ l. elim l as (λ l. Every (λ (x : T). f x ≤ last) l → Rises f n l → l ≡ []) [
       | [] ↦ λ h up. refl

@@ -17,7 +17,8 @@ pub monitor_found : (c : Content) (monitor number limit : ℕ) (w : MonitorRecor
 monitor_found c monitor number limit w found runs is = is ∙ ap (λ (o : Option MonitorRecord). watched_by o c.events number limit) (sym runs)
 
 -- the events at a device that a log has after a number
-pub device_found : (device number limit : ℕ) (events found : List Event) → is_numbered number_of 0 events ≡ true → found ≡ take limit (filter (is_at (Some device)) (drop number events))
+pub device_found : (device number limit : ℕ) (events found : List Event) → is_numbered number_of 0 events ≡ true
+    → found ≡ take limit (filter (is_at (Some device)) (drop number events))
     → found ≡ take limit (filter (is_at_after (Some device) number) events)
 device_found device number limit events found numbered is = is ∙ ap (take limit) (sym (filter_above number_of (is_at (Some device)) number events numbered))
 
@@ -30,7 +31,8 @@ none_exceeds b (e ∷ events) numbered =
     (omega (arith, parts.0), subst (λ (n : ℕ). Every (λ (e : Event). e.number ≤ n) events) same (none_exceeds (b + 1) events parts.1))
 
 -- each is at the place that its number gives
-placed : (b : ℕ) (events : List Event) (e : Event) → is_numbered number_of b events ≡ true → Among e events → (b < e.number) × (slice_get events (e.number - (b + 1)) ≡ Some e)
+placed : (b : ℕ) (events : List Event) (e : Event) → is_numbered number_of b events ≡ true → Among e events
+    → (b < e.number) × (slice_get events (e.number - (b + 1)) ≡ Some e)
 placed b [] e numbered a = absurd a
 placed b (x ∷ events) e numbered (inl is) =
     let parts = first number_of b x events numbered in
@@ -50,16 +52,20 @@ found_at : (events : List Event) (e : Event) → is_numbered number_of 0 events 
 found_at events e numbered a = let at = placed 0 events e numbered a in at_number e.number (slice_get events (e.number - 1)) at.0 ∙ at.1
 
 -- those of the numbers of some are these
-pub found_all : (events some : List Event) → is_numbered number_of 0 events ≡ true → Every (λ (e : Event). Among e events) some → filter_map (event_at events) (map number_of some) ≡ some
+pub found_all : (events some : List Event) → is_numbered number_of 0 events ≡ true → Every (λ (e : Event). Among e events) some
+    → filter_map (event_at events) (map number_of some) ≡ some
 found_all events [] numbered all = refl
 found_all events (e ∷ some) numbered all =
     ap (λ (o : Option Event). cons_option o (filter_map (event_at events) (map number_of some))) (found_at events e numbered all.0)
     ∙ ap (λ (l : List Event). e ∷ l) (found_all events some numbered all.1)
 
 -- a page of a list of numbers
-pub page_found : (device number limit : ℕ) (events : List Event) (numbers : List ℕ) → is_numbered number_of 0 events ≡ true → numbers ≡ map number_of (take limit (filter (is_at_after (Some device) number) events))
+pub page_found : (device number limit : ℕ) (events : List Event) (numbers : List ℕ) → is_numbered number_of 0 events ≡ true
+    → numbers ≡ map number_of (take limit (filter (is_at_after (Some device) number) events))
     → filter_map (event_at events) numbers ≡ take limit (filter (is_at_after (Some device) number) events)
 page_found device number limit events numbers numbered are =
     let passes = is_at_after (Some device) number in
-    let there = every-take (λ (e : Event). Among e events) limit (filter passes events) (every-filter (λ (e : Event). Among e events) passes events (every_from (λ (e : Event). Among e events) events (λ e among. among))) in
+    let there =
+    every-take (λ (e : Event). Among e events) limit (filter passes events)
+    (every-filter (λ (e : Event). Among e events) passes events (every_from (λ (e : Event). Among e events) events (λ e among. among))) in
     ap (filter_map (event_at events)) are ∙ found_all events (take limit (filter passes events)) numbered there

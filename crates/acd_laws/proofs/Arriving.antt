@@ -26,13 +26,47 @@ pub record Arrived (s : Rows) (c d : ℕ) (y : ConnectionRecord) : Type 0 where
 bare : (c d : ℕ) (state : ConnectionState) → Bare (plain c d state)
 bare c d state = record { place = refl; queued = refl; offered = refl }
 
-arrived_as : (q i : Bool) (s : Rows) (turn : Turn) (c d : ℕ) → is_group s d ≡ q → is_idle s d ≡ i → is_planned s d ≡ true → Arrived s c d (arriving (met_at q i) turn c d)
+arrived_as : (q i : Bool) (s : Rows) (turn : Turn) (c d : ℕ) → is_group s d ≡ q → is_idle s d ≡ i → is_planned s d ≡ true
+    → Arrived s c d (arriving (met_at q i) turn c d)
 arrived_as true i s turn c d e f p =
-    record { call = refl; device = refl; rule = (record { group = refl; place = refl; queued = refl; offered = refl }, e, e); not_initiated = refl; not_hold = refl; not_answered = refl; not_distributed = refl; not_ringing = refl; idle = λ q. absurd (cc (q)); alerting_idle = λ q. absurd (cc (q)) }
+    record {
+      call = refl;
+      device = refl;
+      rule = (record { group = refl; place = refl; queued = refl; offered = refl }, e, e);
+      not_initiated = refl;
+      not_hold = refl;
+      not_answered = refl;
+      not_distributed = refl;
+      not_ringing = refl;
+      idle = λ q. absurd (cc (q));
+      alerting_idle = λ q. absurd (cc (q));
+    }
 arrived_as false true s turn c d e f p =
-    record { call = refl; device = refl; rule = (bare c d S.Alerting, tt, rw e at p); not_initiated = refl; not_hold = refl; not_answered = refl; not_distributed = refl; not_ringing = refl; idle = λ q. f; alerting_idle = λ q. f }
+    record {
+      call = refl;
+      device = refl;
+      rule = (bare c d S.Alerting, tt, rw e at p);
+      not_initiated = refl;
+      not_hold = refl;
+      not_answered = refl;
+      not_distributed = refl;
+      not_ringing = refl;
+      idle = λ q. f;
+      alerting_idle = λ q. f;
+    }
 arrived_as false false s turn c d e f p =
-    record { call = refl; device = refl; rule = ((bare c d S.Fail, refl), tt, rw e at p); not_initiated = refl; not_hold = refl; not_answered = refl; not_distributed = refl; not_ringing = refl; idle = λ q. absurd (cc (q)); alerting_idle = λ q. absurd (cc (q)) }
+    record {
+      call = refl;
+      device = refl;
+      rule = ((bare c d S.Fail, refl), tt, rw e at p);
+      not_initiated = refl;
+      not_hold = refl;
+      not_answered = refl;
+      not_distributed = refl;
+      not_ringing = refl;
+      idle = λ q. absurd (cc (q));
+      alerting_idle = λ q. absurd (cc (q));
+    }
 
 pub arrived : (s : Rows) (turn : Turn) (c d : ℕ) → is_planned s d ≡ true → Arrived s c d (arriving (destination_of s d) turn c d)
 arrived s turn c d p = arrived_as (is_group s d) (is_idle s d) s turn c d refl refl p
@@ -62,7 +96,8 @@ alerting_live _ e = refl
 pub alerting_is_live : (d : ℕ) (x : ConnectionRecord) → alerting_at d x ≡ true → live_at d x ≡ true
 alerting_is_live d x e = let h = and_parts (is_alerting x.state) (x.device == d) e in and_from _ _ (alerting_live x.state h.0) h.1
 
-pub idle_counts : (s : Rows) (d : ℕ) → is_idle s d ≡ true → (count (live_at d) s.connections ≡ 0) × (count (alerting_at d) s.connections ≡ 0) × (count (hold_at d) s.connections ≡ 0)
+pub idle_counts : (s : Rows) (d : ℕ) → is_idle s d ≡ true
+    → (count (live_at d) s.connections ≡ 0) × (count (alerting_at d) s.connections ≡ 0) × (count (hold_at d) s.connections ≡ 0)
 idle_counts s d e =
     let z = none_at s d e in
     let a = fewer (live_at d) (is_at d) (live_is_at d) s.connections in
@@ -73,8 +108,10 @@ idle_counts s d e =
 -- the rule of a connection speaks of groups, stations and its call alone
 
 -- with more devices planned
-pub rule_more : (s t : Rows) → ((d : ℕ) → is_station s d ≡ true → is_station t d ≡ true) → ((d : ℕ) → is_group s d ≡ true → is_group t d ≡ true) → (x : ConnectionRecord)
-    → (IsCaller (call_of s x.call) x.device → IsCaller (call_of t x.call) x.device) → (is_planned s x.device ≡ false → is_planned t x.device ≡ false) → ConnectionRule s x → ConnectionRule t x
+pub rule_more : (s t : Rows) → ((d : ℕ) → is_station s d ≡ true → is_station t d ≡ true) → ((d : ℕ) → is_group s d ≡ true → is_group t d ≡ true)
+    → (x : ConnectionRecord)
+    → (IsCaller (call_of s x.call) x.device → IsCaller (call_of t x.call) x.device) → (is_planned s x.device ≡ false → is_planned t x.device ≡ false)
+    → ConnectionRule s x → ConnectionRule t x
 rule_more s t f g x c p r = (r.0, column x.group r.1, stands x.state r.2)
   where
     column : (o : Option ℕ) → GroupColumn s o → GroupColumn t o
@@ -106,10 +143,18 @@ pub record ConnectionsKeep (loose : ℕ → Bool) (s : Rows) (xs : List Connecti
   pub pending : (d : ℕ) → loose d ≡ false → count (pending_at d) s.agents ≤ count (is_distributed_at d) xs
   pub free : (d : ℕ) → loose d ≡ true → count (is_distributed_at d) xs ≡ 0
 
-pub with_connections : (loose : ℕ → Bool) (s : Rows) (xs : List ConnectionRecord) → Rules s → ConnectionsKeep loose s xs → RulesBut loose (record s { connections = xs })
+pub with_connections : (loose : ℕ → Bool) (s : Rows) (xs : List ConnectionRecord) → Rules s → ConnectionsKeep loose s xs
+    → RulesBut loose (record s { connections = xs })
 unfolding call_of group_of station_of
 with_connections loose s xs r h = record {
-  orders = record { groups = r.orders.groups; stations = r.orders.stations; agents = r.orders.agents; calls = r.orders.calls; connections = h.sorted; monitors = r.orders.monitors };
+  orders = record {
+    groups = r.orders.groups;
+    stations = r.orders.stations;
+    agents = r.orders.agents;
+    calls = r.orders.calls;
+    connections = h.sorted;
+    monitors = r.orders.monitors;
+  };
   kinds = r.kinds;
   agents = r.agents;
   calls = r.calls;
@@ -135,10 +180,18 @@ pub record AgentsKeep (loose : ℕ → Bool) (s : Rows) (agents : List AgentReco
   pub busy : (d : ℕ) → loose d ≡ false → count (talking_at d) s.connections ≡ count (busy_at d) agents
   pub pending : (d : ℕ) → loose d ≡ false → count (pending_at d) agents ≤ count (is_distributed_at d) s.connections
 
-pub with_agents : (p q : ℕ → Bool) (s : Rows) (agents : List AgentRecord) → RulesBut p s → ((d : ℕ) → q d ≡ true → p d ≡ true) → AgentsKeep q s agents → RulesBut q (record s { agents = agents })
+pub with_agents : (p q : ℕ → Bool) (s : Rows) (agents : List AgentRecord) → RulesBut p s → ((d : ℕ) → q d ≡ true → p d ≡ true) → AgentsKeep q s agents
+    → RulesBut q (record s { agents = agents })
 unfolding call_of group_of station_of
 with_agents p q s agents r f h = record {
-  orders = record { groups = r.orders.groups; stations = r.orders.stations; agents = h.sorted; calls = r.orders.calls; connections = r.orders.connections; monitors = r.orders.monitors };
+  orders = record {
+    groups = r.orders.groups;
+    stations = r.orders.stations;
+    agents = h.sorted;
+    calls = r.orders.calls;
+    connections = r.orders.connections;
+    monitors = r.orders.monitors;
+  };
   kinds = r.kinds;
   agents = h.rules;
   calls = r.calls;
@@ -156,7 +209,8 @@ with_agents p q s agents r f h = record {
 }
 
 -- where only a counts for q, a alone counts for whatever implies q
-pub lone : {X : Type 0} (p q : X → Bool) (xs : List X) (a : X) → ((x : X) → p x ≡ true → q x ≡ true) → Among a xs → q a ≡ true → count q xs ≤ 1 → count p xs ≡ one (p a)
+pub lone : {X : Type 0} (p q : X → Bool) (xs : List X) (a : X) → ((x : X) → p x ≡ true → q x ≡ true) → Among a xs → q a ≡ true → count q xs ≤ 1
+    → count p xs ≡ one (p a)
 lone p q xs a f among here l =
     let m = fewer p q f xs in
     (elim (p a) as (λ b. p a ≡ b → count p xs ≡ one b) [
@@ -175,7 +229,8 @@ one_le true = omega arith
 one_le false = omega arith
 
 -- where none is at d, one more there leaves one at most at each device
-pub most_one : (p : ℕ → ConnectionRecord → Bool) (xs : List ConnectionRecord) (d e : ℕ) → count (p d) xs ≡ 0 → count (p e) xs ≤ 1 → one (d == e) + count (p e) xs ≤ 1
+pub most_one : (p : ℕ → ConnectionRecord → Bool) (xs : List ConnectionRecord) (d e : ℕ) → count (p d) xs ≡ 0 → count (p e) xs ≤ 1
+    → one (d == e) + count (p e) xs ≤ 1
 most_one p xs d e none l =
     (elim (d == e) as (λ b. (d == e) ≡ b → one b + count (p e) xs ≤ 1) [
       | true ↦ λ q. let z : count (p e) xs ≡ 0 = subst (λ v. count (p v) xs ≡ 0) (eqb-true d e q) none in omega (arith, z)
@@ -184,14 +239,16 @@ most_one p xs d e none l =
 
 -- the destination of a call
 
-pub arrived_live : (s : Rows) (c d e : ℕ) (y : ConnectionRecord) → Arrived s c d y → count (live_at e) s.connections ≤ 1 → one (live_at e y) + count (live_at e) s.connections ≤ 1
+pub arrived_live : (s : Rows) (c d e : ℕ) (y : ConnectionRecord) → Arrived s c d y → count (live_at e) s.connections ≤ 1
+    → one (live_at e y) + count (live_at e) s.connections ≤ 1
 arrived_live s c d e y a l =
     (elim (is_live y.state) as (λ b. is_live y.state ≡ b → one (b && y.device == e) + count (live_at e) s.connections ≤ 1) [
       | true ↦ λ q. rw a.device (most_one live_at s.connections d e (idle_counts s d (a.idle q)).0 l)
       | false ↦ λ q. omega (arith, l)
     ]) refl
 
-pub arrived_hold : (s : Rows) (c d e : ℕ) (y : ConnectionRecord) → Arrived s c d y → (1 ≤ count (alerting_at e) s.connections → count (hold_at e) s.connections ≡ 0)
+pub arrived_hold : (s : Rows) (c d e : ℕ) (y : ConnectionRecord) → Arrived s c d y
+    → (1 ≤ count (alerting_at e) s.connections → count (hold_at e) s.connections ≡ 0)
     → 1 ≤ one (alerting_at e y) + count (alerting_at e) s.connections → count (hold_at e) s.connections ≡ 0
 arrived_hold s c d e y a h l =
     (elim (alerting_at e y) as (λ b. alerting_at e y ≡ b → count (hold_at e) s.connections ≡ 0) [
@@ -201,7 +258,8 @@ arrived_hold s c d e y a h l =
     ]) refl
 
 -- at most one is open after it, where none of the call is, or the one that ends
-pub arrived_open : (s : Rows) (c d n : ℕ) (y : ConnectionRecord) (o : Bool) → Arrived s c d y → count (open_of n) s.connections ≤ 1 → count (open_of c) s.connections ≤ one o
+pub arrived_open : (s : Rows) (c d n : ℕ) (y : ConnectionRecord) (o : Bool) → Arrived s c d y → count (open_of n) s.connections ≤ 1
+    → count (open_of c) s.connections ≤ one o
     → one (open_of n y) + count (open_of n) s.connections ≤ 1 + one (o && c == n)
 arrived_open s c d n y o a l most =
     (elim (c == n) as (λ b. (c == n) ≡ b → one (open_of n y) + count (open_of n) s.connections ≤ 1 + one (o && b)) [

@@ -35,7 +35,8 @@ unfolding refuse_if
 by_refusal P true r rest f h = f r
 by_refusal P false r rest f h = h refl
 
-pub by_found : {T : Type 0} (P : Served → Type 0) (o : Option T) (r : Refusal) (rest : T → Served) → ((r : Refusal) → P (Err r)) → ((x : T) → o ≡ Some x → P (rest x)) → P (ok_or o r >>= rest)
+pub by_found : {T : Type 0} (P : Served → Type 0) (o : Option T) (r : Refusal) (rest : T → Served) → ((r : Refusal) → P (Err r))
+    → ((x : T) → o ≡ Some x → P (rest x)) → P (ok_or o r >>= rest)
 by_found P None r rest f h = f r
 by_found P (Some x) r rest f h = h x refl
 
@@ -58,21 +59,26 @@ pub record Free (s : Rows) (x : ConnectionRecord) (to : ℕ) : Type 0 where
 -- the effect of distribution and tick, once or more in a step
 pub data Round (s : Rows) (turn : Turn) : List Move → Type 0 where
   offers : (o : Offer) (x : ConnectionRecord) (a : AgentRecord) (d : ℕ) → Offering s o x a d → Round s turn (offer_at turn.moment (Some x) (Some d))
-  returns : (x : ConnectionRecord) (g : ℕ) → connection_of s x.call x.device ≡ Some x → is_alerting x.state ≡ true → x.group ≡ Some g → Round s turn (return_to s turn x (Some g))
+  returns : (x : ConnectionRecord) (g : ℕ) → connection_of s x.call x.device ≡ Some x → is_alerting x.state ≡ true → x.group ≡ Some g
+      → Round s turn (return_to s turn x (Some g))
   rests : (a : AgentRecord) → agent_of s a.agent ≡ Some a → is_working_after_call a.state ≡ true → Round s turn (rest_moves turn a)
 
 -- the effect of a service, with what its tests established
 pub data Deed (s : Rows) (turn : Turn) : List Move → Type 0 where
   nothing : Deed s turn []
-  adds_group : (device : ℕ) (name : List ℕ) (ring wrap : ℕ) → is_used s device ≡ false → nat_le s.limits.groups (length s.groups) ≡ false → Deed s turn (silent (PutGroup (new_group device name ring wrap)) ∷ [])
-  adds_station : (device : ℕ) → is_used s device ≡ false → nat_le s.limits.stations (length s.stations) ≡ false → Deed s turn (silent (PutStation (record { device = device })) ∷ [])
-  adds_agent : (agent : ℕ) (name : List ℕ) → agent_of s agent ≡ None → nat_le s.limits.agents (length s.agents) ≡ false → Deed s turn (silent (PutAgent (new_agent turn agent name)) ∷ [])
+  adds_group : (device : ℕ) (name : List ℕ) (ring wrap : ℕ) → is_used s device ≡ false → nat_le s.limits.groups (length s.groups) ≡ false
+      → Deed s turn (silent (PutGroup (new_group device name ring wrap)) ∷ [])
+  adds_station : (device : ℕ) → is_used s device ≡ false → nat_le s.limits.stations (length s.stations) ≡ false
+      → Deed s turn (silent (PutStation (record { device = device })) ∷ [])
+  adds_agent : (agent : ℕ) (name : List ℕ) → agent_of s agent ≡ None → nat_le s.limits.agents (length s.agents) ≡ false
+      → Deed s turn (silent (PutAgent (new_agent turn agent name)) ∷ [])
   watches : (device : ℕ) → is_planned s device ≡ true → nat_le s.limits.monitors (length s.monitors) ≡ false
       → Deed s turn (silent (PutMonitor (record { monitor = next_monitor s; device = device; after_event = s.last_event })) ∷ [])
   unwatches : (monitor : ℕ) → Deed s turn (silent (RemoveMonitor monitor) ∷ [])
   arrives : (caller called : ℕ) → is_planned s caller ≡ false → is_planned s called ≡ true → has_no_call_left s ≡ false
       → Deed s turn (begin (new_call s turn.moment caller called) ∷ connect_caller (next_call s) caller ∷ arrive s turn (next_call s) called NewCall ∷ [])
-  makes : (device called : ℕ) → is_planned s device ≡ true → is_station s device ≡ true → is_planned s called ≡ true → (called == device) ≡ false → is_live_at s device ≡ false → has_no_call_left s ≡ false
+  makes : (device called : ℕ) → is_planned s device ≡ true → is_station s device ≡ true → is_planned s called ≡ true → (called == device) ≡ false
+      → is_live_at s device ≡ false → has_no_call_left s ≡ false
       → Deed s turn (begin (new_call s turn.moment device called) ∷ initiate (next_call s) device ∷ [])
   goes_out : (p : Party s) → is_initiated p.x.state ≡ true → Deed s turn (originate p.x p.about.called ∷ arrive s turn p.x.call p.about.called NewCall ∷ [])
   answers : (p : Party s) → is_alerting p.x.state ≡ true → Deed s turn (answer turn.moment p.x ∷ occupy s turn p.x ∷ [])
@@ -83,12 +89,15 @@ pub data Deed (s : Rows) (turn : Turn) : List Move → Type 0 where
       → Deed s turn (divert p.x to Deflected ∷ arrive s turn p.x.call to Deflected ∷ release s turn p.x (ending_of p.x) ∷ [])
   transfers : (p : Party s) (to : ℕ) → is_connected p.x.state ≡ true → is_answered_by (other_of s p.x) ≡ true → Free s p.x to
       → Deed s turn (transfer p.x to ∷ arrive s turn p.x.call to Transferred ∷ release s turn p.x (ending_of p.x) ∷ [])
-  logs_on : (a : AgentRecord) (device : ℕ) (groups : List ℕ) → agent_of s a.agent ≡ Some a → is_null a.state ≡ true → is_station s device ≡ true → agent_at s device ≡ None → ArePlannedGroups s groups
+  logs_on : (a : AgentRecord) (device : ℕ) (groups : List ℕ) → agent_of s a.agent ≡ Some a → is_null a.state ≡ true → is_station s device ≡ true
+      → agent_at s device ≡ None → ArePlannedGroups s groups
       → Deed s turn (log_on_at turn a device groups ∷ [])
   rejects : (p : Party s) (g : ℕ) → is_alerting p.x.state ≡ true → p.x.group ≡ Some g → Deed s turn (return_to s turn p.x (Some g))
   renames : (a : AgentRecord) (name : List ℕ) → agent_of s a.agent ≡ Some a → Deed s turn (silent (PutAgent (record a { name = name })) ∷ [])
-  waits : (a : AgentRecord) (wanted : Pending) → agent_of s a.agent ≡ Some a → is_null a.state ≡ false → is_occupied s a ≡ true → Deed s turn (wait_for a (Some wanted) ∷ [])
-  goes : (a : AgentRecord) (wanted : Pending) → agent_of s a.agent ≡ Some a → is_null a.state ≡ false → is_occupied s a ≡ false → Deed s turn (go_from turn a a.station (state_wanted wanted) ∷ [])
+  waits : (a : AgentRecord) (wanted : Pending) → agent_of s a.agent ≡ Some a → is_null a.state ≡ false → is_occupied s a ≡ true
+      → Deed s turn (wait_for a (Some wanted) ∷ [])
+  goes : (a : AgentRecord) (wanted : Pending) → agent_of s a.agent ≡ Some a → is_null a.state ≡ false → is_occupied s a ≡ false
+      → Deed s turn (go_from turn a a.station (state_wanted wanted) ∷ [])
 
 -- the effect of setGroupPriority and changeGroup: no deeds, so that these commands alone change a planned group's
 -- record
@@ -124,12 +133,14 @@ DeedBy s turn v = Deed s turn (moves_of v)
 unless : {s : Rows} {turn : Turn} {b : Bool} (r : Refusal) (rest : Served) → (b ≡ false → DeedBy s turn rest) → DeedBy s turn (refuse_if b r >> rest)
 unless {s} {turn} {b} r rest h = by_refusal (DeedBy s turn) b r rest (λ _. nothing) h
 
-with : {T : Type 0} {s : Rows} {turn : Turn} {o : Option T} (r : Refusal) (rest : T → Served) → ((x : T) → o ≡ Some x → DeedBy s turn (rest x)) → DeedBy s turn (ok_or o r >>= rest)
+with : {T : Type 0} {s : Rows} {turn : Turn} {o : Option T} (r : Refusal) (rest : T → Served) → ((x : T) → o ≡ Some x → DeedBy s turn (rest x))
+    → DeedBy s turn (ok_or o r >>= rest)
 with {T} {s} {turn} {o} r rest h = by_found (DeedBy s turn) o r rest (λ _. nothing) h
 
 -- a connection of a live call
 party : {s : Rows} {turn : Turn} {call device : ℕ} (r q : Refusal) (rest : CallRecord → ConnectionRecord → Served)
-    → ((p : Party s) → p.x.call ≡ call → p.x.device ≡ device → DeedBy s turn (rest p.about p.x)) → DeedBy s turn (ok_or (call_of s call) r >>= (λ c. ok_or (connection_of s call device) q >>= rest c))
+    → ((p : Party s) → p.x.call ≡ call → p.x.device ≡ device → DeedBy s turn (rest p.about p.x))
+    → DeedBy s turn (ok_or (call_of s call) r >>= (λ c. ok_or (connection_of s call device) q >>= rest c))
 party {s} {turn} {call} {device} r q rest h = with _ _ (λ c ec. with _ _ (λ x ex.
     let key = found_key s call device x ex in
     h (record { about = c; x = x; live = ap (call_of s) key.0 ∙ ec; found = connection_itself s call device x ex }) key.0 key.1))
@@ -151,18 +162,21 @@ deed_add_agent s turn agent name = unless _ _ (λ new. unless _ _ (λ room. adds
 
 deed_arrive_call : (s : Rows) (turn : Turn) (caller called : ℕ) → DeedBy s turn (arrive_call s turn caller called)
 unfolding arrive_call
-deed_arrive_call s turn caller called = unless _ _ (λ outside. unless _ _ (λ known. unless _ _ (λ room. arrives caller called outside (not-false (is_planned s called) known) room)))
+deed_arrive_call s turn caller called =
+    unless _ _ (λ outside. unless _ _ (λ known. unless _ _ (λ room. arrives caller called outside (not-false (is_planned s called) known) room)))
 
 deed_make_call : (s : Rows) (turn : Turn) (device called : ℕ) → DeedBy s turn (make_call s turn.moment device called)
 unfolding make_call
 deed_make_call s turn device called =
     unless _ _ (λ planned. unless _ _ (λ station. unless _ _ (λ known. unless _ _ (λ differ. unless _ _ (λ free. unless _ _ (λ room.
-    makes device called (not-false (is_planned s device) planned) (not-false (is_station s device) station) (not-false (is_planned s called) known) differ free room))))))
+    makes device called (not-false (is_planned s device) planned) (not-false (is_station s device) station) (not-false (is_planned s called) known) differ free
+    room))))))
 
 deed_phone_off_hook : (s : Rows) (turn : Turn) (call device : ℕ) → DeedBy s turn (phone_off_hook s turn call device)
 unfolding phone_off_hook
 deed_phone_off_hook s turn call device = party _ _ _ (λ p same _. unless _ _ (λ state.
-    subst (λ n. Deed s turn (originate p.x p.about.called ∷ arrive s turn n p.about.called NewCall ∷ [])) same (goes_out p (not-false (is_initiated p.x.state) state))))
+    subst (λ n. Deed s turn (originate p.x p.about.called ∷ arrive s turn n p.about.called NewCall ∷ [])) same
+    (goes_out p (not-false (is_initiated p.x.state) state))))
 
 deed_answer_call : (s : Rows) (turn : Turn) (call device : ℕ) → DeedBy s turn (answer_call s turn call device)
 unfolding answer_call
@@ -176,7 +190,8 @@ deed_hold_call s turn call device =
 
 deed_retrieve_call : (s : Rows) (turn : Turn) (call device : ℕ) → DeedBy s turn (retrieve_call s call device)
 unfolding retrieve_call
-deed_retrieve_call s turn call device = party _ _ _ (λ p _ at. unless _ _ (λ state. unless _ _ (λ free. retrieves p (not-false (is_hold p.x.state) state) (ap (is_live_at s) at ∙ free))))
+deed_retrieve_call s turn call device =
+    party _ _ _ (λ p _ at. unless _ _ (λ state. unless _ _ (λ free. retrieves p (not-false (is_hold p.x.state) state) (ap (is_live_at s) at ∙ free))))
 
 deed_clear_connection : (s : Rows) (turn : Turn) (call device : ℕ) → DeedBy s turn (clear_connection s turn call device)
 unfolding clear_connection
@@ -184,7 +199,10 @@ deed_clear_connection s turn call device = party _ _ _ (λ p _ _. clears p)
 
 -- the call can go to a planned device at which it has no connection
 free : (s : Rows) (call to : ℕ) (x : ConnectionRecord) → x.call ≡ call → not (is_planned s to) ≡ false → is_in_call s call to ≡ false → Free s x to
-free s call to x same known new = record { planned = not-false (is_planned s to) known; apart = ap (λ n. connection_of s n to) same ∙ apart_if (connection_of s call to) new }
+free s call to x same known new = record {
+  planned = not-false (is_planned s to) known;
+  apart = ap (λ n. connection_of s n to) same ∙ apart_if (connection_of s call to) new;
+}
 
 deed_deflect_call : (s : Rows) (turn : Turn) (call device to : ℕ) → DeedBy s turn (deflect_call s turn call device to)
 unfolding deflect_call
@@ -197,7 +215,8 @@ deed_single_step_transfer : (s : Rows) (turn : Turn) (call device to : ℕ) → 
 unfolding single_step_transfer
 deed_single_step_transfer s turn call device to =
     party _ _ _ (λ p same _. unless _ _ (λ _. unless _ _ (λ state. unless _ _ (λ known. unless _ _ (λ new. unless _ _ (λ _.
-    let both = and_parts (is_connected p.x.state) (is_answered_by (other_of s p.x)) (not-false (is_connected p.x.state && is_answered_by (other_of s p.x)) state) in
+    let both =
+    and_parts (is_connected p.x.state) (is_answered_by (other_of s p.x)) (not-false (is_connected p.x.state && is_answered_by (other_of s p.x)) state) in
     subst (λ n. Deed s turn (transfer p.x to ∷ arrive s turn n to Transferred ∷ release s turn p.x (ending_of p.x) ∷ [])) same
     (transfers p to both.0 both.1 (free s call to p.x same known new))))))))
 
@@ -220,8 +239,10 @@ passes (Err r) rest h = nothing
 deed_log_on : (s : Rows) (turn : Turn) (agent device : ℕ) (groups : List ℕ) → DeedBy s turn (log_on s turn agent device groups)
 unfolding log_on
 deed_log_on s turn agent device groups =
-    with _ _ (λ a ea. unless _ _ (λ null. unless _ _ (λ _. unless _ _ (λ station. unless _ _ (λ taken. passes (all_groups s groups) _ (λ all. unless _ _ (λ choice.
-    logs_on a device groups (agent_itself s agent a ea) (not-false (is_null a.state) null) (not-false (is_station s device) station) (apart_if (agent_at s device) taken)
+    with _ _
+    (λ a ea. unless _ _ (λ null. unless _ _ (λ _. unless _ _ (λ station. unless _ _ (λ taken. passes (all_groups s groups) _ (λ all. unless _ _ (λ choice.
+    logs_on a device groups (agent_itself s agent a ea) (not-false (is_null a.state) null) (not-false (is_station s device) station)
+    (apart_if (agent_at s device) taken)
     (not-false (is_choice groups) choice, all_are_groups s groups all))))))))
 
 either : {s : Rows} {turn : Turn} (b : Bool) (v w : Served) → (b ≡ true → DeedBy s turn v) → (b ≡ false → DeedBy s turn w) → DeedBy s turn (cond b v w)
@@ -261,15 +282,19 @@ deed_change_agent s turn agent name = with _ _ (λ a ea. renames a name (agent_i
 
 -- a planned device that is a group gets what the command gives
 regroups_of : (s : Rows) (c : Command) (device : ℕ) → regroups c ≡ Some device
-    → Regroups s c (moves_of (refuse_if (not (is_planned s device)) UnknownDevice >> (ok_or (group_of s device) NotGroup >>= (λ g. gives Nothing (silent (PutGroup (group_given c g)) ∷ [])))))
+    → Regroups s c (moves_of (refuse_if (not (is_planned s device))
+    UnknownDevice >> (ok_or (group_of s device) NotGroup >>= (λ g. gives Nothing (silent (PutGroup (group_given c g)) ∷ [])))))
 unfolding refuse_if
 regroups_of s c device it = by (group_of s device) refl
   where
     put : GroupRecord → Served
     put g = gives Nothing (silent (PutGroup (group_given c g)) ∷ [])
 
-    by : (o : Option GroupRecord) → group_of s device ≡ o → Regroups s c (moves_of (refuse_if (not (is_some o || is_station s device)) UnknownDevice >> (ok_or o NotGroup >>= put)))
-    by None e = by_refusal (λ (v : Served). Regroups s c (moves_of v)) (not (is_station s device)) UnknownDevice (ok_or None NotGroup >>= put) (λ _. refuses device it e) (λ _. refuses device it e)
+    by : (o : Option GroupRecord) → group_of s device ≡ o
+        → Regroups s c (moves_of (refuse_if (not (is_some o || is_station s device)) UnknownDevice >> (ok_or o NotGroup >>= put)))
+    by None e =
+        by_refusal (λ (v : Served). Regroups s c (moves_of v)) (not (is_station s device)) UnknownDevice (ok_or None NotGroup >>= put)
+        (λ _. refuses device it e) (λ _. refuses device it e)
     by (Some g) e = puts device g it e
 
 -- the effect of a command: a deed or a tick, or a change of a planned group's record

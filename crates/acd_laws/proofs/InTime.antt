@@ -242,7 +242,8 @@ module _ (u : Rows) (turn : Turn) where
   abbrev StillOut : List ConnectionRecord → ConnectionRecord → Type 0
   StillOut xs y = Rings u turn.moment y ⊎ Among y xs
 
-  left_by : (s : Rows) (x : ConnectionRecord) (g : ℕ) (xs : List ConnectionRecord) → IsAscending connection_order s.connections → ((y : ConnectionRecord) → Among y s.connections → StillOut (x ∷ xs) y)
+  left_by : (s : Rows) (x : ConnectionRecord) (g : ℕ) (xs : List ConnectionRecord) → IsAscending connection_order s.connections
+      → ((y : ConnectionRecord) → Among y s.connections → StillOut (x ∷ xs) y)
       → (y : ConnectionRecord) → Among y (moved s (return_to s turn x (Some g))).connections → StillOut xs y
   unfolding with_connection without_connection is_overdue
   left_by s x g xs asc h y a =
@@ -254,13 +255,17 @@ module _ (u : Rows) (turn : Turn) where
             elim (h y left.0) [
               | inl rings ↦ inl rings
               | inr m ↦ elim m [
-                | inl same ↦ absurd (cc (not-true (is_of x.call x.device y) left.1, subst (λ (z : ConnectionRecord). is_of x.call x.device z ≡ true) (sym same) (is_of_self x.call x.device x refl refl)))
+                | inl same ↦ absurd (cc (
+                  not-true (is_of x.call x.device y) left.1,
+                  subst (λ (z : ConnectionRecord). is_of x.call x.device z ≡ true) (sym same) (is_of_self x.call x.device x refl refl),
+                ))
                 | inr more ↦ inr more
               ]
             ]
       ]
 
-  all_left : (s : Rows) (xs : List ConnectionRecord) → IsAscending connection_order xs → ((z : ConnectionRecord) → Among z xs → Back s z) → Rules s → ((y : ConnectionRecord) → Among y s.connections → StillOut xs y)
+  all_left : (s : Rows) (xs : List ConnectionRecord) → IsAscending connection_order xs → ((z : ConnectionRecord) → Among z xs → Back s z) → Rules s
+      → ((y : ConnectionRecord) → Among y s.connections → StillOut xs y)
       → (y : ConnectionRecord) → Among y (moved s (each (λ t x. return_moves t turn x) s xs)).connections → Rings u turn.moment y
   all_left s [] so b r h y a = elim (h y a) [ inl rings ↦ rings | inr none ↦ absurd none ]
   all_left s (x ∷ xs) so b r h y a =
@@ -273,7 +278,10 @@ module _ (u : Rows) (turn : Turn) where
       let r1 : Rules (moved s one) = subst (λ ms. Rules (moved s ms)) same (kept_return_to s turn g.0 x r found bx.alerting g.1) in
       all_left (moved s one) xs so.1
       (λ z i. let bz = b z (inr i) in record {
-        there = subst (λ ms. Among z (moved s ms).connections) same (return_stays s turn g.0 x z bz.there (other_call s x z r bx.there bz.there bx.alerting bz.alerting (after_among connection_order x xs z so.0 i)));
+        there =
+            subst (λ ms. Among z (moved s ms).connections) same
+            (return_stays s turn g.0 x z bz.there
+            (other_call s x z r bx.there bz.there bx.alerting bz.alerting (after_among connection_order x xs z so.0 i)));
         alerting = bz.alerting;
         grouped = bz.grouped;
       })
@@ -285,7 +293,8 @@ module _ (u : Rows) (turn : Turn) where
   abbrev StillAtWork : List AgentRecord → AgentRecord → Type 0
   StillAtWork xs b = Works u turn.moment b ⊎ Among b xs
 
-  seated : (s : Rows) (a : AgentRecord) (st : AgentState) → is_working_after_call st ≡ true → SeatedAs s a st → IsPlannedStation s a.station × ArePlannedGroups s a.groups
+  seated : (s : Rows) (a : AgentRecord) (st : AgentState) → is_working_after_call st ≡ true → SeatedAs s a st
+      → IsPlannedStation s a.station × ArePlannedGroups s a.groups
   seated s a A.WorkingAfterCall e h = h
   seated s a _ e h = absurd (cc (e))
 
@@ -293,14 +302,19 @@ module _ (u : Rows) (turn : Turn) where
   on_station s None h = absurd h
   on_station s (Some d) h = (d, refl)
 
-  rested_by : (s : Rows) (a : AgentRecord) (xs : List AgentRecord) → Rules s → agent_of s a.agent ≡ Some a → is_working_after_call a.state ≡ true → ((b : AgentRecord) → Among b s.agents → StillAtWork (a ∷ xs) b)
+  rested_by : (s : Rows) (a : AgentRecord) (xs : List AgentRecord) → Rules s → agent_of s a.agent ≡ Some a → is_working_after_call a.state ≡ true
+      → ((b : AgentRecord) → Among b s.agents → StillAtWork (a ∷ xs) b)
       → Rules (moved s (rest_moves turn a)) → (b : AgentRecord) → Among b (moved s (rest_moves turn a)).agents → StillAtWork xs b
   unfolding with_agent is_rested
   rested_by s a xs r found works h =
       let d = on_station s a.station (seated s a a.state works (every_among (AgentRule s) s.agents a r.agents (agent_among s a.agent a found))).0 in
-      subst (λ o. Rules (moved s (go_from turn a o A.Ready ∷ [])) → (b : AgentRecord) → Among b (moved s (go_from turn a o A.Ready ∷ [])).agents → StillAtWork xs b) (sym d.1) (at d.0)
+      subst
+      (λ o. Rules (moved s (go_from turn a o A.Ready ∷ [])) → (b : AgentRecord) → Among b (moved s (go_from turn a o A.Ready ∷ [])).agents
+      → StillAtWork xs b)
+      (sym d.1) (at d.0)
     where
-      at : (d : ℕ) → Rules (moved s (go_from turn a (Some d) A.Ready ∷ [])) → (b : AgentRecord) → Among b (moved s (go_from turn a (Some d) A.Ready ∷ [])).agents → StillAtWork xs b
+      at : (d : ℕ) → Rules (moved s (go_from turn a (Some d) A.Ready ∷ [])) → (b : AgentRecord)
+          → Among b (moved s (go_from turn a (Some d) A.Ready ∷ [])).agents → StillAtWork xs b
       at d r1 b i =
           let z : AgentRecord = in_state A.Ready turn a in
           elim (among_put (at_agent a.agent) z s.agents b i) [
@@ -310,7 +324,8 @@ module _ (u : Rows) (turn : Turn) where
               | inr m ↦ elim m [
                 | inl same ↦
                     let found_now : agent_of (with_agent s z) b.agent ≡ Some b = agent_found (with_agent s z) r1.orders.agents b i in
-                    let new : agent_of (with_agent s z) a.agent ≡ Some z = agent_put s z a.agent ∙ ap (λ v. cond v (Some z) (agent_of s a.agent)) (eqb_self a.agent) in
+                    let new : agent_of (with_agent s z) a.agent ≡ Some z =
+                    agent_put s z a.agent ∙ ap (λ v. cond v (Some z) (agent_of s a.agent)) (eqb_self a.agent) in
                     let is : b ≡ z = some_is b z (sym found_now ∙ ap (λ (v : AgentRecord). agent_of (with_agent s z) v.agent) same ∙ new) in
                     inl (subst (Works u turn.moment) (sym is) refl)
                 | inr more ↦ inr more
@@ -318,8 +333,10 @@ module _ (u : Rows) (turn : Turn) where
             ]
           ]
 
-  all_rested : (s : Rows) (xs : List AgentRecord) → IsAscending agent_order xs → ((a : AgentRecord) → Among a xs → (agent_of s a.agent ≡ Some a) × (is_working_after_call a.state ≡ true)) → Rules s
-      → ((b : AgentRecord) → Among b s.agents → StillAtWork xs b) → (b : AgentRecord) → Among b (moved s (each (λ t a. rest_moves turn a) s xs)).agents → Works u turn.moment b
+  all_rested : (s : Rows) (xs : List AgentRecord) → IsAscending agent_order xs
+      → ((a : AgentRecord) → Among a xs → (agent_of s a.agent ≡ Some a) × (is_working_after_call a.state ≡ true)) → Rules s
+      → ((b : AgentRecord) → Among b s.agents → StillAtWork xs b) → (b : AgentRecord) → Among b (moved s (each (λ t a. rest_moves turn a) s xs)).agents
+      → Works u turn.moment b
   all_rested s [] so k r h b i = elim (h b i) [ inl good ↦ good | inr none ↦ absurd none ]
   all_rested s (a ∷ xs) so k r h b i =
       let ka = k a (inl refl) in
@@ -327,8 +344,12 @@ module _ (u : Rows) (turn : Turn) where
       let rest : List Move = each (λ t a. rest_moves turn a) (moved s one) xs in
       let r1 : Rules (moved s one) = kept_rest_moves s turn a r ka.0 ka.1 in
       all_rested (moved s one) xs so.1
-      (λ c j. let kc = k c (inr j) in
-      (agent_others turn c.agent s _ (goes_from (λ d. (d.agent == c.agent) ≡ false) turn a a.station A.Ready (false_from_ne_true (a.agent == c.agent) (λ q. cc (after_among agent_order a xs c so.0 j, cmp_self a.agent c.agent (eqb-true a.agent c.agent q))))) ∙ kc.0, kc.1))
+      (λ c j. let kc = k c (inr j) in (
+        agent_others turn c.agent s _ (goes_from (λ d. (d.agent == c.agent) ≡ false) turn a a.station A.Ready
+            (false_from_ne_true (a.agent == c.agent) (λ q. cc (after_among agent_order a xs c so.0 j, cmp_self a.agent c.agent (eqb-true a.agent c.agent q)))))
+            ∙ kc.0,
+        kc.1,
+      ))
       r1 (rested_by s a xs r ka.0 ka.1 h r1) b (subst (λ (v : Rows). Among b v.agents) (moved_append s one rest) i)
 
   rest_connections : (s : Rows) (xs : List AgentRecord) → (moved s (each (λ t a. rest_moves turn a) s xs)).connections ≡ s.connections
@@ -389,11 +410,13 @@ rested_works s t a r i =
 
 none_overdue : (s : Rows) (turn : Turn) → Rules s → (x : ConnectionRecord) → Among x (moved s (all_returns s turn)).connections → Rings s turn.moment x
 unfolding all_returns
-none_overdue s turn r = all_left s turn s (overdue_in s turn.moment) (overdue_ascend s turn.moment r) (overdue_back s turn.moment) r (overdue_or_not s turn.moment)
+none_overdue s turn r =
+    all_left s turn s (overdue_in s turn.moment) (overdue_ascend s turn.moment r) (overdue_back s turn.moment) r (overdue_or_not s turn.moment)
 
 none_rested : (s : Rows) (turn : Turn) → Rules s → (a : AgentRecord) → Among a (moved s (all_rests s turn)).agents → Works s turn.moment a
 unfolding all_rests
-none_rested s turn r = all_rested s turn s (rested_in s turn.moment) (rested_ascend s turn.moment r) (λ a i. rested_works s turn.moment a r i) r (rested_or_not s turn.moment)
+none_rested s turn r =
+    all_rested s turn s (rested_in s turn.moment) (rested_ascend s turn.moment r) (λ a i. rested_works s turn.moment a r i) r (rested_or_not s turn.moment)
 
 tick_holds : (s : Rows) (turn : Turn) → Rules s → Holds s turn.moment (moved s (tick s turn))
 unfolding tick all_rests group_of
@@ -402,8 +425,10 @@ tick_holds s turn r =
     let back = returned (GroupsAre s.groups) turn (λ t es x g rt h found alerting group. return_groups t turn x g ∙ h) s [] r refl in
     let joined : moved s (all_returns s turn ++ all_rests v turn) ≡ moved v (all_rests v turn) = moved_append s (all_returns s turn) (all_rests v turn) in
     let wraps : (g : ℕ) → wrap_of (group_of s g) ≡ wrap_of (group_of v g) = λ g. wrap_by s v g (sym back.1) in (
-      subst (λ xs. Every (Rings s turn.moment) xs) (sym (ap (λ (w : Rows). w.connections) joined ∙ rest_connections v turn v (rested_in v turn.moment))) (every_from (Rings s turn.moment) v.connections (none_overdue s turn r)),
-      subst (λ (w : Rows). Every (Works s turn.moment) w.agents) (sym joined) (every_from (Works s turn.moment) (moved v (all_rests v turn)).agents (λ a i. rested_same s v turn.moment a wraps ∙ none_rested v turn back.0 a i)),
+      subst (λ xs. Every (Rings s turn.moment) xs) (sym (ap (λ (w : Rows). w.connections) joined ∙ rest_connections v turn v (rested_in v turn.moment)))
+          (every_from (Rings s turn.moment) v.connections (none_overdue s turn r)),
+      subst (λ (w : Rows). Every (Works s turn.moment) w.agents) (sym joined)
+          (every_from (Works s turn.moment) (moved v (all_rests v turn)).agents (λ a i. rested_same s v turn.moment a wraps ∙ none_rested v turn back.0 a i)),
     )
   where
     wrap_by : (s v : Rows) (g : ℕ) → s.groups ≡ v.groups → wrap_of (group_of s g) ≡ wrap_of (group_of v g)
@@ -414,20 +439,24 @@ tick_holds s turn r =
 abbrev ticked : Rows → ℕ → Rows
 ticked s moment = (step s moment Tick).rows
 
-counted_group : (es : List Event) (o : Option GroupRecord) → (ring_of (option_map (counting es) o) ≡ ring_of o) × (wrap_of (option_map (counting es) o) ≡ wrap_of o)
+counted_group : (es : List Event) (o : Option GroupRecord)
+    → (ring_of (option_map (counting es) o) ≡ ring_of o) × (wrap_of (option_map (counting es) o) ≡ wrap_of o)
 counted_group es None = (refl, refl)
 counted_group es (Some g) = (refl, refl)
 
 -- its groups have the rings and wraps of before
-same_times : (s : Rows) (moment : ℕ) → Rules s → (g : ℕ) → (ring_of (group_of (ticked s moment) g) ≡ ring_of (group_of s g)) × (wrap_of (group_of (ticked s moment) g) ≡ wrap_of (group_of s g))
+same_times : (s : Rows) (moment : ℕ) → Rules s → (g : ℕ)
+    → (ring_of (group_of (ticked s moment) g) ≡ ring_of (group_of s g)) × (wrap_of (group_of (ticked s moment) g) ≡ wrap_of (group_of s g))
 unfolding step with_last with_figures group_of
 same_times s moment r g =
     let turn : Turn = next_turn s moment in
     let t : Rows = moved s (tick s turn) in
     let ms : List Move = distribution t turn.moment in
     let es : List Event = events_of turn.moment (tick s turn ++ ms) in
-    let groups : (moved s (tick s turn ++ ms)).groups ≡ s.groups = ap (λ (w : Rows). w.groups) (moved_append s (tick s turn) ms) ∙ distribution_groups t turn (rules_serve s turn Tick r) ∙ tick_groups s turn r in
-    let is : find_by (at_group g) (map (counting es) (moved s (tick s turn ++ ms)).groups) ≡ option_map (counting es) (find_by (at_group g) s.groups) = ap (λ gs. find_by (at_group g) (map (counting es) gs)) groups ∙ group_counted_found g es s.groups in
+    let groups : (moved s (tick s turn ++ ms)).groups ≡ s.groups =
+    ap (λ (w : Rows). w.groups) (moved_append s (tick s turn) ms) ∙ distribution_groups t turn (rules_serve s turn Tick r) ∙ tick_groups s turn r in
+    let is : find_by (at_group g) (map (counting es) (moved s (tick s turn ++ ms)).groups) ≡ option_map (counting es) (find_by (at_group g) s.groups) =
+    ap (λ gs. find_by (at_group g) (map (counting es) gs)) groups ∙ group_counted_found g es s.groups in
     let q = counted_group es (find_by (at_group g) s.groups) in
     (ap ring_of is ∙ q.0, ap wrap_of is ∙ q.1)
 
@@ -437,7 +466,8 @@ holds_ticked s moment r =
     let turn : Turn = next_turn s moment in
     let t : Rows = moved s (tick s turn) in
     let ms : List Move = distribution t turn.moment in
-    subst (Holds s turn.moment) (sym (moved_append s (tick s turn) ms)) (holds_distribution s turn.moment t turn (omega arith) (rules_serve s turn Tick r) (tick_holds s turn r))
+    subst (Holds s turn.moment) (sym (moved_append s (tick s turn) ms))
+    (holds_distribution s turn.moment t turn (omega arith) (rules_serve s turn Tick r) (tick_holds s turn r))
 
 since_tick : (s : Rows) (moment : ℕ) → Rules s → Since (ticked s moment) (ticked s moment).last_moment (ticked s moment)
 since_tick s moment r =
@@ -447,8 +477,10 @@ since_tick s moment r =
       rules = rules_step s moment Tick r;
       passed = omega arith;
       holds = (
-        every_from (Rings u u.last_moment) u.connections (λ x i. overdue_same u s u.last_moment x (λ g. (same_times s moment r g).0) ∙ every_among (Rings s u.last_moment) u.connections x h.0 i),
-        every_from (Works u u.last_moment) u.agents (λ a i. rested_same u s u.last_moment a (λ g. (same_times s moment r g).1) ∙ every_among (Works s u.last_moment) u.agents a h.1 i),
+        every_from (Rings u u.last_moment) u.connections
+            (λ x i. overdue_same u s u.last_moment x (λ g. (same_times s moment r g).0) ∙ every_among (Rings s u.last_moment) u.connections x h.0 i),
+        every_from (Works u u.last_moment) u.agents
+            (λ a i. rested_same u s u.last_moment a (λ g. (same_times s moment r g).1) ∙ every_among (Works s u.last_moment) u.agents a h.1 i),
       );
     }
 
@@ -481,10 +513,12 @@ in_time u s h = record {
       (g.0, g.1, younger u s (wrap_of (group_of u g.0)) a.since h.passed (works a g.0 e g.1 not));
 }
   where
-    rings : (x : ConnectionRecord) (g o : ℕ) → is_alerting x.state ≡ true → x.group ≡ Some g → x.offered ≡ Some o → is_overdue u u.last_moment x ≡ false → is_over (ring_of (group_of u g)) o u.last_moment ≡ false
+    rings : (x : ConnectionRecord) (g o : ℕ) → is_alerting x.state ≡ true → x.group ≡ Some g → x.offered ≡ Some o → is_overdue u u.last_moment x ≡ false
+        → is_over (ring_of (group_of u g)) o u.last_moment ≡ false
     rings x g o e f q not = sym (rw (e, f, q) refl) ∙ not
 
-    works : (a : AgentRecord) (g : ℕ) → is_working_after_call a.state ≡ true → least_group a.groups ≡ Some g → is_rested u u.last_moment a ≡ false → is_over (wrap_of (group_of u g)) a.since u.last_moment ≡ false
+    works : (a : AgentRecord) (g : ℕ) → is_working_after_call a.state ≡ true → least_group a.groups ≡ Some g → is_rested u u.last_moment a ≡ false
+        → is_over (wrap_of (group_of u g)) a.since u.last_moment ≡ false
     works a g e f not = sym (rw (e, f) refl) ∙ not
 
     seat_of : (a : AgentRecord) → is_working_after_call a.state ≡ true → SeatedAs s a a.state → IsPlannedStation s a.station × ArePlannedGroups s a.groups
@@ -537,6 +571,9 @@ pub run_bounds_answers : RunBoundsAnswers
 run_bounds_answers limits commands more moment =
     let e : Rows = empty_rows limits in
     let s : Rows = (run e commands).rows in
-    let first : (run e (commands ++ tick_at moment ∷ [])).rows ≡ ticked s moment = run_append e commands (tick_at moment ∷ []) ∙ run_tick s moment [] ∙ run_one (ticked s moment) in
-    let last : (run e (commands ++ tick_at moment ∷ more)).rows ≡ (run (ticked s moment) more).rows = run_append e commands (tick_at moment ∷ more) ∙ run_tick s moment more in
-    subst (λ u. IsInTime u (run e (commands ++ tick_at moment ∷ more)).rows) (sym first) (subst (IsInTime (ticked s moment)) (sym last) (bounds s moment more (run_rules commands e (rules_first limits))))
+    let first : (run e (commands ++ tick_at moment ∷ [])).rows ≡ ticked s moment =
+    run_append e commands (tick_at moment ∷ []) ∙ run_tick s moment [] ∙ run_one (ticked s moment) in
+    let last : (run e (commands ++ tick_at moment ∷ more)).rows ≡ (run (ticked s moment) more).rows =
+    run_append e commands (tick_at moment ∷ more) ∙ run_tick s moment more in
+    subst (λ u. IsInTime u (run e (commands ++ tick_at moment ∷ more)).rows) (sym first)
+    (subst (IsInTime (ticked s moment)) (sym last) (bounds s moment more (run_rules commands e (rules_first limits))))

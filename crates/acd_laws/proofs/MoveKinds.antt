@@ -26,7 +26,8 @@ pub record Reseated (turn : Turn) (a b : AgentRecord) : Type 0 where
 -- state
 pub data AgentMove (K : AgentRecord → Type 0) (turn : Turn) : Move → Type 0 where
   stays : AgentMove K turn no_move
-  remains : (a : AgentRecord) (name : List ℕ) (pending : Option Pending) → K a → AgentMove K turn (silent (PutAgent (record a { name = name; pending = pending })))
+  remains : (a : AgentRecord) (name : List ℕ) (pending : Option Pending) → K a
+      → AgentMove K turn (silent (PutAgent (record a { name = name; pending = pending })))
   reports : (a b : AgentRecord) (d : ℕ) → K a → Reseated turn a b → AgentMove K turn (reported (PutAgent b) (state_report b.state b.agent d))
 
 pub goes_from : (K : AgentRecord → Type 0) (turn : Turn) (a : AgentRecord) (o : Option ℕ) (st : AgentState) → K a → AgentMove K turn (go_from turn a o st)
@@ -37,7 +38,8 @@ either : (K : AgentRecord → Type 0) (turn : Turn) (b : Bool) (x : Move) → Ag
 either K turn true x h = h
 either K turn false x h = stays
 
-releases_agent : (K : AgentRecord → Type 0) (turn : Turn) (d : ℕ) (o : Option AgentRecord) (how : Ending) → ((a : AgentRecord) → o ≡ Some a → K a) → AgentMove K turn (release_agent turn o d how)
+releases_agent : (K : AgentRecord → Type 0) (turn : Turn) (d : ℕ) (o : Option AgentRecord) (how : Ending) → ((a : AgentRecord) → o ≡ Some a → K a)
+    → AgentMove K turn (release_agent turn o d how)
 releases_agent K turn d None how h = stays
 releases_agent K turn d (Some a) how h = by (release_of how a.pending)
   where
@@ -45,15 +47,20 @@ releases_agent K turn d (Some a) how h = by (release_of how a.pending)
     by Stays = remains a a.name None (h a refl)
     by (Goes st) = goes_from K turn a (Some d) st (h a refl)
 
-pub releases : (K : AgentRecord → Type 0) (s : Rows) (turn : Turn) (x : ConnectionRecord) (how : Ending) → ((a : AgentRecord) → agent_at s x.device ≡ Some a → K a) → AgentMove K turn (release s turn x how)
+pub releases : (K : AgentRecord → Type 0) (s : Rows) (turn : Turn) (x : ConnectionRecord) (how : Ending)
+    → ((a : AgentRecord) → agent_at s x.device ≡ Some a → K a) → AgentMove K turn (release s turn x how)
 unfolding release
 releases K s turn x how h = either K turn (is_distributed x) _ (releases_agent K turn x.device (agent_at s x.device) how h)
 
-occupies_agent : (K : AgentRecord → Type 0) (turn : Turn) (d : ℕ) (o : Option AgentRecord) → ((a : AgentRecord) → o ≡ Some a → K a) → AgentMove K turn (busy_agent turn o d)
+occupies_agent : (K : AgentRecord → Type 0) (turn : Turn) (d : ℕ) (o : Option AgentRecord) → ((a : AgentRecord) → o ≡ Some a → K a)
+    → AgentMove K turn (busy_agent turn o d)
 occupies_agent K turn d None h = stays
-occupies_agent K turn d (Some a) h = reports a (record a { state = A.Busy; stamp = turn.stamp; since = turn.moment }) d (h a refl) (record { agent = refl; station = refl; stamp = refl; since = refl })
+occupies_agent K turn d (Some a) h =
+    reports a (record a { state = A.Busy; stamp = turn.stamp; since = turn.moment }) d (h a refl)
+    (record { agent = refl; station = refl; stamp = refl; since = refl })
 
-pub occupies : (K : AgentRecord → Type 0) (s : Rows) (turn : Turn) (x : ConnectionRecord) → ((a : AgentRecord) → agent_at s x.device ≡ Some a → K a) → AgentMove K turn (occupy s turn x)
+pub occupies : (K : AgentRecord → Type 0) (s : Rows) (turn : Turn) (x : ConnectionRecord) → ((a : AgentRecord) → agent_at s x.device ≡ Some a → K a)
+    → AgentMove K turn (occupy s turn x)
 unfolding occupy
 occupies K s turn x h = either K turn (is_distributed x) _ (occupies_agent K turn x.device (agent_at s x.device) h)
 
@@ -61,7 +68,8 @@ occupies K s turn x h = either K turn (is_distributed x) _ (occupies_agent K tur
 abbrev pub Recorded : Rows → AgentRecord → Type 0
 Recorded t a = agent_of t a.agent ≡ Some a
 
-pub releases_here : (s : Rows) (turn : Turn) (x : ConnectionRecord) (how : Ending) → IsAscending agent_order s.agents → AgentMove (Recorded s) turn (release s turn x how)
+pub releases_here : (s : Rows) (turn : Turn) (x : ConnectionRecord) (how : Ending) → IsAscending agent_order s.agents
+    → AgentMove (Recorded s) turn (release s turn x how)
 releases_here s turn x how h = releases (Recorded s) s turn x how (λ a e. agent_there s h x.device a e)
 
 pub occupies_here : (s : Rows) (turn : Turn) (x : ConnectionRecord) → IsAscending agent_order s.agents → AgentMove (Recorded s) turn (occupy s turn x)
@@ -91,7 +99,8 @@ agent_others turn n t x (remains a name pending h) = agent_put t (record a { nam
 agent_others turn n t x (reports a b d h r) = agent_put t b n ∙ cond-false (b.agent == n) _ _ (ap (λ v. v == n) r.agent ∙ h)
 
 pub data Arrival (s : Rows) (turn : Turn) (call to : ℕ) (why : Cause) : Move → Type 0 where
-  queues : is_group s to ≡ true → Arrival s turn call to why (reported (PutConnection (queueing call to (Some turn.stamp) (Some turn.moment))) (Queued call to why))
+  queues : is_group s to ≡ true
+      → Arrival s turn call to why (reported (PutConnection (queueing call to (Some turn.stamp) (Some turn.moment))) (Queued call to why))
   alerts : Arrival s turn call to why (reported (PutConnection (plain call to Alerting)) (Delivered call to why None))
   fails : Arrival s turn call to why (reported (PutConnection (plain call to Fail)) (Failed call to))
 
@@ -99,7 +108,8 @@ pub arrival_of : (s : Rows) (turn : Turn) (call to : ℕ) (why : Cause) → Arri
 unfolding arrive
 arrival_of s turn call to why = at (is_group s to) (is_idle s to) refl
   where
-    at : (q i : Bool) → is_group s to ≡ q → Arrival s turn call to why (reported (PutConnection (arriving (met_at q i) turn call to)) (arrival (met_at q i) call to why))
+    at : (q i : Bool) → is_group s to ≡ q
+        → Arrival s turn call to why (reported (PutConnection (arriving (met_at q i) turn call to)) (arrival (met_at q i) call to why))
     at true i e = queues e
     at false true e = alerts
     at false false e = fails

@@ -22,7 +22,8 @@ use Rattle.acd_lemmas.proofs.States.{ready_is}
 use Rattle.acd_terms.specs.declared.command.Turn.{Turn}
 
 -- a seat that a station has
-pub seat_from : (s : Rows) (a : AgentRecord) (d : ℕ) (st : AgentState) → SeatedAs s a st → a.station ≡ Some d → IsPlannedStation s a.station × ArePlannedGroups s a.groups
+pub seat_from : (s : Rows) (a : AgentRecord) (d : ℕ) (st : AgentState) → SeatedAs s a st → a.station ≡ Some d
+    → IsPlannedStation s a.station × ArePlannedGroups s a.groups
 seat_from s a d A.Null h e = absurd (cc (h.0, e))
 seat_from s a d _ h e = h
 
@@ -38,7 +39,8 @@ pub left_pending : (s : Rows) (a : AgentRecord) (st : AgentState) → SeatedAs s
 left_pending s a A.Null h = (h.0, h.1, refl)
 left_pending s a _ h = h
 
-pub left_state : (s : Rows) (a : AgentRecord) (st : AgentState) (turn : Turn) → is_busy st ≡ false → IsPlannedStation s a.station × ArePlannedGroups s a.groups → Left s a (in_state st turn a)
+pub left_state : (s : Rows) (a : AgentRecord) (st : AgentState) (turn : Turn) → is_busy st ≡ false → IsPlannedStation s a.station × ArePlannedGroups s a.groups
+    → Left s a (in_state st turn a)
 left_state s a A.Null turn n h = record { agent = refl; rule = (refl, refl, refl); station = λ e q. absurd (cc (q)); not_busy = refl; settled = refl }
 left_state s a A.Busy turn n h = absurd (cc (n))
 left_state s a _ turn n h = record { agent = refl; rule = h; station = λ e q. q; not_busy = refl; settled = refl }
@@ -65,7 +67,8 @@ release_not_busy NoAnswer (Some W.LoggedOff) = refl
 release_not_busy NoAnswer _ = refl
 
 -- one agent's record is put, at a station where no connection is distributed
-pub left_keeps : (loose : ℕ → Bool) (v : Rows) (a b : AgentRecord) (d : ℕ) → RulesBut loose v → agent_of v a.agent ≡ Some a → a.station ≡ Some d → count (is_distributed_at d) v.connections ≡ 0 → Left v a b
+pub left_keeps : (loose : ℕ → Bool) (v : Rows) (a b : AgentRecord) (d : ℕ) → RulesBut loose v → agent_of v a.agent ≡ Some a → a.station ≡ Some d
+    → count (is_distributed_at d) v.connections ≡ 0 → Left v a b
     → RulesBut (λ e. loose e && not (d == e)) (changed v (PutAgent b))
 unfolding with_agent call_of group_of station_of
 left_keeps loose v a b d r there station vacant l =
@@ -73,7 +76,8 @@ left_keeps loose v a b d r there station vacant l =
     count_agent p v b a r.orders.agents (rw l.agent there) in
     let elsewhere : (e : ℕ) → (d == e) ≡ false → (has a.station e ≡ false) × (has b.station e ≡ false) = λ e q.
     let f : has a.station e ≡ false = rw (station, q) refl in (f, false_from_ne_true _ (λ w. cc (f, l.station e w))) in
-    let nobody : (e : ℕ) → (d == e) ≡ true → count (is_distributed_at e) v.connections ≡ 0 = λ e q. subst (λ w. count (is_distributed_at w) v.connections ≡ 0) (eqb-true d e q) vacant in
+    let nobody : (e : ℕ) → (d == e) ≡ true → count (is_distributed_at e) v.connections ≡ 0 =
+    λ e q. subst (λ w. count (is_distributed_at w) v.connections ≡ 0) (eqb-true d e q) vacant in
     let tight : (e : ℕ) → (loose e && not (d == e)) ≡ false → (d == e) ≡ false → loose e ≡ false = λ e h q.
     elim (and_cases (loose e) (not (d == e)) h) [ inl w ↦ w | inr w ↦ absurd (cc (rw q at w)) ] in
     let one_left : (e : ℕ) → count (seated_at e) (put_by (agent_order b) v.agents b) ≤ 1 = λ e. let c = counts (seated_at e) in let o = r.one_agent e in
@@ -81,8 +85,11 @@ left_keeps loose v a b d r there station vacant l =
       | true ↦ λ q. let f : one (seated_at e a) ≡ 1 = ap one (l.station e q) in let g : one (seated_at e b) ≡ 1 = ap one q in omega (arith, c, o, f, g)
       | false ↦ λ q. let g : one (seated_at e b) ≡ 0 = ap one q in omega (arith, c, o, g)
     ]) refl in
-    let none_left : (p : AgentRecord → Bool) (e : ℕ) → ((z : AgentRecord) → p z ≡ true → has z.station e ≡ true) → (d == e) ≡ true → p b ≡ false → count p (put_by (agent_order b) v.agents b) ≡ 0 = λ p e f h n.
-    let c = counts p in let o = lone p (seated_at e) v.agents a f (agent_among v a.agent a there) (rw (station, h) refl) (r.one_agent e) in let z : one (p b) ≡ 0 = ap one n in omega (arith, c, o, z) in
+    let none_left : (p : AgentRecord → Bool) (e : ℕ) → ((z : AgentRecord) → p z ≡ true → has z.station e ≡ true) → (d == e) ≡ true → p b ≡ false
+    → count p (put_by (agent_order b) v.agents b) ≡ 0 =
+    λ p e f h n.
+    let c = counts p in let o = lone p (seated_at e) v.agents a f (agent_among v a.agent a there) (rw (station, h) refl) (r.one_agent e) in
+    let z : one (p b) ≡ 0 = ap one n in omega (arith, c, o, z) in
     with_agents loose (λ e. loose e && not (d == e)) v (put_by (agent_order b) v.agents b) r (λ e h. (and_parts (loose e) (not (d == e)) h).0) (record {
       sorted = ascending-put agent_order agents_total b v.agents r.orders.agents;
       rules = every-put (agent_order b) (AgentRule v) b l.rule v.agents r.agents;
@@ -104,7 +111,8 @@ left_keeps loose v a b d r there station vacant l =
           ]) refl;
       pending = λ e h.
           (elim (d == e) as (λ x. (d == e) ≡ x → count (pending_at e) (put_by (agent_order b) v.agents b) ≤ count (is_distributed_at e) v.connections) [
-            | true ↦ λ q. let w = none_left (pending_at e) e (λ z w. (and_parts (is_some z.pending) (has z.station e) w).1) q (rw l.settled refl) in omega (arith, w)
+            | true ↦ λ q. let w = none_left (pending_at e) e (λ z w. (and_parts (is_some z.pending) (has z.station e) w).1) q (rw l.settled refl) in
+                omega (arith, w)
             | false ↦ λ q. let c = counts (pending_at e) in let o = r.pending e (tight e h q) in
                 let f : one (pending_at e a) ≡ 0 = ap one (and_right (is_some a.pending) (has a.station e) (elsewhere e q).0) in
                 let g : one (pending_at e b) ≡ 0 = ap one (and_right (is_some b.pending) (has b.station e) (elsewhere e q).1) in omega (arith, c, o, f, g)
@@ -121,8 +129,10 @@ pub record Attends (s : Rows) (x : ConnectionRecord) (a : AgentRecord) : Type 0 
   pub busy : is_answered x.state ≡ true → is_busy a.state ≡ true
 
 -- a distributed connection alerts or is answered
-pub alerting_or_answered : (s : Rows) (x : ConnectionRecord) → ConnectionRule s x → is_distributed x ≡ true → (is_alerting x.state ≡ true) ⊎ (is_answered x.state ≡ true)
-alerting_or_answered s x rule e = cases x.state rule.0 (and_parts (is_some x.group) (not (is_queued x.state)) e).0 (and_parts (is_some x.group) (not (is_queued x.state)) e).1
+pub alerting_or_answered : (s : Rows) (x : ConnectionRecord) → ConnectionRule s x → is_distributed x ≡ true
+    → (is_alerting x.state ≡ true) ⊎ (is_answered x.state ≡ true)
+alerting_or_answered s x rule e =
+    cases x.state rule.0 (and_parts (is_some x.group) (not (is_queued x.state)) e).0 (and_parts (is_some x.group) (not (is_queued x.state)) e).1
   where
     cases : (st : ConnectionState) → HasColumns x st → is_some x.group ≡ true → not (is_queued st) ≡ true → (is_alerting st ≡ true) ⊎ (is_answered st ≡ true)
     cases S.Alerting c g q = inl refl
@@ -156,8 +166,12 @@ attending s x r among e =
         there = there;
         station = station;
         seat = seat_from s a d a.state (every_among (AgentRule s) s.agents a r.agents (agent_seat s d a found.1).0) station;
-        ready = λ w. (and_parts _ _ (the_one (seated_at d) (ready_at d) (λ z v. (and_parts (is_ready z.state) (has z.station d) v).1) s.agents a (r.one_agent d) (ringing w) found.1)).0;
-        busy = λ w. (and_parts _ _ (the_one (seated_at d) (busy_at d) (λ z v. (and_parts (is_busy z.state) (has z.station d) v).1) s.agents a (r.one_agent d) (talking w) found.1)).0;
+        ready =
+            λ w. (and_parts _ _ (the_one (seated_at d) (ready_at d) (λ z v. (and_parts (is_ready z.state) (has z.station d) v).1) s.agents a (r.one_agent d)
+            (ringing w) found.1)).0;
+        busy =
+            λ w. (and_parts _ _ (the_one (seated_at d) (busy_at d) (λ z v. (and_parts (is_busy z.state) (has z.station d) v).1) s.agents a (r.one_agent d)
+            (talking w) found.1)).0;
       },
     )
 
@@ -165,13 +179,16 @@ attending s x r among e =
 pub record Ends (x : ConnectionRecord) (how : Ending) : Type 0 where
   pub stays : is_distributed x ≡ true → (w : Option Pending) → release_of how w ≡ Stays → is_alerting x.state ≡ true
 
-left_by : (v : Rows) (a : AgentRecord) (next : Release) (turn : Turn) (d : ℕ) → AgentRule v a → IsPlannedStation v a.station × ArePlannedGroups v a.groups → (next ≡ Stays → is_busy a.state ≡ false) → NotBusy next
+left_by : (v : Rows) (a : AgentRecord) (next : Release) (turn : Turn) (d : ℕ) → AgentRule v a → IsPlannedStation v a.station × ArePlannedGroups v a.groups
+    → (next ≡ Stays → is_busy a.state ≡ false) → NotBusy next
     → (b : AgentRecord) × ((released turn a d next).change ≡ PutAgent b) × Left v a b
-left_by v a Stays turn d rule seat idle n = (record a { pending = None }, refl, record { agent = refl; rule = left_pending v a a.state rule; station = λ e q. q; not_busy = idle refl; settled = refl })
+left_by v a Stays turn d rule seat idle n =
+    (record a { pending = None }, refl, record { agent = refl; rule = left_pending v a a.state rule; station = λ e q. q; not_busy = idle refl; settled = refl })
 left_by v a (Goes st) turn d rule seat idle n = (in_state st turn a, refl, left_state v a st turn n seat)
 
 -- after a release at the device of x
-released_agent : (loose : ℕ → Bool) (v : Rows) (o : Option AgentRecord) (a : AgentRecord) (x : ConnectionRecord) (how : Ending) (turn : Turn) → RulesBut loose v → o ≡ Some a → agent_of v a.agent ≡ Some a → a.station ≡ Some x.device
+released_agent : (loose : ℕ → Bool) (v : Rows) (o : Option AgentRecord) (a : AgentRecord) (x : ConnectionRecord) (how : Ending) (turn : Turn) → RulesBut loose v
+    → o ≡ Some a → agent_of v a.agent ≡ Some a → a.station ≡ Some x.device
     → count (is_distributed_at x.device) v.connections ≡ 0 → (release_of how a.pending ≡ Stays → is_busy a.state ≡ false)
     → RulesBut (λ e. loose e && not (x.device == e)) (changed v (release_agent turn o x.device how).change)
 released_agent loose v None a x how turn r e there station vacant idle = absurd (cc (e))
@@ -195,13 +212,19 @@ not_and : (a : Bool) → a ≡ (a && not false)
 not_and true = refl
 not_and false = refl
 
+-- the agent whom x has in s is the same in v
+abbrev pub KeepsAgent : Rows → Rows → ConnectionRecord → Type 0
+KeepsAgent s v x = (a : AgentRecord) → Attends s x a → agent_of v a.agent ≡ Some a
+
 -- s is the state before the service, v the one in which the agent is released
-pub after_release : (loose : ℕ → Bool) (s v : Rows) (x : ConnectionRecord) (how : Ending) (turn : Turn) → RulesBut loose v → ((a : AgentRecord) → Attends s x a → agent_of v a.agent ≡ Some a) → Rules s → Among x s.connections
+pub after_release : (loose : ℕ → Bool) (s v : Rows) (x : ConnectionRecord) (how : Ending) (turn : Turn) → RulesBut loose v
+    → KeepsAgent s v x → Rules s → Among x s.connections
     → (is_distributed x ≡ true → count (is_distributed_at x.device) v.connections ≡ 0) → Ends x how
     → RulesBut (λ e. loose e && not (is_distributed x && (x.device == e))) (changed v (release s turn x how).change)
 unfolding release
 after_release loose s v x how turn r kept rs among vacant ends =
-    (elim (is_distributed x) as (λ b. is_distributed x ≡ b → RulesBut (λ e. loose e && not (b && (x.device == e))) (changed v (cond b (release_agent turn (agent_at s x.device) x.device how) no_move).change)) [
+    (elim (is_distributed x) as (λ b. is_distributed x ≡ b
+    → RulesBut (λ e. loose e && not (b && (x.device == e))) (changed v (cond b (release_agent turn (agent_at s x.device) x.device how) no_move).change)) [
       | true ↦ λ e.
           let h = attending s x rs among e in
           released_agent loose v (agent_at s x.device) h.0 x how turn r h.1.at_station (kept h.0 h.1) h.1.station (vacant e)
@@ -224,5 +247,6 @@ ends_by s x rule = record {
 }
 
 -- a release leaves the agents of other numbers
-pub release_other_kept : (s t : Rows) (x : ConnectionRecord) (how : Ending) (turn : Turn) (n : ℕ) → ((a : AgentRecord) → agent_at s x.device ≡ Some a → (a.agent == n) ≡ false) → agent_of (changed t (release s turn x how).change) n ≡ agent_of t n
+pub release_other_kept : (s t : Rows) (x : ConnectionRecord) (how : Ending) (turn : Turn) (n : ℕ)
+    → ((a : AgentRecord) → agent_at s x.device ≡ Some a → (a.agent == n) ≡ false) → agent_of (changed t (release s turn x how).change) n ≡ agent_of t n
 release_other_kept s t x how turn n h = agent_others turn n t _ (releases (λ a. (a.agent == n) ≡ false) s turn x how h)

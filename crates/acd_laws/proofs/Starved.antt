@@ -152,13 +152,15 @@ abbrev rings : Numbers → ConnectionRecord
 rings n = ringing (minute n) (waits n) first_station
 
 abbrev IsReady : Numbers → Type 0
-IsReady n = step (stands (numbers_1 n) (ana_in n A.WorkingAfterCall) (its_call n ∷ []) (waits n ∷ calls n ∷ [])) (minute n) (SetAgentState ana (State pending.Ready)) ≡ record {
-  outcome = Done (answer.State A.Ready);
-  rows = stands (numbers_2 n) (ana_in (numbers_2 n) A.Ready) (its_call n ∷ []) (rings n ∷ calls n ∷ []);
-  events = event (n.event + 1 + 1) (minute n) (report.AgentReady ana first_station)
-      ∷ event (n.event + 1 + 1 + 1) (minute n) (report.Diverted (next n) claims first_station Distributed (Some claims))
-      ∷ event (n.event + 1 + 1 + 1 + 1) (minute n) (report.Delivered (next n) first_station Distributed (Some claims)) ∷ [];
-}
+IsReady n =
+    step (stands (numbers_1 n) (ana_in n A.WorkingAfterCall) (its_call n ∷ []) (waits n ∷ calls n ∷ [])) (minute n) (SetAgentState ana (State pending.Ready))
+    ≡ record {
+      outcome = Done (answer.State A.Ready);
+      rows = stands (numbers_2 n) (ana_in (numbers_2 n) A.Ready) (its_call n ∷ []) (rings n ∷ calls n ∷ []);
+      events = event (n.event + 1 + 1) (minute n) (report.AgentReady ana first_station)
+          ∷ event (n.event + 1 + 1 + 1) (minute n) (report.Diverted (next n) claims first_station Distributed (Some claims))
+          ∷ event (n.event + 1 + 1 + 1 + 1) (minute n) (report.Delivered (next n) first_station Distributed (Some claims)) ∷ [];
+    }
 
 is_ready : (n : Numbers) → Stand n → IsReady n
 unfolding switch_on_literals
@@ -166,18 +168,26 @@ is_ready n s = simp (s.above, s.same, s.now) refl
 
 -- she answers
 abbrev numbers_3 : Numbers → Numbers
-numbers_3 n = record { stamp = n.stamp + 1 + 1 + 1; moment = minute n; call = next n; event = n.event + 1 + 3 + 2; figures = more (more (more n.figures 1 0 0) 0 0 0) 0 1 (minute n - minute n + 0) }
+numbers_3 n = record {
+  stamp = n.stamp + 1 + 1 + 1;
+  moment = minute n;
+  call = next n;
+  event = n.event + 1 + 3 + 2;
+  figures = more (more (more n.figures 1 0 0) 0 0 0) 0 1 (minute n - minute n + 0);
+}
 
 abbrev talks : Numbers → ConnectionRecord
 talks n = talking (rings n)
 
 abbrev IsAnswered : Numbers → Type 0
-IsAnswered n = step (stands (numbers_2 n) (ana_in (numbers_2 n) A.Ready) (its_call n ∷ []) (rings n ∷ calls n ∷ [])) (minute n) (AnswerCall (next n) first_station) ≡ record {
-  outcome = Done answer.Nothing;
-  rows = stands (numbers_3 n) (ana_in (numbers_3 n) A.Busy) (its_call n ∷ []) (talks n ∷ calls n ∷ []);
-  events = event (n.event + 1 + 3 + 1) (minute n) (report.Established (next n) first_station (Some (record { group = claims; seconds = minute n - minute n })))
-      ∷ event (n.event + 1 + 3 + 1 + 1) (minute n) (report.AgentBusy ana first_station) ∷ [];
-}
+IsAnswered n =
+    step (stands (numbers_2 n) (ana_in (numbers_2 n) A.Ready) (its_call n ∷ []) (rings n ∷ calls n ∷ [])) (minute n) (AnswerCall (next n) first_station)
+    ≡ record {
+      outcome = Done answer.Nothing;
+      rows = stands (numbers_3 n) (ana_in (numbers_3 n) A.Busy) (its_call n ∷ []) (talks n ∷ calls n ∷ []);
+      events = event (n.event + 1 + 3 + 1) (minute n) (report.Established (next n) first_station (Some (record { group = claims; seconds = minute n - minute n })))
+          ∷ event (n.event + 1 + 3 + 1 + 1) (minute n) (report.AgentBusy ana first_station) ∷ [];
+    }
 
 is_answered : (n : Numbers) → Stand n → IsAnswered n
 unfolding switch_on_literals
@@ -185,17 +195,25 @@ is_answered n s = simp (s.above, s.same, s.now) refl
 
 -- the call ends
 abbrev numbers_4 : Numbers → Numbers
-numbers_4 n = record { stamp = n.stamp + 1 + 1 + 1 + 1; moment = minute n; call = next n; event = n.event + 1 + 3 + 2 + 4; figures = more (more (more (more n.figures 1 0 0) 0 0 0) 0 1 (minute n - minute n + 0)) 0 0 0 }
+numbers_4 n = record {
+  stamp = n.stamp + 1 + 1 + 1 + 1;
+  moment = minute n;
+  call = next n;
+  event = n.event + 1 + 3 + 2 + 4;
+  figures = more (more (more (more n.figures 1 0 0) 0 0 0) 0 1 (minute n - minute n + 0)) 0 0 0;
+}
 
 abbrev Ends : Numbers → Type 0
-Ends n = step (stands (numbers_3 n) (ana_in (numbers_3 n) A.Busy) (its_call n ∷ []) (talks n ∷ calls n ∷ [])) (minute n) (ClearConnection (next n) first_station) ≡ record {
-  outcome = Done answer.Nothing;
-  rows = between (numbers_4 n);
-  events = event (n.event + 1 + 3 + 2 + 1) (minute n) (report.ConnectionCleared (next n) first_station)
-      ∷ event (n.event + 1 + 3 + 2 + 1 + 1) (minute n) (report.ConnectionCleared (next n) second_caller)
-      ∷ event (n.event + 1 + 3 + 2 + 1 + 1 + 1) (minute n) (report.CallCleared (next n) None)
-      ∷ event (n.event + 1 + 3 + 2 + 1 + 1 + 1 + 1) (minute n) (report.AgentWorkingAfterCall ana first_station) ∷ [];
-}
+Ends n =
+    step (stands (numbers_3 n) (ana_in (numbers_3 n) A.Busy) (its_call n ∷ []) (talks n ∷ calls n ∷ [])) (minute n) (ClearConnection (next n) first_station)
+    ≡ record {
+      outcome = Done answer.Nothing;
+      rows = between (numbers_4 n);
+      events = event (n.event + 1 + 3 + 2 + 1) (minute n) (report.ConnectionCleared (next n) first_station)
+          ∷ event (n.event + 1 + 3 + 2 + 1 + 1) (minute n) (report.ConnectionCleared (next n) second_caller)
+          ∷ event (n.event + 1 + 3 + 2 + 1 + 1 + 1) (minute n) (report.CallCleared (next n) None)
+          ∷ event (n.event + 1 + 3 + 2 + 1 + 1 + 1 + 1) (minute n) (report.AgentWorkingAfterCall ana first_station) ∷ [];
+    }
 
 ends : (n : Numbers) → Stand n → Ends n
 unfolding switch_on_literals
@@ -219,11 +237,13 @@ record Through (s : Rows) (commands : List TimedCommand) (n : ℕ) : Type 0 wher
 abbrev then_events : List Event → Outcome → AfterRun → AfterRun
 then_events es o rest = record { rows = rest.rows; outcomes = o ∷ rest.outcomes; events = es ++ rest.events }
 
-one_step : (s t : Rows) (q : TimedCommand) (more : List TimedCommand) (o : Outcome) (es : List Event) → step s q.moment q.command ≡ record { outcome = o; rows = t; events = es } → run s (q ∷ more) ≡ then_events es o (run t more)
+one_step : (s t : Rows) (q : TimedCommand) (more : List TimedCommand) (o : Outcome) (es : List Event)
+    → step s q.moment q.command ≡ record { outcome = o; rows = t; events = es } → run s (q ∷ more) ≡ then_events es o (run t more)
 unfolding run
 one_step s t q more o es e = ap (λ x. then_run x (run x.rows more)) e
 
-by_step : {s t : Rows} {q : TimedCommand} {more : List TimedCommand} {o : Outcome} {es : List Event} (m n all : ℕ) → m + n ≡ all → step s q.moment q.command ≡ record { outcome = o; rows = t; events = es } → Waits s → IsDone o
+by_step : {s t : Rows} {q : TimedCommand} {more : List TimedCommand} {o : Outcome} {es : List Event} (m n all : ℕ) → m + n ≡ all
+    → step s q.moment q.command ≡ record { outcome = o; rows = t; events = es } → Waits s → IsDone o
     → answered_in es ≡ m → Every IsSilent es → Through t more n → Through s (q ∷ more) all
 by_step {s} {t} {q} {more} {o} {es} m n all sum e w d a h rest =
     let is : run s (q ∷ more) ≡ then_events es o (run t more) = one_step s t q more o es e in
@@ -236,7 +256,8 @@ by_step {s} {t} {q} {more} {o} {es} m n all sum e w d a h rest =
       silent = subst (λ (r : AfterRun). Every IsSilent r.events) (sym is) (every-append IsSilent es (run t more).events h rest.silent);
     }
 
-waits_here : (n k : Numbers) (state : AgentState) (calls : List CallRecord) (connections : List ConnectionRecord) → Waits (stands n (ana_in k state) calls connections)
+waits_here : (n k : Numbers) (state : AgentState) (calls : List CallRecord) (connections : List ConnectionRecord)
+    → Waits (stands n (ana_in k state) calls connections)
 unfolding connection_of agent_of
 waits_here n k state calls connections = record { place = 8; waiting = refl; agent = ana_in k state; known = refl; groups = refl }
 
@@ -254,9 +275,15 @@ through (suc n) k h =
     let c = h.call in
     let other : next k ≢ 1 = omega (arith, c) in
     let rest = through n (numbers_4 k) (goes_on k h) in
-    let fourth = by_step 0 n n (omega arith) (ends k s) (waits_here (numbers_3 k) (numbers_3 k) A.Busy (its_call k ∷ []) (talks k ∷ calls k ∷ [])) tt refl (other, (other, (other, (tt, tt)))) rest in
-    let third = by_step 1 n (suc n) (omega arith) (is_answered k s) (waits_here (numbers_2 k) (numbers_2 k) A.Ready (its_call k ∷ []) (rings k ∷ calls k ∷ [])) tt refl (other, (tt, tt)) fourth in
-    let second = by_step 0 (suc n) (suc n) (omega arith) (is_ready k s) (waits_here (numbers_1 k) k A.WorkingAfterCall (its_call k ∷ []) (waits k ∷ calls k ∷ [])) tt refl (tt, (other, (other, tt))) third in
+    let fourth =
+    by_step 0 n n (omega arith) (ends k s) (waits_here (numbers_3 k) (numbers_3 k) A.Busy (its_call k ∷ []) (talks k ∷ calls k ∷ [])) tt refl
+    (other, (other, (other, (tt, tt)))) rest in
+    let third =
+    by_step 1 n (suc n) (omega arith) (is_answered k s) (waits_here (numbers_2 k) (numbers_2 k) A.Ready (its_call k ∷ []) (rings k ∷ calls k ∷ [])) tt refl
+    (other, (tt, tt)) fourth in
+    let second =
+    by_step 0 (suc n) (suc n) (omega arith) (is_ready k s) (waits_here (numbers_1 k) k A.WorkingAfterCall (its_call k ∷ []) (waits k ∷ calls k ∷ []))
+    tt refl (tt, (other, (other, tt))) third in
     by_step 0 (suc n) (suc n) (omega arith) (arrives k s) (waits_here k k A.WorkingAfterCall [] []) tt refl (other, tt) second
 
 length_rounds : (n call : ℕ) → length (rounds_from call n) ≡ 4 * n
@@ -265,5 +292,6 @@ length_rounds (suc n) call = let h = length_rounds n (call + 1) in omega (arith,
 
 pub starves : (n : ℕ) → Starves n
 starves n =
-    let t : Through begun (rounds_from 2 n) n = subst (λ s. Through s (rounds_from 2 n) n) (sym begins) (through n first_numbers (record { call = omega arith; moment = omega arith })) in
+    let t : Through begun (rounds_from 2 n) n =
+    subst (λ s. Through s (rounds_from 2 n) n) (sym begins) (through n first_numbers (record { call = omega arith; moment = omega arith })) in
     record { requests = length_rounds n 2; waits = t.waits; done = t.done; answers = t.answers; silent = t.silent }

@@ -59,7 +59,8 @@ pub every : {X : Type 0} {p : X → Bool} {P : X → Type 0} → ((x : X) → De
 every {P = P} f xs = like (each f xs) (every_from P xs) (λ h x i. every_among P xs x h i)
 
 pub any : {X : Type 0} (p : X → Bool) (xs : List X) → Decides (list_any p xs) ((x : X) × (Among x xs × (p x ≡ true)))
-any p xs = (λ e. let f = some_from (find p xs) (any_found p xs e) in (f.0, (find_among p xs f.0 f.1, find_passes p xs f.0 f.1)), λ h. any_some p xs h.0 h.1.0 h.1.1)
+any p xs =
+    (λ e. let f = some_from (find p xs) (any_found p xs e) in (f.0, (find_among p xs f.0 f.1, find_passes p xs f.0 f.1)), λ h. any_some p xs h.0 h.1.0 h.1.1)
 
 pub is_number : (o : Option ℕ) (n : ℕ) → Decides (has o n) (o ≡ Some n)
 is_number o n = (has_is o n, λ e. subst (λ v. has v n ≡ true) (sym e) (eqb_self n))
@@ -89,8 +90,10 @@ pub record LimitsKept (s : Rows) : Type 0 where
 pub limits_decided : (s : Rows) → Decides (keeps_limits s) (LimitsKept s)
 unfolding keeps_limits
 limits_decided s = like
-    (holds (limits_fit s.limits) and within (length s.groups) s.limits.groups and within (length s.stations) s.limits.stations and within (length s.agents) s.limits.agents and within (length s.calls) s.limits.calls
-    and within (length s.monitors) s.limits.monitors and within s.last_stamp s.limits.requests and within s.last_call s.last_stamp and within s.last_monitor s.last_stamp
+    (holds (limits_fit s.limits) and within (length s.groups) s.limits.groups and within (length s.stations) s.limits.stations
+    and within (length s.agents) s.limits.agents and within (length s.calls) s.limits.calls
+    and within (length s.monitors) s.limits.monitors and within s.last_stamp s.limits.requests and within s.last_call s.last_stamp
+    and within s.last_monitor s.last_stamp
     and each (λ (g : GroupRecord). within g.priority greatest_priority) s.groups)
     (λ p. let q = p.0.0.0.0 in record {
       sizes = record { limits = q.0.0.0.0.0; groups = q.0.0.0.0.1; stations = q.0.0.0.1; agents = q.0.0.1; calls = q.0.1; monitors = q.1 };
@@ -99,7 +102,13 @@ limits_decided s = like
       last_monitor = p.0.1;
       priorities = p.1;
     })
-    (λ h. (((((((((h.sizes.limits, h.sizes.groups), h.sizes.stations), h.sizes.agents), h.sizes.calls), h.sizes.monitors), h.last_stamp), h.last_call), h.last_monitor), h.priorities))
+    (λ h. (
+      (
+        (((((((h.sizes.limits, h.sizes.groups), h.sizes.stations), h.sizes.agents), h.sizes.calls), h.sizes.monitors), h.last_stamp), h.last_call),
+        h.last_monitor,
+      ),
+      h.priorities,
+    ))
 
 -- order
 
@@ -110,7 +119,8 @@ less_decided _ = (λ e. absurd (cc (e)), λ e. absurd (cc (e)))
 ascends_decided : {X : Type 0} (cmp : X → X → Ordering) → IsTotalOrder cmp → (xs : List X) → Decides (ascends cmp xs) (IsAscending cmp xs)
 ascends_decided cmp o [] = (λ _. tt, λ _. refl)
 ascends_decided cmp o (x ∷ []) = (λ _. (tt, tt), λ _. refl)
-ascends_decided cmp o (x ∷ y ∷ ys) = like (less_decided (cmp x y) and ascends_decided cmp o (y ∷ ys)) (λ h. ((h.0, after_lower cmp o x y h.0 ys h.1.0), h.1)) (λ h. (h.0.0, h.1))
+ascends_decided cmp o (x ∷ y ∷ ys) =
+    like (less_decided (cmp x y) and ascends_decided cmp o (y ∷ ys)) (λ h. ((h.0, after_lower cmp o x y h.0 ys h.1.0), h.1)) (λ h. (h.0.0, h.1))
 
 pub ascending_from : {X : Type 0} (cmp : X → X → Ordering) → IsTotalOrder cmp → (xs : List X) → ascends cmp xs ≡ true → IsAscending cmp xs
 ascending_from cmp o xs = (ascends_decided cmp o xs).0
@@ -118,8 +128,10 @@ ascending_from cmp o xs = (ascends_decided cmp o xs).0
 pub orders_decided : (s : Rows) → Decides (keeps_order s) (Orders s)
 unfolding keeps_order
 orders_decided s = like
-    (ascends_decided group_order groups_total s.groups and ascends_decided station_order stations_total s.stations and ascends_decided agent_order agents_total s.agents
-    and ascends_decided call_order calls_total s.calls and ascends_decided connection_order connections_total s.connections and ascends_decided monitor_order monitors_total s.monitors)
+    (ascends_decided group_order groups_total s.groups and ascends_decided station_order stations_total s.stations
+    and ascends_decided agent_order agents_total s.agents
+    and ascends_decided call_order calls_total s.calls and ascends_decided connection_order connections_total s.connections
+    and ascends_decided monitor_order monitors_total s.monitors)
     (λ p. let q = p.0.0 in record { groups = q.0.0.0; stations = q.0.0.1; agents = q.0.1; calls = q.1; connections = p.0.1; monitors = p.1 })
     (λ h. (((((h.groups, h.stations), h.agents), h.calls), h.connections), h.monitors))
 
@@ -154,13 +166,17 @@ empty_decided : {T : Type 0} (xs : List T) → Decides (is_empty xs) (xs ≡ [])
 empty_decided [] = (λ _. refl, λ _. refl)
 empty_decided (x ∷ xs) = (λ e. absurd (cc (e)), λ e. absurd (cc (e)))
 
-seat_decided : (s : Rows) (a : AgentRecord) (st : AgentState) → Decides (if is_null st then is_none a.station && is_empty a.groups && is_none a.pending else is_station_there s a.station && are_planned_groups s a.groups) (SeatedAs s a st)
+seat_decided : (s : Rows) (a : AgentRecord) (st : AgentState)
+    → Decides
+    (if is_null st then is_none a.station && is_empty a.groups && is_none a.pending else is_station_there s a.station && are_planned_groups s a.groups)
+    (SeatedAs s a st)
 seat_decided s a A.Null = like (absent a.station and empty_decided a.groups and absent a.pending) (λ p. (p.0.0, p.0.1, p.1)) (λ h. ((h.0, h.1), h.2))
 seat_decided s a _ = station_decided s a.station and groups_decided s a.groups
 
 alone_decided : (s : Rows) (o : Option ℕ) → Decides (is_alone_at s o) ((d : ℕ) → o ≡ Some d → count (seated_at d) s.agents ≤ 1)
 alone_decided s None = (λ _ d e. absurd (cc (e)), λ _. refl)
-alone_decided s (Some n) = like (within (count (seated_at n) s.agents) 1) (λ l d e. subst (λ v. count (seated_at v) s.agents ≤ 1) (some_is n d e) l) (λ h. h n refl)
+alone_decided s (Some n) =
+    like (within (count (seated_at n) s.agents) 1) (λ l d e. subst (λ v. count (seated_at v) s.agents ≤ 1) (some_is n d e) l) (λ h. h n refl)
 
 pub record AgentsKept (s : Rows) : Type 0 where
   pub rule : Every (AgentRule s) s.agents
@@ -169,22 +185,31 @@ pub record AgentsKept (s : Rows) : Type 0 where
 pub agents_decided : (s : Rows) → Decides (keeps_agent s) (AgentsKept s)
 unfolding keeps_agent
 agents_decided s = like (each (λ (a : AgentRecord). seat_decided s a a.state and alone_decided s a.station) s.agents)
-    (λ f. record { rule = every_from (AgentRule s) s.agents (λ a i. (f a i).0); one = at_most seated_at s.agents (λ d a i e. (f a i).1 d (has_is a.station d e)) })
+    (λ f. record {
+      rule = every_from (AgentRule s) s.agents (λ a i. (f a i).0);
+      one = at_most seated_at s.agents (λ d a i e. (f a i).1 d (has_is a.station d e));
+    })
     (λ h a i. (every_among (AgentRule s) s.agents a h.rule i, λ d e. h.one d))
 
 -- calls
 
 pub calls_decided : (s : Rows) → Decides (keeps_call s) (Every (CallRule s) s.calls)
 unfolding keeps_call
-calls_decided s = every (λ (c : CallRecord). like (holds (is_planned s c.called) and Decides-not _ (equals c.called c.caller) and fails (is_group s c.caller) and within c.call s.last_call)
+calls_decided s =
+    every (λ (c : CallRecord). like
+    (holds (is_planned s c.called) and Decides-not _ (equals c.called c.caller) and fails (is_group s c.caller) and within c.call s.last_call)
     (λ p. (p.1, p.0.0.0, p.0.0.1, p.0.1)) (λ h. (((h.1, h.2), h.3), h.0))) s.calls
 
 -- counters
 
-agent_timed : (s : Rows) (a : AgentRecord) → Decides (nat_le 1 a.stamp && nat_le a.stamp s.last_stamp && nat_le a.since s.last_moment) (AgentTimed s.last_stamp s.last_moment a)
-agent_timed s a = like (within 1 a.stamp and within a.stamp s.last_stamp and within a.since s.last_moment) (λ p. record { above = p.0.0; stamp = p.0.1; since = p.1 }) (λ h. ((h.above, h.stamp), h.since))
+agent_timed : (s : Rows) (a : AgentRecord)
+    → Decides (nat_le 1 a.stamp && nat_le a.stamp s.last_stamp && nat_le a.since s.last_moment) (AgentTimed s.last_stamp s.last_moment a)
+agent_timed s a =
+    like (within 1 a.stamp and within a.stamp s.last_stamp and within a.since s.last_moment) (λ p. record { above = p.0.0; stamp = p.0.1; since = p.1 })
+    (λ h. ((h.above, h.stamp), h.since))
 
-place_decided : (s : Rows) (o : Option ℕ) → Decides (is_unique_place s o) (IsPlace s.last_stamp o × ((p : ℕ) → o ≡ Some p → count (at_place p) s.connections ≤ 1))
+place_decided : (s : Rows) (o : Option ℕ)
+    → Decides (is_unique_place s o) (IsPlace s.last_stamp o × ((p : ℕ) → o ≡ Some p → count (at_place p) s.connections ≤ 1))
 place_decided s None = (λ _. (tt, λ p e. absurd (cc (e))), λ _. refl)
 place_decided s (Some n) = like (within 1 n and within n s.last_stamp and within (count (at_place n) s.connections) 1)
     (λ h. ((h.0.0, h.0.1), λ p e. subst (λ v. count (at_place v) s.connections ≤ 1) (some_is n p e) h.1)) (λ h. ((h.0.0, h.0.1), h.1 n refl))
@@ -197,14 +222,17 @@ after_decided : (q o : Option ℕ) → Decides (is_offered_after q o) (IsAfter q
 after_decided (Some q) (Some o) = within q o
 after_decided _ _ = (λ _. tt, λ _. refl)
 
-timed_decided : (s : Rows) (x : ConnectionRecord) → Decides (is_timed s x) (ConnectionTimed s.last_stamp s.last_moment x × ((p : ℕ) → x.place ≡ Some p → count (at_place p) s.connections ≤ 1))
+timed_decided : (s : Rows) (x : ConnectionRecord)
+    → Decides (is_timed s x) (ConnectionTimed s.last_stamp s.last_moment x × ((p : ℕ) → x.place ≡ Some p → count (at_place p) s.connections ≤ 1))
 timed_decided s x = like (place_decided s x.place and moment_decided s x.queued and moment_decided s x.offered and after_decided x.queued x.offered)
-    (λ p. (record { place = p.0.0.0.0; queued = p.0.0.1; offered = p.0.1; order = p.1 }, p.0.0.0.1)) (λ h. ((((h.0.place, h.1), h.0.queued), h.0.offered), h.0.order))
+    (λ p. (record { place = p.0.0.0.0; queued = p.0.0.1; offered = p.0.1; order = p.1 }, p.0.0.0.1))
+    (λ h. ((((h.0.place, h.1), h.0.queued), h.0.offered), h.0.order))
 
 -- the calls counted as answered, abandoned or moved are so of the entries, where the figures add up
 countable_decided : (s : Rows) (g : GroupRecord) → AddsUp s g → Decides (is_countable s g) (IsCountedUpTo s.last_stamp s.last_moment g)
 countable_decided s g b = like
-    (within g.figures.entered s.last_stamp and within g.figures.answered g.figures.entered and within g.figures.abandoned g.figures.entered and within g.figures.moved g.figures.entered
+    (within g.figures.entered s.last_stamp and within g.figures.answered g.figures.entered and within g.figures.abandoned g.figures.entered
+    and within g.figures.moved g.figures.entered
     and within g.figures.waited (g.figures.answered * s.last_moment))
     (λ p. (p.0.0.0.0, p.1)) (λ h. ((((h.0, omega (arith, b)), omega (arith, b)), omega (arith, b)), h.1))
 
@@ -217,22 +245,41 @@ pub record CountersKept (s : Rows) : Type 0 where
 pub counters_decided : (s : Rows) → Every (AddsUp s) s.groups → Decides (keeps_counters s) (CountersKept s)
 unfolding keeps_counters
 counters_decided s b = like
-    (every (agent_timed s) s.agents and every (λ (c : CallRecord). within c.since s.last_moment) s.calls and each (timed_decided s) s.connections and countable and within s.last_event (100000 * s.last_stamp))
+    (every (agent_timed s) s.agents and every (λ (c : CallRecord). within c.since s.last_moment) s.calls and each (timed_decided s) s.connections and countable
+    and within s.last_event (100000 * s.last_stamp))
     (λ p. let x = p.0.0.1 in record {
-      timed = record { agents = p.0.0.0.0; calls = p.0.0.0.1; connections = every_from (ConnectionTimed s.last_stamp s.last_moment) s.connections (λ z i. (x z i).0) };
+      timed = record {
+        agents = p.0.0.0.0;
+        calls = p.0.0.0.1;
+        connections = every_from (ConnectionTimed s.last_stamp s.last_moment) s.connections (λ z i. (x z i).0);
+      };
       places = at_most at_place s.connections (λ n z i e. (x z i).1 n (has_is z.place n e));
       figures = p.0.1;
       last_event = p.1;
     })
-    (λ h. ((((h.timed.agents, h.timed.calls), λ x i. (every_among (ConnectionTimed s.last_stamp s.last_moment) s.connections x h.timed.connections i, λ n e. h.places n)), h.figures), h.last_event))
+    (λ h. (
+      (
+        (
+          (h.timed.agents, h.timed.calls),
+          λ x i. (
+            every_among (ConnectionTimed s.last_stamp s.last_moment) s.connections x h.timed.connections i,
+            λ n e. h.places n,
+          ),
+        ),
+        h.figures,
+      ),
+      h.last_event,
+    ))
   where
     balanced : (g : GroupRecord) → Among g s.groups → AddsUp s g
     balanced g i = every_among (AddsUp s) s.groups g b i
 
     countable : Decides (list_all (is_countable s) s.groups) (Every (IsCountedUpTo s.last_stamp s.last_moment) s.groups)
     countable = (
-      λ e. every_from (IsCountedUpTo s.last_stamp s.last_moment) s.groups (λ g i. (countable_decided s g (balanced g i)).0 (all_true (is_countable s) s.groups e g i)),
-      λ h. all_from (is_countable s) s.groups (λ g i. (countable_decided s g (balanced g i)).1 (every_among (IsCountedUpTo s.last_stamp s.last_moment) s.groups g h i)),
+      λ e. every_from (IsCountedUpTo s.last_stamp s.last_moment) s.groups
+          (λ g i. (countable_decided s g (balanced g i)).0 (all_true (is_countable s) s.groups e g i)),
+      λ h. all_from (is_countable s) s.groups
+          (λ g i. (countable_decided s g (balanced g i)).1 (every_among (IsCountedUpTo s.last_stamp s.last_moment) s.groups g h i)),
     )
 
 -- offers, monitors, balance
@@ -243,7 +290,11 @@ offers_decided s = each (λ (g : GroupRecord). empty_decided (waiting_in s g.dev
 
 pub monitors_decided : (s : Rows) → Decides (keeps_monitor s) (Monitored s)
 unfolding keeps_monitor
-monitors_decided s = every (λ (w : MonitorRecord). like (holds (is_planned s w.device) and within w.monitor s.last_monitor and within w.after_event s.last_event) (λ p. (p.0.0, p.0.1, p.1)) (λ h. ((h.0, h.1), h.2))) s.monitors
+monitors_decided s =
+    every
+    (λ (w : MonitorRecord). like (holds (is_planned s w.device) and within w.monitor s.last_monitor and within w.after_event s.last_event)
+    (λ p. (p.0.0, p.0.1, p.1)) (λ h. ((h.0, h.1), h.2)))
+    s.monitors
 
 pub balance_decided : (s : Rows) → Decides (keeps_balance s) (Every (AddsUp s) s.groups)
 unfolding keeps_balance

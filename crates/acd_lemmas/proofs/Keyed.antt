@@ -17,7 +17,9 @@ pub cmp_self : (m n : ℕ) → m ≡ n → nat_cmp m n ≡ Equal
 cmp_self m n e = grind (arith, nat_tests)
 
 pub key_is : (m n : ℕ) → is_eq (nat_cmp m n) ≡ (n == m)
-key_is m n = both_ways (is_eq (nat_cmp m n)) (n == m) (λ e. eq-eqb n m (sym (cmp_equal m n (eq_is (nat_cmp m n) e)))) (λ e. is_eq_of (nat_cmp m n) (cmp_self m n (sym (eqb-true n m e))))
+key_is m n =
+    both_ways (is_eq (nat_cmp m n)) (n == m) (λ e. eq-eqb n m (sym (cmp_equal m n (eq_is (nat_cmp m n) e))))
+    (λ e. is_eq_of (nat_cmp m n) (cmp_self m n (sym (eqb-true n m e))))
 
 -- records with a key: how two compare, how a record compares with a key, and whether it has that key
 pub record Keyed (T K : Type 0) : Type 0 where
@@ -63,17 +65,21 @@ module _ {T K : Type 0} (r : Keyed T K) (xs : List T) where
 
   pub found_put : (x : T) (k : K) → find_by (r.at k) (put_by (r.order x) xs x) ≡ cond (r.has k x) (Some x) (find_by (r.at k) xs)
   found_put x k =
-      find_by_find (r.at k) (r.has k) (r.test k) (put_by (r.order x) xs x) ∙ find-put r.order (r.has k) x (λ y e. r.same k x y e) (λ y p q. r.equal k x y p q) xs
+      find_by_find (r.at k) (r.has k) (r.test k) (put_by (r.order x) xs x)
+      ∙ find-put r.order (r.has k) x (λ y e. r.same k x y e) (λ y p q. r.equal k x y p q) xs
       ∙ ap (λ o. cond (r.has k x) (Some x) o) (sym (find_is k))
 
   pub some_put : (x : T) (k : K) → is_some (find_by (r.at k) (put_by (r.order x) xs x)) ≡ (r.has k x || is_some (find_by (r.at k) xs))
-  some_put x k = ap is_some (found_put x k) ∙ (elim (r.has k x) as (λ b. is_some (cond b (Some x) (find_by (r.at k) xs)) ≡ (b || is_some (find_by (r.at k) xs))) [ true ↦ refl | false ↦ refl ])
+  some_put x k =
+      ap is_some (found_put x k)
+      ∙ (elim (r.has k x) as (λ b. is_some (cond b (Some x) (find_by (r.at k) xs)) ≡ (b || is_some (find_by (r.at k) xs))) [ true ↦ refl | false ↦ refl ])
 
   pub others_left : IsAscending r.order xs → (k : K) → remove_by (r.at k) xs ≡ filter (λ y. not (r.has k y)) xs
   others_left h k = remove_is r.order (r.at k) (r.has k) (r.test k) (r.equal k) xs h
 
   -- b says whether the two keys are one
-  pub found_left : IsAscending r.order xs → (j k : K) (b : Bool) → ((y : T) → r.has k y ≡ true → r.has j y ≡ b) → find_by (r.at k) (remove_by (r.at j) xs) ≡ cond b None (find_by (r.at k) xs)
+  pub found_left : IsAscending r.order xs → (j k : K) (b : Bool) → ((y : T) → r.has k y ≡ true → r.has j y ≡ b)
+      → find_by (r.at k) (remove_by (r.at j) xs) ≡ cond b None (find_by (r.at k) xs)
   found_left h j k b f =
       find_by_find (r.at k) (r.has k) (r.test k) (remove_by (r.at j) xs) ∙ ap (find (r.has k)) (others_left h j) ∙
       (elim b as (λ b. ((y : T) → r.has k y ≡ true → r.has j y ≡ b) → find (r.has k) (filter (λ y. not (r.has j y)) xs) ≡ cond b None (find_by (r.at k) xs)) [
@@ -84,8 +90,13 @@ module _ {T K : Type 0} (r : Keyed T K) (xs : List T) where
   pub counted_new : (p : T → Bool) (x : T) → find_by (r.at (r.key x)) xs ≡ None → count p (put_by (r.order x) xs x) ≡ one (p x) + count p xs
   counted_new p x e = count-put_new r.order (r.has (r.key x)) p x (λ y q. r.same (r.key x) x y q ∙ r.itself x) xs (sym (find_is (r.key x)) ∙ e)
 
-  pub counted_old : (p : T → Bool) (x z : T) → IsAscending r.order xs → find_by (r.at (r.key x)) xs ≡ Some z → count p (put_by (r.order x) xs x) + one (p z) ≡ one (p x) + count p xs
-  counted_old p x z h e = count-put_old r.order r.total (r.has (r.key x)) p x (λ y q. r.same (r.key x) x y q ∙ r.itself x) (λ y q. r.equal (r.key x) x y (r.itself x) q) xs h z (sym (find_is (r.key x)) ∙ e)
+  pub counted_old : (p : T → Bool) (x z : T) → IsAscending r.order xs → find_by (r.at (r.key x)) xs ≡ Some z
+      → count p (put_by (r.order x) xs x) + one (p z) ≡ one (p x) + count p xs
+  counted_old p x z h e =
+      count-put_old r.order r.total (r.has (r.key x)) p x (λ y q. r.same (r.key x) x y q ∙ r.itself x) (λ y q. r.equal (r.key x) x y (r.itself x) q) xs h z
+      (sym (find_is (r.key x)) ∙ e)
 
 pub eq_key : (m n : ℕ) → is_eq (nat_cmp m n) ≡ (m == n)
-eq_key m n = both_ways (is_eq (nat_cmp m n)) (m == n) (λ e. eq-eqb m n (cmp_equal m n (eq_is (nat_cmp m n) e))) (λ e. is_eq_of (nat_cmp m n) (cmp_self m n (eqb-true m n e)))
+eq_key m n =
+    both_ways (is_eq (nat_cmp m n)) (m == n) (λ e. eq-eqb m n (cmp_equal m n (eq_is (nat_cmp m n) e)))
+    (λ e. is_eq_of (nat_cmp m n) (cmp_self m n (eqb-true m n e)))

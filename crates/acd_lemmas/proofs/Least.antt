@@ -47,7 +47,16 @@ least_with b p q ps h =
 
 -- a list that begins with a pair has a least one
 found_from : (b : ℕ × ℕ) (ps : List (ℕ × ℕ)) → (q : ℕ × ℕ) × ((least_from (Some b) ps ≡ Some q) × IsLeast q (b ∷ ps))
-found_from b [] = (b, (refl, record { there = inl refl; least = λ r a. elim a [ inl w ↦ subst (λ z. pair_lt z b ≡ false) (sym w) (pair_itself b) | inr c ↦ absurd c ] }))
+found_from b [] = (
+  b,
+  (
+    refl,
+    record {
+      there = inl refl;
+      least = λ r a. elim a [ inl w ↦ subst (λ z. pair_lt z b ≡ false) (sym w) (pair_itself b) | inr c ↦ absurd c ];
+    },
+  ),
+)
 found_from b (p ∷ ps) =
     let f = found_from (lesser (Some b) p) ps in
     (f.0, (f.1.0, least_with b p f.0 ps f.1.1))
@@ -117,7 +126,16 @@ with_sooner b p q gs h =
     ]) refl h
 
 foremost_from : (b : GroupRecord) (gs : List GroupRecord) → (q : GroupRecord) × ((foremost (Some b) gs ≡ Some q) × IsForemost q (b ∷ gs))
-foremost_from b [] = (b, (refl, record { there = inl refl; first = λ r a. elim a [ inl w ↦ subst (λ (z : GroupRecord). precedes z b ≡ false) (sym w) (before_itself b) | inr c ↦ absurd c ] }))
+foremost_from b [] = (
+  b,
+  (
+    refl,
+    record {
+      there = inl refl;
+      first = λ r a. elim a [ inl w ↦ subst (λ (z : GroupRecord). precedes z b ≡ false) (sym w) (before_itself b) | inr c ↦ absurd c ];
+    },
+  ),
+)
 foremost_from b (p ∷ gs) = let f = foremost_from (sooner (Some b) p) gs in (f.0, (f.1.0, with_sooner b p f.0 gs f.1.1))
 
 pub none_foremost : (gs : List GroupRecord) → foremost None gs ≡ None → gs ≡ []

@@ -48,13 +48,16 @@ not_key : {X : Type 0} (cmp : X → X → Ordering) (k : X → Bool) (x y : X) �
 not_key cmp k x y g q = false_from_ne_true (k y) (λ r. cc (q, g y r))
 
 -- a record that was put is found where it passes, and else what was found before
-pub find-put : {X : Type 0} (cmp : X → X → Ordering) (p : X → Bool) (x : X) → ((y : X) → cmp x y ≡ Equal → p y ≡ p x) → ((y : X) → p x ≡ true → p y ≡ true → cmp x y ≡ Equal) → (xs : List X)
+pub find-put : {X : Type 0} (cmp : X → X → Ordering) (p : X → Bool) (x : X) → ((y : X) → cmp x y ≡ Equal → p y ≡ p x)
+    → ((y : X) → p x ≡ true → p y ≡ true → cmp x y ≡ Equal) → (xs : List X)
     → find p (put_by (cmp x) xs x) ≡ cond (p x) (Some x) (find p xs)
 find-put cmp p x h g [] = refl
 find-put cmp p x h g (y ∷ ys) =
-    (elim (cmp x y) as (λ o. cmp x y ≡ o → find p (match_ordering o (x ∷ y ∷ ys) (x ∷ ys) (y ∷ put_by (cmp x) ys x)) ≡ cond (p x) (Some x) (cond (p y) (Some y) (find p ys))) [
+    (elim (cmp x y) as (λ o. cmp x y ≡ o
+    → find p (match_ordering o (x ∷ y ∷ ys) (x ∷ ys) (y ∷ put_by (cmp x) ys x)) ≡ cond (p x) (Some x) (cond (p y) (Some y) (find p ys))) [
       | Less ↦ λ _. refl
-      | Equal ↦ λ e. rw (h y e) (elim (p x) as (λ b. cond b (Some x) (find p ys) ≡ cond b (Some x) (cond b (Some y) (find p ys))) [ true ↦ refl | false ↦ refl ])
+      | Equal ↦ λ e. rw (h y e)
+          (elim (p x) as (λ b. cond b (Some x) (find p ys) ≡ cond b (Some x) (cond b (Some y) (find p ys))) [ true ↦ refl | false ↦ refl ])
       | Greater ↦ λ e.
           (elim (p y) as (λ b. p y ≡ b → cond b (Some y) (find p (put_by (cmp x) ys x)) ≡ cond (p x) (Some x) (cond b (Some y) (find p ys))) [
             | true ↦ λ r. rw (false_from_ne_true (p x) (λ q. cc (e, g y q r))) refl
@@ -112,7 +115,8 @@ filter_among p (y ∷ ys) x a =
 pub among-filter : {X : Type 0} (p : X → Bool) (xs : List X) (z : X) → Among z xs → p z ≡ true → Among z (filter p xs)
 among-filter p [] z a e = absurd a
 among-filter p (y ∷ ys) z (inl q) e = rw (← q, e) (inl refl)
-among-filter p (y ∷ ys) z (inr a) e = elim (p y) as (λ b. Among z (cond b (y ∷ filter p ys) (filter p ys))) [ true ↦ inr (among-filter p ys z a e) | false ↦ among-filter p ys z a e ]
+among-filter p (y ∷ ys) z (inr a) e =
+    elim (p y) as (λ b. Among z (cond b (y ∷ filter p ys) (filter p ys))) [ true ↦ inr (among-filter p ys z a e) | false ↦ among-filter p ys z a e ]
 
 -- order
 
@@ -121,11 +125,13 @@ after_among cmp z [] x h a = absurd a
 after_among cmp z (y ∷ ys) x h (inl q) = rw q h.0
 after_among cmp z (y ∷ ys) x h (inr a) = after_among cmp z ys x h.1 a
 
-pub after_lower : {X : Type 0} (cmp : X → X → Ordering) (o : IsTotalOrder cmp) (z y : X) → cmp z y ≡ Less → (xs : List X) → AllAfter cmp y xs → AllAfter cmp z xs
+pub after_lower : {X : Type 0} (cmp : X → X → Ordering) (o : IsTotalOrder cmp) (z y : X) → cmp z y ≡ Less → (xs : List X) → AllAfter cmp y xs
+    → AllAfter cmp z xs
 after_lower cmp o z y e [] h = tt
 after_lower cmp o z y e (x ∷ xs) h = (o.trans z y x e h.0, after_lower cmp o z y e xs h.1)
 
-pub after_same : {X : Type 0} (cmp : X → X → Ordering) (o : IsTotalOrder cmp) (z y : X) → cmp z y ≡ Equal → (xs : List X) → AllAfter cmp y xs → AllAfter cmp z xs
+pub after_same : {X : Type 0} (cmp : X → X → Ordering) (o : IsTotalOrder cmp) (z y : X) → cmp z y ≡ Equal → (xs : List X) → AllAfter cmp y xs
+    → AllAfter cmp z xs
 after_same cmp o z y e [] h = tt
 after_same cmp o z y e (x ∷ xs) h = (o.congr z y x e ∙ h.0, after_same cmp o z y e xs h.1)
 
@@ -138,7 +144,8 @@ after-put cmp z x e (y ∷ ys) h =
       | Greater ↦ (h.0, after-put cmp z x e ys h.1)
     ]
 
-pub ascending-put : {X : Type 0} (cmp : X → X → Ordering) (o : IsTotalOrder cmp) (x : X) (xs : List X) → IsAscending cmp xs → IsAscending cmp (put_by (cmp x) xs x)
+pub ascending-put : {X : Type 0} (cmp : X → X → Ordering) (o : IsTotalOrder cmp) (x : X) (xs : List X) → IsAscending cmp xs
+    → IsAscending cmp (put_by (cmp x) xs x)
 ascending-put cmp o x [] h = (tt, tt)
 ascending-put cmp o x (y ∷ ys) h =
     (elim (cmp x y) as (λ r. cmp x y ≡ r → IsAscending cmp (match_ordering r (x ∷ y ∷ ys) (x ∷ ys) (y ∷ put_by (cmp x) ys x))) [
@@ -164,7 +171,8 @@ ascending-filter cmp p (y ∷ ys) h =
     ]
 
 -- a record of an ascending list is the one found by its key
-pub find_found : {X : Type 0} (cmp : X → X → Ordering) (k : X → Bool) (x : X) → k x ≡ true → ((y : X) → k y ≡ true → cmp y x ≡ Equal) → (xs : List X) → IsAscending cmp xs → Among x xs → find k xs ≡ Some x
+pub find_found : {X : Type 0} (cmp : X → X → Ordering) (k : X → Bool) (x : X) → k x ≡ true → ((y : X) → k y ≡ true → cmp y x ≡ Equal) → (xs : List X)
+    → IsAscending cmp xs → Among x xs → find k xs ≡ Some x
 find_found cmp k x e h [] s a = absurd a
 find_found cmp k x e h (y ∷ ys) s (inl q) = rw (← q, e) refl
 find_found cmp k x e h (y ∷ ys) s (inr a) =
@@ -173,7 +181,18 @@ find_found cmp k x e h (y ∷ ys) s (inr a) =
       | false ↦ λ r. find_found cmp k x e h ys s.1 a
     ]) refl
 
-key_only : {X : Type 0} (cmp : X → X → Ordering) (k : X → Bool) → ((y z : X) → k y ≡ true → k z ≡ true → cmp y z ≡ Equal) → (y : X) → k y ≡ true → (ys : List X) → AllAfter cmp y ys → (x : X) → Among x ys → k x ≡ false
+-- equal records have a key, and a key's records are equal
+abbrev pub HasEqual : {X : Type 0} → (X → X → Ordering) → (X → Bool) → X → Type 0
+HasEqual {X} cmp k x = (y : X) → cmp x y ≡ Equal → k y ≡ true
+
+abbrev pub AllEqual : {X : Type 0} → (X → X → Ordering) → (X → Bool) → X → Type 0
+AllEqual {X} cmp k x = (y : X) → k y ≡ true → cmp x y ≡ Equal
+
+abbrev pub IsKey : {X : Type 0} → (X → X → Ordering) → (X → Bool) → Type 0
+IsKey {X} cmp k = (y z : X) → k y ≡ true → k z ≡ true → cmp y z ≡ Equal
+
+key_only : {X : Type 0} (cmp : X → X → Ordering) (k : X → Bool) → IsKey cmp k → (y : X) → k y ≡ true → (ys : List X) → AllAfter cmp y ys → (x : X) → Among x ys
+    → k x ≡ false
 key_only cmp k h y r ys s x a = false_from_ne_true (k x) (λ e. cc (h y x r e, after_among cmp y ys x s a))
 
 pub filter_all : {X : Type 0} (p : X → Bool) (xs : List X) → ((x : X) → Among x xs → p x ≡ true) → filter p xs ≡ xs
@@ -188,8 +207,8 @@ pub none_filtered : {X : Type 0} (p : X → Bool) (xs : List X) → filter p xs 
 none_filtered p xs e x a = false_from_ne_true (p x) (λ q. subst (Among x) e (among-filter p xs x a q))
 
 -- in an ascending list a removal leaves those with other keys
-pub remove_is : {X : Type 0} (cmp : X → X → Ordering) (at : X → Ordering) (k : X → Bool) → ((x : X) → is_eq (at x) ≡ k x) → ((y z : X) → k y ≡ true → k z ≡ true → cmp y z ≡ Equal)
-    → (xs : List X) → IsAscending cmp xs → remove_by at xs ≡ filter (λ y. not (k y)) xs
+pub remove_is : {X : Type 0} (cmp : X → X → Ordering) (at : X → Ordering) (k : X → Bool) → ((x : X) → is_eq (at x) ≡ k x)
+    → IsKey cmp k → (xs : List X) → IsAscending cmp xs → remove_by at xs ≡ filter (λ y. not (k y)) xs
 remove_is cmp at k f h [] s = refl
 remove_is cmp at k f h (y ∷ ys) s =
     rw (f y) ((elim (k y) as (λ b. k y ≡ b → cond b ys (y ∷ remove_by at ys) ≡ cond (not b) (y ∷ filter (λ w. not (k w)) ys) (filter (λ w. not (k w)) ys)) [
@@ -223,7 +242,8 @@ find-filter_none p q h (y ∷ ys) =
 
 -- counts
 
-pub count-put_new : {X : Type 0} (cmp : X → X → Ordering) (k p : X → Bool) (x : X) → ((y : X) → cmp x y ≡ Equal → k y ≡ true) → (xs : List X) → find k xs ≡ None → count p (put_by (cmp x) xs x) ≡ one (p x) + count p xs
+pub count-put_new : {X : Type 0} (cmp : X → X → Ordering) (k p : X → Bool) (x : X) → HasEqual cmp k x → (xs : List X) → find k xs ≡ None
+    → count p (put_by (cmp x) xs x) ≡ one (p x) + count p xs
 count-put_new cmp k p x h [] e = refl
 count-put_new cmp k p x h (y ∷ ys) e =
     (elim (cmp x y) as (λ o. cmp x y ≡ o → count p (match_ordering o (x ∷ y ∷ ys) (x ∷ ys) (y ∷ put_by (cmp x) ys x)) ≡ one (p x) + (one (p y) + count p ys)) [
@@ -232,11 +252,12 @@ count-put_new cmp k p x h (y ∷ ys) e =
       | Greater ↦ λ _. let ih = count-put_new cmp k p x h ys (none_tail k y ys e) in omega (arith, ih)
     ]) refl
 
-pub count-put_old : {X : Type 0} (cmp : X → X → Ordering) (o : IsTotalOrder cmp) (k p : X → Bool) (x : X) → ((y : X) → cmp x y ≡ Equal → k y ≡ true) → ((y : X) → k y ≡ true → cmp x y ≡ Equal)
+pub count-put_old : {X : Type 0} (cmp : X → X → Ordering) (o : IsTotalOrder cmp) (k p : X → Bool) (x : X) → HasEqual cmp k x → AllEqual cmp k x
     → (xs : List X) → IsAscending cmp xs → (z : X) → find k xs ≡ Some z → count p (put_by (cmp x) xs x) + one (p z) ≡ one (p x) + count p xs
 count-put_old cmp o k p x h g [] s z e = absurd (cc (e))
 count-put_old cmp o k p x h g (y ∷ ys) s z e =
-    (elim (cmp x y) as (λ r. cmp x y ≡ r → count p (match_ordering r (x ∷ y ∷ ys) (x ∷ ys) (y ∷ put_by (cmp x) ys x)) + one (p z) ≡ one (p x) + (one (p y) + count p ys)) [
+    (elim (cmp x y) as (λ r. cmp x y ≡ r
+    → count p (match_ordering r (x ∷ y ∷ ys) (x ∷ ys) (y ∷ put_by (cmp x) ys x)) + one (p z) ≡ one (p x) + (one (p y) + count p ys)) [
       | Less ↦ λ q. let l : cmp x z ≡ Less = after_among cmp x (y ∷ ys) z (q, after_lower cmp o x y q ys s.0) (find_among k (y ∷ ys) z e) in
           absurd (cc (l, g z (find_passes k (y ∷ ys) z e)))
       | Equal ↦ λ q. let same : y ≡ z = some_head k y ys z (h y q) e in rw same (omega arith)
@@ -261,7 +282,8 @@ count-remove_most at p (y ∷ ys) =
     let ih = count-remove_most at p ys in
     elim (is_eq (at y)) as (λ b. count p (cond b ys (y ∷ remove_by at ys)) ≤ one (p y) + count p ys) [ true ↦ omega arith | false ↦ omega (arith, ih) ]
 
-pub count-removed : {X : Type 0} (at : X → Ordering) (p : X → Bool) (xs : List X) (z : X) → find_by at xs ≡ Some z → count p (remove_by at xs) + one (p z) ≡ count p xs
+pub count-removed : {X : Type 0} (at : X → Ordering) (p : X → Bool) (xs : List X) (z : X) → find_by at xs ≡ Some z
+    → count p (remove_by at xs) + one (p z) ≡ count p xs
 count-removed at p [] z e = absurd (cc (e))
 count-removed at p (y ∷ ys) z e =
     (elim (is_eq (at y)) as (λ b. cond b (Some y) (find_by at ys) ≡ Some z → count p (cond b ys (y ∷ remove_by at ys)) + one (p z) ≡ one (p y) + count p ys) [
@@ -287,7 +309,8 @@ every-take P (suc n) (x ∷ xs) h = (h.0, every-take P n xs h.1)
 
 pub every-filter : {X : Type 0} (P : X → Type 0) (p : X → Bool) (xs : List X) → Every P xs → Every P (filter p xs)
 every-filter P p [] h = tt
-every-filter P p (x ∷ xs) h = elim (p x) as (λ t. Every P (cond t (x ∷ filter p xs) (filter p xs))) [ true ↦ (h.0, every-filter P p xs h.1) | false ↦ every-filter P p xs h.1 ]
+every-filter P p (x ∷ xs) h =
+    elim (p x) as (λ t. Every P (cond t (x ∷ filter p xs) (filter p xs))) [ true ↦ (h.0, every-filter P p xs h.1) | false ↦ every-filter P p xs h.1 ]
 
 pub every-append : {X : Type 0} (P : X → Type 0) (xs ys : List X) → Every P xs → Every P ys → Every P (xs ++ ys)
 every-append P [] ys h g = g
@@ -296,7 +319,11 @@ every-append P (x ∷ xs) ys h g = (h.0, every-append P xs ys h.1 g)
 pub every-put : {X : Type 0} (at : X → Ordering) (P : X → Type 0) (x : X) → P x → (xs : List X) → Every P xs → Every P (put_by at xs x)
 every-put at P x p [] h = (p, tt)
 every-put at P x p (y ∷ ys) h =
-    elim (at y) as (λ o. Every P (match_ordering o (x ∷ y ∷ ys) (x ∷ ys) (y ∷ put_by at ys x))) [ Less ↦ (p, h) | Equal ↦ (p, h.1) | Greater ↦ (h.0, every-put at P x p ys h.1) ]
+    elim (at y) as (λ o. Every P (match_ordering o (x ∷ y ∷ ys) (x ∷ ys) (y ∷ put_by at ys x))) [
+      | Less ↦ (p, h)
+      | Equal ↦ (p, h.1)
+      | Greater ↦ (h.0, every-put at P x p ys h.1)
+    ]
 
 pub every-remove : {X : Type 0} (at : X → Ordering) (P : X → Type 0) (xs : List X) → Every P xs → Every P (remove_by at xs)
 every-remove at P [] h = tt
@@ -312,28 +339,45 @@ among-remove at (y ∷ ys) x a =
 
 pub after-remove : {X : Type 0} (cmp : X → X → Ordering) (at : X → Ordering) (z : X) (xs : List X) → AllAfter cmp z xs → AllAfter cmp z (remove_by at xs)
 after-remove cmp at z [] h = tt
-after-remove cmp at z (y ∷ ys) h = elim (is_eq (at y)) as (λ b. AllAfter cmp z (cond b ys (y ∷ remove_by at ys))) [ true ↦ h.1 | false ↦ (h.0, after-remove cmp at z ys h.1) ]
+after-remove cmp at z (y ∷ ys) h =
+    elim (is_eq (at y)) as (λ b. AllAfter cmp z (cond b ys (y ∷ remove_by at ys))) [ true ↦ h.1 | false ↦ (h.0, after-remove cmp at z ys h.1) ]
 
 pub ascending-remove : {X : Type 0} (cmp : X → X → Ordering) (at : X → Ordering) (xs : List X) → IsAscending cmp xs → IsAscending cmp (remove_by at xs)
 ascending-remove cmp at [] h = tt
 ascending-remove cmp at (y ∷ ys) h =
-    elim (is_eq (at y)) as (λ b. IsAscending cmp (cond b ys (y ∷ remove_by at ys))) [ true ↦ h.1 | false ↦ (after-remove cmp at y ys h.0, ascending-remove cmp at ys h.1) ]
+    elim (is_eq (at y)) as (λ b. IsAscending cmp (cond b ys (y ∷ remove_by at ys))) [
+      | true ↦ h.1
+      | false ↦ (after-remove cmp at y ys h.0, ascending-remove cmp at ys h.1)
+    ]
 
 pub among-put : {X : Type 0} (at : X → Ordering) (x : X) (xs : List X) → Among x (put_by at xs x)
 among-put at x [] = inl refl
-among-put at x (y ∷ ys) = elim (at y) as (λ o. Among x (match_ordering o (x ∷ y ∷ ys) (x ∷ ys) (y ∷ put_by at ys x))) [ Less ↦ inl refl | Equal ↦ inl refl | Greater ↦ inr (among-put at x ys) ]
+among-put at x (y ∷ ys) = elim (at y) as (λ o. Among x (match_ordering o (x ∷ y ∷ ys) (x ∷ ys) (y ∷ put_by at ys x))) [
+  | Less ↦ inl refl
+  | Equal ↦ inl refl
+  | Greater ↦ inr (among-put at x ys)
+]
 
 pub among-put_other : {X : Type 0} (at : X → Ordering) (x : X) (xs : List X) (z : X) → Among z xs → (at z ≡ Equal → ⊥) → Among z (put_by at xs x)
 among-put_other at x [] z a ne = absurd a
 among-put_other at x (y ∷ ys) z (inl q) ne =
-    (elim (at y) as (λ o. at y ≡ o → Among z (match_ordering o (x ∷ y ∷ ys) (x ∷ ys) (y ∷ put_by at ys x))) [ Less ↦ λ _. inr (inl q) | Equal ↦ λ e. absurd (ne (rw q e)) | Greater ↦ λ _. inl q ]) refl
+    (elim (at y) as (λ o. at y ≡ o → Among z (match_ordering o (x ∷ y ∷ ys) (x ∷ ys) (y ∷ put_by at ys x))) [
+      | Less ↦ λ _. inr (inl q)
+      | Equal ↦ λ e. absurd (ne (rw q e))
+      | Greater ↦ λ _. inl q
+    ]) refl
 among-put_other at x (y ∷ ys) z (inr a) ne =
-    elim (at y) as (λ o. Among z (match_ordering o (x ∷ y ∷ ys) (x ∷ ys) (y ∷ put_by at ys x))) [ Less ↦ inr (inr a) | Equal ↦ inr a | Greater ↦ inr (among-put_other at x ys z a ne) ]
+    elim (at y) as (λ o. Among z (match_ordering o (x ∷ y ∷ ys) (x ∷ ys) (y ∷ put_by at ys x))) [
+      | Less ↦ inr (inr a)
+      | Equal ↦ inr a
+      | Greater ↦ inr (among-put_other at x ys z a ne)
+    ]
 
 pub among-remove_other : {X : Type 0} (at : X → Ordering) (xs : List X) (z : X) → Among z xs → is_eq (at z) ≡ false → Among z (remove_by at xs)
 among-remove_other at [] z a e = absurd a
 among-remove_other at (y ∷ ys) z (inl q) e = rw (← q, e) (inl refl)
-among-remove_other at (y ∷ ys) z (inr a) e = elim (is_eq (at y)) as (λ b. Among z (cond b ys (y ∷ remove_by at ys))) [ true ↦ a | false ↦ inr (among-remove_other at ys z a e) ]
+among-remove_other at (y ∷ ys) z (inr a) e =
+    elim (is_eq (at y)) as (λ b. Among z (cond b ys (y ∷ remove_by at ys))) [ true ↦ a | false ↦ inr (among-remove_other at ys z a e) ]
 
 -- the counted records
 
@@ -345,13 +389,19 @@ counted p (y ∷ ys) x (inr a) e = let ih = counted p ys x a e in omega (arith, 
 pub none_counted : {X : Type 0} (p : X → Bool) (xs : List X) → list_any p xs ≡ false → count p xs ≡ 0
 none_counted p [] e = refl
 none_counted p (y ∷ ys) e =
-    (elim (p y) as (λ b. (b || list_any p ys) ≡ false → one b + count p ys ≡ 0) [ true ↦ λ q. absurd (cc (q)) | false ↦ λ q. let ih = none_counted p ys q in omega (arith, ih) ]) e
+    (elim (p y) as (λ b. (b || list_any p ys) ≡ false → one b + count p ys ≡ 0) [
+      | true ↦ λ q. absurd (cc (q))
+      | false ↦ λ q. let ih = none_counted p ys q in omega (arith, ih)
+    ]) e
 
 pub fewer : {X : Type 0} (p q : X → Bool) → ((x : X) → p x ≡ true → q x ≡ true) → (xs : List X) → count p xs ≤ count q xs
 fewer p q h [] = omega arith
 fewer p q h (y ∷ ys) =
     let ih = fewer p q h ys in
-    (elim (p y) as (λ b. p y ≡ b → one b + count p ys ≤ one (q y) + count q ys) [ true ↦ λ e. let f : one (q y) ≡ 1 = rw (h y e) refl in omega (arith, ih, f) | false ↦ λ _. omega (arith, ih) ]) refl
+    (elim (p y) as (λ b. p y ≡ b → one b + count p ys ≤ one (q y) + count q ys) [
+      | true ↦ λ e. let f : one (q y) ≡ 1 = rw (h y e) refl in omega (arith, ih, f)
+      | false ↦ λ _. omega (arith, ih)
+    ]) refl
 
 -- two that pass are counted as two
 pub two_counted : {X : Type 0} (p : X → Bool) (xs : List X) (x y : X) → Among x xs → Among y xs → p x ≡ true → p y ≡ true → (x ≡ y → ⊥) → 2 ≤ count p xs
@@ -371,7 +421,8 @@ count_zero p [] h = refl
 count_zero p (y ∷ ys) h = let e : one (p y) ≡ 0 = ap one (h y (inl refl)) in let ih = count_zero p ys (λ x a. h x (inr a)) in omega (arith, e, ih)
 
 -- the one that is found passes, where at most one may and some does
-pub the_one : {X : Type 0} (p q : X → Bool) → ((x : X) → q x ≡ true → p x ≡ true) → (xs : List X) (a : X) → count p xs ≤ 1 → 1 ≤ count q xs → find p xs ≡ Some a → q a ≡ true
+pub the_one : {X : Type 0} (p q : X → Bool) → ((x : X) → q x ≡ true → p x ≡ true) → (xs : List X) (a : X) → count p xs ≤ 1 → 1 ≤ count q xs → find p xs ≡ Some a
+    → q a ≡ true
 the_one p q h [] a l m e = absurd (cc (e))
 the_one p q h (y ∷ ys) a l m e =
     let f = fewer q p h ys in
@@ -390,7 +441,10 @@ the_one p q h (y ∷ ys) a l m e =
 pub some_counted : {X : Type 0} (p : X → Bool) (xs : List X) → 1 ≤ count p xs → is_some (find p xs) ≡ true
 some_counted p [] l = absurd (omega (arith, l))
 some_counted p (y ∷ ys) l =
-    (elim (p y) as (λ b. 1 ≤ one b + count p ys → is_some (cond b (Some y) (find p ys)) ≡ true) [ true ↦ λ _. refl | false ↦ λ m. some_counted p ys (omega (arith, m)) ]) l
+    (elim (p y) as (λ b. 1 ≤ one b + count p ys → is_some (cond b (Some y) (find p ys)) ≡ true) [
+      | true ↦ λ _. refl
+      | false ↦ λ m. some_counted p ys (omega (arith, m))
+    ]) l
 
 pub all_true : {X : Type 0} (p : X → Bool) (xs : List X) → list_all p xs ≡ true → (x : X) → Among x xs → p x ≡ true
 all_true p [] e x a = absurd a
@@ -440,7 +494,8 @@ among_put at r (x ∷ xs) z a =
 
 -- a filter that finds none finds none after a put of what doesn't pass
 pub filter_put : {X : Type 0} (p : X → Bool) (at : X → Ordering) (r : X) (xs : List X) → filter p xs ≡ [] → p r ≡ false → filter p (put_by at xs r) ≡ []
-filter_put p at r xs e fails = filter_none p (put_by at xs r) (λ z a. elim (among_put at r xs z a) [ inl q ↦ ap p q ∙ fails | inr old ↦ none_filtered p xs e z old ])
+filter_put p at r xs e fails =
+    filter_none p (put_by at xs r) (λ z a. elim (among_put at r xs z a) [ inl q ↦ ap p q ∙ fails | inr old ↦ none_filtered p xs e z old ])
 
 pub found_among : {T : Type 0} (at : T → Ordering) (xs : List T) (x : T) → find_by at xs ≡ Some x → Among x xs
 found_among at [] x e = absurd (cc (e))
@@ -474,7 +529,10 @@ pub split_length : {X : Type 0} (p : X → Bool) (xs : List X) → length xs ≡
 split_length p [] = refl
 split_length p (x ∷ xs) =
     let ih = split_length p xs in
-    elim (p x) as (λ b. suc (length xs) ≡ (one b + count p xs) + length (cond (not b) (x ∷ filter (λ x. not (p x)) xs) (filter (λ x. not (p x)) xs))) [ true ↦ omega (arith, ih) | false ↦ omega (arith, ih) ]
+    elim (p x) as (λ b. suc (length xs) ≡ (one b + count p xs) + length (cond (not b) (x ∷ filter (λ x. not (p x)) xs) (filter (λ x. not (p x)) xs))) [
+      | true ↦ omega (arith, ih)
+      | false ↦ omega (arith, ih)
+    ]
 
 pub fewer_filtered : {X : Type 0} (p q : X → Bool) (xs : List X) → count p (filter q xs) ≤ count p xs
 fewer_filtered p q [] = omega arith

@@ -30,7 +30,8 @@ triple K c d t e f u h =
 named : (K : ℕ → List ℕ → Command) (d : ℕ) (n : List ℕ) (e : ℕ) (m : List ℕ) → ((d == e) && bytes_eq n m) ≡ true → K d n ≡ K e m
 named K d n e m h = let both = two h in ap₂ K (eqb-true d e both.0) (numbers n m both.1)
 
-group : (K : ℕ → List ℕ → ℕ → ℕ → Command) (d : ℕ) (n : List ℕ) (r w e : ℕ) (m : List ℕ) (s x : ℕ) → ((d == e) && (bytes_eq n m && ((r == s) && (w == x)))) ≡ true → K d n r w ≡ K e m s x
+group : (K : ℕ → List ℕ → ℕ → ℕ → Command) (d : ℕ) (n : List ℕ) (r w e : ℕ) (m : List ℕ) (s x : ℕ)
+    → ((d == e) && (bytes_eq n m && ((r == s) && (w == x)))) ≡ true → K d n r w ≡ K e m s x
 group K d n r w e m s x h =
     let first = two h in
     let next = two first.1 in

@@ -84,7 +84,11 @@ pub same_monitor : (x y : MonitorRecord) → (monitor_eq.eq-value).it x y ≡ tr
 same_monitor x y h =
     let a = two h in
     let b = two a.1 in
-    λ i. record { monitor = eqb-true x.monitor y.monitor a.0 i; device = eqb-true x.device y.device b.0 i; after_event = eqb-true x.after_event y.after_event b.1 i }
+    λ i. record {
+      monitor = eqb-true x.monitor y.monitor a.0 i;
+      device = eqb-true x.device y.device b.0 i;
+      after_event = eqb-true x.after_event y.after_event b.1 i;
+    }
 
 pub same_group : (x y : GroupRecord) → (group_eq.eq-value).it x y ≡ true → x ≡ y
 same_group x y h =
@@ -177,22 +181,27 @@ same_report (reports.Originated x1 x2 x3) (reports.Originated y1 y2 y3) h = trip
 same_report (reports.Queued x1 x2 x3) (reports.Queued y1 y2 y3) h =
     let h1 = two h in
     let h2 = two h1.1 in
-    ap (λ (x : ℕ). reports.Queued x x2 x3) (eqb-true x1 y1 h1.0) ∙ ap (λ (x : ℕ). reports.Queued y1 x x3) (eqb-true x2 y2 h2.0) ∙ ap (λ (x : Cause). reports.Queued y1 y2 x) (same_cause x3 y3 h2.1)
+    ap (λ (x : ℕ). reports.Queued x x2 x3) (eqb-true x1 y1 h1.0) ∙ ap (λ (x : ℕ). reports.Queued y1 x x3) (eqb-true x2 y2 h2.0)
+    ∙ ap (λ (x : Cause). reports.Queued y1 y2 x) (same_cause x3 y3 h2.1)
 same_report (reports.Delivered x1 x2 x3 x4) (reports.Delivered y1 y2 y3 y4) h =
     let h1 = two h in
     let h2 = two h1.1 in
     let h3 = two h2.1 in
-    ap (λ (x : ℕ). reports.Delivered x x2 x3 x4) (eqb-true x1 y1 h1.0) ∙ ap (λ (x : ℕ). reports.Delivered y1 x x3 x4) (eqb-true x2 y2 h2.0) ∙ ap (λ (x : Cause). reports.Delivered y1 y2 x x4) (same_cause x3 y3 h3.0) ∙ ap (λ (x : Option ℕ). reports.Delivered y1 y2 y3 x) (number_same x4 y4 h3.1)
+    ap (λ (x : ℕ). reports.Delivered x x2 x3 x4) (eqb-true x1 y1 h1.0) ∙ ap (λ (x : ℕ). reports.Delivered y1 x x3 x4) (eqb-true x2 y2 h2.0)
+    ∙ ap (λ (x : Cause). reports.Delivered y1 y2 x x4) (same_cause x3 y3 h3.0) ∙ ap (λ (x : Option ℕ). reports.Delivered y1 y2 y3 x) (number_same x4 y4 h3.1)
 same_report (reports.Diverted x1 x2 x3 x4 x5) (reports.Diverted y1 y2 y3 y4 y5) h =
     let h1 = two h in
     let h2 = two h1.1 in
     let h3 = two h2.1 in
     let h4 = two h3.1 in
-    ap (λ (x : ℕ). reports.Diverted x x2 x3 x4 x5) (eqb-true x1 y1 h1.0) ∙ ap (λ (x : ℕ). reports.Diverted y1 x x3 x4 x5) (eqb-true x2 y2 h2.0) ∙ ap (λ (x : ℕ). reports.Diverted y1 y2 x x4 x5) (eqb-true x3 y3 h3.0) ∙ ap (λ (x : Cause). reports.Diverted y1 y2 y3 x x5) (same_cause x4 y4 h4.0) ∙ ap (λ (x : Option ℕ). reports.Diverted y1 y2 y3 y4 x) (number_same x5 y5 h4.1)
+    ap (λ (x : ℕ). reports.Diverted x x2 x3 x4 x5) (eqb-true x1 y1 h1.0) ∙ ap (λ (x : ℕ). reports.Diverted y1 x x3 x4 x5) (eqb-true x2 y2 h2.0)
+    ∙ ap (λ (x : ℕ). reports.Diverted y1 y2 x x4 x5) (eqb-true x3 y3 h3.0) ∙ ap (λ (x : Cause). reports.Diverted y1 y2 y3 x x5) (same_cause x4 y4 h4.0)
+    ∙ ap (λ (x : Option ℕ). reports.Diverted y1 y2 y3 y4 x) (number_same x5 y5 h4.1)
 same_report (reports.Established x1 x2 x3) (reports.Established y1 y2 y3) h =
     let h1 = two h in
     let h2 = two h1.1 in
-    ap (λ (x : ℕ). reports.Established x x2 x3) (eqb-true x1 y1 h1.0) ∙ ap (λ (x : ℕ). reports.Established y1 x x3) (eqb-true x2 y2 h2.0) ∙ ap (λ (x : Option Waited). reports.Established y1 y2 x) (option_same ((waited_eq.eq-value).it) same_waited x3 y3 h2.1)
+    ap (λ (x : ℕ). reports.Established x x2 x3) (eqb-true x1 y1 h1.0) ∙ ap (λ (x : ℕ). reports.Established y1 x x3) (eqb-true x2 y2 h2.0)
+    ∙ ap (λ (x : Option Waited). reports.Established y1 y2 x) (option_same ((waited_eq.eq-value).it) same_waited x3 y3 h2.1)
 same_report (reports.Held x1 x2) (reports.Held y1 y2) h = pair reports.Held x1 x2 y1 y2 h
 same_report (reports.Retrieved x1 x2) (reports.Retrieved y1 y2) h = pair reports.Retrieved x1 x2 y1 y2 h
 same_report (reports.Transferred x1 x2 x3) (reports.Transferred y1 y2 y3) h = triple reports.Transferred x1 x2 x3 y1 y2 y3 h
@@ -204,7 +213,8 @@ same_report (reports.CallCleared x1 x2) (reports.CallCleared y1 y2) h =
 same_report (reports.AgentLoggedOn x1 x2 x3) (reports.AgentLoggedOn y1 y2 y3) h =
     let h1 = two h in
     let h2 = two h1.1 in
-    ap (λ (x : ℕ). reports.AgentLoggedOn x x2 x3) (eqb-true x1 y1 h1.0) ∙ ap (λ (x : ℕ). reports.AgentLoggedOn y1 x x3) (eqb-true x2 y2 h2.0) ∙ ap (λ (x : Option ℕ). reports.AgentLoggedOn y1 y2 x) (number_same x3 y3 h2.1)
+    ap (λ (x : ℕ). reports.AgentLoggedOn x x2 x3) (eqb-true x1 y1 h1.0) ∙ ap (λ (x : ℕ). reports.AgentLoggedOn y1 x x3) (eqb-true x2 y2 h2.0)
+    ∙ ap (λ (x : Option ℕ). reports.AgentLoggedOn y1 y2 x) (number_same x3 y3 h2.1)
 same_report (reports.AgentLoggedOff x1 x2) (reports.AgentLoggedOff y1 y2) h = pair reports.AgentLoggedOff x1 x2 y1 y2 h
 same_report (reports.AgentNotReady x1 x2) (reports.AgentNotReady y1 y2) h = pair reports.AgentNotReady x1 x2 y1 y2 h
 same_report (reports.AgentReady x1 x2) (reports.AgentReady y1 y2) h = pair reports.AgentReady x1 x2 y1 y2 h

@@ -48,7 +48,8 @@ order_same x y e f = rw (cmp_self x.call y.call e, cmp_self x.device y.device f)
 
 pub connection_key : (c d : ℕ) (x : ConnectionRecord) → is_eq (at_connection c d x) ≡ is_of c d x
 connection_key c d x = both_ways (is_eq (at_connection c d x)) (is_of c d x)
-    (λ e. let h = then_equal (nat_cmp c x.call) (nat_cmp d x.device) (eq_is (at_connection c d x) e) in is_of_self c d x (sym (cmp_equal c x.call h.0)) (sym (cmp_equal d x.device h.1)))
+    (λ e. let h = then_equal (nat_cmp c x.call) (nat_cmp d x.device) (eq_is (at_connection c d x) e) in
+    is_of_self c d x (sym (cmp_equal c x.call h.0)) (sym (cmp_equal d x.device h.1)))
     (λ e. let h = is_of_true c d x e in is_eq_of (at_connection c d x) (rw (cmp_self c x.call (sym h.0), cmp_self d x.device (sym h.1)) refl))
 
 pub connections_total : IsTotalOrder connection_order
@@ -107,10 +108,12 @@ group_kept s g planned d = group_put s g d ∙ (elim (g.device == d) as (λ b. (
   | false ↦ λ e. refl
 ]) refl
 
-pub group_found_put : (d : ℕ) (g : GroupRecord) (gs : List GroupRecord) → find_by (at_group d) (put_by (at_group g.device) gs g) ≡ cond (g.device == d) (Some g) (find_by (at_group d) gs)
+pub group_found_put : (d : ℕ) (g : GroupRecord) (gs : List GroupRecord)
+    → find_by (at_group d) (put_by (at_group g.device) gs g) ≡ cond (g.device == d) (Some g) (find_by (at_group d) gs)
 group_found_put d g gs = found_put by_group gs g d
 
-pub group_counted_found : (d : ℕ) (es : List Event) (gs : List GroupRecord) → find_by (at_group d) (map (counting es) gs) ≡ option_map (counting es) (find_by (at_group d) gs)
+pub group_counted_found : (d : ℕ) (es : List Event) (gs : List GroupRecord)
+    → find_by (at_group d) (map (counting es) gs) ≡ option_map (counting es) (find_by (at_group d) gs)
 group_counted_found d es gs = find_by-map (counting es) (at_group d) (at_group d) (λ g. refl) gs
 
 pub is_some_mapped : {T S : Type 0} (f : T → S) (o : Option T) → is_some (option_map f o) ≡ is_some o
@@ -193,12 +196,15 @@ pub at_put : (s : Rows) (x : ConnectionRecord) (c d : ℕ) → connection_of (wi
 unfolding with_connection connection_of
 at_put s x c d = found_put by_connection s.connections x (c, d)
 
-pub left_at : (cs : List ConnectionRecord) → IsAscending connection_order cs → (a b c d : ℕ) → find_by (at_connection c d) (remove_by (at_connection a b) cs) ≡ cond (a == c && b == d) None (find_by (at_connection c d) cs)
-left_at cs h a b c d = found_left by_connection cs h (a, b) (c, d) (a == c && b == d) (λ y q. let g = is_of_true c d y q in both_ways (is_of a b y) (a == c && b == d)
+pub left_at : (cs : List ConnectionRecord) → IsAscending connection_order cs → (a b c d : ℕ)
+    → find_by (at_connection c d) (remove_by (at_connection a b) cs) ≡ cond (a == c && b == d) None (find_by (at_connection c d) cs)
+left_at cs h a b c d =
+    found_left by_connection cs h (a, b) (c, d) (a == c && b == d) (λ y q. let g = is_of_true c d y q in both_ways (is_of a b y) (a == c && b == d)
     (λ e. let f = is_of_true a b y e in and_from _ _ (eq-eqb a c (sym f.0 ∙ g.0)) (eq-eqb b d (sym f.1 ∙ g.1)))
     (λ e. let f = and_parts (a == c) (b == d) e in is_of_self a b y (g.0 ∙ sym (eqb-true a c f.0)) (g.1 ∙ sym (eqb-true b d f.1))))
 
-pub at_remove : (s : Rows) (a b c d : ℕ) → IsAscending connection_order s.connections → connection_of (without_connection s a b) c d ≡ cond (a == c && b == d) None (connection_of s c d)
+pub at_remove : (s : Rows) (a b c d : ℕ) → IsAscending connection_order s.connections
+    → connection_of (without_connection s a b) c d ≡ cond (a == c && b == d) None (connection_of s c d)
 unfolding without_connection connection_of
 at_remove s a b c d h = left_at s.connections h a b c d
 
@@ -216,20 +222,26 @@ unfolding connection_of
 connection_among s c d x e = found_among by_connection s.connections (c, d) x e
 
 -- a connection of the list is found under its key
-pub connection_found : (s : Rows) → IsAscending connection_order s.connections → (x : ConnectionRecord) → Among x s.connections → connection_of s x.call x.device ≡ Some x
+pub connection_found : (s : Rows) → IsAscending connection_order s.connections → (x : ConnectionRecord) → Among x s.connections
+    → connection_of s x.call x.device ≡ Some x
 unfolding connection_of
 connection_found s h x i = found_itself by_connection s.connections h x i
 
-pub put_other : (s : Rows) (x : ConnectionRecord) (c d : ℕ) → ((x.call ≡ c) → (x.device ≡ d) → ⊥) → connection_of (with_connection s x) c d ≡ connection_of s c d
-put_other s x c d h = at_put s x c d ∙ cond-false (is_of c d x) (Some x) (connection_of s c d) (false_from_ne_true (is_of c d x) (λ e. let k = is_of_true c d x e in h k.0 k.1))
+pub put_other : (s : Rows) (x : ConnectionRecord) (c d : ℕ) → ((x.call ≡ c) → (x.device ≡ d) → ⊥)
+    → connection_of (with_connection s x) c d ≡ connection_of s c d
+put_other s x c d h =
+    at_put s x c d ∙ cond-false (is_of c d x) (Some x) (connection_of s c d) (false_from_ne_true (is_of c d x) (λ e. let k = is_of_true c d x e in h k.0 k.1))
 
-pub removed_other : (s : Rows) (a b c d : ℕ) → IsAscending connection_order s.connections → ((a ≡ c) → (b ≡ d) → ⊥) → connection_of (without_connection s a b) c d ≡ connection_of s c d
+pub removed_other : (s : Rows) (a b c d : ℕ) → IsAscending connection_order s.connections → ((a ≡ c) → (b ≡ d) → ⊥)
+    → connection_of (without_connection s a b) c d ≡ connection_of s c d
 removed_other s a b c d o h = at_remove s a b c d o ∙ cond-false (a == c && b == d) None (connection_of s c d)
     (false_from_ne_true (a == c && b == d) (λ e. let k = and_parts (a == c) (b == d) e in h (eqb-true a c k.0) (eqb-true b d k.1)))
 
 -- nothing that wasn't there is there after a removal
-pub still_none : (s : Rows) (a b c d : ℕ) → IsAscending connection_order s.connections → connection_of s c d ≡ None → connection_of (without_connection s a b) c d ≡ None
-still_none s a b c d o e = at_remove s a b c d o ∙ rw e (elim (a == c && b == d) as (λ v. cond {A = Option ConnectionRecord} v None None ≡ None) [ true ↦ refl | false ↦ refl ])
+pub still_none : (s : Rows) (a b c d : ℕ) → IsAscending connection_order s.connections → connection_of s c d ≡ None
+    → connection_of (without_connection s a b) c d ≡ None
+still_none s a b c d o e =
+    at_remove s a b c d o ∙ rw e (elim (a == c && b == d) as (λ v. cond {A = Option ConnectionRecord} v None None ≡ None) [ true ↦ refl | false ↦ refl ])
 
 -- what the rules of rows say of a record that is found
 
@@ -277,7 +289,8 @@ pub agent_there : (s : Rows) → IsAscending agent_order s.agents → (d : ℕ) 
 agent_there s h d a e = agent_found s h a (agent_seat s d a e).0
 
 -- agents at two stations are two
-pub other_agents : (s : Rows) → IsAscending agent_order s.agents → (d e : ℕ) (a b : AgentRecord) → agent_at s d ≡ Some a → agent_at s e ≡ Some b → (d ≡ e → ⊥) → (a.agent == b.agent) ≡ false
+pub other_agents : (s : Rows) → IsAscending agent_order s.agents → (d e : ℕ) (a b : AgentRecord) → agent_at s d ≡ Some a → agent_at s e ≡ Some b → (d ≡ e → ⊥)
+    → (a.agent == b.agent) ≡ false
 other_agents s h d e a b p q ne =
     false_from_ne_true (a.agent == b.agent) (λ w.
     let same : agent_of s a.agent ≡ agent_of s b.agent = ap (agent_of s) (eqb-true a.agent b.agent w) in
@@ -287,7 +300,8 @@ other_agents s h d e a b p q ne =
     ne (some_is d e (sym f ∙ ap (λ (z : AgentRecord). z.station) ab ∙ g)))
 
 -- the other party of a call
-pub other_find : (s : Rows) (x : ConnectionRecord) → other_of s x ≡ find (λ (y : ConnectionRecord). y.call == x.call && not (y.device == x.device)) s.connections
+pub other_find : (s : Rows) (x : ConnectionRecord)
+    → other_of s x ≡ find (λ (y : ConnectionRecord). y.call == x.call && not (y.device == x.device)) s.connections
 unfolding other_of
 other_find s x = refl
 
@@ -296,16 +310,20 @@ other_among s x y e = find_among (λ (z : ConnectionRecord). z.call == x.call &&
 
 pub other_device : (s : Rows) (x y : ConnectionRecord) → other_of s x ≡ Some y → (y.call ≡ x.call) × (x.device ≡ y.device → ⊥)
 other_device s x y e =
-    let h = and_parts (y.call == x.call) (not (y.device == x.device)) (find_passes (λ (z : ConnectionRecord). z.call == x.call && not (z.device == x.device)) s.connections y (sym (other_find s x) ∙ e)) in
+    let h =
+    and_parts (y.call == x.call) (not (y.device == x.device))
+    (find_passes (λ (z : ConnectionRecord). z.call == x.call && not (z.device == x.device)) s.connections y (sym (other_find s x) ∙ e)) in
     (eqb-true y.call x.call h.0, λ q. cc (not-true (y.device == x.device) h.1, eq-eqb y.device x.device (sym q)))
 
 -- any count of connections after one change
 
-pub count_new : (p : ConnectionRecord → Bool) (s : Rows) (x : ConnectionRecord) → connection_of s x.call x.device ≡ None → count p (put_by (connection_order x) s.connections x) ≡ one (p x) + count p s.connections
+pub count_new : (p : ConnectionRecord → Bool) (s : Rows) (x : ConnectionRecord) → connection_of s x.call x.device ≡ None
+    → count p (put_by (connection_order x) s.connections x) ≡ one (p x) + count p s.connections
 unfolding connection_of
 count_new p s x e = counted_new by_connection s.connections p x e
 
-pub count_old : (p : ConnectionRecord → Bool) (s : Rows) (x z : ConnectionRecord) → IsAscending connection_order s.connections → connection_of s x.call x.device ≡ Some z
+pub count_old : (p : ConnectionRecord → Bool) (s : Rows) (x z : ConnectionRecord) → IsAscending connection_order s.connections
+    → connection_of s x.call x.device ≡ Some z
     → count p (put_by (connection_order x) s.connections x) + one (p z) ≡ one (p x) + count p s.connections
 unfolding connection_of
 count_old p s x z h e = counted_old by_connection s.connections p x z h e
@@ -316,10 +334,12 @@ unfolding connection_of
 count_less p s c d z e = count-removed (at_connection c d) p s.connections z e
 
 -- any count of agents after one agent's record is put
-pub count_agent : (p : AgentRecord → Bool) (s : Rows) (a z : AgentRecord) → IsAscending agent_order s.agents → agent_of s a.agent ≡ Some z → count p (put_by (agent_order a) s.agents a) + one (p z) ≡ one (p a) + count p s.agents
+pub count_agent : (p : AgentRecord → Bool) (s : Rows) (a z : AgentRecord) → IsAscending agent_order s.agents → agent_of s a.agent ≡ Some z
+    → count p (put_by (agent_order a) s.agents a) + one (p z) ≡ one (p a) + count p s.agents
 unfolding agent_of
 count_agent p s a z h e = counted_old by_agent s.agents p a z h e
 
 -- the rest after a removal
-pub left_among : (s : Rows) (a b : ℕ) → IsAscending connection_order s.connections → (z : ConnectionRecord) → Among z (remove_by (at_connection a b) s.connections) → Among z s.connections × (not (is_of a b z) ≡ true)
+pub left_among : (s : Rows) (a b : ℕ) → IsAscending connection_order s.connections → (z : ConnectionRecord)
+    → Among z (remove_by (at_connection a b) s.connections) → Among z s.connections × (not (is_of a b z) ≡ true)
 left_among s a b h z i = filter_among (λ x. not (is_of a b x)) s.connections z (subst (Among z) (others_left by_connection s.connections h (a, b)) i)

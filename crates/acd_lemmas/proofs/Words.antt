@@ -29,8 +29,36 @@ pub use Rattle.acd_model.specs.declared.moves.Offer.{Offer}
 pub use Rattle.acd_model.specs.declared.moves.Release.{Release}
 pub use Rattle.acd_model.specs.Served.{Served}
 pub use Rattle.acd_model.specs.Scans.{at_group, at_station, at_agent, at_call, at_connection, at_monitor, is_group, is_station, is_planned, has, is_idle_there}
-unfoldable pub use Rattle.acd_model.specs.Scans.{group_of, station_of, agent_of, call_of, connection_of, monitor_of, agent_at, other_of, is_live_at, is_idle, is_occupied, waiting_in, is_eligible, eligible_in, is_calling, queued_in_all}
-unfoldable pub use Rattle.acd_model.specs.Writes.{with_group, with_station, with_agent, with_call, with_connection, with_monitor, without_call, without_connection, without_monitor, with_last}
+unfoldable pub use Rattle.acd_model.specs.Scans.{
+  group_of,
+  station_of,
+  agent_of,
+  call_of,
+  connection_of,
+  monitor_of,
+  agent_at,
+  other_of,
+  is_live_at,
+  is_idle,
+  is_occupied,
+  waiting_in,
+  is_eligible,
+  eligible_in,
+  is_calling,
+  queued_in_all,
+}
+unfoldable pub use Rattle.acd_model.specs.Writes.{
+  with_group,
+  with_station,
+  with_agent,
+  with_call,
+  with_connection,
+  with_monitor,
+  without_call,
+  without_connection,
+  without_monitor,
+  with_last,
+}
 pub use Rattle.acd_model.specs.Moves.{no_move, silent, reported, changed, moved, event_at, with_event, events_of}
 pub use Rattle.acd_model.specs.Rules.Plan.{group_order, station_order, agent_order, call_order, connection_order, monitor_order, is_station_there, are_planned_groups, is_alone_at}
 unfoldable pub use Rattle.acd_model.specs.Rules.Plan.{keeps_limits, keeps_order, keeps_device, keeps_agent, keeps_monitor}

@@ -43,7 +43,10 @@ pub alike : {X : Type 0} (number : X → ℕ) (xs : List X) (k from len : ℕ)
     → IsPartitionPoint (λ y. leb (number y) k ≡ true) (λ y. leb (number y) k ≡ false) (drop from xs) len
     → take len (drop from xs) ≡ filter (λ x. number x == k) xs
 alike number xs k from len within short low high =
-    let front = none_pass (λ x. number x == k) (take from xs) (λ i d lt. let below_from : i < from = omega (arith, length-take-le from xs within) in rw get_or-take (below _ k (low.0 i d (omega arith) below_from))) in
+    let front =
+    none_pass (λ x. number x == k) (take from xs)
+    (λ i d lt. let below_from : i < from = omega (arith, length-take-le from xs within) in
+    rw get_or-take (below _ k (low.0 i d (omega arith) below_from))) in
     let middle = all_pass (λ x. number x == k) (take len (drop from xs)) (λ i d lt.
     let below_len : i < len = omega (arith, length-take-le len (drop from xs) short) in
     rw get_or-take (between _ k

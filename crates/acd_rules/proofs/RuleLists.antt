@@ -14,7 +14,8 @@ use Rattle.acd_lemmas.proofs.Lists.{count_length, filter-filter}
 -- a filter leaves none where none passes
 pub none_left : {T : Type 0} (p : T → Bool) (xs : List T) → is_empty (filter p xs) ≡ not (list_any p xs)
 none_left p [] = refl
-none_left p (x ∷ xs) = elim (p x) as (λ b. is_empty (cond b (x ∷ filter p xs) (filter p xs)) ≡ not (b || list_any p xs)) [ true ↦ refl | false ↦ none_left p xs ]
+none_left p (x ∷ xs) =
+    elim (p x) as (λ b. is_empty (cond b (x ∷ filter p xs) (filter p xs)) ≡ not (b || list_any p xs)) [ true ↦ refl | false ↦ none_left p xs ]
 
 -- so of a part that has all that q keeps
 pub kept_of_part : {T : Type 0} (p q : T → Bool) → ((x : T) → p x ≡ true → q x ≡ true) → (part xs : List T)
@@ -44,7 +45,8 @@ asked_none r none (x ∷ xs) = rw (none x) (asked_none r none xs)
 -- the first that passes is the first of those that pass
 first_found : {T : Type 0} (p : T → Bool) (xs : List T) → find p xs ≡ slice_get (filter p xs) 0
 first_found p [] = refl
-first_found p (x ∷ xs) = elim (p x) as (λ b. (if b then Some x else find p xs) ≡ slice_get (cond b (x ∷ filter p xs) (filter p xs)) 0) [ true ↦ refl | false ↦ first_found p xs ]
+first_found p (x ∷ xs) =
+    elim (p x) as (λ b. (if b then Some x else find p xs) ≡ slice_get (cond b (x ∷ filter p xs) (filter p xs)) 0) [ true ↦ refl | false ↦ first_found p xs ]
 
 pub first_of_part : {T : Type 0} (p q : T → Bool) → ((x : T) → p x ≡ true → q x ≡ true) → (part xs : List T)
     → filter q part ≡ filter q xs → find p part ≡ find p xs

@@ -30,7 +30,8 @@ use Rattle.acd_sql_columns.proofs.Heaped.{Heaped, DeletesThose, SelectsAll, by_o
 use Rattle.acd_sql_columns.proofs.Records.{further_stored}
 use Rattle.acd_sql_columns.proofs.Listings.{schema_is, whole_begins}
 
-groups_alone : (v : Version) → IsIn v table.AgentGroups → (db : Trees) → Keeps Unique (schema_of v) db → AllByRecursion (λ row. (not (has_twin (db schema.agent_groups.tree) row) && true) ≡ true) (db schema.agent_groups.tree)
+groups_alone : (v : Version) → IsIn v table.AgentGroups → (db : Trees) → Keeps Unique (schema_of v) db
+    → AllByRecursion (λ row. (not (has_twin (db schema.agent_groups.tree) row) && true) ≡ true) (db schema.agent_groups.tree)
 groups_alone version.First there db keeps = absurd there
 groups_alone version.Second there db keeps = keeps.1.1.1.1.1.1.1.1.1.0
 
@@ -58,18 +59,23 @@ pub groups_selects : SelectsAll agent_groups (nine ++ two) SELECT_AGENT_GROUPS.n
 unfolding understood everything
 groups_selects = record { selects = λ rest s. refl; plain = λ rest s. (refl, refl); unlisted = λ rest s. refl }
 
-pub inserts_group : (p : ℕ × ℕ) (c : Relations) (old new : State) (count : ℕ) → HoldsUncommitted old c → Executes INSERT_AGENT_GROUP.now (further_values p) old new (Ok count)
+pub inserts_group : (p : ℕ × ℕ) (c : Relations) (old new : State) (count : ℕ) → HoldsUncommitted old c
+    → Executes INSERT_AGENT_GROUP.now (further_values p) old new (Ok count)
     → HoldsUncommitted new (with_part table.AgentGroups (put_by (pair_order p) c.further p) c)
 inserts_group p c old new count d ran = inserted_in agent_groups groups_heaped tt p c old new count d ran
 
 -- all of an agent
-pub drops_groups : (agent : ℕ) (c : Relations) (old new : State) (count : ℕ) → HoldsUncommitted old c → Executes DELETE_AGENT_GROUPS.now (id_value agent ∷ []) old new (Ok count)
+pub drops_groups : (agent : ℕ) (c : Relations) (old new : State) (count : ℕ) → HoldsUncommitted old c
+    → Executes DELETE_AGENT_GROUPS.now (id_value agent ∷ []) old new (Ok count)
     → HoldsUncommitted new (with_part table.AgentGroups (filter (λ (p : ℕ × ℕ). not (p.0 == agent)) c.further) c)
 drops_groups agent c old new count d ran =
-    deleted_in agent_groups groups_heaped DELETE_AGENT_GROUPS.now by_one groups_deletes (id_value agent ∷ []) (λ (p : ℕ × ℕ). p.0 == agent) (of_one agent_groups groups_heaped agent) c old new count d ran
+    deleted_in agent_groups groups_heaped DELETE_AGENT_GROUPS.now by_one groups_deletes (id_value agent ∷ []) (λ (p : ℕ × ℕ). p.0 == agent)
+    (of_one agent_groups groups_heaped agent) c old new count d ran
 
-pub shows_groups : (old new : State) (rows : List Row) (c : Content) → HoldsContent old c → Shown SELECT_AGENT_GROUPS.now [] old new rows → rows ≡ map further_values (relations_of c).further
-shows_groups old new rows c held shown = shows_all agent_groups groups_heaped SELECT_AGENT_GROUPS.now groups_selects old new rows c held (whole_begins old.now.schema (schema_is old c held)) shown
+pub shows_groups : (old new : State) (rows : List Row) (c : Content) → HoldsContent old c → Shown SELECT_AGENT_GROUPS.now [] old new rows
+    → rows ≡ map further_values (relations_of c).further
+shows_groups old new rows c held shown =
+    shows_all agent_groups groups_heaped SELECT_AGENT_GROUPS.now groups_selects old new rows c held (whole_begins old.now.schema (schema_is old c held)) shown
 
 pub groups_plain : IsPlain (understood book_schema SELECT_AGENT_GROUPS.now)
 groups_plain = groups_selects.plain [] book_schema

@@ -94,7 +94,8 @@ events_at_listing = record {
 }
 
 events_at_lists : (device number limit : ℕ)
-    → Lists SELECT_EVENTS_AT_DEVICE.now events_at_listing (λ (e : Event). e.number) event_row event_values (id_value number ∷ id_value device ∷ id_value limit ∷ []) (is_at_after (Some device) number)
+    → Lists SELECT_EVENTS_AT_DEVICE.now events_at_listing (λ (e : Event). e.number) event_row event_values
+    (id_value number ∷ id_value device ∷ id_value limit ∷ []) (is_at_after (Some device) number)
 unfolding events_at_listing binary
 events_at_lists device number limit = record {
   keyed = λ e. refl;
@@ -107,10 +108,12 @@ pub events_at_plain : IsPlain (understood book_schema SELECT_EVENTS_AT_DEVICE.no
 events_at_plain = events_at_listing.plain both_new book_schema
 
 pub shows_events_at : (device number limit : ℕ) (old new : State) (rows : List Row) (c : Content) → HoldsContent old c
-    → Shown SELECT_EVENTS_AT_DEVICE.now (id_value number ∷ id_value device ∷ id_value limit ∷ []) old new rows → rows ≡ map event_values (take limit (filter (is_at_after (Some device) number) c.events))
+    → Shown SELECT_EVENTS_AT_DEVICE.now (id_value number ∷ id_value device ∷ id_value limit ∷ []) old new rows
+    → rows ≡ map event_values (take limit (filter (is_at_after (Some device) number) c.events))
 unfolding events_at_listing
 shows_events_at device number limit old new rows c held h =
-    listed SELECT_EVENTS_AT_DEVICE.now events_at_listing _ event_row event_values (id_value number ∷ id_value device ∷ id_value limit ∷ []) (is_at_after (Some device) number) (events_at_lists device number limit) old new rows c.events (held_begins old c held)
+    listed SELECT_EVENTS_AT_DEVICE.now events_at_listing _ event_row event_values (id_value number ∷ id_value device ∷ id_value limit ∷ [])
+    (is_at_after (Some device) number) (events_at_lists device number limit) old new rows c.events (held_begins old c held)
     (stored table.Events old c held) h
     ∙ take-map event_values limit (filter (is_at_after (Some device) number) c.events)
 
@@ -118,7 +121,10 @@ shows_events_at device number limit old new rows c held h =
 
 pub first_found : {X : Type 0} (p : X → Bool) (xs : List X) → take 1 (filter p xs) ≡ option_to_list (find p xs)
 first_found p [] = refl
-first_found p (x ∷ xs) = elim (p x) as (λ b. take 1 (cond b (x ∷ filter p xs) (filter p xs)) ≡ option_to_list (cond b (Some x) (find p xs))) [ true ↦ refl | false ↦ first_found p xs ]
+first_found p (x ∷ xs) = elim (p x) as (λ b. take 1 (cond b (x ∷ filter p xs) (filter p xs)) ≡ option_to_list (cond b (Some x) (find p xs))) [
+  | true ↦ refl
+  | false ↦ first_found p xs
+]
 
 monitor_listing : Listing nine SELECT_MONITOR.now
 unfolding understood everything
@@ -134,17 +140,20 @@ monitor_listing = record {
   unlisted = λ rest s. refl;
 }
 
-monitor_lists : (n : ℕ) → Lists SELECT_MONITOR.now monitor_listing (λ (w : MonitorRecord). w.monitor) monitor_row monitor_values (id_value n ∷ []) (λ w. w.monitor == n)
+monitor_lists : (n : ℕ)
+    → Lists SELECT_MONITOR.now monitor_listing (λ (w : MonitorRecord). w.monitor) monitor_row monitor_values (id_value n ∷ []) (λ w. w.monitor == n)
 unfolding monitor_listing binary
 monitor_lists n = record { keyed = λ w. refl; ranks = λ x y. refl; tests = λ w. truth_back _ ∙ id_tied w.monitor n; shows = λ w. refl }
 
 pub monitor_plain : IsPlain (understood book_schema SELECT_MONITOR.now)
 monitor_plain = monitor_listing.plain both_new book_schema
 
-pub shows_monitor : (n : ℕ) (old new : State) (rows : List Row) (c : Content) → HoldsContent old c → Shown SELECT_MONITOR.now (id_value n ∷ []) old new rows → rows ≡ map monitor_values (option_to_list (monitor_of c.rows n))
+pub shows_monitor : (n : ℕ) (old new : State) (rows : List Row) (c : Content) → HoldsContent old c → Shown SELECT_MONITOR.now (id_value n ∷ []) old new rows
+    → rows ≡ map monitor_values (option_to_list (monitor_of c.rows n))
 unfolding monitor_listing
 shows_monitor n old new rows c held h =
-    listed SELECT_MONITOR.now monitor_listing _ monitor_row monitor_values (id_value n ∷ []) (λ w. w.monitor == n) (monitor_lists n) old new rows c.rows.monitors (held_begins old c held) (stored table.Monitors old c held) h
+    listed SELECT_MONITOR.now monitor_listing _ monitor_row monitor_values (id_value n ∷ []) (λ w. w.monitor == n) (monitor_lists n) old new rows
+    c.rows.monitors (held_begins old c held) (stored table.Monitors old c held) h
     ∙ take-map monitor_values 1 (filter (λ (w : MonitorRecord). w.monitor == n) c.rows.monitors)
     ∙ ap (map monitor_values) (first_found (λ (w : MonitorRecord). w.monitor == n) c.rows.monitors ∙ ap option_to_list (sym (monitor_find c.rows n)))
 
@@ -171,7 +180,9 @@ key_listing = record {
   unlisted = λ rest s. refl;
 }
 
-key_lists : (requester : List ℕ) (invoke : ℕ) → Lists SELECT_KEPT_OF_REQUEST.now key_listing (λ (k : Kept). k.stamp) kept_row kept_values (Text requester ∷ id_value invoke ∷ []) (λ k. is_key requester invoke k.request)
+key_lists : (requester : List ℕ) (invoke : ℕ)
+    → Lists SELECT_KEPT_OF_REQUEST.now key_listing (λ (k : Kept). k.stamp) kept_row kept_values (Text requester ∷ id_value invoke ∷ [])
+    (λ k. is_key requester invoke k.request)
 unfolding key_listing binary
 key_lists requester invoke = record {
   keyed = λ k. refl;
@@ -183,11 +194,13 @@ key_lists requester invoke = record {
 pub key_plain : IsPlain (understood book_schema SELECT_KEPT_OF_REQUEST.now)
 key_plain = key_listing.plain both_new book_schema
 
-pub shows_kept_under : (requester : List ℕ) (invoke : ℕ) (old new : State) (rows : List Row) (c : Content) → HoldsContent old c → Shown SELECT_KEPT_OF_REQUEST.now (Text requester ∷ id_value invoke ∷ []) old new rows
+pub shows_kept_under : (requester : List ℕ) (invoke : ℕ) (old new : State) (rows : List Row) (c : Content) → HoldsContent old c
+    → Shown SELECT_KEPT_OF_REQUEST.now (Text requester ∷ id_value invoke ∷ []) old new rows
     → rows ≡ map kept_values (option_to_list (kept_of c.kept requester invoke))
 unfolding key_listing
 shows_kept_under requester invoke old new rows c held h =
-    listed SELECT_KEPT_OF_REQUEST.now key_listing _ kept_row kept_values (Text requester ∷ id_value invoke ∷ []) (λ k. is_key requester invoke k.request) (key_lists requester invoke) old new rows c.kept (held_begins old c held)
+    listed SELECT_KEPT_OF_REQUEST.now key_listing _ kept_row kept_values (Text requester ∷ id_value invoke ∷ []) (λ k. is_key requester invoke k.request)
+    (key_lists requester invoke) old new rows c.kept (held_begins old c held)
     (stored table.Kept old c held).0 h
     ∙ take-map kept_values 1 (filter (λ (k : Kept). is_key requester invoke k.request) c.kept)
     ∙ ap (map kept_values) (first_found (λ (k : Kept). is_key requester invoke k.request) c.kept)

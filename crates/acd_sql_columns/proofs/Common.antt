@@ -20,7 +20,40 @@ run start zero = []
 run start (suc more) = col 0 start ∷ run (start + 1) more
 
 pub inert : IsInert book_schema
-inert = (tt, (tt, (tt, (((refl, refl), ((refl, refl), tt)), (tt, (((refl, refl), ((refl, refl), tt)), (tt, (tt, (tt, (((refl, refl), ((refl, refl), tt)), (((refl, refl), tt), tt)))))))))))
+inert = (
+  tt,
+  (
+    tt,
+    (
+      tt,
+      (
+        ((refl, refl), ((refl, refl), tt)),
+        (
+          tt,
+          (
+            ((refl, refl), ((refl, refl), tt)),
+            (
+              tt,
+              (
+                tt,
+                (
+                  tt,
+                  (
+                    ((refl, refl), ((refl, refl), tt)),
+                    (
+                      ((refl, refl), tt),
+                      tt,
+                    ),
+                  ),
+                ),
+              ),
+            ),
+          ),
+        ),
+      ),
+    ),
+  ),
+)
 
 pub either : (b : Bool) (x : Value) → cond b x x ≡ x
 either true x = refl

@@ -35,7 +35,8 @@ use Rattle.acd_sql_columns.proofs.Heaped.{Heaped, UpdatesOne, DeletesThose, Sele
 use Rattle.acd_sql_columns.proofs.Listings.{Listing, held_begins}
 use Rattle.acd_sql_columns.proofs.Records.{connection_stored}
 
-connections_alone : (v : Version) (db : Trees) → Keeps Unique (schema_of v) db → AllByRecursion (λ row. (not (has_twin (db schema.connections.tree) row) && true) ≡ true) (db schema.connections.tree)
+connections_alone : (v : Version) (db : Trees) → Keeps Unique (schema_of v) db
+    → AllByRecursion (λ row. (not (has_twin (db schema.connections.tree) row) && true) ≡ true) (db schema.connections.tree)
 connections_alone version.First db keeps = keeps.1.1.1.1.1.0
 connections_alone version.Second db keeps = keeps.1.1.1.1.1.0
 
@@ -69,26 +70,34 @@ connections_selects = record { selects = λ rest s. refl; plain = λ rest s. (re
 
 -- ---- the statements
 
-pub inserts_connection : (x : ConnectionRecord) (c : Relations) (old new : State) (count : ℕ) → HoldsUncommitted old c → Executes INSERT_CONNECTION.now (connection_values x) old new (Ok count)
+pub inserts_connection : (x : ConnectionRecord) (c : Relations) (old new : State) (count : ℕ) → HoldsUncommitted old c
+    → Executes INSERT_CONNECTION.now (connection_values x) old new (Ok count)
     → HoldsUncommitted new (with_part table.Connections (put_by (at_connection x.call x.device) c.connections x) c)
 inserts_connection x c old new count d ran = inserted_in connections connections_heaped tt x c old new count d ran
 
-pub sets_connection : (x : ConnectionRecord) (c : Relations) (old new : State) (count : ℕ) → HoldsUncommitted old c → Executes UPDATE_CONNECTION.now (connection_values x) old new (Ok count) → (count ≡ 0 → ⊥)
+pub sets_connection : (x : ConnectionRecord) (c : Relations) (old new : State) (count : ℕ) → HoldsUncommitted old c
+    → Executes UPDATE_CONNECTION.now (connection_values x) old new (Ok count) → (count ≡ 0 → ⊥)
     → HoldsUncommitted new (with_part table.Connections (put_by (at_connection x.call x.device) c.connections x) c)
 sets_connection x c old new count d ran some = updated_in connections connections_heaped UPDATE_CONNECTION.now connections_updates x c old new count d ran some
 
 -- where the UPDATE changed no row, an INSERT after it makes what it would make of the rows before
-pub after_none : (x : ConnectionRecord) (change : Relations → Relations) (old mid new : State) (none : ℕ) (result : Result (Unit {0}) Error) → Executes UPDATE_CONNECTION.now (connection_values x) old mid (Ok none) → none ≡ 0
-    → OnOk result ((c : Relations) → HoldsUncommitted mid c → HoldsUncommitted new (change c)) → OnOk result ((c : Relations) → HoldsUncommitted old c → HoldsUncommitted new (change (with_part table.Connections c.connections c)))
+pub after_none : (x : ConnectionRecord) (change : Relations → Relations) (old mid new : State) (none : ℕ) (result : Result (Unit {0}) Error)
+    → Executes UPDATE_CONNECTION.now (connection_values x) old mid (Ok none) → none ≡ 0
+    → OnOk result ((c : Relations) → HoldsUncommitted mid c → HoldsUncommitted new (change c))
+    → OnOk result ((c : Relations) → HoldsUncommitted old c → HoldsUncommitted new (change (with_part table.Connections c.connections c)))
 after_none x change old mid late none (Err e) ran missed put = tt
 after_none x change old mid late none (Ok done) ran missed put = λ (c : Relations) (d : HoldsUncommitted old c).
-    put (with_part table.Connections c.connections c) (unchanged_in connections connections_heaped UPDATE_CONNECTION.now connections_updates x c old mid none d ran missed)
+    put (with_part table.Connections c.connections c)
+    (unchanged_in connections connections_heaped UPDATE_CONNECTION.now connections_updates x c old mid none d ran missed)
 
-pub drops_connection : (call device : ℕ) (c : Relations) (old new : State) (count : ℕ) → HoldsUncommitted old c → Executes DELETE_CONNECTION.now (id_value call ∷ id_value device ∷ []) old new (Ok count)
+pub drops_connection : (call device : ℕ) (c : Relations) (old new : State) (count : ℕ) → HoldsUncommitted old c
+    → Executes DELETE_CONNECTION.now (id_value call ∷ id_value device ∷ []) old new (Ok count)
     → HoldsUncommitted new (with_part table.Connections (remove_by (at_connection call device) c.connections) c)
 drops_connection call device c old new count d ran =
-    subst (λ (xs : List ConnectionRecord). HoldsUncommitted new (with_part table.Connections xs c)) (sym (others_left by_connection c.connections (d.tables table.Connections).ascending (call, device)))
-    (deleted_in connections connections_heaped DELETE_CONNECTION.now by_two connections_deletes (id_value call ∷ id_value device ∷ []) (λ (x : ConnectionRecord). (x.call == call) && (x.device == device))
+    subst (λ (xs : List ConnectionRecord). HoldsUncommitted new (with_part table.Connections xs c))
+    (sym (others_left by_connection c.connections (d.tables table.Connections).ascending (call, device)))
+    (deleted_in connections connections_heaped DELETE_CONNECTION.now by_two connections_deletes (id_value call ∷ id_value device ∷ [])
+    (λ (x : ConnectionRecord). (x.call == call) && (x.device == device))
     (of_two connections connections_heaped call device []) c old new count d ran)
 
 -- ---- the query
@@ -99,5 +108,7 @@ connections_listing = listing connections connections_heaped SELECT_CONNECTIONS.
 pub connections_plain : IsPlain (understood book_schema SELECT_CONNECTIONS.now)
 connections_plain = connections_selects.plain two book_schema
 
-pub shows_connections : (old new : State) (rows : List Row) (c : Content) → HoldsContent old c → Shown SELECT_CONNECTIONS.now [] old new rows → rows ≡ map connection_values c.rows.connections
-shows_connections old new rows c held shown = shows_all connections connections_heaped SELECT_CONNECTIONS.now connections_selects old new rows c held (held_begins old c held) shown
+pub shows_connections : (old new : State) (rows : List Row) (c : Content) → HoldsContent old c → Shown SELECT_CONNECTIONS.now [] old new rows
+    → rows ≡ map connection_values c.rows.connections
+shows_connections old new rows c held shown =
+    shows_all connections connections_heaped SELECT_CONNECTIONS.now connections_selects old new rows c held (held_begins old c held) shown

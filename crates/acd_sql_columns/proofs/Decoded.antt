@@ -46,7 +46,8 @@ module _ {R : Type 0} (read : Row → R) (row : R → Row) where
   each_back back [] = refl
   each_back back (r ∷ rs) = rw (back r) (ap (λ l. r ∷ l) (each_back back rs))
 
-  pub rows_back : (key : R → ℕ) (rows : List Row) (records : List R) → AreRows key row rows records → ((r : R) → read (unkeyed (row r)) ≡ r) → records_in read rows ≡ records
+  pub rows_back : (key : R → ℕ) (rows : List Row) (records : List R) → AreRows key row rows records → ((r : R) → read (unkeyed (row r)) ≡ r)
+      → records_in read rows ≡ records
   rows_back key rows records are back = ap (records_in read) are.rows_are ∙ each_back back records
 
 kept_each_back : (ks : List Kept) → Every IsReadable ks → records_in as_kept (map kept_row ks) ≡ ks
@@ -56,12 +57,15 @@ kept_each_back (k ∷ ks) h = rw (kept_back k h.0) (ap (λ l. k ∷ l) (kept_eac
 -- ---- rows with rowids apart from their keys
 
 -- of an ascending list, two that compare as equal are one
-pub one_of : {X : Type 0} (cmp : X → X → Ordering) (o : IsTotalOrder cmp) (xs : List X) (x y : X) → IsAscending cmp xs → Among x xs → Among y xs → cmp x y ≡ Equal → x ≡ y
+pub one_of : {X : Type 0} (cmp : X → X → Ordering) (o : IsTotalOrder cmp) (xs : List X) (x y : X) → IsAscending cmp xs → Among x xs → Among y xs
+    → cmp x y ≡ Equal → x ≡ y
 one_of cmp o [] x y up a b e = absurd a
 one_of cmp o (z ∷ zs) x y up (inl p) (inl q) e = p ∙ sym q
-one_of cmp o (z ∷ zs) x y up (inl p) (inr b) e = absurd (let low : cmp x y ≡ Less = subst (λ k. cmp k y ≡ Less) (sym p) (after_among cmp z zs y up.0 b) in cc (low, e))
+one_of cmp o (z ∷ zs) x y up (inl p) (inr b) e =
+    absurd (let low : cmp x y ≡ Less = subst (λ k. cmp k y ≡ Less) (sym p) (after_among cmp z zs y up.0 b) in cc (low, e))
 one_of cmp o (z ∷ zs) x y up (inr a) (inl q) e =
-    absurd (let low : cmp y x ≡ Less = subst (λ k. cmp k x ≡ Less) (sym q) (after_among cmp z zs x up.0 a) in let turned = o.antisymm x y ∙ ap ordering_reverse low in cc (turned, e))
+    absurd (let low : cmp y x ≡ Less = subst (λ k. cmp k x ≡ Less) (sym q) (after_among cmp z zs x up.0 a) in
+    let turned = o.antisymm x y ∙ ap ordering_reverse low in cc (turned, e))
 one_of cmp o (z ∷ zs) x y up (inr a) (inr b) e = one_of cmp o zs x y up.1 a b e
 
 module _ {R : Type 0} (order : R → R → Ordering) where
@@ -96,7 +100,8 @@ module _ {X Y : Type 0} (f : X → Y) where
   from_map (x ∷ xs) z (inl e) = (x, inl refl, e)
   from_map (x ∷ xs) z (inr a) = let m = from_map xs z a in (m.0, inr m.1, m.2)
 
-module _ {R : Type 0} (order : R → R → Ordering) (total : IsTotalOrder order) (row : ℤ → R → Row) (read : Row → R) (back : (id : ℤ) (x : R) → read (drop 1 (row id x)) ≡ x) (rows : List Row) (records : List R) (are : AreHeaped order row rows records) where
+module _ {R : Type 0} (order : R → R → Ordering) (total : IsTotalOrder order) (row : ℤ → R → Row) (read : Row → R)
+    (back : (id : ℤ) (x : R) → read (drop 1 (row id x)) ≡ x) (rows : List Row) (records : List R) (are : AreHeaped order row rows records) where
   abbrev of_row : Row → R
   of_row r = read (drop 1 r)
 
@@ -137,7 +142,8 @@ old_in version.Second table.Monitors h = tt
 old_in version.Second table.Events h = tt
 old_in version.Second table.Kept h = tt
 
-abbrev pub with_all : Meta → List GroupRecord → List StationRecord → List AgentRecord → List CallRecord → List ConnectionRecord → List MonitorRecord → List Event → List Kept → Content
+abbrev pub with_all : Meta → List GroupRecord → List StationRecord → List AgentRecord → List CallRecord → List ConnectionRecord → List MonitorRecord
+    → List Event → List Kept → Content
 with_all m groups stations agents calls connections monitors events kept = record {
   rows = record {
     limits = m.limits;
@@ -158,7 +164,8 @@ with_all m groups stations agents calls connections monitors events kept = recor
 }
 
 -- groups and agents that ascend by what the tables have of them ascend
-pub groups_rise : (groups : List GroupRecord) → IsAscending (λ (g h : GroupRow). nat_cmp g.device h.device) (map group_part groups) → IsAscending group_order groups
+pub groups_rise : (groups : List GroupRecord) → IsAscending (λ (g h : GroupRow). nat_cmp g.device h.device) (map group_part groups)
+    → IsAscending group_order groups
 groups_rise [] up = tt
 groups_rise (g ∷ groups) up = (after groups up.0, groups_rise groups up.1)
   where
@@ -166,7 +173,8 @@ groups_rise (g ∷ groups) up = (after groups up.0, groups_rise groups up.1)
     after [] h = tt
     after (x ∷ hs) h = (h.0, after hs h.1)
 
-pub agents_rise : (agents : List AgentRecord) → IsAscending (λ (a b : AgentRow). nat_cmp a.agent b.agent) (map agent_part agents) → IsAscending agent_order agents
+pub agents_rise : (agents : List AgentRecord) → IsAscending (λ (a b : AgentRow). nat_cmp a.agent b.agent) (map agent_part agents)
+    → IsAscending agent_order agents
 agents_rise [] up = tt
 agents_rise (a ∷ agents) up = (after agents up.0, agents_rise agents up.1)
   where
@@ -180,16 +188,23 @@ version_is n m rows e = ap version_in e
 -- the further groups and the priorities
 pairs_back : (v : Version) (db : Trees) (c : Content) → EncodesAs v db c → pairs_in db ≡ further_in c.rows.agents
 pairs_back version.First db c h =
-    ap (λ n. cond (n == 1) [] (in_order pair_order (map (λ row. as_further (drop 1 row)) (db (tree_of table.AgentGroups))))) (version_is 1 (meta_of c.rows) (db (tree_of table.Meta)) (h.tables table.Meta tt)) ∙ sym h.fits.0
+    ap (λ n. cond (n == 1) [] (in_order pair_order (map (λ row. as_further (drop 1 row)) (db (tree_of table.AgentGroups)))))
+    (version_is 1 (meta_of c.rows) (db (tree_of table.Meta)) (h.tables table.Meta tt))
+    ∙ sym h.fits.0
 pairs_back version.Second db c h =
-    ap (λ n. cond (n == 1) [] (in_order pair_order (map (λ row. as_further (drop 1 row)) (db (tree_of table.AgentGroups))))) (version_is 2 (meta_of c.rows) (db (tree_of table.Meta)) (h.tables table.Meta tt))
-    ∙ heap_back pair_order pairs_total further_row as_further (λ id p. further_back p) (db (tree_of table.AgentGroups)) (further_in c.rows.agents) (h.tables table.AgentGroups tt)
+    ap (λ n. cond (n == 1) [] (in_order pair_order (map (λ row. as_further (drop 1 row)) (db (tree_of table.AgentGroups)))))
+    (version_is 2 (meta_of c.rows) (db (tree_of table.Meta)) (h.tables table.Meta tt))
+    ∙ heap_back pair_order pairs_total further_row as_further (λ id p. further_back p) (db (tree_of table.AgentGroups)) (further_in c.rows.agents)
+    (h.tables table.AgentGroups tt)
 
 ranks_back : (v : Version) (db : Trees) (c : Content) → EncodesAs v db c → ranks_in db ≡ priorities_in c.rows.groups
 ranks_back version.First db c h =
-    ap (λ n. cond (n == 1) [] (records_in as_priority (db (tree_of table.GroupPriority)))) (version_is 1 (meta_of c.rows) (db (tree_of table.Meta)) (h.tables table.Meta tt)) ∙ sym h.fits.1
+    ap (λ n. cond (n == 1) [] (records_in as_priority (db (tree_of table.GroupPriority))))
+    (version_is 1 (meta_of c.rows) (db (tree_of table.Meta)) (h.tables table.Meta tt))
+    ∙ sym h.fits.1
 ranks_back version.Second db c h =
-    ap (λ n. cond (n == 1) [] (records_in as_priority (db (tree_of table.GroupPriority)))) (version_is 2 (meta_of c.rows) (db (tree_of table.Meta)) (h.tables table.Meta tt))
+    ap (λ n. cond (n == 1) [] (records_in as_priority (db (tree_of table.GroupPriority))))
+    (version_is 2 (meta_of c.rows) (db (tree_of table.Meta)) (h.tables table.Meta tt))
     ∙ rows_back as_priority priority_row _ (db (tree_of table.GroupPriority)) (priorities_in c.rows.groups) (h.tables table.GroupPriority tt) priority_back
 
 -- the stored content is the one that the tables represent, in either version
@@ -198,13 +213,15 @@ unfolding content_of
 decoded_as v db c h =
     let is : (t : Table) → IsIn version.First t → StoresAs (number_of v) t (db (tree_of t)) (part t (relations_of c)) = λ t old. h.tables t (old_in v t old) in
     let groups =
-    ap (map (joined_group (ranks_in db))) (rows_back as_group group_row _ (db (tree_of table.Groups)) (map group_part c.rows.groups) (is table.Groups tt) group_back)
+    ap (map (joined_group (ranks_in db)))
+    (rows_back as_group group_row _ (db (tree_of table.Groups)) (map group_part c.rows.groups) (is table.Groups tt) group_back)
     ∙ ap (λ ps. map (joined_group ps) (map group_part c.rows.groups)) (ranks_back v db c h)
     ∙ groups_joined c.rows.groups (groups_rise c.rows.groups (is table.Groups tt).ascending)
     in
     let stations = rows_back as_station station_row _ (db (tree_of table.Stations)) c.rows.stations (is table.Stations tt) station_back in
     let agents =
-    ap (map (joined_agent (pairs_in db))) (rows_back as_agent agent_row _ (db (tree_of table.Agents)) (map agent_part c.rows.agents) (is table.Agents tt) agent_back)
+    ap (map (joined_agent (pairs_in db)))
+    (rows_back as_agent agent_row _ (db (tree_of table.Agents)) (map agent_part c.rows.agents) (is table.Agents tt) agent_back)
     ∙ ap (λ ps. map (joined_agent ps) (map agent_part c.rows.agents)) (pairs_back v db c h)
     ∙ agents_joined c.rows.agents (agents_rise c.rows.agents (is table.Agents tt).ascending)
     in

@@ -72,15 +72,23 @@ module _ {R : Type 0} (d : Description R) where
   -- begin
   pub record Selects (base : List MadeTable) (text : List ℕ) : Type 0 where
     pub begins : BeginsSchema base book_schema
-    pub selects : (rest : List MadeTable) (s : Schema) → command_of (understood (with_later base rest s) text) ≡ Select (record { lets = []; body = asking d.layout.tree [] (shown_columns (after_key d)) by_number no_limit }) (names_of d.layout)
+    pub selects : (rest : List MadeTable) (s : Schema)
+        → command_of (understood (with_later base rest s) text) ≡ Select (record {
+          lets = [];
+          body = asking d.layout.tree [] (shown_columns (after_key d)) by_number no_limit;
+        }) (names_of d.layout)
     pub plain : (rest : List MadeTable) (s : Schema) → IsPlain (understood (with_later base rest s) text)
     pub unlisted : (rest : List MadeTable) (s : Schema) → reads_listing (with_later base rest s) text ≡ false
 
   -- a text that changes the columns of the row that has a record's key
   pub record Updates (text : List ℕ) : Type 0 where
-    pub updates : command_of (understood book_schema text) ≡ Update d.place (record { lets = []; body = scan d.layout.tree by_first (columns_given (after_key d)) [] })
+    pub updates : command_of (understood book_schema text) ≡ Update d.place (record {
+      lets = [];
+      body = scan d.layout.tree by_first (columns_given (after_key d)) [];
+    })
     pub plain : IsPlain (understood book_schema text)
-    pub changes : (new r : R) → showing (d.values new) (columns_given (after_key d)) (row_of d r) ≡ id_value (d.key r) ∷ id_value (d.key r) ∷ drop 1 (row_of d new)
+    pub changes : (new r : R)
+        → showing (d.values new) (columns_given (after_key d)) (row_of d r) ≡ id_value (d.key r) ∷ id_value (d.key r) ∷ drop 1 (row_of d new)
 
   -- a text that removes the row that has a key
   pub record Deletes (text : List ℕ) : Type 0 where
@@ -96,19 +104,25 @@ module _ {R : Type 0} (d : Description R) where
     -- its first column is its key
     pub keyed : ◌≡◌ {A = Option ℕ × ℕ} (d.layout.key, length d.layout.columns) (Some 0, suc (after_key d))
     -- its values begin with the key, the text puts its row, and its columns show its values
-    pub of_record : (r : R) → ◌≡◌ {A = Row × List Row × Row}
-        (d.values r, value_rows (d.values r) (after_key d + 2) (length (sources (after_key d)) / (after_key d + 2)) (sources (after_key d)), showing [] (shown_columns (after_key d)) (row_of d r))
+    pub of_record : (r : R) → ◌≡◌ {A = Row × List Row × Row} (
+      d.values r,
+      value_rows (d.values r) (after_key d + 2) (length (sources (after_key d)) / (after_key d + 2)) (sources (after_key d)),
+      showing [] (shown_columns (after_key d)) (row_of d r),
+    )
         (id_value (d.key r) ∷ drop 1 (d.values r), row_of d r ∷ [], d.values r)
     -- the values of any row that are looked at
-    pub of_row : (row : Row) → ◌≡◌ {A = Row × Bool} (showing [] (shown_columns (after_key d)) row, is_good d.table row) (values_in d.table row, is_some (d.in_row row))
+    pub of_row : (row : Row)
+        → ◌≡◌ {A = Row × Bool} (showing [] (shown_columns (after_key d)) row, is_good d.table row) (values_in d.table row, is_some (d.in_row row))
     pub casts : (r : R) → cast_row (table_of d.layout) (row_of d r) ≡ row_of d r
     -- a row whose values are in their ranges is that of the record
     pub stored : (row : Row) (x : R) → d.in_row row ≡ Some x → (row ≡ d.values x) × d.IsRead x
     pub exact : (row : Row) (x y : R) → d.IsRead y → d.in_row row ≡ Some x → row ≡ d.values y → x ≡ y
     -- the relations
     pub held : (c : Relations) (db : Trees) → AreTables db c → AreRows d.key (row_of d) (db d.layout.tree) (d.records c) × Every d.IsRead (d.records c)
-    pub framed : (rs : List R) (rows : List Row) (old new : Trees) (c : Relations) → AreRows d.key (row_of d) rows rs → Every d.IsRead rs → new d.layout.tree ≡ rows
-        → AllByRecursion (λ (u : MadeTable). u.tree ≢ d.layout.tree → new u.tree ≡ old u.tree) book_schema.tables → AreTables old c → AreTables new (d.with_records rs c)
+    pub framed : (rs : List R) (rows : List Row) (old new : Trees) (c : Relations) → AreRows d.key (row_of d) rows rs → Every d.IsRead rs
+        → new d.layout.tree ≡ rows
+        → AllByRecursion (λ (u : MadeTable). u.tree ≢ d.layout.tree → new u.tree ≡ old u.tree) book_schema.tables → AreTables old c
+        → AreTables new (d.with_records rs c)
     pub unchanged : (c : Relations) → d.with_records (d.records c) c ≡ c
     -- the other texts
     pub updates : IfSome d.update Updates
@@ -117,7 +131,11 @@ module _ {R : Type 0} (d : Description R) where
 
   -- a text that shows the first rows above a number, whatever tables come later than the nine
   pub record Pages (text : List ℕ) : Type 0 where
-    pub pages : (rest : List MadeTable) (s : Schema) → command_of (understood (with_later nine rest s) text) ≡ Select (record { lets = []; body = asking d.layout.tree above_parameter (shown_columns (after_key d)) by_number (col 0 1) }) (names_of d.layout)
+    pub pages : (rest : List MadeTable) (s : Schema)
+        → command_of (understood (with_later nine rest s) text) ≡ Select (record {
+          lets = [];
+          body = asking d.layout.tree above_parameter (shown_columns (after_key d)) by_number (col 0 1);
+        }) (names_of d.layout)
     pub plain : (rest : List MadeTable) (s : Schema) → IsPlain (understood (with_later nine rest s) text)
     pub unlisted : (rest : List MadeTable) (s : Schema) → reads_listing (with_later nine rest s) text ≡ false
 
@@ -130,15 +148,18 @@ numbers_tied : (m n : ℕ) (row given : Row) → list_all (holds ((id_value n �
 unfolding binary
 numbers_tied m n row given = by_id m n
 
-finds_at : (m n : ℕ) (row given : Row) → row ≡ id_value m ∷ drop 1 row → given ≡ id_value n ∷ drop 1 given → list_all (holds (given ∷ row ∷ [])) by_first ≡ (m == n)
+finds_at : (m n : ℕ) (row given : Row) → row ≡ id_value m ∷ drop 1 row → given ≡ id_value n ∷ drop 1 given
+    → list_all (holds (given ∷ row ∷ [])) by_first ≡ (m == n)
 finds_at m n row given r g = subst₂ (λ a b. list_all (holds (a ∷ b ∷ [])) by_first ≡ (m == n)) (sym g) (sym r) (numbers_tied m n (drop 1 row) (drop 1 given))
 
 above_number : (n k limit : ℕ) (row : Row) → list_all (holds ((id_value n ∷ id_value limit ∷ []) ∷ (id_value k ∷ row) ∷ [])) above_parameter ≡ nat_lt n k
 unfolding binary
 above_number n k limit row = truth_back _ ∙ above n k
 
-is_above : (n k : ℕ) (row : Row) (limit : ℕ) → row ≡ id_value k ∷ drop 1 row → list_all (holds ((id_value n ∷ id_value limit ∷ []) ∷ row ∷ [])) above_parameter ≡ nat_lt n k
-is_above n k row limit h = subst (λ r. list_all (holds ((id_value n ∷ id_value limit ∷ []) ∷ r ∷ [])) above_parameter ≡ nat_lt n k) (sym h) (above_number n k limit (drop 1 row))
+is_above : (n k : ℕ) (row : Row) (limit : ℕ) → row ≡ id_value k ∷ drop 1 row
+    → list_all (holds ((id_value n ∷ id_value limit ∷ []) ∷ row ∷ [])) above_parameter ≡ nat_lt n k
+is_above n k row limit h =
+    subst (λ r. list_all (holds ((id_value n ∷ id_value limit ∷ []) ∷ r ∷ [])) above_parameter ≡ nat_lt n k) (sym h) (above_number n k limit (drop 1 row))
 
 -- the columns shown of a row don't depend on the parameters
 blind : (params row : Row) (start more : ℕ) → showing params (columns start more) row ≡ showing [] (columns start more) row
@@ -169,7 +190,8 @@ module _ {R : Type 0} (d : Description R) (f : Described d) where
   files : Files d.layout d.key (row_of d)
   files = record { headed = headed; casts = f.casts }
 
-  holds_replaced : (rs : List R) (rows : List Row) (old new : State) (c : Relations) → AreRows d.key (row_of d) rows rs → Every d.IsRead rs → Replaces book_schema d.layout.tree rows old new → HoldsUncommitted old c
+  holds_replaced : (rs : List R) (rows : List Row) (old new : State) (c : Relations) → AreRows d.key (row_of d) rows rs → Every d.IsRead rs
+      → Replaces book_schema d.layout.tree rows old new → HoldsUncommitted old c
       → HoldsUncommitted new (d.with_records rs c)
   holds_replaced rs rows old new c are read made uncommitted = record {
     inside = made.mode ∙ uncommitted.inside;
@@ -196,14 +218,19 @@ module _ {R : Type 0} (d : Description R) (f : Described d) where
   every_read : (r : R) (c : Relations) (db : Trees) → AreTables db c → d.IsRead r → Every d.IsRead (put_by (by_key d.key r) (d.records c) r)
   every_read r c db encodes reads = every-put (by_key d.key r) d.IsRead r reads (d.records c) (f.held c db encodes).1
 
-  pub inserted_in : (r : R) → d.IsRead r → (c : Relations) (old new : State) (count : ℕ) → HoldsUncommitted old c → Executes d.insert (d.values r) old new (Ok count)
+  pub inserted_in : (r : R) → d.IsRead r → (c : Relations) (old new : State) (count : ℕ) → HoldsUncommitted old c
+      → Executes d.insert (d.values r) old new (Ok count)
       → HoldsUncommitted new (d.with_records (put_by (by_key d.key r) (d.records c) r) c)
   inserted_in r reads c old new count uncommitted ran =
-      let made = inserted_row book_schema d.insert d.key (row_of d) d.values puts r (d.records c) old new count uncommitted.schema (f.held c old.now.trees uncommitted.tables).0 ran in
+      let made =
+      inserted_row book_schema d.insert d.key (row_of d) d.values puts r (d.records c) old new count uncommitted.schema
+      (f.held c old.now.trees uncommitted.tables).0 ran in
       holds_replaced _ _ old new c made.are_rows (every_read r c old.now.trees uncommitted.tables reads) made.replaces uncommitted
 
   held_by : (old : State) (c : Content) → HoldsContent old c → AreRows d.key (row_of d) (old.now.trees d.layout.tree) (d.records (relations_of c))
-  held_by old c held = subst (λ (b : Database). AreRows d.key (row_of d) (b.trees d.layout.tree) (d.records (relations_of c))) (sym held.idle) (f.held (relations_of c) old.committed.trees held.encodes).0
+  held_by old c held =
+      subst (λ (b : Database). AreRows d.key (row_of d) (b.trees d.layout.tree) (d.records (relations_of c))) (sym held.idle)
+      (f.held (relations_of c) old.committed.trees held.encodes).0
 
   pub good : (row : Row) → is_good d.table row ≡ is_some (d.in_row row)
   good row = ap (λ (t : Row × Bool). t.1) (f.of_row row)
@@ -212,14 +239,26 @@ module _ {R : Type 0} (d : Description R) (f : Described d) where
 
   module _ (base : List MadeTable) (text : List ℕ) (s : Selects d base text) where
     abbrev pub listing : Listing base text
-    listing = record { tree = d.layout.tree; terms = []; project = shown_columns (after_key d); order = by_number; limit = no_limit; names = names_of d.layout; command = s.selects; plain = s.plain; unlisted = s.unlisted }
+    listing = record {
+      tree = d.layout.tree;
+      terms = [];
+      project = shown_columns (after_key d);
+      order = by_number;
+      limit = no_limit;
+      names = names_of d.layout;
+      command = s.selects;
+      plain = s.plain;
+      unlisted = s.unlisted;
+    }
 
     lists : Lists text listing d.key (row_of d) d.values [] (λ r. true)
     lists = record { keyed = λ r. ap rowid (headed r); ranks = λ a b. refl; tests = λ r. refl; shows = shows_values }
 
-    pub shows_all : (old new : State) (rows : List Row) (c : Content) → HoldsContent old c → Shown text [] old new rows → rows ≡ map d.values (d.records (relations_of c))
+    pub shows_all : (old new : State) (rows : List Row) (c : Content) → HoldsContent old c → Shown text [] old new rows
+        → rows ≡ map d.values (d.records (relations_of c))
     shows_all old new rows c held h =
-        listed text listing d.key (row_of d) d.values [] (λ r. true) lists old new rows (d.records (relations_of c)) (subst (BeginsSchema base) (sym (schema_is old c held)) s.begins) (held_by old c held) h
+        listed text listing d.key (row_of d) d.values [] (λ r. true) lists old new rows (d.records (relations_of c))
+        (subst (BeginsSchema base) (sym (schema_is old c held)) s.begins) (held_by old c held) h
         ∙ ap (map d.values) (filter_true (d.records (relations_of c)))
 
     pub asks : AsksAll d.table base text listing
@@ -232,7 +271,17 @@ module _ {R : Type 0} (d : Description R) (f : Described d) where
     given_page = id_value number ∷ id_value limit ∷ []
 
     abbrev pub paging : Listing nine text
-    paging = record { tree = d.layout.tree; terms = above_parameter; project = shown_columns (after_key d); order = by_number; limit = col 0 1; names = names_of d.layout; command = p.pages; plain = p.plain; unlisted = p.unlisted }
+    paging = record {
+      tree = d.layout.tree;
+      terms = above_parameter;
+      project = shown_columns (after_key d);
+      order = by_number;
+      limit = col 0 1;
+      names = names_of d.layout;
+      command = p.pages;
+      plain = p.plain;
+      unlisted = p.unlisted;
+    }
 
     pages_lists : Lists text paging d.key (row_of d) d.values given_page (λ x. nat_lt number (d.key x))
     pages_lists = record {
@@ -242,9 +291,11 @@ module _ {R : Type 0} (d : Description R) (f : Described d) where
       shows = λ r. ap (λ l. column (row_of d r) 0 ∷ l) (blind given_page (row_of d r) 2 (after_key d)) ∙ shows_values r;
     }
 
-    pub shows_page : (old new : State) (rows : List Row) (c : Content) → HoldsContent old c → Shown text given_page old new rows → rows ≡ map d.values (take limit (filter (λ x. nat_lt number (d.key x)) (d.records (relations_of c))))
+    pub shows_page : (old new : State) (rows : List Row) (c : Content) → HoldsContent old c → Shown text given_page old new rows
+        → rows ≡ map d.values (take limit (filter (λ x. nat_lt number (d.key x)) (d.records (relations_of c))))
     shows_page old new rows c held h =
-        listed text paging d.key (row_of d) d.values given_page (λ x. nat_lt number (d.key x)) pages_lists old new rows (d.records (relations_of c)) (held_begins old c held) (held_by old c held) h
+        listed text paging d.key (row_of d) d.values given_page (λ x. nat_lt number (d.key x)) pages_lists old new rows (d.records (relations_of c))
+        (held_begins old c held) (held_by old c held) h
         ∙ take-map d.values limit (filter (λ x. nat_lt number (d.key x)) (d.records (relations_of c)))
 
   -- ---- the statement that changes a row
@@ -271,26 +322,34 @@ module _ {R : Type 0} (d : Description R) (f : Described d) where
     }
 
     -- of a record that has a row
-    pub updated_in : (r : R) → d.IsRead r → (c : Relations) (old new : State) (count : ℕ) → HoldsUncommitted old c → Executes text (d.values r) old new (Ok count) → (count ≡ 0 → ⊥)
+    pub updated_in : (r : R) → d.IsRead r → (c : Relations) (old new : State) (count : ℕ) → HoldsUncommitted old c
+        → Executes text (d.values r) old new (Ok count) → (count ≡ 0 → ⊥)
         → HoldsUncommitted new (d.with_records (put_by (by_key d.key r) (d.records c) r) c)
     unfolding sets
     updated_in r reads c old new count uncommitted ran some =
-        let made = set_row book_schema text d.key (row_of d) d.values sets r (d.records c) old new count uncommitted.schema (f.held c old.now.trees uncommitted.tables).0 ran some in
+        let made =
+        set_row book_schema text d.key (row_of d) d.values sets r (d.records c) old new count uncommitted.schema
+        (f.held c old.now.trees uncommitted.tables).0 ran some in
         holds_replaced _ _ old new c made.are_rows (every_read r c old.now.trees uncommitted.tables reads) made.replaces uncommitted
 
     -- where none was changed, no record has the key
-    pub none_in : (r : R) (c : Relations) (old new : State) (count : ℕ) → HoldsUncommitted old c → Executes text (d.values r) old new (Ok count) → count ≡ 0 → filter (λ y. d.key y == d.key r) (d.records c) ≡ []
+    pub none_in : (r : R) (c : Relations) (old new : State) (count : ℕ) → HoldsUncommitted old c → Executes text (d.values r) old new (Ok count) → count ≡ 0
+        → filter (λ y. d.key y == d.key r) (d.records c) ≡ []
     unfolding sets
     none_in r c old new count uncommitted ran missed =
-        none_has_key book_schema text d.key (row_of d) d.values sets r (d.records c) old new count uncommitted.schema (f.held c old.now.trees uncommitted.tables).0 ran missed
+        none_has_key book_schema text d.key (row_of d) d.values sets r (d.records c) old new count uncommitted.schema
+        (f.held c old.now.trees uncommitted.tables).0 ran missed
 
     -- of a record that has none
-    pub put_in : (r : R) → d.IsRead r → (c : Relations) (old mid new : State) (none count : ℕ) → HoldsUncommitted old c → Executes text (d.values r) old mid (Ok none) → none ≡ 0 → Executes d.insert (d.values r) mid new (Ok count)
+    pub put_in : (r : R) → d.IsRead r → (c : Relations) (old mid new : State) (none count : ℕ) → HoldsUncommitted old c
+        → Executes text (d.values r) old mid (Ok none) → none ≡ 0 → Executes d.insert (d.values r) mid new (Ok count)
         → HoldsUncommitted new (d.with_records (put_by (by_key d.key r) (d.records c) r) c)
     put_in r reads c old mid new none count uncommitted tried missed ran =
         let still = set_none book_schema text updating (d.values r) old mid none uncommitted.schema tried missed in
         let old_rows = f.held c old.now.trees uncommitted.tables in
-        let between = subst (HoldsUncommitted mid) (f.unchanged c) (holds_replaced (d.records c) (old.now.trees d.layout.tree) old mid c old_rows.0 old_rows.1 still uncommitted) in
+        let between =
+        subst (HoldsUncommitted mid) (f.unchanged c)
+        (holds_replaced (d.records c) (old.now.trees d.layout.tree) old mid c old_rows.0 old_rows.1 still uncommitted) in
         inserted_in r reads c mid new count between ran
 
   -- ---- the statement that takes a row out
@@ -298,7 +357,15 @@ module _ {R : Type 0} (d : Description R) (f : Described d) where
   module _ (text : List ℕ) (t : Deletes d text) where
     removes : Removes book_schema text d.key (row_of d)
     removes = record {
-      it = record { at = d.place; layout = d.layout; terms = by_first; place = place_is; command = t.deletes; plain = t.plain; inert = inert_works book_schema inert d.layout.tree };
+      it = record {
+        at = d.place;
+        layout = d.layout;
+        terms = by_first;
+        place = place_is;
+        command = t.deletes;
+        plain = t.plain;
+        inert = inert_works book_schema inert d.layout.tree;
+      };
       files = files;
       finds = λ r n. finds_at (d.key r) n (row_of d r) (id_value n ∷ []) (headed r) refl;
     }

@@ -41,7 +41,9 @@ at_table P all table.GroupPriority = all.1.1.1.1.1.1.1.1.1.1.0
 
 -- each table has a separate tree
 tables : List Table
-tables = table.Meta ∷ table.Groups ∷ table.Stations ∷ table.Agents ∷ table.Agents ∷ table.Calls ∷ table.Connections ∷ table.Connections ∷ table.Monitors ∷ table.Events ∷ table.Kept ∷ table.Kept
+tables =
+    table.Meta ∷ table.Groups ∷ table.Stations ∷ table.Agents ∷ table.Agents ∷ table.Calls ∷ table.Connections ∷ table.Connections ∷ table.Monitors
+    ∷ table.Events ∷ table.Kept ∷ table.Kept
     ∷ table.AgentGroups ∷ table.AgentGroups ∷ table.GroupPriority ∷ []
 
 table_back : (t : Table) → slice_index_or tables (tree_of t) table.Meta ≡ t
@@ -96,10 +98,12 @@ framed t x rows old new r stores is others was u = elim (cases_Bool (tree_of u =
       subst (λ v. Stores v (new (tree_of v)) (part v (with_part t x r))) (one_table t u (same_number (tree_of u) (tree_of t) same))
       (subst₂ (Stores t) (sym is) (sym (part_put t x r)) stores)
   | inr other ↦
-      subst₂ (Stores u) (sym (at_table (λ n. n ≢ tree_of t → new n ≡ old n) others u (apart (tree_of u) (tree_of t) other))) (sym (part_kept t u x r other)) (was u)
+      subst₂ (Stores u) (sym (at_table (λ n. n ≢ tree_of t → new n ≡ old n) others u (apart (tree_of u) (tree_of t) other))) (sym (part_kept t u x r other))
+      (was u)
 ]
 
-pub holds_replaced : (t : Table) (x : TableContent t) (rows : List Row) (old new : State) (r : Relations) → Stores t rows x → Replaces book_schema (tree_of t) rows old new → HoldsUncommitted old r → HoldsUncommitted new (with_part t x r)
+pub holds_replaced : (t : Table) (x : TableContent t) (rows : List Row) (old new : State) (r : Relations) → Stores t rows x
+    → Replaces book_schema (tree_of t) rows old new → HoldsUncommitted old r → HoldsUncommitted new (with_part t x r)
 holds_replaced t x rows old new r stores made d = record {
   inside = made.mode ∙ d.inside;
   schema = made.schema_is;
@@ -118,7 +122,8 @@ none_heaped order row rows e = record {
   ascending = tt;
 }
 
-stores_none : (t : Table) (rows : List Row) (limits : Limits) → (tree_of t == tree_of table.Meta) ≡ false → rows ≡ [] → Stores t rows (part t (relations_of (empty_content limits)))
+stores_none : (t : Table) (rows : List Row) (limits : Limits) → (tree_of t == tree_of table.Meta) ≡ false → rows ≡ []
+    → Stores t rows (part t (relations_of (empty_content limits)))
 stores_none table.Meta rows limits other e = absurd (apart_from other)
 stores_none table.Groups rows limits other e = record { rows_are = e; ascending = tt }
 stores_none table.Stations rows limits other e = record { rows_are = e; ascending = tt }
@@ -140,5 +145,6 @@ only_meta m old new empty is others u = elim (cases_Bool (tree_of u == tree_of t
   | inl same ↦ subst (λ v. Stores v (new (tree_of v)) (part v (begun m))) (one_table table.Meta u (same_number (tree_of u) (tree_of table.Meta) same)) is
   | inr other ↦
       let kept = at_table (λ n. n ≢ tree_of table.Meta → new n ≡ old n) others u (apart (tree_of u) (tree_of table.Meta) other) in
-      subst (Stores u (new (tree_of u))) (sym (part_kept table.Meta u m (relations_of (empty_content m.limits)) other)) (stores_none u (new (tree_of u)) m.limits other (kept ∙ at_table (λ n. old n ≡ []) empty u))
+      subst (Stores u (new (tree_of u))) (sym (part_kept table.Meta u m (relations_of (empty_content m.limits)) other))
+      (stores_none u (new (tree_of u)) m.limits other (kept ∙ at_table (λ n. old n ≡ []) empty u))
 ]

@@ -65,7 +65,9 @@ ranked g device priority = by (g.priority == 0) refl
   where
     by : (b : Bool) → (g.priority == 0) ≡ b → are_good table.GroupPriority (map priority_values (cond b [] (priority_part g ∷ []))) ≡ true
     by true none = refl
-    by false some = and_from (is_good table.GroupPriority (priority_values (priority_part g))) true (ap is_some (read_again priority_fields priority_made (priority_part g) refl (device, (not_none g.priority priority some, tt)))) refl
+    by false some =
+        and_from (is_good table.GroupPriority (priority_values (priority_part g))) true
+        (ap is_some (read_again priority_fields priority_made (priority_part g) refl (device, (not_none g.priority priority some, tt)))) refl
 
 pub group_good : (g : GroupRecord) → AllIn group_fields (group_part g) → IsPriority g.priority → IsGoodGroup g
 group_good g all priority = (ap is_some (read_again group_fields group_made (group_part g) refl all), ranked g all.0 priority)
@@ -80,14 +82,16 @@ further_in_each : (P : ℕ → Type 0) (gs : List ℕ) → Every P gs → Every 
 further_in_each P [] h = tt
 further_in_each P (g ∷ gs) h = h.1
 
-pairs_good : (agent : ℕ) (gs : List ℕ) → IsAgent agent → Every IsDevice gs → are_good table.AgentGroups (map further_values (map (λ (g : ℕ). (agent, g)) gs)) ≡ true
+pairs_good : (agent : ℕ) (gs : List ℕ) → IsAgent agent → Every IsDevice gs
+    → are_good table.AgentGroups (map further_values (map (λ (g : ℕ). (agent, g)) gs)) ≡ true
 unfolding are_good
 pairs_good agent [] is each = refl
 pairs_good agent (g ∷ gs) is each =
     and_from (is_good table.AgentGroups (further_values (agent, g))) (are_good table.AgentGroups (map further_values (map (λ (g : ℕ). (agent, g)) gs)))
     (ap is_some (read_again further_fields further_made (agent, g) refl (is, (each.0, tt)))) (pairs_good agent gs is each.1)
 
-pub agent_good : (a : AgentRecord) → AllIn agent_fields (agent_part a) → Every IsDevice a.groups → length a.groups ≤ 8 → ascends nat_cmp a.groups ≡ true → IsGoodAgent a
+pub agent_good : (a : AgentRecord) → AllIn agent_fields (agent_part a) → Every IsDevice a.groups → length a.groups ≤ 8 → ascends nat_cmp a.groups ≡ true
+    → IsGoodAgent a
 agent_good a all groups few ascending = (
   ap is_some (read_again agent_fields agent_made (agent_part a) refl all),
   pairs_good a.agent (further_groups a.groups) all.0 (further_in_each IsDevice a.groups groups),
@@ -111,7 +115,8 @@ moment_kept k h = number_again 0 4294967295 k.moment (omega arith, omega (arith,
 request_kept : (k : Kept) → reads_as (request_text k.request) ≡ Ok k.request → request_at (kept_values k) ≡ Some k.request
 unfolding request_at
 request_kept k h =
-    let again : request_of_text (request_text k.request) ≡ Some k.request = sym (text_again (request_text k.request) k.request h ((bytes_eq-Decides (request_text k.request) (request_text k.request)).1 refl)) in
+    let again : request_of_text (request_text k.request) ≡ Some k.request =
+    sym (text_again (request_text k.request) k.request h ((bytes_eq-Decides (request_text k.request) (request_text k.request)).1 refl)) in
     rw (again, (bytes_eq-Decides k.request.requester k.request.requester).1 refl, eq-eqb k.request.invoke k.request.invoke refl) refl
 
 status_kept : (k : Kept) → IsStatus k.status → status_at (kept_values k) 5 ≡ Some k.status
@@ -123,6 +128,8 @@ body_kept : (k : Kept) → IsUtf8 k.body → body_at (kept_values k) 6 ≡ Some 
 unfolding body_at
 body_kept k h = ap (λ b. cond b (Some k.body) None) (is_utf8-from_IsUtf8 k.body h)
 
-pub kept_good : (k : Kept) → IsStamp k.stamp → IsStatus k.status → k.moment < 2 ^ 32 → reads_as (request_text k.request) ≡ Ok k.request → IsUtf8 k.body → IsGoodKept k
+pub kept_good : (k : Kept) → IsStamp k.stamp → IsStatus k.status → k.moment < 2 ^ 32 → reads_as (request_text k.request) ≡ Ok k.request → IsUtf8 k.body
+    → IsGoodKept k
 unfolding kept_in
-kept_good k stamp status moment readable body = rw (stamp_kept k stamp, moment_kept k moment, request_kept k readable, status_kept k status, body_kept k body) refl
+kept_good k stamp status moment readable body =
+    rw (stamp_kept k stamp, moment_kept k moment, request_kept k readable, status_kept k status, body_kept k body) refl

@@ -119,23 +119,31 @@ module _ {R : Type 0} (h : Heap R) where
     -- its columns show its values, whatever its number
     pub shows : (id : ℤ) (r : R) → showing [] (shown_columns (after_both h)) (numbered_row h id r) ≡ h.values r
     -- the values of any row that are looked at
-    pub of_row : (row : Row) → ◌≡◌ {A = Row × Bool} (showing [] (shown_columns (after_both h)) row, is_good h.table row) (values_in h.table row, is_some (h.in_row row))
+    pub of_row : (row : Row)
+        → ◌≡◌ {A = Row × Bool} (showing [] (shown_columns (after_both h)) row, is_good h.table row) (values_in h.table row, is_some (h.in_row row))
     pub casts : (r : R) → cast_all h.layout.columns (h.values r) ≡ h.values r
     -- a row whose values are in their ranges is that of the record
     pub stored : (row : Row) (r : R) → h.in_row row ≡ Some r → row ≡ h.values r
     -- in each version that has it no two rows have one key
-    pub alone : (v : Version) → IsIn v h.table → (db : Trees) → Keeps Unique (schema_of v) db → AllByRecursion (λ row. (not (has_twin (db h.layout.tree) row) && true) ≡ true) (db h.layout.tree)
+    pub alone : (v : Version) → IsIn v h.table → (db : Trees) → Keeps Unique (schema_of v) db
+        → AllByRecursion (λ row. (not (has_twin (db h.layout.tree) row) && true) ≡ true) (db h.layout.tree)
     -- the relations
     pub held : (c : Relations) (db : Trees) → AreTables db c → AreHeaped (by_both h) (numbered_row h) (db h.layout.tree) (h.records c)
     pub framed : (rs : List R) (rows : List Row) (old new : Trees) (c : Relations) → AreHeaped (by_both h) (numbered_row h) rows rs → new h.layout.tree ≡ rows
-        → AllByRecursion (λ (u : MadeTable). u.tree ≢ h.layout.tree → new u.tree ≡ old u.tree) book_schema.tables → AreTables old c → AreTables new (h.with_records rs c)
+        → AllByRecursion (λ (u : MadeTable). u.tree ≢ h.layout.tree → new u.tree ≡ old u.tree) book_schema.tables → AreTables old c
+        → AreTables new (h.with_records rs c)
     pub unchanged : (c : Relations) → h.with_records (h.records c) c ≡ c
 
   -- a text that changes the columns of the row that has a record's key
   pub record UpdatesOne (text : List ℕ) : Type 0 where
-    pub updates : command_of (understood book_schema text) ≡ Update h.place (record { lets = []; body = scan h.layout.tree by_two (columns_given (after_both h)) [] })
+    pub updates : command_of (understood book_schema text) ≡ Update h.place (record {
+      lets = [];
+      body = scan h.layout.tree by_two (columns_given (after_both h)) [];
+    })
     pub plain : IsPlain (understood book_schema text)
-    pub changes : (id : ℤ) (new r : R) → showing (h.values new) (columns_given (after_both h)) (numbered_row h id r) ≡ Int id ∷ Int id ∷ id_value (h.first r) ∷ id_value (h.second r) ∷ drop 2 (h.values new)
+    pub changes : (id : ℤ) (new r : R)
+        → showing (h.values new) (columns_given (after_both h)) (numbered_row h id r)
+        ≡ Int id ∷ Int id ∷ id_value (h.first r) ∷ id_value (h.second r) ∷ drop 2 (h.values new)
 
   -- a text that removes the rows that pass these tests
   pub record DeletesThose (text : List ℕ) (terms : List Term) : Type 0 where
@@ -144,7 +152,11 @@ module _ {R : Type 0} (h : Heap R) where
 
   -- a text that shows all rows in the order of their keys, whatever tables come later than these
   pub record SelectsAll (base : List MadeTable) (text : List ℕ) : Type 0 where
-    pub selects : (rest : List MadeTable) (s : Schema) → command_of (understood (with_later base rest s) text) ≡ Select (record { lets = []; body = asking h.layout.tree [] (shown_columns (after_both h)) by_columns no_limit }) (names_of h.layout)
+    pub selects : (rest : List MadeTable) (s : Schema)
+        → command_of (understood (with_later base rest s) text) ≡ Select (record {
+          lets = [];
+          body = asking h.layout.tree [] (shown_columns (after_both h)) by_columns no_limit;
+        }) (names_of h.layout)
     pub plain : (rest : List MadeTable) (s : Schema) → IsPlain (understood (with_later base rest s) text)
     pub unlisted : (rest : List MadeTable) (s : Schema) → reads_listing (with_later base rest s) text ≡ false
 
@@ -153,7 +165,8 @@ module _ {R : Type 0} (h : Heap R) where
 both_ids : (m n p q : ℕ) → (is_eq (value_cmp (id_value m) (id_value p)) && is_eq (value_cmp (id_value n) (id_value q))) ≡ ((m == p) && (n == q))
 both_ids m n p q = ap₂ ◌&&◌ (id_tied m p) (id_tied n q)
 
-two_tests : (m n : ℕ) (given : Row) (id : ℤ) (p q : ℕ) (row : Row) → list_all (holds ((id_value m ∷ id_value n ∷ given) ∷ (Int id ∷ id_value p ∷ id_value q ∷ row) ∷ [])) by_two ≡ ((p == m) && (q == n))
+two_tests : (m n : ℕ) (given : Row) (id : ℤ) (p q : ℕ) (row : Row)
+    → list_all (holds ((id_value m ∷ id_value n ∷ given) ∷ (Int id ∷ id_value p ∷ id_value q ∷ row) ∷ [])) by_two ≡ ((p == m) && (q == n))
 unfolding binary
 two_tests m n given id p q row = two (is_eq (value_cmp (id_value p) (id_value m))) (is_eq (value_cmp (id_value q) (id_value n))) ∙ both_ids p q m n
 
@@ -161,7 +174,8 @@ one_test : (m : ℕ) (id : ℤ) (p : ℕ) (row : Row) → list_all (holds ((id_v
 unfolding binary
 one_test m id p row = truth_back (is_eq (value_cmp (id_value p) (id_value m))) ∙ id_tied p m
 
-keys_agree : (id given_id : ℤ) (m n p q : ℕ) (row given : Row) → agree plain key_columns (Int id ∷ id_value p ∷ id_value q ∷ row) key_columns (Int given_id ∷ id_value m ∷ id_value n ∷ given) ≡ ((p == m) && (q == n))
+keys_agree : (id given_id : ℤ) (m n p q : ℕ) (row given : Row)
+    → agree plain key_columns (Int id ∷ id_value p ∷ id_value q ∷ row) key_columns (Int given_id ∷ id_value m ∷ id_value n ∷ given) ≡ ((p == m) && (q == n))
 unfolding binary first_key value_cmp
 keys_agree id given_id m n p q row given = two (is_eq (value_cmp (id_value p) (id_value m))) (is_eq (value_cmp (id_value q) (id_value n))) ∙ both_ids p q m n
 
@@ -183,10 +197,12 @@ unfolding unary
 cast_whole id = either _ (Int id)
 
 -- where rows were shown, one passes
-some_passes : (passes : Row → Bool) (shows : Row → Row) (rows left found : List Row) (count : ℕ) → filter passes rows ≡ left → IsPermutation (map shows left) found → count ≡ length found → (count ≡ 0 → ⊥)
+some_passes : (passes : Row → Bool) (shows : Row → Row) (rows left found : List Row) (count : ℕ) → filter passes rows ≡ left
+    → IsPermutation (map shows left) found → count ≡ length found → (count ≡ 0 → ⊥)
     → (row : Row) × Has rows row × (passes row ≡ true)
 some_passes passes shows rows [] found count is same counted some = absurd (some (counted ∙ length_permutation [] found same))
-some_passes passes shows rows (row ∷ more) found count is same counted some = let met = has_filtered passes rows row (subst (λ l. Has l row) (sym is) (inl refl)) in (row, met.0, met.1)
+some_passes passes shows rows (row ∷ more) found count is same counted some =
+    let met = has_filtered passes rows row (subst (λ l. Has l row) (sym is) (inl refl)) in (row, met.0, met.1)
 
 -- ---- what follows for the table
 
@@ -206,7 +222,8 @@ module _ {R : Type 0} (h : Heap R) (f : Heaped h) where
   casts : (v : Value) (r : R) → cast Integer v ≡ v → cast_row (table_of h.layout) (v ∷ h.values r) ≡ v ∷ h.values r
   casts v r e = beside _ _ _ _ e (f.casts r)
 
-  holds_replaced : (rs : List R) (rows : List Row) (old new : State) (c : Relations) → AreRowsOf rows rs → Replaces book_schema h.layout.tree rows old new → HoldsUncommitted old c → HoldsUncommitted new (h.with_records rs c)
+  holds_replaced : (rs : List R) (rows : List Row) (old new : State) (c : Relations) → AreRowsOf rows rs → Replaces book_schema h.layout.tree rows old new
+      → HoldsUncommitted old c → HoldsUncommitted new (h.with_records rs c)
   holds_replaced rs rows old new c are made uncommitted = record {
     inside = made.mode ∙ uncommitted.inside;
     schema = made.schema_is;
@@ -217,7 +234,16 @@ module _ {R : Type 0} (h : Heap R) (f : Heaped h) where
   -- ---- INSERT
 
   abbrev insertion : Insertion book_schema h.insert
-  insertion = record { at = h.place; layout = h.layout; terms = sources (after_both h); width = after_both h + 3; place = place_is; command = ap (λ (t : Option MadeTable × ℕ × Command). t.2) f.computes; plain = f.plain; inert = inert_works book_schema inert h.layout.tree }
+  insertion = record {
+    at = h.place;
+    layout = h.layout;
+    terms = sources (after_both h);
+    width = after_both h + 3;
+    place = place_is;
+    command = ap (λ (t : Option MadeTable × ℕ × Command). t.2) f.computes;
+    plain = f.plain;
+    inert = inert_works book_schema inert h.layout.tree;
+  }
 
   pub agreed : (id given : ℤ) (r x : R) → agree plain key_columns (numbered_row h id x) key_columns (numbered_row h given r) ≡ is_like h r x
   agreed id given r x =
@@ -225,7 +251,8 @@ module _ {R : Type 0} (h : Heap R) (f : Heaped h) where
       (keys_agree id given (h.first r) (h.second r) (h.first x) (h.second x) (drop 2 (h.values x)) (drop 2 (h.values r)))
 
   -- where a row could be put, no record had its key before
-  none_like : (rows : List Row) (records : List R) (are : AreRowsOf rows records) (id : ℤ) (r : R) (next : List Row) → are_fresh rows (numbered_row h id r ∷ []) ≡ true → next ≡ put_all rows (numbered_row h id r ∷ [])
+  none_like : (rows : List Row) (records : List R) (are : AreRowsOf rows records) (id : ℤ) (r : R) (next : List Row)
+      → are_fresh rows (numbered_row h id r ∷ []) ≡ true → next ≡ put_all rows (numbered_row h id r ∷ [])
       → AllByRecursion (λ row. (not (has_twin next row) && true) ≡ true) next → (x : R) → Among x records → is_like h r x ≡ false
   none_like rows records are id r next unused is alone x a = false_from_ne_true (is_like h r x) (λ met.
       let given = numbered_row h id r in
@@ -234,46 +261,67 @@ module _ {R : Type 0} (h : Heap R) (f : Heaped h) where
       let free : list_any (λ s. is_eq (value_cmp (rowid s) (rowid given))) rows ≡ false = not-true _ (and_parts _ true unused).0 in
       let other : is_eq (value_cmp (Int at.0) (Int id)) ≡ false =
       false_from_ne_true _ (λ tied. let taken = some_from (λ s. is_eq (value_cmp (rowid s) (rowid given))) rows row at.1 tied in cc (free, taken)) in
-      let hit = some_from (λ s. agree plain key_columns s key_columns given && differ (rowid s) (rowid given)) next row (subst (λ l. Has l row) (sym is) (put_all_keeps (given ∷ []) rows row unused at.1))
+      let hit =
+      some_from (λ s. agree plain key_columns s key_columns given && differ (rowid s) (rowid given)) next row
+      (subst (λ l. Has l row) (sym is) (put_all_keeps (given ∷ []) rows row unused at.1))
       (and_from _ _ (agreed at.0 id r x ∙ met) (differs id at.0 other)) in
       let none = no_twin next alone given (subst (λ l. Has l given) (sym is) (put_all_adds (given ∷ []) rows given unused (inl refl))) in
       cc (hit, none))
 
-  pub inserted_in : IsIn version.Second h.table → (r : R) (c : Relations) (old new : State) (count : ℕ) → HoldsUncommitted old c → Executes h.insert (h.values r) old new (Ok count)
+  pub inserted_in : IsIn version.Second h.table → (r : R) (c : Relations) (old new : State) (count : ℕ) → HoldsUncommitted old c
+      → Executes h.insert (h.values r) old new (Ok count)
       → HoldsUncommitted new (h.with_records (put_by (by_both h r) (h.records c) r) c)
   inserted_in there r c old new count uncommitted ran =
       let db = old.now.trees in
       let rows = db h.layout.tree in
       let id = next_rowid rows in
       let source = ap (λ (t : Row × List Row). t.1) (f.of_record r) in
-      let made = subst (λ l. Changed book_schema old new (edit_of db (table_of h.layout) [] Chosen 0 l)) source (inserted book_schema h.insert insertion (h.values r) old new count uncommitted.schema ran) in
+      let made =
+      subst (λ l. Changed book_schema old new (edit_of db (table_of h.layout) [] Chosen 0 l)) source
+      (inserted book_schema h.insert insertion (h.values r) old new count uncommitted.schema ran) in
       let given = ap (with_rowid Chosen rows) (casts Null r cast_null) in
       let unused = subst (λ k. are_fresh rows (k ∷ []) ≡ true) given made.applies.fresh in
       let put = ap (λ k. put_all rows (k ∷ [])) given in
       let are = f.held c db uncommitted.tables in
-      let other = none_like rows (h.records c) are id r (new.now.trees h.layout.tree) unused (made.applies.rows ∙ put) (f.alone version.Second there new.now.trees (made.applies.fits.rules Unique (λ e. cc (e)))) in
+      let other =
+      none_like rows (h.records c) are id r (new.now.trees h.layout.tree) unused (made.applies.rows ∙ put)
+      (f.alone version.Second there new.now.trees (made.applies.fits.rules Unique (λ e. cc (e)))) in
       holds_replaced _ (put_all rows (numbered_row h id r ∷ [])) old new c (heap_beside h starts rows (h.records c) are id r unused other)
       (replaces book_schema old new (edit_of db (table_of h.layout) [] Chosen 0 ((Null ∷ h.values r) ∷ [])) _ made put) uncommitted
 
   -- ---- tests
 
   -- a record passes where it has these numbers
-  pub of_two : (m n : ℕ) (given : Row) (id : ℤ) (x : R) → list_all (holds ((id_value m ∷ id_value n ∷ given) ∷ numbered_row h id x ∷ [])) by_two ≡ ((h.first x == m) && (h.second x == n))
+  pub of_two : (m n : ℕ) (given : Row) (id : ℤ) (x : R)
+      → list_all (holds ((id_value m ∷ id_value n ∷ given) ∷ numbered_row h id x ∷ [])) by_two ≡ ((h.first x == m) && (h.second x == n))
   of_two m n given id x =
       subst (λ v. list_all (holds ((id_value m ∷ id_value n ∷ given) ∷ (Int id ∷ v) ∷ [])) by_two ≡ ((h.first x == m) && (h.second x == n))) (sym (starts x))
       (two_tests m n given id (h.first x) (h.second x) (drop 2 (h.values x)))
 
   pub of_one : (m : ℕ) (id : ℤ) (x : R) → list_all (holds ((id_value m ∷ []) ∷ numbered_row h id x ∷ [])) by_one ≡ (h.first x == m)
-  of_one m id x = subst (λ v. list_all (holds ((id_value m ∷ []) ∷ (Int id ∷ v) ∷ [])) by_one ≡ (h.first x == m)) (sym (starts x)) (one_test m id (h.first x) (id_value (h.second x) ∷ drop 2 (h.values x)))
+  of_one m id x =
+      subst (λ v. list_all (holds ((id_value m ∷ []) ∷ (Int id ∷ v) ∷ [])) by_one ≡ (h.first x == m)) (sym (starts x))
+      (one_test m id (h.first x) (id_value (h.second x) ∷ drop 2 (h.values x)))
 
   passes_is : (id : ℤ) (r x : R) → list_all (holds (h.values r ∷ numbered_row h id x ∷ [])) by_two ≡ is_like h r x
-  passes_is id r x = subst (λ v. list_all (holds (v ∷ numbered_row h id x ∷ [])) by_two ≡ is_like h r x) (sym (starts r)) (of_two (h.first r) (h.second r) (drop 2 (h.values r)) id x)
+  passes_is id r x =
+      subst (λ v. list_all (holds (v ∷ numbered_row h id x ∷ [])) by_two ≡ is_like h r x) (sym (starts r))
+      (of_two (h.first r) (h.second r) (drop 2 (h.values r)) id x)
 
   -- ---- UPDATE
 
   module _ (text : List ℕ) (u : UpdatesOne h text) where
     abbrev updating : Updating book_schema text
-    updating = record { at = h.place; layout = h.layout; terms = by_two; project = columns_given (after_both h); place = place_is; command = u.updates; plain = u.plain; inert = inert_works book_schema inert h.layout.tree }
+    updating = record {
+      at = h.place;
+      layout = h.layout;
+      terms = by_two;
+      project = columns_given (after_both h);
+      place = place_is;
+      command = u.updates;
+      plain = u.plain;
+      inert = inert_works book_schema inert h.layout.tree;
+    }
 
     module _ (r : R) (db : Trees) (records : List R) (are : AreRowsOf (db h.layout.tree) records) where
       abbrev rows : List Row
@@ -301,10 +349,12 @@ module _ {R : Type 0} (h : Heap R) (f : Heaped h) where
       shown_one : (id : ℤ) (x : R) → is_like h r x ≡ true → shows (numbered_row h id x) ≡ Int id ∷ numbered_row h id r
       shown_one id x met =
           let same = both_same (h.first r) (h.second r) (h.first x) (h.second x) met in
-          u.changes id r x ∙ ap₂ (λ m n. Int id ∷ Int id ∷ id_value m ∷ id_value n ∷ drop 2 (h.values r)) same.0 same.1 ∙ ap (λ v. Int id ∷ Int id ∷ v) (sym (starts r))
+          u.changes id r x ∙ ap₂ (λ m n. Int id ∷ Int id ∷ id_value m ∷ id_value n ∷ drop 2 (h.values r)) same.0 same.1
+          ∙ ap (λ v. Int id ∷ Int id ∷ v) (sym (starts r))
 
       changed : (found : List Row) (count : ℕ) → IsPermutation (map shows (passing (h.values r) by_two rows)) found → count ≡ length found → (count ≡ 0 → ⊥)
-          → are_fresh (without_all rows (ids_of found)) (updating_edit db h.layout found).news ≡ true → AreRowsOf (edited db (updating_edit db h.layout found)) (put_by (by_both h r) records r)
+          → are_fresh (without_all rows (ids_of found)) (updating_edit db h.layout found).news ≡ true
+          → AreRowsOf (edited db (updating_edit db h.layout found)) (put_by (by_both h r) records r)
       changed found count same counted some unused =
           let one = some_passes passes shows rows (filter passes rows) found count refl same counted some in
           let from = are.known one.0 one.1 in
@@ -315,47 +365,76 @@ module _ {R : Type 0} (h : Heap R) (f : Heaped h) where
           let found_is = one_permutation _ found (subst (λ l. IsPermutation l found) (ap (map shows) alone ∙ ap (λ k. k ∷ []) (shown_one id x met)) same) in
           let left = left_is rows are.rising (ints_of h rows records are) (h.values r) by_two (col 1 0 ∷ col 1 1 ∷ col 1 2 ∷ run 2 (after_both h)) found same in
           let news : (updating_edit db h.layout found).news ≡ numbered_row h id r ∷ [] =
-          ap (λ l. numbered Given (without_all rows (ids_of found)) (map (λ s. cast_row (table_of h.layout) (drop 1 s)) l)) found_is ∙ ap (λ k. k ∷ []) (casts (Int id) r (cast_whole id)) in
+          ap (λ l. numbered Given (without_all rows (ids_of found)) (map (λ s. cast_row (table_of h.layout) (drop 1 s)) l)) found_is
+          ∙ ap (λ k. k ∷ []) (casts (Int id) r (cast_whole id)) in
           let others = filter (λ y. not (is_like h r y)) records in
           let are_left = heap_left h passes (is_like h r) (λ i y. passes_is i r y) rows records are in
           let put = heap_beside h starts (filter (λ s. not (passes s)) rows) others are_left id r (subst₂ (λ l n. are_fresh l n ≡ true) left news unused)
           (λ y a. not-true _ (filter_among (λ y. not (is_like h r y)) records y a).1) in
-          subst (AreRowsOf (edited db (updating_edit db h.layout found))) (put_back (by_both h) (by_both_total h) (is_like h) (like_tied h) r records are.ascending)
+          subst (AreRowsOf (edited db (updating_edit db h.layout found)))
+          (put_back (by_both h) (by_both_total h) (is_like h) (like_tied h) r records are.ascending)
           (subst₂ (λ l n. AreRowsOf (put_all l n) (put_by (by_both h r) others r)) (sym left) (sym news) put)
 
     -- of a record that has a row
-    pub updated_in : (r : R) (c : Relations) (old new : State) (count : ℕ) → HoldsUncommitted old c → Executes text (h.values r) old new (Ok count) → (count ≡ 0 → ⊥)
+    pub updated_in : (r : R) (c : Relations) (old new : State) (count : ℕ) → HoldsUncommitted old c → Executes text (h.values r) old new (Ok count)
+        → (count ≡ 0 → ⊥)
         → HoldsUncommitted new (h.with_records (put_by (by_both h r) (h.records c) r) c)
     updated_in r c old new count uncommitted ran some =
         let db = old.now.trees in
         let made = updated book_schema text updating (h.values r) old new count uncommitted.schema ran in
         let are = changed r db (h.records c) (f.held c db uncommitted.tables) made.rows count made.found made.counted some made.changed.applies.fresh in
-        holds_replaced _ (edited db (updating_edit db h.layout made.rows)) old new c are (replaces book_schema old new (updating_edit db h.layout made.rows) _ made.changed refl) uncommitted
+        holds_replaced _ (edited db (updating_edit db h.layout made.rows)) old new c are
+        (replaces book_schema old new (updating_edit db h.layout made.rows) _ made.changed refl) uncommitted
 
     -- where it changed no row
-    pub unchanged_in : (r : R) (c : Relations) (old new : State) (count : ℕ) → HoldsUncommitted old c → Executes text (h.values r) old new (Ok count) → count ≡ 0 → HoldsUncommitted new (h.with_records (h.records c) c)
+    pub unchanged_in : (r : R) (c : Relations) (old new : State) (count : ℕ) → HoldsUncommitted old c → Executes text (h.values r) old new (Ok count)
+        → count ≡ 0 → HoldsUncommitted new (h.with_records (h.records c) c)
     unchanged_in r c old new count uncommitted ran missed =
-        holds_replaced (h.records c) (old.now.trees h.layout.tree) old new c (f.held c old.now.trees uncommitted.tables) (set_none book_schema text updating (h.values r) old new count uncommitted.schema ran missed) uncommitted
+        holds_replaced (h.records c) (old.now.trees h.layout.tree) old new c (f.held c old.now.trees uncommitted.tables)
+        (set_none book_schema text updating (h.values r) old new count uncommitted.schema ran missed) uncommitted
 
   -- ---- DELETE
 
   -- of the records that pass
-  pub deleted_in : (text : List ℕ) (terms : List Term) → DeletesThose h text terms → (params : Row) (p : R → Bool) → ((id : ℤ) (x : R) → list_all (holds (params ∷ numbered_row h id x ∷ [])) terms ≡ p x)
-      → (c : Relations) (old new : State) (count : ℕ) → HoldsUncommitted old c → Executes text params old new (Ok count) → HoldsUncommitted new (h.with_records (filter (λ x. not (p x)) (h.records c)) c)
+  pub deleted_in : (text : List ℕ) (terms : List Term) → DeletesThose h text terms → (params : Row) (p : R → Bool)
+      → ((id : ℤ) (x : R) → list_all (holds (params ∷ numbered_row h id x ∷ [])) terms ≡ p x)
+      → (c : Relations) (old new : State) (count : ℕ) → HoldsUncommitted old c → Executes text params old new (Ok count)
+      → HoldsUncommitted new (h.with_records (filter (λ x. not (p x)) (h.records c)) c)
   deleted_in text terms t params p same c old new count uncommitted ran =
       let db = old.now.trees in
       let rows = db h.layout.tree in
       let are = f.held c db uncommitted.tables in
-      let it : Deletion book_schema text = record { at = h.place; layout = h.layout; terms = terms; place = place_is; command = t.deletes; plain = t.plain; inert = inert_works book_schema inert h.layout.tree } in
+      let it : Deletion book_schema text = record {
+        at = h.place;
+        layout = h.layout;
+        terms = terms;
+        place = place_is;
+        command = t.deletes;
+        plain = t.plain;
+        inert = inert_works book_schema inert h.layout.tree;
+      } in
       let made = deleted book_schema text it params old new count uncommitted.schema ran in
-      holds_replaced _ (filter (λ s. not (list_all (holds (params ∷ s ∷ [])) terms)) rows) old new c (heap_left h (λ s. list_all (holds (params ∷ s ∷ [])) terms) p same rows (h.records c) are)
-      (replaces book_schema old new (deletion_edit it made.rows db) _ made.changed (left_is rows are.rising (ints_of h rows (h.records c) are) params terms [] made.rows made.found)) uncommitted
+      holds_replaced _ (filter (λ s. not (list_all (holds (params ∷ s ∷ [])) terms)) rows) old new c
+      (heap_left h (λ s. list_all (holds (params ∷ s ∷ [])) terms) p same rows (h.records c) are)
+      (replaces book_schema old new (deletion_edit it made.rows db) _ made.changed
+      (left_is rows are.rising (ints_of h rows (h.records c) are) params terms [] made.rows made.found))
+      uncommitted
 
   -- ---- the query of all rows
 
   module _ {base : List MadeTable} (text : List ℕ) (s : SelectsAll h base text) where
     abbrev pub listing : Listing base text
-    listing = record { tree = h.layout.tree; terms = []; project = shown_columns (after_both h); order = by_columns; limit = no_limit; names = names_of h.layout; command = s.selects; plain = s.plain; unlisted = s.unlisted }
+    listing = record {
+      tree = h.layout.tree;
+      terms = [];
+      project = shown_columns (after_both h);
+      order = by_columns;
+      limit = no_limit;
+      names = names_of h.layout;
+      command = s.selects;
+      plain = s.plain;
+      unlisted = s.unlisted;
+    }
 
     -- the sort key of a row, and the values that it shows
     abbrev part : Row → Output
@@ -378,7 +457,8 @@ module _ {R : Type 0} (h : Heap R) (f : Heaped h) where
     records_apart : (x y : R) → by_both h x y ≡ Less → Differ (out x) (out y)
     records_apart x y low e = let never : true ≡ false = sym (like_tied h x y ∙ out_like x y e) ∙ ap is_eq low in cc never
 
-    rows_apart : (rows : List Row) (records : List R) → AreRowsOf rows records → (a b : Row) → Has rows a → Has rows b → value_cmp (rowid a) (rowid b) ≡ Less → Differ (part a) (part b)
+    rows_apart : (rows : List Row) (records : List R) → AreRowsOf rows records → (a b : Row) → Has rows a → Has rows b → value_cmp (rowid a) (rowid b) ≡ Less
+        → Differ (part a) (part b)
     rows_apart rows records are a b p q low e =
         let same = are.apart a b p q (ap (λ (o : Output). column o.0 0) e) (ap (λ (o : Output). column o.0 1) e) in
         let never : Equal ≡ Less = sym (ap (λ r. value_cmp (rowid a) (rowid r)) (sym same) ∙ tied_itself value_cmp_total (rowid a)) ∙ low in cc
@@ -395,7 +475,9 @@ module _ {R : Type 0} (h : Heap R) (f : Heaped h) where
 
     shown_all : (rows : List Row) (records : List R) → AreRowsOf rows records → IsPermutation (map out records) (map part rows)
     shown_all rows records are =
-        same_members (map out records) (map part rows) (apart_under out records (λ x y p q. records_apart x y) (strict (by_both h) (by_both_total h) records are.ascending)) (apart_under part rows (rows_apart rows records are) are.rising)
+        same_members (map out records) (map part rows)
+        (apart_under out records (λ x y p q. records_apart x y) (strict (by_both h) (by_both_total h) records are.ascending))
+        (apart_under part rows (rows_apart rows records are) are.rising)
         (λ o p.
         let from = has_mapped out records o p in
         let at = are.stored from.0 (among_has records from.0 from.1) in
@@ -405,14 +487,21 @@ module _ {R : Type 0} (h : Heap R) (f : Heaped h) where
         let at = are.known from.0 from.1 in
         subst (Has (map out records)) (sym (from.2 ∙ ap part at.2 ∙ part_is at.0 at.1)) (mapped_has out records at.1 (has_among records at.1 at.3)))
 
-    pub shows_all : (old new : State) (rows : List Row) (c : Content) → HoldsContent old c → BeginsSchema base old.now.schema → Shown text [] old new rows → rows ≡ map h.values (h.records (relations_of c))
+    pub shows_all : (old new : State) (rows : List Row) (c : Content) → HoldsContent old c → BeginsSchema base old.now.schema → Shown text [] old new rows
+        → rows ≡ map h.values (h.records (relations_of c))
     shows_all old new rows c held b shown =
         let given = with_later base b.0 old.now.schema in
-        let read = reads_as text [] old new given (begun base old.now.schema b) _ (s.selects b.0 old.now.schema) (s.plain b.0 old.now.schema) (s.unlisted b.0 old.now.schema) rows shown in
-        let are = subst (λ (d : Database). AreRowsOf (d.trees h.layout.tree) (h.records (relations_of c))) (sym held.idle) (f.held (relations_of c) old.committed.trees held.encodes) in
+        let read =
+        reads_as text [] old new given (begun base old.now.schema b) _ (s.selects b.0 old.now.schema) (s.plain b.0 old.now.schema)
+        (s.unlisted b.0 old.now.schema) rows shown in
+        let are =
+        subst (λ (d : Database). AreRowsOf (d.trees h.layout.tree) (h.records (relations_of c))) (sym held.idle)
+        (f.held (relations_of c) old.committed.trees held.encodes) in
         let all = shown_all (old.now.trees h.layout.tree) (h.records (relations_of c)) are in
-        let every : map part (old.now.trees h.layout.tree) ≡ map part (passing [] [] (old.now.trees h.layout.tree)) = ap (map part) (sym (filter_true (old.now.trees h.layout.tree))) in
-        answered (by_both h) (by_both_total h) h.layout.tree [] (shown_columns (after_both h)) by_columns no_limit old.now.trees [] rows out (h.records (relations_of c)) ranks are.ascending
+        let every : map part (old.now.trees h.layout.tree) ≡ map part (passing [] [] (old.now.trees h.layout.tree)) =
+        ap (map part) (sym (filter_true (old.now.trees h.layout.tree))) in
+        answered (by_both h) (by_both_total h) h.layout.tree [] (shown_columns (after_both h)) by_columns no_limit old.now.trees [] rows out
+        (h.records (relations_of c)) ranks are.ascending
         (subst (IsPermutation (map out (h.records (relations_of c)))) every all) read.answer
 
     pub asks : AsksAll h.table base text listing

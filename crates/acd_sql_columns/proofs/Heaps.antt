@@ -53,10 +53,12 @@ pub one_number : (rows : List Row) (a b : Row) → IsTable rows → Has rows a �
 one_number [] a b up h k e = absurd h
 one_number (r ∷ rows) a b up (inl p) (inl q) e = p ∙ sym q
 one_number (r ∷ rows) a b up (inl p) (inr k) e =
-    absurd (let low = all_has (λ y. value_cmp (rowid r) (rowid y) ≡ Less) rows b up.0 k in let never : Equal ≡ Less = sym (ap (λ y. value_cmp (rowid y) (rowid b)) (sym p) ∙ e) ∙ low in cc never)
+    absurd (let low = all_has (λ y. value_cmp (rowid r) (rowid y) ≡ Less) rows b up.0 k in
+    let never : Equal ≡ Less = sym (ap (λ y. value_cmp (rowid y) (rowid b)) (sym p) ∙ e) ∙ low in cc never)
 one_number (r ∷ rows) a b up (inr h) (inl q) e =
     absurd (let low = all_has (λ y. value_cmp (rowid r) (rowid y) ≡ Less) rows a up.0 h in
-    let turned = value_cmp_total.antisymm (rowid b) (rowid a) ∙ ap ordering_reverse e in let never : Equal ≡ Less = sym (ap (λ y. value_cmp (rowid y) (rowid a)) (sym q) ∙ turned) ∙ low in cc never)
+    let turned = value_cmp_total.antisymm (rowid b) (rowid a) ∙ ap ordering_reverse e in
+    let never : Equal ≡ Less = sym (ap (λ y. value_cmp (rowid y) (rowid a)) (sym q) ∙ turned) ∙ low in cc never)
 one_number (r ∷ rows) a b up (inr h) (inr k) e = one_number rows a b up.1 h k e
 
 -- where each is the same row, there is one
@@ -71,7 +73,8 @@ number_itself : (id : ℤ) → is_eq (value_cmp (Int id) (Int id)) ≡ true
 number_itself id = is_eq_of (value_cmp (Int id) (Int id)) (tied_itself value_cmp_total (Int id))
 
 -- where the rows that pass were shown, each with its number, those that are left without these numbers are those that don't pass
-module _ (rows : List Row) (up : IsTable rows) (ints : (r : Row) → Has rows r → rowid r ≡ Int (id_in (rowid r))) (params : Row) (terms more : List Term) (found : List Row)
+module _ (rows : List Row) (up : IsTable rows) (ints : (r : Row) → Has rows r → rowid r ≡ Int (id_in (rowid r))) (params : Row) (terms more : List Term)
+    (found : List Row)
     (same : IsPermutation (map (showing params (col 1 0 ∷ more)) (passing params terms rows)) found) where
   abbrev pub passes : Row → Bool
   passes r = list_all (holds (params ∷ r ∷ [])) terms
@@ -98,7 +101,9 @@ module _ (rows : List Row) (up : IsTable rows) (ints : (r : Row) → Has rows r 
       (λ pass. hit_is r ∙ some_from (λ w. has_rowid (id_in (rowid w)) r) (filter passes rows) r (has_kept passes rows r there pass) (rowid_itself r there))
 
   pub left_is : without_all rows (ids_of found) ≡ filter (λ r. not (passes r)) rows
-  left_is = all_out (ids_of found) rows ∙ filter_like (λ r. not (hit r)) (λ r. not (passes r)) rows (all_from (λ r. not (hit r) ≡ not (passes r)) rows (λ r there. ap not (hit_passes r there)))
+  left_is =
+      all_out (ids_of found) rows
+      ∙ filter_like (λ r. not (hit r)) (λ r. not (passes r)) rows (all_from (λ r. not (hit r) ≡ not (passes r)) rows (λ r there. ap not (hit_passes r there)))
 
 -- ---- rows of records
 
@@ -113,11 +118,13 @@ module _ {R : Type 0} (h : Heap R) where
   pub like_tied : (r x : R) → is_eq (by_both h r x) ≡ is_like r x
   like_tied r x = pair_tied (h.first r) (h.second r) (h.first x) (h.second x)
 
-  pub ints_of : (rows : List Row) (records : List R) → AreHeaped (by_both h) (numbered_row h) rows records → (r : Row) → Has rows r → rowid r ≡ Int (id_in (rowid r))
+  pub ints_of : (rows : List Row) (records : List R) → AreHeaped (by_both h) (numbered_row h) rows records → (r : Row) → Has rows r
+      → rowid r ≡ Int (id_in (rowid r))
   ints_of rows records are r there = let from = are.known r there in ap rowid from.2 ∙ ap (λ s. Int (id_in (rowid s))) (sym from.2)
 
   -- the rows of some records are removed
-  pub heap_left : (gone : Row → Bool) (p : R → Bool) → ((id : ℤ) (x : R) → gone (numbered_row h id x) ≡ p x) → (rows : List Row) (records : List R) → AreHeaped (by_both h) (numbered_row h) rows records
+  pub heap_left : (gone : Row → Bool) (p : R → Bool) → ((id : ℤ) (x : R) → gone (numbered_row h id x) ≡ p x) → (rows : List Row) (records : List R)
+      → AreHeaped (by_both h) (numbered_row h) rows records
       → AreHeaped (by_both h) (numbered_row h) (filter (λ r. not (gone r)) rows) (filter (λ x. not (p x)) records)
   heap_left gone p same rows records are = record {
     rising = rising-filter _ (λ r. not (gone r)) rows are.rising;
@@ -141,18 +148,21 @@ module _ {R : Type 0} (h : Heap R) where
     second_is id x = ap (λ (v : Row). column v 1) (starts x)
 
     -- rows of one key are those of records of one key, and the other way round
-    pub key_met : (i j : ℤ) (r x : R) → column (numbered_row h i x) 1 ≡ column (numbered_row h j r) 1 → column (numbered_row h i x) 2 ≡ column (numbered_row h j r) 2 → is_like r x ≡ true
+    pub key_met : (i j : ℤ) (r x : R) → column (numbered_row h i x) 1 ≡ column (numbered_row h j r) 1
+        → column (numbered_row h i x) 2 ≡ column (numbered_row h j r) 2 → is_like r x ≡ true
     key_met i j r x e f =
         both_are (h.first r) (h.second r) (h.first x) (h.second x) (same_id (h.first x) (h.first r) (sym (first_is i x) ∙ e ∙ first_is j r))
         (same_id (h.second x) (h.second r) (sym (second_is i x) ∙ f ∙ second_is j r))
 
-    pub met_key : (i j : ℤ) (r x : R) → is_like r x ≡ true → (column (numbered_row h i x) 1 ≡ column (numbered_row h j r) 1) × (column (numbered_row h i x) 2 ≡ column (numbered_row h j r) 2)
+    pub met_key : (i j : ℤ) (r x : R) → is_like r x ≡ true
+        → (column (numbered_row h i x) 1 ≡ column (numbered_row h j r) 1) × (column (numbered_row h i x) 2 ≡ column (numbered_row h j r) 2)
     met_key i j r x met =
         let same = both_same (h.first r) (h.second r) (h.first x) (h.second x) met in
         (first_is i x ∙ ap id_value same.0 ∙ sym (first_is j r), second_is i x ∙ ap id_value same.1 ∙ sym (second_is j r))
 
     -- a row is put beside others, of which none has its key
-    module _ (rows : List Row) (records : List R) (are : AreHeaped (by_both h) (numbered_row h) rows records) (id : ℤ) (r : R) (unused : are_fresh rows (numbered_row h id r ∷ []) ≡ true)
+    module _ (rows : List Row) (records : List R) (are : AreHeaped (by_both h) (numbered_row h) rows records) (id : ℤ) (r : R)
+        (unused : are_fresh rows (numbered_row h id r ∷ []) ≡ true)
         (other : (x : R) → Among x records → is_like r x ≡ false) where
       abbrev new_row : Row
       new_row = numbered_row h id r
@@ -164,8 +174,12 @@ module _ {R : Type 0} (h : Heap R) where
       known row (inl (inl e)) = (id, r, e, among-put (by_both h r) r records)
       known row (inl (inr none)) = absurd none
       known row (inr there) =
-          let from = are.known row there in
-          (from.0, from.1, from.2, among-put_other (by_both h r) r records from.1 from.3 (λ tied. never from.1 from.3 (sym (like_tied r from.1) ∙ ap is_eq tied)))
+          let from = are.known row there in (
+            from.0,
+            from.1,
+            from.2,
+            among-put_other (by_both h r) r records from.1 from.3 (λ tied. never from.1 from.3 (sym (like_tied r from.1) ∙ ap is_eq tied)),
+          )
 
       stored : (x : R) → (x ≡ r) ⊎ Among x records → (i : ℤ) × Has (put_all rows (new_row ∷ [])) (numbered_row h i x)
       stored x (inl e) = (id, put_all_adds (new_row ∷ []) rows (numbered_row h id x) unused (inl (ap (numbered_row h id) e)))

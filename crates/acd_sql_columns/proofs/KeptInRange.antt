@@ -62,8 +62,10 @@ ranks_split : (groups : List GroupRecord) → ranks_good groups ≡ true → Eve
 unfolding are_good
 ranks_split [] h = tt
 ranks_split (g ∷ groups) h =
-    (elim (g.priority == 0) as (λ b. are_good table.GroupPriority (map priority_values (cond b (priorities_in groups) (priority_part g ∷ priorities_in groups))) ≡ true
-    → (are_good table.GroupPriority (map priority_values (cond b [] (priority_part g ∷ []))) ≡ true) × Every (λ (x : GroupRecord). ranks_good (x ∷ []) ≡ true) groups) [
+    (elim (g.priority == 0) as (λ b. are_good table.GroupPriority (map priority_values (cond b (priorities_in groups) (priority_part g ∷ priorities_in groups)))
+    ≡ true
+    → (are_good table.GroupPriority (map priority_values (cond b [] (priority_part g ∷ []))) ≡ true)
+    × Every (λ (x : GroupRecord). ranks_good (x ∷ []) ≡ true) groups) [
       | true ↦ λ k. (refl, ranks_split groups k)
       | false ↦ λ k.
           let both = and_parts (is_good table.GroupPriority (priority_values (priority_part g))) (ranks_good groups) k in
@@ -91,8 +93,12 @@ further_split : (agents : List AgentRecord) → are_good table.AgentGroups (map 
     → Every (λ (a : AgentRecord). are_good table.AgentGroups (map further_values (further_of a)) ≡ true) agents
 further_split [] h = tt
 further_split (a ∷ agents) h =
-    let parts = every_split (λ p. IsGoodPair (further_values p)) (further_of a) (further_in agents) (each_good table.AgentGroups further_values (further_of a ++ further_in agents) h) in
-    (all_good table.AgentGroups further_values (further_of a) parts.0, further_split agents (all_good table.AgentGroups further_values (further_in agents) parts.1))
+    let parts =
+    every_split (λ p. IsGoodPair (further_values p)) (further_of a) (further_in agents)
+    (each_good table.AgentGroups further_values (further_of a ++ further_in agents) h) in (
+      all_good table.AgentGroups further_values (further_of a) parts.0,
+      further_split agents (all_good table.AgentGroups further_values (further_in agents) parts.1),
+    )
 
 further_join : (agents : List AgentRecord) → Every (λ (a : AgentRecord). are_good table.AgentGroups (map further_values (further_of a)) ≡ true) agents
     → are_good table.AgentGroups (map further_values (further_in agents)) ≡ true
@@ -142,13 +148,15 @@ module _ (c : Content) (h : IsInRange c) where
   goods = record {
     meta = meta_good (table_good table.Meta);
     groups =
-        every_both HasGoodPart HasGoodRank IsGoodGroup group_of_parts c.rows.groups (each_good table.Groups (λ (g : GroupRecord). group_values (group_part g)) c.rows.groups (table_good table.Groups))
+        every_both HasGoodPart HasGoodRank IsGoodGroup group_of_parts c.rows.groups
+        (each_good table.Groups (λ (g : GroupRecord). group_values (group_part g)) c.rows.groups (table_good table.Groups))
         (ranks_split c.rows.groups (table_good table.GroupPriority));
     stations = each_good table.Stations station_values c.rows.stations (table_good table.Stations);
     agents =
         every_both IsGoodPart (λ a. HasGoodPairs a × HasGroups a) IsGoodAgent agent_of_parts c.rows.agents
         (each_good table.Agents (λ (a : AgentRecord). agent_values (agent_part a)) c.rows.agents (table_good table.Agents))
-        (every_both HasGoodPairs HasGroups (λ a. HasGoodPairs a × HasGroups a) pairs_and_groups c.rows.agents (further_split c.rows.agents (table_good table.AgentGroups)) h.groups);
+        (every_both HasGoodPairs HasGroups (λ a. HasGoodPairs a × HasGroups a) pairs_and_groups c.rows.agents
+        (further_split c.rows.agents (table_good table.AgentGroups)) h.groups);
     calls = each_good table.Calls call_values c.rows.calls (table_good table.Calls);
     connections = each_good table.Connections connection_values c.rows.connections (table_good table.Connections);
     monitors = each_good table.Monitors monitor_values c.rows.monitors (table_good table.Monitors);
@@ -161,10 +169,12 @@ module _ (c : Content) (h : AllGood c) where
   unfolding is_good_table are_good
   tables_good table.Meta = and_from (is_good table.Meta (meta_shown (meta_of c.rows))) true h.meta refl
   tables_good table.Groups =
-      all_good table.Groups (λ (g : GroupRecord). group_values (group_part g)) c.rows.groups (every_so IsGoodGroup HasGoodPart (λ g p. p.0) c.rows.groups h.groups)
+      all_good table.Groups (λ (g : GroupRecord). group_values (group_part g)) c.rows.groups
+      (every_so IsGoodGroup HasGoodPart (λ g p. p.0) c.rows.groups h.groups)
   tables_good table.Stations = all_good table.Stations station_values c.rows.stations h.stations
   tables_good table.Agents =
-      all_good table.Agents (λ (a : AgentRecord). agent_values (agent_part a)) c.rows.agents (every_so IsGoodAgent IsGoodPart (λ a p. p.0) c.rows.agents h.agents)
+      all_good table.Agents (λ (a : AgentRecord). agent_values (agent_part a)) c.rows.agents
+      (every_so IsGoodAgent IsGoodPart (λ a p. p.0) c.rows.agents h.agents)
   tables_good table.Calls = all_good table.Calls call_values c.rows.calls h.calls
   tables_good table.Connections = all_good table.Connections connection_values c.rows.connections h.connections
   tables_good table.Monitors = all_good table.Monitors monitor_values c.rows.monitors h.monitors
@@ -179,4 +189,14 @@ module _ (c : Content) (h : AllGood c) where
 -- a new book's content is in range
 pub empty_in_range : (limits : Limits) → IsGoodMeta (meta_of (empty_content limits).rows) → IsInRange (empty_content limits)
 empty_in_range limits meta =
-    in_range (empty_content limits) (record { meta = meta; groups = tt; stations = tt; agents = tt; calls = tt; connections = tt; monitors = tt; events = tt; kept = tt })
+    in_range (empty_content limits) (record {
+      meta = meta;
+      groups = tt;
+      stations = tt;
+      agents = tt;
+      calls = tt;
+      connections = tt;
+      monitors = tt;
+      events = tt;
+      kept = tt;
+    })

@@ -67,7 +67,8 @@ module _ {R : Type 0} (key : R → ℕ) where
   less_key : (new r : R) → by_key new r ≡ Less → (key r == key new) ≡ false
   less_key new r h = grind (arith, nat_tests)
 
-  pub put_left : (new : R) (rs : List R) → IsAscending by_key rs → put_by (by_key new) (filter (λ r. not (key r == key new)) rs) new ≡ put_by (by_key new) rs new
+  pub put_left : (new : R) (rs : List R) → IsAscending by_key rs
+      → put_by (by_key new) (filter (λ r. not (key r == key new)) rs) new ≡ put_by (by_key new) rs new
   put_left new rs h = put_back by_key by_key_total (λ x r. key r == key x) (λ x r. key_is (key x) (key r)) new rs h
 
   -- none of those after a record has its key

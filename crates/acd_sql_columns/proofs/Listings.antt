@@ -45,7 +45,8 @@ pub record Listing (base : List Made) (text : List ℕ) : Type 0 where
   pub order : List (Term × Key)
   pub limit : Term
   pub names : List (List ℕ)
-  pub command : (rest : List Made) (s : Schema) → command_of (understood (with_later base rest s) text) ≡ Select (record { lets = []; body = asking tree terms project order limit }) names
+  pub command : (rest : List Made) (s : Schema)
+      → command_of (understood (with_later base rest s) text) ≡ Select (record { lets = []; body = asking tree terms project order limit }) names
   pub plain : (rest : List Made) (s : Schema) → IsPlain (understood (with_later base rest s) text)
   pub unlisted : (rest : List Made) (s : Schema) → reads_listing (with_later base rest s) text ≡ false
 
@@ -88,7 +89,9 @@ module _ {R : Type 0} {base : List Made} (text : List ℕ) (it : Listing base te
   -- it asks for the values of the records that pass, in the order of their keys
   pub record Lists : Type 0 where
     pub keyed : (r : R) → rowid (row r) ≡ id_value (key r)
-    pub ranks : (a b : R) → output_cmp (query_of it) (given (query_of it) params (row a)) (given (query_of it) params (row b)) ≡ ordering_then (value_cmp (rowid (row a)) (rowid (row b))) Equal
+    pub ranks : (a b : R)
+        → output_cmp (query_of it) (given (query_of it) params (row a)) (given (query_of it) params (row b))
+        ≡ ordering_then (value_cmp (rowid (row a)) (rowid (row b))) Equal
     pub tests : (r : R) → list_all (holds (params ∷ row r ∷ [])) it.terms ≡ P r
     pub shows : (r : R) → showing params it.project (row r) ≡ values r
 
@@ -97,29 +100,39 @@ module _ {R : Type 0} {base : List Made} (text : List ℕ) (it : Listing base te
     out r = given (query_of it) params (row r)
 
     same : (a b : R) → output_cmp (query_of it) (out a) (out b) ≡ by_key key a b
-    same a b = l.ranks a b ∙ end_of (value_cmp (rowid (row a)) (rowid (row b))) ∙ ap (λ v. value_cmp v (rowid (row b))) (l.keyed a) ∙ ap (value_cmp (id_value (key a))) (l.keyed b) ∙ id_cmp (key a) (key b)
+    same a b =
+        l.ranks a b ∙ end_of (value_cmp (rowid (row a)) (rowid (row b))) ∙ ap (λ v. value_cmp v (rowid (row b))) (l.keyed a)
+        ∙ ap (value_cmp (id_value (key a))) (l.keyed b) ∙ id_cmp (key a) (key b)
 
     passed : (rows : List Row) (rs : List R) → rows ≡ map row rs → map (given (query_of it) params) (passing params it.terms rows) ≡ map out (filter P rs)
     passed rows rs is =
         ap (λ l. map (given (query_of it) params) (passing params it.terms l)) is
-        ∙ ap (map (given (query_of it) params)) (filter_mapped (λ r. list_all (holds (params ∷ r ∷ [])) it.terms) row rs ∙ ap (map row) (filter_like _ P rs (each _ rs l.tests)))
+        ∙ ap (map (given (query_of it) params))
+        (filter_mapped (λ r. list_all (holds (params ∷ r ∷ [])) it.terms) row rs ∙ ap (map row) (filter_like _ P rs (each _ rs l.tests)))
         ∙ map-map (given (query_of it) params) row (filter P rs)
 
-    pub listed : (old new : State) (rows : List Row) (rs : List R) → BeginsSchema base old.now.schema → AreRows key row (old.now.trees it.tree) rs → Shown text params old new rows
+    pub listed : (old new : State) (rows : List Row) (rs : List R) → BeginsSchema base old.now.schema → AreRows key row (old.now.trees it.tree) rs
+        → Shown text params old new rows
         → rows ≡ limited (as_count (eval it.limit (params ∷ []))) (map values (filter P rs))
     listed old new rows rs b are h =
         let whole_schema = with_later base b.0 old.now.schema in
-        let read = reads_as text params old new whole_schema (begun base old.now.schema b) _ (it.command b.0 old.now.schema) (it.plain b.0 old.now.schema) (it.unlisted b.0 old.now.schema) rows h in
+        let read =
+        reads_as text params old new whole_schema (begun base old.now.schema b) _ (it.command b.0 old.now.schema) (it.plain b.0 old.now.schema)
+        (it.unlisted b.0 old.now.schema) rows h in
         let moved = IsPermutation-same _ _ (sym (passed (old.now.trees it.tree) rs are.rows_are)) in
-        answered (by_key key) (by_key_total key) it.tree it.terms it.project it.order it.limit old.now.trees params rows out (filter P rs) same (ascending-filter (by_key key) P rs are.ascending) moved read.answer
+        answered (by_key key) (by_key_total key) it.tree it.terms it.project it.order it.limit old.now.trees params rows out (filter P rs) same
+        (ascending-filter (by_key key) P rs are.ascending) moved read.answer
         ∙ ap (limited (as_count (eval it.limit (params ∷ [])))) (map_same (λ r. showing params it.project (row r)) values l.shows (filter P rs))
 
 -- ---- the read
 
-module _ (text : List ℕ) (params : Row) (old new : State) (r : Result (Vec Row Global) Error) (plain : IsPlain (understood book_schema text)) (IsAnswer : Content → List Row → Type 0) where
+module _ (text : List ℕ) (params : Row) (old new : State) (r : Result (Vec Row Global) Error) (plain : IsPlain (understood book_schema text))
+    (IsAnswer : Content → List Row → Type 0) where
   pub finds : (HasCleanDisk new → OnOk r (IsTrue new.is_open)) → (IsPlain (understood book_schema text) → Quiet old new)
-      → (HasCleanDisk new → IsPlain (understood book_schema text) → (c : Content) → HoldsContent old c → NoStop old new) → (HasCleanDisk new → IfOk r (λ rows. Shown text params old new rows.items))
-      → ((rows : List Row) (c : Content) → HoldsContent old c → Shown text params old new rows → IsAnswer c rows) → Finds old new r (λ c rows. IsAnswer c rows.items)
+      → (HasCleanDisk new → IsPlain (understood book_schema text) → (c : Content) → HoldsContent old c → NoStop old new)
+      → (HasCleanDisk new → IfOk r (λ rows. Shown text params old new rows.items))
+      → ((rows : List Row) (c : Content) → HoldsContent old c → Shown text params old new rows → IsAnswer c rows)
+      → Finds old new r (λ c rows. IsAnswer c rows.items)
   finds up quiet stops shown answer = record {
     up = up;
     quiet = quiet plain;
@@ -127,6 +140,7 @@ module _ (text : List ℕ) (params : Row) (old new : State) (r : Result (Vec Row
     answer = λ clean. go r (shown clean);
   }
     where
-      go : (r : Result (Vec Row Global) Error) → IfOk r (λ rows. Shown text params old new rows.items) → IfOk r (λ rows. (c : Content) → HoldsContent old c → IsAnswer c rows.items)
+      go : (r : Result (Vec Row Global) Error) → IfOk r (λ rows. Shown text params old new rows.items)
+          → IfOk r (λ rows. (c : Content) → HoldsContent old c → IsAnswer c rows.items)
       go (Err e) h = tt
       go (Ok rows) h = λ (c : Content) (held : HoldsContent old c). answer rows.items c held h

@@ -77,7 +77,8 @@ none_pass : {X : Type 0} (p : X → Bool) (xs : List X) → filter p xs ≡ [] �
 none_pass p [] h = tt
 none_pass p (x ∷ xs) h = go (none_pass p xs) (p x) refl h
   where
-    go : (filter p xs ≡ [] → AllByRecursion (λ x. p x ≡ false) xs) → (b : Bool) → p x ≡ b → cond b (x ∷ filter p xs) (filter p xs) ≡ [] → (p x ≡ false) × AllByRecursion (λ x. p x ≡ false) xs
+    go : (filter p xs ≡ [] → AllByRecursion (λ x. p x ≡ false) xs) → (b : Bool) → p x ≡ b → cond b (x ∷ filter p xs) (filter p xs) ≡ []
+        → (p x ≡ false) × AllByRecursion (λ x. p x ≡ false) xs
     go more true e k = absurd (cc k)
     go more false e k = (e, more k)
 
@@ -114,31 +115,39 @@ bad_among t (x ∷ rows) r (inr k) bad = either (is_good t x) (are_good t rows) 
 
 -- ---- one text
 
-module _ {base : List Made} (text : List ℕ) (it : Listing base text) (params : Row) (d : Database) (old new : State) (rows : List Row) (old_database : HasDatabase old d) (b : BeginsSchema base d.schema) (h : Shown text params old new rows) where
+module _ {base : List Made} (text : List ℕ) (it : Listing base text) (params : Row) (d : Database) (old new : State) (rows : List Row)
+    (old_database : HasDatabase old d) (b : BeginsSchema base d.schema) (h : Shown text params old new rows) where
   -- each row of the answer shows one that passes
   abbrev Comes : Output → Type 0
   Comes o = (r : Row) × Has (d.trees it.tree) r × (list_all (holds (params ∷ r ∷ [])) it.terms ≡ true) × (o.1 ≡ showing params it.project r)
 
-  come : (ordered : List Output) → IsPermutation (map (given (query_of it) params) (passing params it.terms (d.trees it.tree))) ordered → AllByRecursion Comes ordered
+  come : (ordered : List Output) → IsPermutation (map (given (query_of it) params) (passing params it.terms (d.trees it.tree))) ordered
+      → AllByRecursion Comes ordered
   come ordered same =
       moved_all Comes _ ordered same
       (mapped_all Comes (given (query_of it) params) (passing params it.terms (d.trees it.tree))
       (all_from (λ r. Comes (given (query_of it) params r)) (passing params it.terms (d.trees it.tree))
       (λ r k. let from = of_filter (λ r. list_all (holds (params ∷ r ∷ [])) it.terms) (d.trees it.tree) r k in (r, from.0, from.1, refl))))
 
-  pub rows_come : AllByRecursion (λ row. (r : Row) × Has (d.trees it.tree) r × (list_all (holds (params ∷ r ∷ [])) it.terms ≡ true) × (row ≡ showing params it.project r)) rows
+  pub rows_come : AllByRecursion
+      (λ row. (r : Row) × Has (d.trees it.tree) r × (list_all (holds (params ∷ r ∷ [])) it.terms ≡ true) × (row ≡ showing params it.project r)) rows
   rows_come =
-      let some = in_some_order it.tree it.terms it.project it.order it.limit d.trees params rows (answer_in base text it params d old new rows old_database b h) in
+      let some =
+      in_some_order it.tree it.terms it.project it.order it.limit d.trees params rows (answer_in base text it params d old new rows old_database b h) in
       let P = λ (row : Row). (r : Row) × Has (d.trees it.tree) r × (list_all (holds (params ∷ r ∷ [])) it.terms ≡ true) × (row ≡ showing params it.project r) in
-      subst (AllByRecursion P) (sym some.2) (all_limited P (as_count (eval it.limit (params ∷ []))) (map (λ (o : Output). o.1) some.0) (mapped_all P (λ (o : Output). o.1) some.0 (come some.0 some.1)))
+      subst (AllByRecursion P) (sym some.2) (all_limited P (as_count (eval it.limit (params ∷ []))) (map (λ (o : Output). o.1) some.0)
+      (mapped_all P (λ (o : Output). o.1) some.0 (come some.0 some.1)))
 
   -- where no more than the first is asked for, and none is shown
-  pub rows_lack : as_count (eval it.limit (params ∷ [])) ≡ Some 1 → rows ≡ [] → AllByRecursion (λ r. list_all (holds (params ∷ r ∷ [])) it.terms ≡ false) (d.trees it.tree)
+  pub rows_lack : as_count (eval it.limit (params ∷ [])) ≡ Some 1 → rows ≡ []
+      → AllByRecursion (λ r. list_all (holds (params ∷ r ∷ [])) it.terms ≡ false) (d.trees it.tree)
   rows_lack one none =
-      let some = in_some_order it.tree it.terms it.project it.order it.limit d.trees params rows (answer_in base text it params d old new rows old_database b h) in
+      let some =
+      in_some_order it.tree it.terms it.project it.order it.limit d.trees params rows (answer_in base text it params d old new rows old_database b h) in
       let empty = first_none some.0 (sym (some.2 ∙ ap (λ o. limited o (map (λ (o : Output). o.1) some.0)) one) ∙ none) in
       let long = length_permutation _ some.0 some.1 in
-      none_pass (λ r. list_all (holds (params ∷ r ∷ [])) it.terms) (d.trees it.tree) (none_given (passing params it.terms (d.trees it.tree)) (sym long ∙ ap length empty))
+      none_pass (λ r. list_all (holds (params ∷ r ∷ [])) it.terms) (d.trees it.tree)
+      (none_given (passing params it.terms (d.trees it.tree)) (sym long ∙ ap length empty))
     where
       first_none : (ordered : List Output) → take 1 (map (λ (o : Output). o.1) ordered) ≡ [] → ordered ≡ []
       first_none [] e = refl
@@ -156,7 +165,17 @@ asks_connections = asks connections connections_heaped SELECT_CONNECTIONS.now co
 
 pub unordered_connections : Listing nine SELECT_STANDING_CONNECTIONS.now
 unfolding understood everything
-unordered_connections = record { tree = schema.connections.tree; terms = []; project = columns 1 (length schema.connections.columns); order = []; limit = no_limit; names = names_of schema.connections; command = λ rest s. refl; plain = λ rest s. (refl, refl); unlisted = λ rest s. refl }
+unordered_connections = record {
+  tree = schema.connections.tree;
+  terms = [];
+  project = columns 1 (length schema.connections.columns);
+  order = [];
+  limit = no_limit;
+  names = names_of schema.connections;
+  command = λ rest s. refl;
+  plain = λ rest s. (refl, refl);
+  unlisted = λ rest s. refl;
+}
 
 pub asks_unordered_connections : AsksAll table.Connections nine SELECT_STANDING_CONNECTIONS.now unordered_connections
 unfolding unordered_connections
@@ -164,17 +183,20 @@ asks_unordered_connections = record { tree = refl; all = refl; unlimited = refl;
 
 -- ---- the limits and the counters, and the version
 
-in_database : (s t : Schema) (text : List ℕ) (it : Selection t text) (d : Database) (old new : State) (rows : List Row) → HasDatabase old d → d.schema ≡ t → Shown text [] old new rows
+in_database : (s t : Schema) (text : List ℕ) (it : Selection t text) (d : Database) (old new : State) (rows : List Row) → HasDatabase old d → d.schema ≡ t
+    → Shown text [] old new rows
     → IsPermutation (map (showing [] it.project) (passing [] it.terms (d.trees it.tree))) rows
 in_database s t text it d old new rows old_database is h =
     subst (λ (x : Database). IsPermutation (map (showing [] it.project) (passing [] it.terms (x.trees it.tree))) rows) old_database.now
     (selected t text it [] old new rows (ap (λ (x : Database). x.schema) old_database.now ∙ is) h)
 
-pub shown_meta : (d : Database) (old new : State) (rows : List Row) → HasDatabase old d → BeginsSchema nine d.schema → Shown SELECT_META.now [] old new rows → IsPermutation (rows_in table.Meta d.trees) rows
+pub shown_meta : (d : Database) (old new : State) (rows : List Row) → HasDatabase old d → BeginsSchema nine d.schema → Shown SELECT_META.now [] old new rows
+    → IsPermutation (rows_in table.Meta d.trees) rows
 unfolding meta_selection
 shown_meta d old new rows old_database b h =
     let whole_schema = with_later nine b.0 d.schema in
-    subst (λ l. IsPermutation l rows) (ap (map (values_in table.Meta)) (filter_true (d.trees schema.meta.tree))) (in_database whole_schema whole_schema SELECT_META.now (meta_selection b.0 d.schema) d old new rows old_database (begun nine d.schema b) h)
+    subst (λ l. IsPermutation l rows) (ap (map (values_in table.Meta)) (filter_true (d.trees schema.meta.tree)))
+    (in_database whole_schema whole_schema SELECT_META.now (meta_selection b.0 d.schema) d old new rows old_database (begun nine d.schema b) h)
 
 -- whatever tables come later than the first
 abbrev first : List Made
@@ -182,7 +204,16 @@ first = schema.table_of schema.meta ∷ []
 
 version_selection : (rest : List Made) (s : Schema) → Selection (with_later first rest s) SELECT_VERSION.now
 unfolding understood everything
-version_selection rest s = record { tree = schema.meta.tree; terms = []; project = col 1 2 ∷ []; order = []; names = codes "version" ∷ []; command = refl; plain = (refl, refl); unlisted = refl }
+version_selection rest s = record {
+  tree = schema.meta.tree;
+  terms = [];
+  project = col 1 2 ∷ [];
+  order = [];
+  names = codes "version" ∷ [];
+  command = refl;
+  plain = (refl, refl);
+  unlisted = refl;
+}
 
 pub version_plain : (d : Database) → BeginsAsBook d.schema → IsPlain (understood d.schema SELECT_VERSION.now)
 version_plain d b = subst (λ s. IsPlain (understood s SELECT_VERSION.now)) (sym (begun first d.schema b)) (version_selection b.0 d.schema).plain
@@ -192,7 +223,8 @@ pub shown_version : (d : Database) (old new : State) (rows : List Row) → HasDa
 unfolding version_selection
 shown_version d old new rows old_database b h =
     subst (λ l. IsPermutation l rows) (ap (map (λ (r : Row). column r 2 ∷ [])) (filter_true (d.trees schema.meta.tree)))
-    (in_database (with_later first b.0 d.schema) (with_later first b.0 d.schema) SELECT_VERSION.now (version_selection b.0 d.schema) d old new rows old_database (begun first d.schema b) h)
+    (in_database (with_later first b.0 d.schema) (with_later first b.0 d.schema) SELECT_VERSION.now (version_selection b.0 d.schema) d old new rows old_database
+    (begun first d.schema b) h)
 
 -- the tables of either version
 pub nine_begin : (s : Schema) → BeginsSchema nine s → BeginsAsBook s
@@ -266,25 +298,38 @@ first_one : (rows : List Row) {P : Row → Type 0} → (rows ≡ [] → ⊥) →
 first_one [] some all = absurd (some refl)
 first_one (r ∷ rows) some all = (r, all.0)
 
-pub shown_low : (l : Log) (text : List ℕ) (it : Listing nine text) → AsksLow l text it → (d : Database) (old new : State) (rows : List Row) → HasDatabase old d → BeginsSchema nine d.schema → Shown text [] old new rows
+pub shown_low : (l : Log) (text : List ℕ) (it : Listing nine text) → AsksLow l text it → (d : Database) (old new : State) (rows : List Row) → HasDatabase old d
+    → BeginsSchema nine d.schema → Shown text [] old new rows
     → FindsLow l d.trees rows
 unfolding is_good_in
 shown_low l text it asks d old new rows old_database is h = record {
   none = λ none.
       subst (λ n. AllByRecursion (λ r. IsTrue (is_int (rowid r)) → FromOne r) (d.trees n)) asks.tree
-      (all_so (λ r. list_all (holds ([] ∷ r ∷ [])) it.terms ≡ false) (λ r. IsTrue (is_int (rowid r)) → FromOne r) (λ r f int. from_one r (rowid r) refl (sym (asks.tests r) ∙ f) int) (d.trees it.tree)
+      (all_so (λ r. list_all (holds ([] ∷ r ∷ [])) it.terms ≡ false) (λ r. IsTrue (is_int (rowid r)) → FromOne r)
+      (λ r f int. from_one r (rowid r) refl (sym (asks.tests r) ∙ f) int) (d.trees it.tree)
       (rows_lack text it [] d old new rows old_database is h asks.one none));
   some = λ some.
       let one = first_one rows some (rows_come text it [] d old new rows old_database is h) in
       let r = one.1.0 in
       let here : Has (d.trees (tree_of (table_of_log l))) r = subst (λ n. Has (d.trees n) r) asks.tree one.1.1 in
-      bad_among (table_of_log l) (rows_in (table_of_log l) d.trees) (values_in (table_of_log l) r) (mapped_has (values_in (table_of_log l)) (d.trees (tree_of (table_of_log l))) r here)
+      bad_among (table_of_log l) (rows_in (table_of_log l) d.trees) (values_in (table_of_log l) r)
+      (mapped_has (values_in (table_of_log l)) (d.trees (tree_of (table_of_log l))) r here)
       (low_is_bad l r (sym (asks.tests r) ∙ one.1.2));
 }
 
 pub low_events : Listing nine SELECT_LOW_EVENT.now
 unfolding understood everything
-low_events = record { tree = schema.events.tree; terms = below_one; project = col 1 0 ∷ []; order = by_number; limit = lit (Int (pos 1)); names = codes "number" ∷ []; command = λ rest s. refl; plain = λ rest s. (refl, refl); unlisted = λ rest s. refl }
+low_events = record {
+  tree = schema.events.tree;
+  terms = below_one;
+  project = col 1 0 ∷ [];
+  order = by_number;
+  limit = lit (Int (pos 1));
+  names = codes "number" ∷ [];
+  command = λ rest s. refl;
+  plain = λ rest s. (refl, refl);
+  unlisted = λ rest s. refl;
+}
 
 pub asks_low_events : AsksLow log.Events SELECT_LOW_EVENT.now low_events
 unfolding low_events
@@ -292,7 +337,17 @@ asks_low_events = record { tree = refl; tests = λ r. refl; one = refl }
 
 pub low_kept : Listing nine SELECT_LOW_KEPT.now
 unfolding understood everything
-low_kept = record { tree = schema.kept.tree; terms = below_one; project = col 1 0 ∷ []; order = by_number; limit = lit (Int (pos 1)); names = codes "stamp" ∷ []; command = λ rest s. refl; plain = λ rest s. (refl, refl); unlisted = λ rest s. refl }
+low_kept = record {
+  tree = schema.kept.tree;
+  terms = below_one;
+  project = col 1 0 ∷ [];
+  order = by_number;
+  limit = lit (Int (pos 1));
+  names = codes "stamp" ∷ [];
+  command = λ rest s. refl;
+  plain = λ rest s. (refl, refl);
+  unlisted = λ rest s. refl;
+}
 
 pub asks_low_kept : AsksLow log.Kept SELECT_LOW_KEPT.now low_kept
 unfolding low_kept
@@ -327,23 +382,31 @@ numbers_ascend l d xs are = ascending_of (λ (y : Numbered). y.key) (λ (y : Num
 -- the text asks for the first rows above a number
 pub record AsksPage (l : Log) (text : List ℕ) (it : Listing nine text) (n limit : ℕ) : Type 0 where
   pub tree : it.tree ≡ tree_of (table_of_log l)
-  pub lists : Lists text it (λ (x : Numbered). x.key) (λ (x : Numbered). x.row) (λ (x : Numbered). values_in (table_of_log l) x.row) (id_value n ∷ id_value limit ∷ []) (λ (x : Numbered). nat_lt n x.key)
+  pub lists : Lists text it (λ (x : Numbered). x.key) (λ (x : Numbered). x.row) (λ (x : Numbered). values_in (table_of_log l) x.row)
+      (id_value n ∷ id_value limit ∷ []) (λ (x : Numbered). nat_lt n x.key)
   pub shows : (r : Row) → showing (id_value n ∷ id_value limit ∷ []) it.project r ≡ values_in (table_of_log l) r
   pub limited_by : as_count (eval it.limit ((id_value n ∷ id_value limit ∷ []) ∷ [])) ≡ Some limit
 
-pub shown_page : (l : Log) (text : List ℕ) (it : Listing nine text) (n limit : ℕ) → AsksPage l text it n limit → (d : Database) (old new : State) (rows : List Row) → HasDatabase old d → BeginsSchema nine d.schema
+pub shown_page : (l : Log) (text : List ℕ) (it : Listing nine text) (n limit : ℕ) → AsksPage l text it n limit
+    → (d : Database) (old new : State) (rows : List Row) → HasDatabase old d → BeginsSchema nine d.schema
     → Shown text (id_value n ∷ id_value limit ∷ []) old new rows → IsPageRows l n limit d.trees rows
 shown_page l text it n limit asks d old new rows old_database is h =
     let params = id_value n ∷ id_value limit ∷ [] in record {
-      known = all_so (λ row. (r : Row) × Has (d.trees it.tree) r × (list_all (holds (params ∷ r ∷ [])) it.terms ≡ true) × (row ≡ showing params it.project r)) (λ row. Has (rows_in (table_of_log l) d.trees) row)
+      known =
+          all_so (λ row. (r : Row) × Has (d.trees it.tree) r × (list_all (holds (params ∷ r ∷ [])) it.terms ≡ true) × (row ≡ showing params it.project r))
+          (λ row. Has (rows_in (table_of_log l) d.trees) row)
           (λ row from.
           subst (Has (rows_in (table_of_log l) d.trees)) (sym (from.3 ∙ asks.shows from.0))
           (mapped_has (values_in (table_of_log l)) (d.trees (tree_of (table_of_log l))) from.0 (subst (λ k. Has (d.trees k) from.0) asks.tree from.1)))
           rows (rows_come text it params d old new rows old_database is h);
       paged = λ xs are.
-          listed text it (λ (x : Numbered). x.key) (λ (x : Numbered). x.row) (λ (x : Numbered). values_in (table_of_log l) x.row) params (λ (x : Numbered). nat_lt n x.key) asks.lists old new rows xs
+          listed text it (λ (x : Numbered). x.key) (λ (x : Numbered). x.row) (λ (x : Numbered). values_in (table_of_log l) x.row) params
+          (λ (x : Numbered). nat_lt n x.key) asks.lists old new rows xs
           (subst (λ (x : Database). BeginsSchema nine x.schema) (sym old_database.now) is)
-          (record { rows_are = ap (λ (x : Database). x.trees it.tree) old_database.now ∙ ap d.trees asks.tree ∙ are.rows; ascending = numbers_ascend l d xs are }) h
+          (record {
+            rows_are = ap (λ (x : Database). x.trees it.tree) old_database.now ∙ ap d.trees asks.tree ∙ are.rows;
+            ascending = numbers_ascend l d xs are;
+          }) h
           ∙ ap (λ o. limited o (values_after l n xs)) asks.limited_by;
     }
 
@@ -352,29 +415,49 @@ number_tests : (n limit : ℕ) (x : Numbered) → list_all (holds ((id_value n �
 unfolding binary
 number_tests n limit x = ap (λ v. list_all (holds ((id_value n ∷ id_value limit ∷ []) ∷ (v ∷ []) ∷ [])) above_parameter) x.is ∙ truth_back _ ∙ above n x.key
 
-pub asks_events : (n limit : ℕ) → AsksPage log.Events SELECT_EVENTS_AFTER.now (paging events events_described SELECT_EVENTS_AFTER.now events_pages n limit) n limit
-asks_events n limit = record { tree = refl; lists = record { keyed = λ x. x.is; ranks = λ x y. refl; tests = number_tests n limit; shows = λ x. refl }; shows = λ r. refl; limited_by = refl }
+pub asks_events : (n limit : ℕ)
+    → AsksPage log.Events SELECT_EVENTS_AFTER.now (paging events events_described SELECT_EVENTS_AFTER.now events_pages n limit) n limit
+asks_events n limit = record {
+  tree = refl;
+  lists = record { keyed = λ x. x.is; ranks = λ x y. refl; tests = number_tests n limit; shows = λ x. refl };
+  shows = λ r. refl;
+  limited_by = refl;
+}
 
 pub asks_kept : (n limit : ℕ) → AsksPage log.Kept SELECT_KEPT_AFTER.now (paging kept kept_described SELECT_KEPT_AFTER.now kept_pages n limit) n limit
-asks_kept n limit = record { tree = refl; lists = record { keyed = λ x. x.is; ranks = λ x y. refl; tests = number_tests n limit; shows = λ x. refl }; shows = λ r. refl; limited_by = refl }
+asks_kept n limit = record {
+  tree = refl;
+  lists = record { keyed = λ x. x.is; ranks = λ x y. refl; tests = number_tests n limit; shows = λ x. refl };
+  shows = λ r. refl;
+  limited_by = refl;
+}
 
 -- ---- reads
 
 module _ (d : Database) (old new : State) (r : Result (Vec Row Global) Error) (is : BeginsSchema nine d.schema) where
-  pub sees_meta : Sees d old new r (λ rows. Shown SELECT_META.now [] old new rows.items) → Sees d old new r (λ rows. IsPermutation (rows_in table.Meta d.trees) rows.items)
-  sees_meta h = sees_so d old new r (λ rows. Shown SELECT_META.now [] old new rows.items) (λ rows. IsPermutation (rows_in table.Meta d.trees) rows.items) (λ old_database rows shown. shown_meta d old new rows.items old_database is shown) h
+  pub sees_meta : Sees d old new r (λ rows. Shown SELECT_META.now [] old new rows.items)
+      → Sees d old new r (λ rows. IsPermutation (rows_in table.Meta d.trees) rows.items)
+  sees_meta h =
+      sees_so d old new r (λ rows. Shown SELECT_META.now [] old new rows.items) (λ rows. IsPermutation (rows_in table.Meta d.trees) rows.items)
+      (λ old_database rows shown. shown_meta d old new rows.items old_database is shown) h
 
-  pub sees_low : (l : Log) (text : List ℕ) (it : Listing nine text) → AsksLow l text it → Sees d old new r (λ rows. Shown text [] old new rows.items) → Sees d old new r (λ rows. FindsLow l d.trees rows.items)
-  sees_low l text it asks h = sees_so d old new r (λ rows. Shown text [] old new rows.items) (λ rows. FindsLow l d.trees rows.items) (λ old_database rows shown. shown_low l text it asks d old new rows.items old_database is shown) h
+  pub sees_low : (l : Log) (text : List ℕ) (it : Listing nine text) → AsksLow l text it → Sees d old new r (λ rows. Shown text [] old new rows.items)
+      → Sees d old new r (λ rows. FindsLow l d.trees rows.items)
+  sees_low l text it asks h =
+      sees_so d old new r (λ rows. Shown text [] old new rows.items) (λ rows. FindsLow l d.trees rows.items)
+      (λ old_database rows shown. shown_low l text it asks d old new rows.items old_database is shown) h
 
-  pub sees_page : (l : Log) (text : List ℕ) (it : Listing nine text) (n limit : ℕ) → AsksPage l text it n limit → Sees d old new r (λ rows. Shown text (id_value n ∷ id_value limit ∷ []) old new rows.items)
+  pub sees_page : (l : Log) (text : List ℕ) (it : Listing nine text) (n limit : ℕ) → AsksPage l text it n limit
+      → Sees d old new r (λ rows. Shown text (id_value n ∷ id_value limit ∷ []) old new rows.items)
       → Sees d old new r (λ rows. IsPageRows l n limit d.trees rows.items)
   sees_page l text it n limit asks h =
       sees_so d old new r (λ rows. Shown text (id_value n ∷ id_value limit ∷ []) old new rows.items) (λ rows. IsPageRows l n limit d.trees rows.items)
       (λ old_database rows shown. shown_page l text it n limit asks d old new rows.items old_database is shown) h
 
-pub sees_version : (d : Database) (old new : State) (r : Result (Vec Row Global) Error) → BeginsAsBook d.schema → Sees d old new r (λ rows. Shown SELECT_VERSION.now [] old new rows.items)
+pub sees_version : (d : Database) (old new : State) (r : Result (Vec Row Global) Error) → BeginsAsBook d.schema
+    → Sees d old new r (λ rows. Shown SELECT_VERSION.now [] old new rows.items)
     → Sees d old new r (λ rows. IsPermutation (map (λ r. column r 2 ∷ []) (d.trees schema.meta.tree)) rows.items)
 sees_version d old new r b h =
-    sees_so d old new r (λ rows. Shown SELECT_VERSION.now [] old new rows.items) (λ rows. IsPermutation (map (λ r. column r 2 ∷ []) (d.trees schema.meta.tree)) rows.items)
+    sees_so d old new r (λ rows. Shown SELECT_VERSION.now [] old new rows.items)
+    (λ rows. IsPermutation (map (λ r. column r 2 ∷ []) (d.trees schema.meta.tree)) rows.items)
     (λ old_database rows shown. shown_version d old new rows.items old_database b shown) h

@@ -17,7 +17,8 @@ module _ {X : Type 0} where
   AreApart = IsAscending Differ
 
   -- of images that differ where the members follow one another
-  pub apart_under : {A : Type 0} {S : A → A → Type 0} (f : A → X) (xs : List A) → ((a b : A) → Has xs a → Has xs b → S a b → Differ (f a) (f b)) → IsAscending S xs → AreApart (map f xs)
+  pub apart_under : {A : Type 0} {S : A → A → Type 0} (f : A → X) (xs : List A) → ((a b : A) → Has xs a → Has xs b → S a b → Differ (f a) (f b))
+      → IsAscending S xs → AreApart (map f xs)
   apart_under f [] so up = tt
   apart_under {S = S} f (a ∷ xs) so up = (
     all_map (Differ (f a)) f xs (all_from (λ b. Differ (f a) (f b)) xs (λ b k. so a b (inl refl) (inr k) (all_has (S a) xs b up.0 k))),
@@ -66,5 +67,9 @@ module _ {X : Type 0} where
       let apart : AreApart (front ++ x ∷ back) = subst AreApart at.2 q in
       let rest = same_members xs (front ++ back) p.1 (apart_left x back front apart)
       (λ y h. elim (other x back front y (subst (λ l. Has l y) at.2 (f y (inr h)))) [ inl e ↦ absurd (all_has (Differ x) xs y p.0 h (sym e)) | inr k ↦ k ])
-      (λ y h. elim (g y (subst (λ l. Has l y) (sym at.2) (there x back front y h))) [ inl e ↦ absurd (not_there x back front apart (subst (Has (front ++ back)) e h)) | inr k ↦ k ]) in
-      subst (IsPermutation (x ∷ xs)) (sym at.2) (IsPermutation-trans _ _ _ (IsPermutation-cons x _ _ rest) (IsPermutation-sym _ _ (IsPermutation-middle front x back)))
+      (λ y h. elim (g y (subst (λ l. Has l y) (sym at.2) (there x back front y h))) [
+        | inl e ↦ absurd (not_there x back front apart (subst (Has (front ++ back)) e h))
+        | inr k ↦ k
+      ]) in
+      subst (IsPermutation (x ∷ xs)) (sym at.2)
+      (IsPermutation-trans _ _ _ (IsPermutation-cons x _ _ rest) (IsPermutation-sym _ _ (IsPermutation-middle front x back)))

@@ -29,7 +29,8 @@ module _ {X Y : Type 0} (f : X → Y) where
   map-swap : (xs : List X) (i j : ℕ) → map f (swap xs i j) ≡ swap (map f xs) i j
   map-swap [] i j = refl
   map-swap (d ∷ ys) i j = map-set f (set (d ∷ ys) i (get_or (d ∷ ys) j d)) j (get_or (d ∷ ys) i d)
-      ∙ (λ k. set ((map-set f (d ∷ ys) i (get_or (d ∷ ys) j d) ∙ ap (set (map f (d ∷ ys)) i) (sym (get_or-map f (d ∷ ys) j d))) k) j (sym (get_or-map f (d ∷ ys) i d) k))
+      ∙ (λ k. set ((map-set f (d ∷ ys) i (get_or (d ∷ ys) j d) ∙ ap (set (map f (d ∷ ys)) i) (sym (get_or-map f (d ∷ ys) j d))) k) j
+      (sym (get_or-map f (d ∷ ys) i d) k))
 
   map_swaps : (xs : List X) (ps : List (ℕ × ℕ)) → map f (apply_swaps xs ps) ≡ apply_swaps (map f xs) ps
   map_swaps xs [] = refl
@@ -77,24 +78,30 @@ given_is : (q : Query) (params : Row) (rows : List Row) → map (output q) (map 
 given_is q params rows = map-map (output q) (λ r. params ∷ r ∷ []) rows
 
 -- the first rows, in some order, of those that pass
-pub in_some_order : (t : ℕ) (terms project : List Term) (order : List (Term × Key)) (limit : Term) (db : Trees) (params : Row) (rows : List Row) → IsProgramAnswer [] (asking t terms project order limit) db params rows
-    → (ordered : List Output) × IsPermutation (map (given (asking t terms project order limit) params) (passing params terms (db t))) ordered × (rows ≡ limited (as_count (eval limit (params ∷ []))) (map (λ (o : Output). o.1) ordered))
+pub in_some_order : (t : ℕ) (terms project : List Term) (order : List (Term × Key)) (limit : Term) (db : Trees) (params : Row) (rows : List Row)
+    → IsProgramAnswer [] (asking t terms project order limit) db params rows
+    → (ordered : List Output) × IsPermutation (map (given (asking t terms project order limit) params) (passing params terms (db t))) ordered
+    × (rows ≡ limited (as_count (eval limit (params ∷ []))) (map (λ (o : Output). o.1) ordered))
 in_some_order t terms project order limit db params rows h =
     let q = asking t terms project order limit in
     let a : IsAnswer q (overlay db []) params rows = h Null in
-    let staged = a.grouped ∙ staged_is params terms (overlay db [] t) ∙ ap (λ (l : List Row). map (λ r. params ∷ r ∷ []) (passing params terms l)) (nothing_over db t) in
+    let staged =
+    a.grouped ∙ staged_is params terms (overlay db [] t) ∙ ap (λ (l : List Row). map (λ r. params ∷ r ∷ []) (passing params terms l)) (nothing_over db t) in
     let kept = a.distinct ∙ ap (map (output q)) staged ∙ given_is q params (passing params terms (db t)) in
     (a.ordered, subst (λ k. IsPermutation k a.ordered) kept a.same, a.shown)
 
 -- the first rows in order of those that pass
-pub answered : {R : Type 0} (cmp : R → R → Ordering) (total : IsTotalOrder cmp) (t : ℕ) (terms project : List Term) (order : List (Term × Key)) (limit : Term) (db : Trees) (params : Row) (rows : List Row)
+pub answered : {R : Type 0} (cmp : R → R → Ordering) (total : IsTotalOrder cmp) (t : ℕ) (terms project : List Term) (order : List (Term × Key)) (limit : Term)
+    (db : Trees) (params : Row) (rows : List Row)
     (out : R → Output) (records : List R) → ((a b : R) → output_cmp (asking t terms project order limit) (out a) (out b) ≡ cmp a b) → IsAscending cmp records
     → IsPermutation (map out records) (map (given (asking t terms project order limit) params) (passing params terms (db t)))
-    → IsProgramAnswer [] (asking t terms project order limit) db params rows → rows ≡ limited (as_count (eval limit (params ∷ []))) (map (λ r. (out r).1) records)
+    → IsProgramAnswer [] (asking t terms project order limit) db params rows
+    → rows ≡ limited (as_count (eval limit (params ∷ []))) (map (λ r. (out r).1) records)
 answered cmp total t terms project order limit db params rows out records same up all h =
     let q = asking t terms project order limit in
     let a : IsAnswer q (overlay db []) params rows = h Null in
-    let staged = a.grouped ∙ staged_is params terms (overlay db [] t) ∙ ap (λ (l : List Row). map (λ r. params ∷ r ∷ []) (passing params terms l)) (nothing_over db t) in
+    let staged =
+    a.grouped ∙ staged_is params terms (overlay db [] t) ∙ ap (λ (l : List Row). map (λ r. params ∷ r ∷ []) (passing params terms l)) (nothing_over db t) in
     let kept = a.distinct ∙ ap (map (output q)) staged ∙ given_is q params (passing params terms (db t)) in
     let moved : IsPermutation (map out records) a.ordered = IsPermutation-trans _ _ _ all (subst (λ k. IsPermutation k a.ordered) kept a.same) in
     let is = only_order cmp total (output_cmp q) out same records a.ordered up moved a.sorted in

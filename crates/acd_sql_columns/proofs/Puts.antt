@@ -44,7 +44,8 @@ number_kept rows row n h = subst (λ k. with_rowid Chosen rows k ≡ k) (sym h) 
 
 -- ---- INSERT
 
-pub inserts : {R : Type 0} (schema : Schema) (text : List ℕ) (key : R → ℕ) (row params : R → Row) (i : Inserts schema text key row params) (r : R) (rs : List R) (old new : State) (count : ℕ)
+pub inserts : {R : Type 0} (schema : Schema) (text : List ℕ) (key : R → ℕ) (row params : R → Row) (i : Inserts schema text key row params) (r : R) (rs : List R)
+    (old new : State) (count : ℕ)
     → old.now.schema ≡ schema → old.now.trees i.it.layout.tree ≡ map row rs → Executes text (params r) old new (Ok count)
     → Replaces schema i.it.layout.tree (map row (put_by (by_key key r) rs r)) old new
 inserts schema text key row params i r rs old new count has is ran =
@@ -60,19 +61,31 @@ inserts schema text key row params i r rs old new count has is ran =
 -- ---- the row that has a record's key, changed into the record's
 
 module _ {R : Type 0} (layout : Layout) (key : R → ℕ) (row : R → Row) (files : Files layout key row) (given : Row) (tests project : List Term) (r : R)
-    (finds : (y : R) → list_all (holds (given ∷ row y ∷ [])) tests ≡ (key y == key r)) (shows : (y : R) → showing given project (row y) ≡ id_value (key y) ∷ id_value (key y) ∷ drop 1 (row r)) where
+    (finds : (y : R) → list_all (holds (given ∷ row y ∷ [])) tests ≡ (key y == key r))
+    (shows : (y : R) → showing given project (row y) ≡ id_value (key y) ∷ id_value (key y) ∷ drop 1 (row r)) where
   numbered : (y : R) → rowid (row y) ≡ id_value (key y)
   numbered = keyed_by layout key row files
 
-  pub one_changed : (x : R) (rs : List R) (db : Trees) (rows : List Row) → db layout.tree ≡ map row rs → IsAscending (by_key key) rs → Among x rs → key x ≡ key r
+  pub one_changed : (x : R) (rs : List R) (db : Trees) (rows : List Row) → db layout.tree ≡ map row rs → IsAscending (by_key key) rs → Among x rs
+      → key x ≡ key r
       → IsPermutation (map (showing given project) (passing given tests (db layout.tree))) rows
       → edited db (edit_of db (table_of layout) (ids_of rows) Given 1 rows) ≡ map row (put_by (by_key key r) rs r)
   one_changed x rs db rows is up at same found =
-      let one = ap (passing given tests) is ∙ found_rows key row numbered (λ y. key y == key r) (λ a b e. ap (λ k. k == key r) e) given tests finds rs ∙ ap (map row) (only_one key r x rs up at same) in
-      let shown_one : showing given project (row x) ≡ id_value (key x) ∷ row r = shows x ∙ ap (λ k. id_value (key x) ∷ id_value k ∷ drop 1 (row r)) same ∙ ap (λ k. id_value (key x) ∷ k) (sym (files.headed r)) in
-      let rows_are : rows ≡ (id_value (key x) ∷ row r) ∷ [] = one_permutation _ rows (subst (λ l. IsPermutation l rows) (ap (map (showing given project)) one ∙ ap (λ k. k ∷ []) shown_one) found) in
-      let out = taken_out key row numbered (λ y. key y == key r) (λ a b e. ap (λ k. k == key r) e) given tests finds project (λ y. ap rowid (shows y)) rs (db layout.tree) rows is found in
-      let news = ap (λ l. put_all (without_all (db layout.tree) (ids_of rows)) (numbered_by Given (without_all (db layout.tree) (ids_of rows)) (map (λ s. cast_row (table_of layout) (drop 1 s)) l))) rows_are in
+      let one =
+      ap (passing given tests) is ∙ found_rows key row numbered (λ y. key y == key r) (λ a b e. ap (λ k. k == key r) e) given tests finds rs
+      ∙ ap (map row) (only_one key r x rs up at same) in
+      let shown_one : showing given project (row x) ≡ id_value (key x) ∷ row r =
+      shows x ∙ ap (λ k. id_value (key x) ∷ id_value k ∷ drop 1 (row r)) same ∙ ap (λ k. id_value (key x) ∷ k) (sym (files.headed r)) in
+      let rows_are : rows ≡ (id_value (key x) ∷ row r) ∷ [] =
+      one_permutation _ rows (subst (λ l. IsPermutation l rows) (ap (map (showing given project)) one ∙ ap (λ k. k ∷ []) shown_one) found) in
+      let out =
+      taken_out key row numbered (λ y. key y == key r) (λ a b e. ap (λ k. k == key r) e) given tests finds project (λ y. ap rowid (shows y)) rs
+      (db layout.tree) rows is found in
+      let news =
+      ap
+      (λ l. put_all (without_all (db layout.tree) (ids_of rows))
+      (numbered_by Given (without_all (db layout.tree) (ids_of rows)) (map (λ s. cast_row (table_of layout) (drop 1 s)) l)))
+      rows_are in
       let cast = ap (λ k. put_row k (without_all (db layout.tree) (ids_of rows))) (files.casts r) in
       news ∙ cast ∙ ap (put_row (row r)) out ∙ puts key row numbered r (filter (λ y. not (key y == key r)) rs) ∙ ap (map row) (put_left key r rs up)
 
@@ -88,10 +101,13 @@ pub record Put {R : Type 0} (schema : Schema) (tree : ℕ) (key : R → ℕ) (ro
   pub replaces : Replaces schema tree (map row (put_by (by_key key r) rs r)) old new
   pub are_rows : AreRows key row (map row (put_by (by_key key r) rs r)) (put_by (by_key key r) rs r)
 
-pub are_put : {R : Type 0} (key : R → ℕ) (row : R → Row) (r : R) (rs : List R) → IsAscending (by_key key) rs → AreRows key row (map row (put_by (by_key key r) rs r)) (put_by (by_key key r) rs r)
+pub are_put : {R : Type 0} (key : R → ℕ) (row : R → Row) (r : R) (rs : List R) → IsAscending (by_key key) rs
+    → AreRows key row (map row (put_by (by_key key r) rs r)) (put_by (by_key key r) rs r)
 are_put key row r rs up = record { rows_are = refl; ascending = ascending-put (by_key key) (by_key_total key) r rs up }
 
-pub inserted_row : {R : Type 0} (schema : Schema) (text : List ℕ) (key : R → ℕ) (row params : R → Row) (i : Inserts schema text key row params) (r : R) (rs : List R) (old new : State) (count : ℕ)
-    → old.now.schema ≡ schema → AreRows key row (old.now.trees i.it.layout.tree) rs → Executes text (params r) old new (Ok count) → Put schema i.it.layout.tree key row r rs old new
+pub inserted_row : {R : Type 0} (schema : Schema) (text : List ℕ) (key : R → ℕ) (row params : R → Row) (i : Inserts schema text key row params) (r : R)
+    (rs : List R) (old new : State) (count : ℕ)
+    → old.now.schema ≡ schema → AreRows key row (old.now.trees i.it.layout.tree) rs → Executes text (params r) old new (Ok count)
+    → Put schema i.it.layout.tree key row r rs old new
 inserted_row schema text key row params i r rs old new count has are ran =
     record { replaces = inserts schema text key row params i r rs old new count has are.rows_are ran; are_rows = are_put key row r rs are.ascending }

@@ -18,7 +18,8 @@ use Rattle.acd_sql_columns.specs.Transactions.{HoldsContent, Quiet, NoStop}
 use Rattle.acd_sql_columns.proofs.Endings.{holds_still, rolled_back}
 use Rattle.acd_sql_columns.proofs.Listings.{schema_is}
 
-fails_show : (old new : State) (sql : List ℕ) (c : Compiled) (params : Row) (e : Error) (r : Option Returning) → FailsToShow old new sql c params e r → IsUnchanged old new ⊎ IsRolledBack old new
+fails_show : (old new : State) (sql : List ℕ) (c : Compiled) (params : Row) (e : Error) (r : Option Returning) → FailsToShow old new sql c params e r
+    → IsUnchanged old new ⊎ IsRolledBack old new
 fails_show old new sql c params e None h = inl h.3
 fails_show old new sql c params e (Some what) (inl refused) = inl refused.1
 fails_show old new sql c params e (Some what) (inr failed) = inr failed.3
@@ -29,7 +30,8 @@ fails_query sql params old new e (inl (inl none)) = inl none.1
 fails_query sql params old new e (inl (inr failed)) = inr failed.3
 fails_query sql params old new e (inr ran) = fails_show old new sql ran.0 _ e ran.0.returning ran.2
 
-shows_open : (old new : State) (sql : List ℕ) (c : Compiled) (params : Row) (rows : List Row) (r : Option Returning) → ShowsRows old new sql c params rows r → IsTrue old.is_open × IsTrue new.is_open
+shows_open : (old new : State) (sql : List ℕ) (c : Compiled) (params : Row) (rows : List Row) (r : Option Returning) → ShowsRows old new sql c params rows r
+    → IsTrue old.is_open × IsTrue new.is_open
 shows_open old new sql c params rows None h = (h.3.0.was_open, h.3.0.is_open)
 shows_open old new sql c params rows (Some what) h = (h.1.shown.was_open, h.1.shown.is_open)
 
@@ -37,13 +39,15 @@ pub shown_open : (sql : List ℕ) (params : Row) (old new : State) (rows : List 
 unfolding Shown
 shown_open sql params old new rows h = shows_open old new sql h.0 _ rows h.0.returning h.2
 
-pub shown_same : (sql : List ℕ) (params : Row) (old new : State) (rows : List Row) → IsPlain (understood old.now.schema sql) → Shown sql params old new rows → IsUnchanged old new
+pub shown_same : (sql : List ℕ) (params : Row) (old new : State) (rows : List Row) → IsPlain (understood old.now.schema sql) → Shown sql params old new rows
+    → IsUnchanged old new
 unfolding Shown
 shown_same sql params old new rows plain h =
     let none = (subst IsPlain h.1.is plain).0 in
     (subst (ShowsRows old new sql h.0 _ rows) none h.2).3
 
-pub row_same : (sql : List ℕ) (params : Row) (old new : State) (row : Row) → IsPlain (understood old.now.schema sql) → QueriesRow sql params old new (Ok row) → IsUnchanged old new
+pub row_same : (sql : List ℕ) (params : Row) (old new : State) (row : Row) → IsPlain (understood old.now.schema sql) → QueriesRow sql params old new (Ok row)
+    → IsUnchanged old new
 unfolding QueriesRow
 row_same sql params old new row plain (inl h) = h.1
 row_same sql params old new row plain (inr h) = shown_same sql params old new h.0 plain h.1
@@ -63,7 +67,10 @@ module _ (old new : State) {P : Trees → Type 0} (s : Survives old new P) where
   quiet_failed ends = record {
     clean = λ k. omega (arith, s.clean);
     was_open = λ k up. elim (ends k) [ inl same ↦ same.0.was_open | inr back ↦ back.was_open up ];
-    same = λ k c h up. elim (ends k) [ inl same ↦ holds_same old new c same h | inr back ↦ rolled_back old old new c h (record { was_open = λ x. x; committed = λ x. refl }) back up ];
+    same = λ k c h up. elim (ends k) [
+      | inl same ↦ holds_same old new c same h
+      | inr back ↦ rolled_back old old new c h (record { was_open = λ x. x; committed = λ x. refl }) back up
+    ];
   }
 
   -- where nothing that it might commit is possible
@@ -74,7 +81,8 @@ pub plain_at : (sql : List ℕ) (old : State) (c : Content) → IsPlain (underst
 plain_at sql old c plain h = subst (λ s. IsPlain (understood s sql)) (sym (schema_is old c h)) plain
 
 -- all rows of an answer, or a failure
-pub quiet_query : (sql : List ℕ) (params : Row) (old new : State) {P : Trees → Type 0} (r : Result (Vec Row Global) Error) → IsPlain (understood book_schema sql) → Survives old new P
+pub quiet_query : (sql : List ℕ) (params : Row) (old new : State) {P : Trees → Type 0} (r : Result (Vec Row Global) Error)
+    → IsPlain (understood book_schema sql) → Survives old new P
     → (HasCleanDisk new → IfOk r (λ rows. Shown sql params old new rows.items)) → (HasCleanDisk new → IfErr r (FailsToQuery sql params old new)) → Quiet old new
 quiet_query sql params old new (Err e) plain s ok err = quiet_failed old new s (λ k. fails_query sql params old new e (err k))
 quiet_query sql params old new (Ok rows) plain s ok err = record {
@@ -83,12 +91,14 @@ quiet_query sql params old new (Ok rows) plain s ok err = record {
   same = λ k c h up. holds_same old new c (shown_same sql params old new rows.items (plain_at sql old c plain h) (ok k)) h;
 }
 
-pub row_fails : (sql : List ℕ) (params : Row) (old new : State) (e : Error) → IsPlain (understood old.now.schema sql) → QueriesRow sql params old new (Err e) → IsUnchanged old new ⊎ IsRolledBack old new
+pub row_fails : (sql : List ℕ) (params : Row) (old new : State) (e : Error) → IsPlain (understood old.now.schema sql) → QueriesRow sql params old new (Err e)
+    → IsUnchanged old new ⊎ IsRolledBack old new
 unfolding QueriesRow
 row_fails sql params old new e plain (inl h) = fails_query sql params old new e h
 row_fails sql params old new e plain (inr h) = inl (shown_same sql params old new [] plain h.1)
 
-pub query_up : (sql : List ℕ) (params : Row) (old new : State) (r : Result (Vec Row Global) Error) → IfOk r (λ rows. Shown sql params old new rows.items) → OnOk r (IsTrue new.is_open)
+pub query_up : (sql : List ℕ) (params : Row) (old new : State) (r : Result (Vec Row Global) Error) → IfOk r (λ rows. Shown sql params old new rows.items)
+    → OnOk r (IsTrue new.is_open)
 query_up sql params old new (Err e) h = tt
 query_up sql params old new (Ok rows) h = (shown_open sql params old new rows.items h).1
 

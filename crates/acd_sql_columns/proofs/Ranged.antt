@@ -103,7 +103,8 @@ module _ (r : Row) (at : ℕ) where
   pub or_none_stored : {A : Type 0} (read : Row → ℕ → Option A) (value : A → Value) → ((x : A) → read r at ≡ Some x → column r at ≡ value x)
       → (o : Option A) → or_none read r at ≡ Some o → column r at ≡ or_null value o
   or_none_stored {A = A} read value stored o h =
-      (elim (is_null (column r at)) as (λ b. is_null (column r at) ≡ b → cond b (Some None) (option_map Some (read r at)) ≡ Some o → column r at ≡ or_null value o) [
+      (elim (is_null (column r at)) as (λ b. is_null (column r at) ≡ b → cond b (Some None) (option_map Some (read r at)) ≡ Some o
+      → column r at ≡ or_null value o) [
         | true ↦ λ e k. subst (λ x. column r at ≡ or_null value x) (some_is None o k) (null_is (column r at) e)
         | false ↦ λ e k. go (read r at) refl k
       ]) refl h

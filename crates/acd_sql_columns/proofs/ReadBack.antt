@@ -107,7 +107,8 @@ module _ {R : Type 0} where
   wide [] x = refl
   wide (f ∷ fs) x = ap suc (wide fs x)
 
-  cells_again : (fs : List (Field R)) (make : Makes R fs) (row : Row) (at : ℕ) (x : R) → AllIn fs x → cells at (length fs) row ≡ written fs x → Remade fs make x → read_from fs make row at ≡ Some x
+  cells_again : (fs : List (Field R)) (make : Makes R fs) (row : Row) (at : ℕ) (x : R) → AllIn fs x → cells at (length fs) row ≡ written fs x → Remade fs make x
+      → read_from fs make row at ≡ Some x
   cells_again [] make row at x all are same = ap Some same
   cells_again (f ∷ fs) make row at x all are same =
       ap (λ o. o >>= (λ v. read_from fs (make v) row (suc at))) (column_again f.column (f.get x) all.0 row at (head_is _ _ _ _ are))
@@ -116,4 +117,5 @@ module _ {R : Type 0} where
   pub read_again : (fs : List (Field R)) (make : Makes R fs) (x : R) → Remade fs make x → AllIn fs x → read_whole fs make (written fs x) ≡ Some x
   read_again fs make x same all =
       let width : (length (written fs x) == length fs) ≡ true = eq-eqb (length (written fs x)) (length fs) (wide fs x) in
-      ap (λ b. cond b (read_from fs make (written fs x) 0) None) width ∙ cells_again fs make (written fs x) 0 x all (sym (row_is (length fs) (written fs x) width)) same
+      ap (λ b. cond b (read_from fs make (written fs x) 0) None) width
+      ∙ cells_again fs make (written fs x) 0 x all (sym (row_is (length fs) (written fs x) width)) same

@@ -96,16 +96,20 @@ module _ {P A : Type 0} (key : P → ℕ) (order : P → P → Ordering) (le : (
   others_same n m (p ∷ ps) e = by (key p == n) refl (others_same n m ps e)
     where
       by : (b : Bool) → (key p == n) ≡ b → filter (of_key m) (filter (not_key n) ps) ≡ filter (of_key m) ps
-          → filter (of_key m) (cond (not b) (p ∷ filter (not_key n) ps) (filter (not_key n) ps)) ≡ cond (key p == m) (p ∷ filter (of_key m) ps) (filter (of_key m) ps)
+          → filter (of_key m) (cond (not b) (p ∷ filter (not_key n) ps) (filter (not_key n) ps))
+          ≡ cond (key p == m) (p ∷ filter (of_key m) ps) (filter (of_key m) ps)
       by true h more = more ∙ ap (λ b. cond b (p ∷ filter (of_key m) ps) (filter (of_key m) ps)) (sym (ap (λ k. k == m) (eqb-true (key p) n h) ∙ e))
       by false h more = ap (λ l. cond (key p == m) (p ∷ l) l) more
 
-  without_one : (n : ℕ) (items : List A) (ps : List P) → ((a : A) → Among a items → (n == number a) ≡ false) → in_turn items (filter (not_key n) ps) ≡ in_turn items ps
+  without_one : (n : ℕ) (items : List A) (ps : List P) → ((a : A) → Among a items → (n == number a) ≡ false)
+      → in_turn items (filter (not_key n) ps) ≡ in_turn items ps
   without_one n [] ps other = refl
-  without_one n (a ∷ items) ps other = ap₂ (λ xs ys. xs ++ ys) (others_same n (number a) ps (other a (inl refl))) (without_one n items ps (λ b h. other b (inr h)))
+  without_one n (a ∷ items) ps other =
+      ap₂ (λ xs ys. xs ++ ys) (others_same n (number a) ps (other a (inl refl))) (without_one n items ps (λ b h. other b (inr h)))
 
   -- in turn they are all of them
-  turned : (items : List A) (ps : List P) → IsAscending rising items → IsAscending order ps → ((p : P) → Among p ps → (a : A) × Among a items × (number a ≡ key p)) → in_turn items ps ≡ ps
+  turned : (items : List A) (ps : List P) → IsAscending rising items → IsAscending order ps
+      → ((p : P) → Among p ps → (a : A) × Among a items × (number a ≡ key p)) → in_turn items ps ≡ ps
   turned [] ps up rise there = sym (none_there ps (λ p h. (there p h).1))
   turned (a ∷ items) ps up rise there =
       ap (λ l. filter (of_key (number a)) ps ++ l)
@@ -118,7 +122,8 @@ module _ {P A : Type 0} (key : P → ℕ) (order : P → P → Ordering) (le : (
           let was = filter_among (not_key (number a)) ps p h in
           let from = there p was.0 in
           elim from.1 [
-            | inl e ↦ absurd (let same : (key p == number a) ≡ true = eq-eqb (key p) (number a) (sym from.2 ∙ ap number e) in let never : (not true) ≡ true = sym (ap not same) ∙ was.1 in cc never)
+            | inl e ↦ absurd (let same : (key p == number a) ≡ true = eq-eqb (key p) (number a) (sym from.2 ∙ ap number e) in
+                let never : (not true) ≡ true = sym (ap not same) ∙ was.1 in cc never)
             | inr k ↦ (from.0, k, from.2)
           ]
 
@@ -126,7 +131,10 @@ module _ {P A : Type 0} (key : P → ℕ) (order : P → P → Ordering) (le : (
       low p h =
           let from = there p h in
           subst (λ n. nat_lt n (number a) ≡ false) from.2
-          (elim from.1 [ inl e ↦ not_below (number from.0) (number a) (ap number e) | inr k ↦ less_lt (number a) (number from.0) (after_among rising a items from.0 up.0 k) ])
+          (elim from.1 [
+            | inl e ↦ not_below (number from.0) (number a) (ap number e)
+            | inr k ↦ less_lt (number a) (number from.0) (after_among rising a items from.0 up.0 k)
+          ])
 
 -- ---- groups of one agent
 
@@ -149,15 +157,19 @@ in_front g (p ∷ ps) all = (all p (inl refl), in_front g ps (λ q h. all q (inr
 second_below : (p q : ℕ × ℕ) → p.0 ≡ q.0 → pair_order p q ≡ Less → nat_cmp p.1 q.1 ≡ Less
 second_below p q e h = sym (ap (λ o. ordering_then o (nat_cmp p.1 q.1)) (cmp_self p.0 q.0 e)) ∙ h
 
-seconds_rise : (n : ℕ) (ps : List (ℕ × ℕ)) → ((p : ℕ × ℕ) → Among p ps → p.0 ≡ n) → IsAscending pair_order ps → IsAscending nat_cmp (map (λ (p : ℕ × ℕ). p.1) ps)
+seconds_rise : (n : ℕ) (ps : List (ℕ × ℕ)) → ((p : ℕ × ℕ) → Among p ps → p.0 ≡ n) → IsAscending pair_order ps
+    → IsAscending nat_cmp (map (λ (p : ℕ × ℕ). p.1) ps)
 seconds_rise n [] all up = tt
-seconds_rise n (p ∷ ps) all up =
-    (in_front p.1 ps (λ q h. second_below p q (all p (inl refl) ∙ sym (all q (inr h))) (after_among pair_order p ps q up.0 h)), seconds_rise n ps (λ q h. all q (inr h)) up.1)
+seconds_rise n (p ∷ ps) all up = (
+  in_front p.1 ps (λ q h. second_below p q (all p (inl refl) ∙ sym (all q (inr h))) (after_among pair_order p ps q up.0 h)),
+  seconds_rise n ps (λ q h. all q (inr h)) up.1,
+)
 
 -- ---- agents
 
 module _ (agents : List AgentRow) (pairs : List (ℕ × ℕ)) (up : IsAscending agent_order agents) (after : are_after agents pairs ≡ true) where
-  both : (list_all (λ (p : ℕ × ℕ). list_any (λ (a : AgentRow). is_after a p) agents) pairs ≡ true) × (list_all (λ (a : AgentRow). nat_le (length (groups_beside pairs a.agent)) 7) agents ≡ true)
+  both : (list_all (λ (p : ℕ × ℕ). list_any (λ (a : AgentRow). is_after a p) agents) pairs ≡ true)
+      × (list_all (λ (a : AgentRow). nat_le (length (groups_beside pairs a.agent)) 7) agents ≡ true)
   both = and_parts _ _ after
 
   seat : (p : ℕ × ℕ) → Among p pairs → (a : AgentRow) × Among a agents × (is_after a p ≡ true)
@@ -172,7 +184,9 @@ module _ (agents : List AgentRow) (pairs : List (ℕ × ℕ)) (up : IsAscending 
       let was = filter_among (of_agent a.agent) pairs p k in
       let from = seat p was.0 in
       let parts = and_parts (from.0.agent == p.0) (is_above from.0.group p.1) from.2 in
-      let same = one_of agent_order (on_total (λ (x : AgentRow). x.agent) nat_cmp_total) agents from.0 a up from.1 h (cmp_self from.0.agent a.agent (eqb-true from.0.agent p.0 parts.0 ∙ eqb-true p.0 a.agent was.1)) in
+      let same =
+      one_of agent_order (on_total (λ (x : AgentRow). x.agent) nat_cmp_total) agents from.0 a up from.1 h
+      (cmp_self from.0.agent a.agent (eqb-true from.0.agent p.0 parts.0 ∙ eqb-true p.0 a.agent was.1)) in
       subst (λ (x : AgentRow). is_above x.group p.1 ≡ true) same parts.1
 
   none_beside : (a : AgentRow) → Among a agents → a.group ≡ None → filter (of_agent a.agent) pairs ≡ []
@@ -183,15 +197,18 @@ module _ (agents : List AgentRow) (pairs : List (ℕ × ℕ)) (up : IsAscending 
   rejoin n (p ∷ ps) = by (p.0 == n) refl (rejoin n ps)
     where
       by : (b : Bool) → (p.0 == n) ≡ b → map (λ (g : ℕ). (n, g)) (map (λ (q : ℕ × ℕ). q.1) (filter (of_agent n) ps)) ≡ filter (of_agent n) ps
-          → map (λ (g : ℕ). (n, g)) (map (λ (q : ℕ × ℕ). q.1) (cond b (p ∷ filter (of_agent n) ps) (filter (of_agent n) ps))) ≡ cond b (p ∷ filter (of_agent n) ps) (filter (of_agent n) ps)
+          → map (λ (g : ℕ). (n, g)) (map (λ (q : ℕ × ℕ). q.1) (cond b (p ∷ filter (of_agent n) ps) (filter (of_agent n) ps)))
+          ≡ cond b (p ∷ filter (of_agent n) ps) (filter (of_agent n) ps)
       by true e more = ap₂ (λ x l. (x, p.1) ∷ l) (sym (eqb-true p.0 n e)) more
       by false e more = more
 
   further_one : (a : AgentRow) → Among a agents → further_of (joined_agent pairs a) ≡ filter (of_agent a.agent) pairs
   further_one a h = by a.group refl
     where
-      by : (o : Option ℕ) → a.group ≡ o → map (λ (g : ℕ). (a.agent, g)) (further_groups (after_first o (groups_beside pairs a.agent))) ≡ filter (of_agent a.agent) pairs
-      by None e = ap (λ (ps : List (ℕ × ℕ)). map (λ (g : ℕ). (a.agent, g)) (further_groups (map (λ (p : ℕ × ℕ). p.1) ps))) (none_beside a h e) ∙ sym (none_beside a h e)
+      by : (o : Option ℕ) → a.group ≡ o
+          → map (λ (g : ℕ). (a.agent, g)) (further_groups (after_first o (groups_beside pairs a.agent))) ≡ filter (of_agent a.agent) pairs
+      by None e =
+          ap (λ (ps : List (ℕ × ℕ)). map (λ (g : ℕ). (a.agent, g)) (further_groups (map (λ (p : ℕ × ℕ). p.1) ps))) (none_beside a h e) ∙ sym (none_beside a h e)
       by (Some g) e = rejoin a.agent pairs
 
   part_one : (a : AgentRow) → Among a agents → agent_part (joined_agent pairs a) ≡ a
@@ -201,7 +218,8 @@ module _ (agents : List AgentRow) (pairs : List (ℕ × ℕ)) (up : IsAscending 
       by None e = ap (λ (ps : List (ℕ × ℕ)). least_group (map (λ (p : ℕ × ℕ). p.1) ps)) (none_beside a h e)
       by (Some g) e = refl
 
-  all_further : (bs : List AgentRow) → ((a : AgentRow) → Among a bs → Among a agents) → further_in (map (joined_agent pairs) bs) ≡ in_turn (λ (p : ℕ × ℕ). p.0) pair_order first_le (λ (a : AgentRow). a.agent) bs pairs
+  all_further : (bs : List AgentRow) → ((a : AgentRow) → Among a bs → Among a agents)
+      → further_in (map (joined_agent pairs) bs) ≡ in_turn (λ (p : ℕ × ℕ). p.0) pair_order first_le (λ (a : AgentRow). a.agent) bs pairs
   all_further [] all = refl
   all_further (a ∷ bs) all = ap₂ (λ xs ys. xs ++ ys) (further_one a (all a (inl refl))) (all_further bs (λ b h. all b (inr h)))
 
@@ -226,10 +244,12 @@ module _ (agents : List AgentRow) (pairs : List (ℕ × ℕ)) (up : IsAscending 
           (one_more_few (length (groups_beside pairs a.agent)) (all_true (λ (x : AgentRow). nat_le (length (groups_beside pairs x.agent)) 7) agents both.1 a h))
           (ascends_so (g ∷ groups_beside pairs a.agent) (
             in_front g (filter (of_agent a.agent) pairs) (λ p k. lt_less g p.1 (sym (ap (λ o. is_above o p.1) e) ∙ above a h p k)),
-            seconds_rise a.agent (filter (of_agent a.agent) pairs) (λ p k. eqb-true p.0 a.agent (filter_among (of_agent a.agent) pairs p k).1) (ascending-filter pair_order (of_agent a.agent) pairs rise),
+            seconds_rise a.agent (filter (of_agent a.agent) pairs) (λ p k. eqb-true p.0 a.agent (filter_among (of_agent a.agent) pairs p k).1)
+                (ascending-filter pair_order (of_agent a.agent) pairs rise),
           ))
 
-  all_right : IsAscending pair_order pairs → (bs : List AgentRow) → ((a : AgentRow) → Among a bs → Among a agents) → Every (λ (a : AgentRecord). are_groups a.groups ≡ true) (map (joined_agent pairs) bs)
+  all_right : IsAscending pair_order pairs → (bs : List AgentRow) → ((a : AgentRow) → Among a bs → Among a agents)
+      → Every (λ (a : AgentRecord). are_groups a.groups ≡ true) (map (joined_agent pairs) bs)
   all_right rise [] all = tt
   all_right rise (a ∷ bs) all = (one_right rise a (all a (inl refl)), all_right rise bs (λ b h. all b (inr h)))
 
@@ -258,7 +278,8 @@ abbrev rank_or_none : ℕ → ℕ → List GroupPriority
 rank_or_none n r = cond (r == 0) [] (record { device = n; priority = r } ∷ [])
 
 -- the row of a group is its priority, and there is none where that is 0
-one_rank : (n : ℕ) (ps : List GroupPriority) → IsAscending by_rank ps → ((p : GroupPriority) → Among p ps → (p.priority == 0) ≡ false) → rank_or_none n (priority_of ps n) ≡ filter (of_device n) ps
+one_rank : (n : ℕ) (ps : List GroupPriority) → IsAscending by_rank ps → ((p : GroupPriority) → Among p ps → (p.priority == 0) ≡ false)
+    → rank_or_none n (priority_of ps n) ≡ filter (of_device n) ps
 one_rank n [] up some = refl
 one_rank n (p ∷ ps) up some = by (p.device == n) refl (one_rank n ps up.1 (λ q h. some q (inr h)))
   where
@@ -267,10 +288,12 @@ one_rank n (p ∷ ps) up some = by (p.device == n) refl (one_rank n ps up.1 (λ 
     by true e more =
         ap (λ c. cond c [] (record { device = n; priority = p.priority } ∷ [])) (some p (inl refl))
         ∙ ap₂ (λ d l. (record { device = d; priority = p.priority }) ∷ l) (sym (eqb-true p.device n e))
-        (sym (filter_none (of_device n) ps (λ q h. sym (ap (λ k. q.device == k) (eqb-true p.device n e)) ∙ apart p.device q.device (after_among by_rank p ps q up.0 h))))
+        (sym (filter_none (of_device n) ps
+        (λ q h. sym (ap (λ k. q.device == k) (eqb-true p.device n e)) ∙ apart p.device q.device (after_among by_rank p ps q up.0 h))))
     by false e more = more
 
-module _ (groups : List GroupRow) (ps : List GroupPriority) (up : IsAscending by_device groups) (rise : IsAscending by_rank ps) (some : (p : GroupPriority) → Among p ps → (p.priority == 0) ≡ false) (known : are_of_groups groups ps ≡ true) where
+module _ (groups : List GroupRow) (ps : List GroupPriority) (up : IsAscending by_device groups) (rise : IsAscending by_rank ps)
+    (some : (p : GroupPriority) → Among p ps → (p.priority == 0) ≡ false) (known : are_of_groups groups ps ≡ true) where
   abbrev ranks_of : List GroupRow → List GroupPriority
   ranks_of gs = in_turn (λ (p : GroupPriority). p.device) by_rank rank_le (λ (g : GroupRow). g.device) gs ps
 
@@ -283,11 +306,16 @@ module _ (groups : List GroupRow) (ps : List GroupPriority) (up : IsAscending by
 
   all_ranks : (gs : List GroupRow) → priorities_in (map (joined_group ps) gs) ≡ ranks_of gs
   all_ranks [] = refl
-  all_ranks (g ∷ gs) = with_more g.device (priority_of ps g.device) (priorities_in (map (joined_group ps) gs)) ∙ ap₂ (λ xs ys. xs ++ ys) (one_rank g.device ps rise some) (all_ranks gs)
+  all_ranks (g ∷ gs) =
+      with_more g.device (priority_of ps g.device) (priorities_in (map (joined_group ps) gs))
+      ∙ ap₂ (λ xs ys. xs ++ ys) (one_rank g.device ps rise some) (all_ranks gs)
 
   pub priorities_rejoined : priorities_in (map (joined_group ps) groups) ≡ ps
   priorities_rejoined =
       all_ranks groups
       ∙ turned (λ (p : GroupPriority). p.device) by_rank rank_le (λ (g : GroupRow). g.device) groups ps up rise
       (λ p h.
-      let from = any_among (λ (g : GroupRow). g.device == p.device) groups (all_true (λ (q : GroupPriority). list_any (λ (g : GroupRow). g.device == q.device) groups) ps known p h) in (from.0, from.1, eqb-true from.0.device p.device from.2))
+      let from =
+      any_among (λ (g : GroupRow). g.device == p.device) groups
+      (all_true (λ (q : GroupPriority). list_any (λ (g : GroupRow). g.device == q.device) groups) ps known p h) in
+      (from.0, from.1, eqb-true from.0.device p.device from.2))

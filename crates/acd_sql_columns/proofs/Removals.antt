@@ -31,14 +31,20 @@ pub record Removed {R : Type 0} (schema : Schema) (tree : ℕ) (key : R → ℕ)
 both_equal : (n x y : ℕ) → (x == n) ≡ true → (y == n) ≡ true → nat_cmp x y ≡ Equal
 both_equal n x y h k = grind (arith, nat_tests)
 
-pub removed_row : {R : Type 0} (schema : Schema) (text : List ℕ) (key : R → ℕ) (row : R → Row) (d : Removes schema text key row) (n : ℕ) (rs : List R) (old new : State) (count : ℕ)
-    → old.now.schema ≡ schema → AreRows key row (old.now.trees d.it.layout.tree) rs → Executes text (id_value n ∷ []) old new (Ok count) → Removed schema d.it.layout.tree key row n rs old new
+pub removed_row : {R : Type 0} (schema : Schema) (text : List ℕ) (key : R → ℕ) (row : R → Row) (d : Removes schema text key row) (n : ℕ) (rs : List R)
+    (old new : State) (count : ℕ)
+    → old.now.schema ≡ schema → AreRows key row (old.now.trees d.it.layout.tree) rs → Executes text (id_value n ∷ []) old new (Ok count)
+    → Removed schema d.it.layout.tree key row n rs old new
 removed_row {R = R} schema text key row d n rs old new count has are ran =
     let db = old.now.trees in
     let made = deleted schema text d.it (id_value n ∷ []) old new count has ran in
     let keyed = λ (r : R). ap (λ (k : Row). column k 0) (d.files.headed r) in
-    let left = taken_out key row keyed (λ x. key x == n) (λ a b e. ap (λ k. k == n) e) (id_value n ∷ []) d.it.terms (λ r. d.finds r n) (col 1 0 ∷ []) keyed rs (db d.it.layout.tree) made.rows are.rows_are made.found in
-    let rest = sym (remove_is (by_key key) (λ x. nat_cmp n (key x)) (λ x. key x == n) (λ x. key_is n (key x)) (λ y z. both_equal n (key y) (key z)) rs are.ascending) in
+    let left =
+    taken_out key row keyed (λ x. key x == n) (λ a b e. ap (λ k. k == n) e) (id_value n ∷ []) d.it.terms (λ r. d.finds r n) (col 1 0 ∷ []) keyed rs
+    (db d.it.layout.tree) made.rows are.rows_are made.found in
+    let rest =
+    sym (remove_is (by_key key) (λ x. nat_cmp n (key x)) (λ x. key x == n) (λ x. key_is n (key x)) (λ y z. both_equal n (key y) (key z)) rs
+    are.ascending) in
     record {
       replaces = replaces schema old new (deletion_edit d.it made.rows db) _ made.changed (left ∙ ap (map row) rest);
       are_rows = record { rows_are = refl; ascending = ascending-remove (by_key key) (λ x. nat_cmp n (key x)) rs are.ascending };

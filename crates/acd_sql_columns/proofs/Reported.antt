@@ -78,31 +78,70 @@ busy_is (Some cause.Busy) h k = refl
 abbrev with_columns : EventKind → (d c a g t : Option ℕ) → Option Cause → Option ℕ → Columns
 with_columns k d c a g t w s = record { kind = k; device = d; call = c; agent = a; group = g; to = t; cause = w; waited = s }
 
-same : (k : EventKind) {d d' c c' a a' g g' t t' : Option ℕ} {w w' : Option Cause} {s s' : Option ℕ} → d ≡ d' → c ≡ c' → a ≡ a' → g ≡ g' → t ≡ t' → w ≡ w' → s ≡ s'
-    → with_columns k d c a g t w s ≡ with_columns k d' c' a' g' t' w' s'
-same k e1 e2 e3 e4 e5 e6 e7 = rw (e1, e2, e3, e4, e5, e6, e7) refl
-
 formed : (k : EventKind) (d c a g t : Option ℕ) (w : Option Cause) (s : Option ℕ) → is_formed (with_columns k d c a g t w s) ≡ true
     → columns_of (report_of (with_columns k d c a g t w s)) ≡ with_columns k d c a g t w s
 unfolding is_formed
-formed kind.ServiceInitiated d c a g t w s h = let p = parts _ _ _ _ _ _ _ _ _ h in same kind.ServiceInitiated (there d 0 p.0) (there c 0 p.1) (absent a p.2) (absent g p.3) (absent t p.4) (absent w p.5) (absent s p.6)
-formed kind.Originated d c a g t w s h = let p = parts _ _ _ _ _ _ _ _ _ h in same kind.Originated (there d 0 p.0) (there c 0 p.1) (absent a p.2) (absent g p.3) (there t 0 p.4) (absent w p.5) (absent s p.6)
-formed kind.Queued d c a g t w s h = let p = parts _ _ _ _ _ _ _ _ _ h in same kind.Queued (there d 0 p.0) (there c 0 p.1) (absent a p.2) (absent g p.3) (absent t p.4) (there w cause.NewCall p.5) (absent s p.6)
-formed kind.Delivered d c a g t w s h = let p = parts _ _ _ _ _ _ _ _ _ h in same kind.Delivered (there d 0 p.0) (there c 0 p.1) (absent a p.2) refl (absent t p.4) (there w cause.NewCall p.5) (absent s p.6)
-formed kind.Diverted d c a g t w s h = let p = parts _ _ _ _ _ _ _ _ _ h in same kind.Diverted (there d 0 p.0) (there c 0 p.1) (absent a p.2) refl (there t 0 p.4) (there w cause.NewCall p.5) (absent s p.6)
-formed kind.Established d c a g t w s h = let p = parts _ _ _ _ _ _ _ _ _ h in same kind.Established (there d 0 p.0) (there c 0 p.1) (absent a p.2) (both_group g s p.8) (absent t p.4) (absent w p.5) (both_seconds g s p.8)
-formed kind.Held d c a g t w s h = let p = parts _ _ _ _ _ _ _ _ _ h in same kind.Held (there d 0 p.0) (there c 0 p.1) (absent a p.2) (absent g p.3) (absent t p.4) (absent w p.5) (absent s p.6)
-formed kind.Retrieved d c a g t w s h = let p = parts _ _ _ _ _ _ _ _ _ h in same kind.Retrieved (there d 0 p.0) (there c 0 p.1) (absent a p.2) (absent g p.3) (absent t p.4) (absent w p.5) (absent s p.6)
-formed kind.Transferred d c a g t w s h = let p = parts _ _ _ _ _ _ _ _ _ h in same kind.Transferred (there d 0 p.0) (there c 0 p.1) (absent a p.2) (absent g p.3) (there t 0 p.4) (absent w p.5) (absent s p.6)
-formed kind.Failed d c a g t w s h = let p = parts _ _ _ _ _ _ _ _ _ h in same kind.Failed (there d 0 p.0) (there c 0 p.1) (absent a p.2) (absent g p.3) (absent t p.4) (busy_is w p.5 p.7) (absent s p.6)
-formed kind.ConnectionCleared d c a g t w s h = let p = parts _ _ _ _ _ _ _ _ _ h in same kind.ConnectionCleared (there d 0 p.0) (there c 0 p.1) (absent a p.2) (absent g p.3) (absent t p.4) (absent w p.5) (absent s p.6)
-formed kind.CallCleared d c a g t w s h = let p = parts _ _ _ _ _ _ _ _ _ h in same kind.CallCleared (absent d p.0) (there c 0 p.1) (absent a p.2) refl (absent t p.4) (absent w p.5) (absent s p.6)
-formed kind.AgentLoggedOn d c a g t w s h = let p = parts _ _ _ _ _ _ _ _ _ h in same kind.AgentLoggedOn (there d 0 p.0) (absent c p.1) (there a 0 p.2) refl (absent t p.4) (absent w p.5) (absent s p.6)
-formed kind.AgentLoggedOff d c a g t w s h = let p = parts _ _ _ _ _ _ _ _ _ h in same kind.AgentLoggedOff (there d 0 p.0) (absent c p.1) (there a 0 p.2) (absent g p.3) (absent t p.4) (absent w p.5) (absent s p.6)
-formed kind.AgentNotReady d c a g t w s h = let p = parts _ _ _ _ _ _ _ _ _ h in same kind.AgentNotReady (there d 0 p.0) (absent c p.1) (there a 0 p.2) (absent g p.3) (absent t p.4) (absent w p.5) (absent s p.6)
-formed kind.AgentReady d c a g t w s h = let p = parts _ _ _ _ _ _ _ _ _ h in same kind.AgentReady (there d 0 p.0) (absent c p.1) (there a 0 p.2) (absent g p.3) (absent t p.4) (absent w p.5) (absent s p.6)
-formed kind.AgentBusy d c a g t w s h = let p = parts _ _ _ _ _ _ _ _ _ h in same kind.AgentBusy (there d 0 p.0) (absent c p.1) (there a 0 p.2) (absent g p.3) (absent t p.4) (absent w p.5) (absent s p.6)
-formed kind.AgentWorkingAfterCall d c a g t w s h = let p = parts _ _ _ _ _ _ _ _ _ h in same kind.AgentWorkingAfterCall (there d 0 p.0) (absent c p.1) (there a 0 p.2) (absent g p.3) (absent t p.4) (absent w p.5) (absent s p.6)
+formed kind.ServiceInitiated d c a g t w s h =
+    let p = parts _ _ _ _ _ _ _ _ _ h in
+    λ i. with_columns kind.ServiceInitiated (there d 0 p.0 i) (there c 0 p.1 i) (absent a p.2 i) (absent g p.3 i) (absent t p.4 i) (absent w p.5 i)
+    (absent s p.6 i)
+formed kind.Originated d c a g t w s h =
+    let p = parts _ _ _ _ _ _ _ _ _ h in
+    λ i. with_columns kind.Originated (there d 0 p.0 i) (there c 0 p.1 i) (absent a p.2 i) (absent g p.3 i) (there t 0 p.4 i) (absent w p.5 i) (absent s p.6 i)
+formed kind.Queued d c a g t w s h =
+    let p = parts _ _ _ _ _ _ _ _ _ h in
+    λ i. with_columns kind.Queued (there d 0 p.0 i) (there c 0 p.1 i) (absent a p.2 i) (absent g p.3 i) (absent t p.4 i) (there w cause.NewCall p.5 i)
+    (absent s p.6 i)
+formed kind.Delivered d c a g t w s h =
+    let p = parts _ _ _ _ _ _ _ _ _ h in
+    λ i. with_columns kind.Delivered (there d 0 p.0 i) (there c 0 p.1 i) (absent a p.2 i) g (absent t p.4 i) (there w cause.NewCall p.5 i) (absent s p.6 i)
+formed kind.Diverted d c a g t w s h =
+    let p = parts _ _ _ _ _ _ _ _ _ h in
+    λ i. with_columns kind.Diverted (there d 0 p.0 i) (there c 0 p.1 i) (absent a p.2 i) g (there t 0 p.4 i) (there w cause.NewCall p.5 i) (absent s p.6 i)
+formed kind.Established d c a g t w s h =
+    let p = parts _ _ _ _ _ _ _ _ _ h in
+    λ i. with_columns kind.Established (there d 0 p.0 i) (there c 0 p.1 i) (absent a p.2 i) (both_group g s p.8 i) (absent t p.4 i) (absent w p.5 i)
+    (both_seconds g s p.8 i)
+formed kind.Held d c a g t w s h =
+    let p = parts _ _ _ _ _ _ _ _ _ h in
+    λ i. with_columns kind.Held (there d 0 p.0 i) (there c 0 p.1 i) (absent a p.2 i) (absent g p.3 i) (absent t p.4 i) (absent w p.5 i) (absent s p.6 i)
+formed kind.Retrieved d c a g t w s h =
+    let p = parts _ _ _ _ _ _ _ _ _ h in
+    λ i. with_columns kind.Retrieved (there d 0 p.0 i) (there c 0 p.1 i) (absent a p.2 i) (absent g p.3 i) (absent t p.4 i) (absent w p.5 i) (absent s p.6 i)
+formed kind.Transferred d c a g t w s h =
+    let p = parts _ _ _ _ _ _ _ _ _ h in
+    λ i. with_columns kind.Transferred (there d 0 p.0 i) (there c 0 p.1 i) (absent a p.2 i) (absent g p.3 i) (there t 0 p.4 i) (absent w p.5 i) (absent s p.6 i)
+formed kind.Failed d c a g t w s h =
+    let p = parts _ _ _ _ _ _ _ _ _ h in
+    λ i. with_columns kind.Failed (there d 0 p.0 i) (there c 0 p.1 i) (absent a p.2 i) (absent g p.3 i) (absent t p.4 i) (busy_is w p.5 p.7 i) (absent s p.6 i)
+formed kind.ConnectionCleared d c a g t w s h =
+    let p = parts _ _ _ _ _ _ _ _ _ h in
+    λ i. with_columns kind.ConnectionCleared (there d 0 p.0 i) (there c 0 p.1 i) (absent a p.2 i) (absent g p.3 i) (absent t p.4 i) (absent w p.5 i)
+    (absent s p.6 i)
+formed kind.CallCleared d c a g t w s h =
+    let p = parts _ _ _ _ _ _ _ _ _ h in
+    λ i. with_columns kind.CallCleared (absent d p.0 i) (there c 0 p.1 i) (absent a p.2 i) g (absent t p.4 i) (absent w p.5 i) (absent s p.6 i)
+formed kind.AgentLoggedOn d c a g t w s h =
+    let p = parts _ _ _ _ _ _ _ _ _ h in
+    λ i. with_columns kind.AgentLoggedOn (there d 0 p.0 i) (absent c p.1 i) (there a 0 p.2 i) g (absent t p.4 i) (absent w p.5 i) (absent s p.6 i)
+formed kind.AgentLoggedOff d c a g t w s h =
+    let p = parts _ _ _ _ _ _ _ _ _ h in
+    λ i. with_columns kind.AgentLoggedOff (there d 0 p.0 i) (absent c p.1 i) (there a 0 p.2 i) (absent g p.3 i) (absent t p.4 i) (absent w p.5 i)
+    (absent s p.6 i)
+formed kind.AgentNotReady d c a g t w s h =
+    let p = parts _ _ _ _ _ _ _ _ _ h in
+    λ i. with_columns kind.AgentNotReady (there d 0 p.0 i) (absent c p.1 i) (there a 0 p.2 i) (absent g p.3 i) (absent t p.4 i) (absent w p.5 i)
+    (absent s p.6 i)
+formed kind.AgentReady d c a g t w s h =
+    let p = parts _ _ _ _ _ _ _ _ _ h in
+    λ i. with_columns kind.AgentReady (there d 0 p.0 i) (absent c p.1 i) (there a 0 p.2 i) (absent g p.3 i) (absent t p.4 i) (absent w p.5 i) (absent s p.6 i)
+formed kind.AgentBusy d c a g t w s h =
+    let p = parts _ _ _ _ _ _ _ _ _ h in
+    λ i. with_columns kind.AgentBusy (there d 0 p.0 i) (absent c p.1 i) (there a 0 p.2 i) (absent g p.3 i) (absent t p.4 i) (absent w p.5 i) (absent s p.6 i)
+formed kind.AgentWorkingAfterCall d c a g t w s h =
+    let p = parts _ _ _ _ _ _ _ _ _ h in
+    λ i. with_columns kind.AgentWorkingAfterCall (there d 0 p.0 i) (absent c p.1 i) (there a 0 p.2 i) (absent g p.3 i) (absent t p.4 i) (absent w p.5 i)
+    (absent s p.6 i)
 
 -- a report's columns are those that it was read from
 pub report_formed : (c : Columns) (r : Report) → report_in c ≡ Some r → columns_of r ≡ c
@@ -159,7 +198,8 @@ pub record IsOfRequest (r : Row) (q : Request) : Type 0 where
   pub text : column r 4 ≡ Text (request_text q)
   pub reads : reads_as (request_text q) ≡ Ok q
 
-of_request : (r : Row) (q : Request) (name : List ℕ) (n : ℕ) (t : List ℕ) → column r 1 ≡ Text name → column r 2 ≡ id_value n → column r 4 ≡ Text t → IsTextOf t q
+of_request : (r : Row) (q : Request) (name : List ℕ) (n : ℕ) (t : List ℕ) → column r 1 ≡ Text name → column r 2 ≡ id_value n → column r 4 ≡ Text t
+    → IsTextOf t q
     → (bytes_eq name q.requester && (n == q.invoke)) ≡ true → IsOfRequest r q
 of_request r q name n t e f g text test =
     let all = and_parts (bytes_eq name q.requester) (n == q.invoke) test in
@@ -179,7 +219,8 @@ request_stored r q h =
     let request = bound _ _ q text.2 in
     let test = guarded _ (Some request.0) q request.2 in
     subst (IsOfRequest r) (some_is request.0 q test.1)
-    (of_request r request.0 requester.0 invoke.0 text.0 (text_stored r 1 _ requester.1) (whole_stored r 2 _ invoke.1) (text_stored r 4 _ text.1) (text_read text.0 request.0 request.1) test.0)
+    (of_request r request.0 requester.0 invoke.0 text.0 (text_stored r 1 _ requester.1) (whole_stored r 2 _ invoke.1) (text_stored r 4 _ text.1)
+    (text_read text.0 request.0 request.1) test.0)
 
 status_stored : (r : Row) (at n : ℕ) → status_at r at ≡ Some n → column r at ≡ id_value n
 unfolding status_at

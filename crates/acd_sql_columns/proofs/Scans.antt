@@ -21,7 +21,17 @@ use Rattle.acd_lemmas.proofs.Keyed.{eqb_self}
 use Rattle.acd_lemmas.proofs.Bools.{and_yes, or_yes}
 
 abbrev pub scan : ℕ → List Term → List Term → List (Term × Key) → Query
-scan t terms project order = record { from = inner t end; filter = terms; group = None; project = project; distinct = false; collations = []; order = order; limit = lit (Int (negsuc 0)); offset = lit (Int (pos 0)) }
+scan t terms project order = record {
+  from = inner t end;
+  filter = terms;
+  group = None;
+  project = project;
+  distinct = false;
+  collations = [];
+  order = order;
+  limit = lit (Int (negsuc 0));
+  offset = lit (Int (pos 0));
+}
 
 abbrev pub passing : Row → List Term → List Row → List Row
 passing params terms rows = filter (λ r. list_all (holds (params ∷ r ∷ [])) terms) rows
@@ -34,13 +44,15 @@ pub staged_is : (params : Row) (terms : List Term) (rows : List Row)
 staged_is params terms [] = refl
 staged_is params terms (r ∷ rs) = go (list_all (holds (params ∷ r ∷ [])) terms) (staged_is params terms rs)
   where
-    go : (b : Bool) → flat_map (λ r. cond (list_all (holds (params ∷ r ∷ [])) terms) ((params ∷ r ∷ []) ∷ []) []) rs ≡ map (λ r. params ∷ r ∷ []) (passing params terms rs)
+    go : (b : Bool)
+        → flat_map (λ r. cond (list_all (holds (params ∷ r ∷ [])) terms) ((params ∷ r ∷ []) ∷ []) []) rs ≡ map (λ r. params ∷ r ∷ []) (passing params terms rs)
         → cond b ((params ∷ r ∷ []) ∷ []) [] ++ flat_map (λ r. cond (list_all (holds (params ∷ r ∷ [])) terms) ((params ∷ r ∷ []) ∷ []) []) rs
         ≡ map (λ r. params ∷ r ∷ []) (cond b (r ∷ passing params terms rs) (passing params terms rs))
     go true e = ap (λ t. (params ∷ r ∷ []) ∷ t) e
     go false e = e
 
-shown_is : (q : Query) (params : Row) (rows : List Row) → map (λ (o : Output). o.1) (map (output q) (map (λ r. params ∷ r ∷ []) rows)) ≡ map (showing params q.project) rows
+shown_is : (q : Query) (params : Row) (rows : List Row)
+    → map (λ (o : Output). o.1) (map (output q) (map (λ r. params ∷ r ∷ []) rows)) ≡ map (showing params q.project) rows
 shown_is q params [] = refl
 shown_is q params (r ∷ rs) = ap (λ t. showing params q.project r ∷ t) (shown_is q params rs)
 
@@ -58,10 +70,12 @@ pub scanned : (t : ℕ) (terms project : List Term) (order : List (Term × Key))
 scanned t terms project order db params rows h =
     let q = scan t terms project order in
     let a : IsAnswer q (overlay db []) params rows = h Null in
-    let staged = a.grouped ∙ staged_is params terms (overlay db [] t) ∙ ap (λ (l : List Row). map (λ r. params ∷ r ∷ []) (passing params terms l)) (nothing_over db t) in
+    let staged =
+    a.grouped ∙ staged_is params terms (overlay db [] t) ∙ ap (λ (l : List Row). map (λ r. params ∷ r ∷ []) (passing params terms l)) (nothing_over db t) in
     let kept = a.distinct ∙ ap (map (output q)) staged in
     let same = IsPermutation-map (λ (o : Output). o.1) _ a.ordered (subst (λ k. IsPermutation k a.ordered) kept a.same) in
-    subst (λ l. IsPermutation l rows) (shown_is q params (passing params terms (db t))) (subst (IsPermutation (map (λ (o : Output). o.1) (map (output q) (map (λ r. params ∷ r ∷ []) (passing params terms (db t)))))) (sym a.shown) same)
+    subst (λ l. IsPermutation l rows) (shown_is q params (passing params terms (db t)))
+    (subst (IsPermutation (map (λ (o : Output). o.1) (map (output q) (map (λ r. params ∷ r ∷ []) (passing params terms (db t)))))) (sym a.shown) same)
 
 -- ---- rows that are removed
 
@@ -70,7 +84,8 @@ without_step p q [] = refl
 without_step p q (r ∷ rs) = go (p r) (without_step p q rs)
   where
     go : (a : Bool) → filter q (filter (λ r. not (p r)) rs) ≡ filter (λ r. not (p r) && q r) rs
-        → filter q (cond (not a) (r ∷ filter (λ r. not (p r)) rs) (filter (λ r. not (p r)) rs)) ≡ cond (not a && q r) (r ∷ filter (λ r. not (p r) && q r) rs) (filter (λ r. not (p r) && q r) rs)
+        → filter q (cond (not a) (r ∷ filter (λ r. not (p r)) rs) (filter (λ r. not (p r)) rs))
+        ≡ cond (not a && q r) (r ∷ filter (λ r. not (p r) && q r) rs) (filter (λ r. not (p r) && q r) rs)
     go true e = e
     go false e = ap (λ l. cond (q r) (r ∷ l) l) e
 
@@ -90,13 +105,15 @@ pub all_out : (ids : List ℤ) (rows : List Row) → without_all rows ids ≡ fi
 all_out [] rows = sym (filter_true rows)
 all_out (id ∷ ids) rows =
     all_out ids (without_rowid id rows) ∙ without_step (has_rowid id) (λ r. not (list_any (λ id. has_rowid id r) ids)) rows
-    ∙ filter_like _ (λ r. not (has_rowid id r || list_any (λ id. has_rowid id r) ids)) rows (each _ rows (λ r. neither (has_rowid id r) (list_any (λ id. has_rowid id r) ids)))
+    ∙ filter_like _ (λ r. not (has_rowid id r || list_any (λ id. has_rowid id r) ids)) rows
+    (each _ rows (λ r. neither (has_rowid id r) (list_any (λ id. has_rowid id r) ids)))
 
 pub filter_mapped : {X Y : Type 0} (p : Y → Bool) (f : X → Y) (xs : List X) → filter p (map f xs) ≡ map f (filter (λ x. p (f x)) xs)
 filter_mapped p f [] = refl
 filter_mapped p f (x ∷ xs) = go (p (f x)) (filter_mapped p f xs)
   where
-    go : (b : Bool) → filter p (map f xs) ≡ map f (filter (λ x. p (f x)) xs) → cond b (f x ∷ filter p (map f xs)) (filter p (map f xs)) ≡ map f (cond b (x ∷ filter (λ x. p (f x)) xs) (filter (λ x. p (f x)) xs))
+    go : (b : Bool) → filter p (map f xs) ≡ map f (filter (λ x. p (f x)) xs)
+        → cond b (f x ∷ filter p (map f xs)) (filter p (map f xs)) ≡ map f (cond b (x ∷ filter (λ x. p (f x)) xs) (filter (λ x. p (f x)) xs))
     go true e = ap (λ l. f x ∷ l) e
     go false e = e
 
@@ -104,7 +121,8 @@ pub any_mapped : {X Y : Type 0} (p : Y → Bool) (f : X → Y) (xs : List X) →
 any_mapped p f [] = refl
 any_mapped p f (x ∷ xs) = ap (λ b. p (f x) || b) (any_mapped p f xs)
 
-module _ {R : Type 0} (key : R → ℕ) (row : R → Row) (keyed : (r : R) → rowid (row r) ≡ id_value (key r)) (P : R → Bool) (by_its_key : (a b : R) → key a ≡ key b → P a ≡ P b) where
+module _ {R : Type 0} (key : R → ℕ) (row : R → Row) (keyed : (r : R) → rowid (row r) ≡ id_value (key r)) (P : R → Bool)
+    (by_its_key : (a b : R) → key a ≡ key b → P a ≡ P b) where
   abbrev hit : R → R → Bool
   hit r x = has_rowid (pos (key x)) (row r)
 
@@ -126,18 +144,25 @@ module _ {R : Type 0} (key : R → ℕ) (row : R → Row) (keyed : (r : R) → r
 
   each_taken : (front rest : List R) → AllByRecursion (λ r. list_any (hit r) (filter P (front ++ rest)) ≡ P r) rest
   each_taken front [] = tt
-  each_taken front (r ∷ rest) = (taken (front ++ r ∷ rest) r (among r front rest), subst (λ l. AllByRecursion (λ r. list_any (hit r) (filter P l) ≡ P r) rest) (append_assoc front (r ∷ []) rest) (each_taken (front ++ r ∷ []) rest))
+  each_taken front (r ∷ rest) = (
+    taken (front ++ r ∷ rest) r (among r front rest),
+    subst (λ l. AllByRecursion (λ r. list_any (hit r) (filter P l) ≡ P r) rest) (append_assoc front (r ∷ []) rest) (each_taken (front ++ r ∷ []) rest),
+  )
 
   all_and : (A B : R → Bool) (xs : List R) → ((r : R) → A r ≡ B r) → AllByRecursion (λ r. B r ≡ P r) xs → AllByRecursion (λ r. not (A r) ≡ not (P r)) xs
   all_and A B [] f h = tt
   all_and A B (x ∷ xs) f h = (ap not (f x ∙ h.0), all_and A B xs f h.1)
 
   -- the rest where these rowids are removed, in whatever order
-  pub left_over : (rs : List R) (ids : List ℤ) → IsPermutation (map (λ r. pos (key r)) (filter P rs)) ids → without_all (map row rs) ids ≡ map row (filter (λ r. not (P r)) rs)
+  pub left_over : (rs : List R) (ids : List ℤ) → IsPermutation (map (λ r. pos (key r)) (filter P rs)) ids
+      → without_all (map row rs) ids ≡ map row (filter (λ r. not (P r)) rs)
   left_over rs ids same =
-      let found = λ (r : R). sym (list_any-IsPermutation (λ id. has_rowid id (row r)) _ ids same) ∙ any_mapped (λ id. has_rowid id (row r)) (λ r. pos (key r)) (filter P rs) in
+      let found =
+      λ (r : R). sym (list_any-IsPermutation (λ id. has_rowid id (row r)) _ ids same)
+      ∙ any_mapped (λ id. has_rowid id (row r)) (λ r. pos (key r)) (filter P rs) in
       all_out ids (map row rs) ∙ filter_mapped _ row rs
-      ∙ ap (map row) (filter_like _ (λ r. not (P r)) rs (all_and (λ r. list_any (λ id. has_rowid id (row r)) ids) (λ r. list_any (hit r) (filter P rs)) rs found (each_taken [] rs)))
+      ∙ ap (map row) (filter_like _ (λ r. not (P r)) rs
+      (all_and (λ r. list_any (λ id. has_rowid id (row r)) ids) (λ r. list_any (hit r) (filter P rs)) rs found (each_taken [] rs)))
 
   -- the rows that pass the tests are those of the records that pass
   module _ (params : Row) (terms : List Term) (tests : (r : R) → list_all (holds (params ∷ row r ∷ [])) terms ≡ P r) where
@@ -149,9 +174,12 @@ module _ {R : Type 0} (key : R → ℕ) (row : R → Row) (keyed : (r : R) → r
       ids_mapped [] = refl
       ids_mapped (r ∷ l) = rw (ap id_in (numbered r), ids_mapped l)
 
-      pub taken_out : (rs : List R) (table rows : List Row) → table ≡ map row rs → IsPermutation (map (showing params project) (passing params terms table)) rows
+      pub taken_out : (rs : List R) (table rows : List Row) → table ≡ map row rs
+          → IsPermutation (map (showing params project) (passing params terms table)) rows
           → without_all table (ids_of rows) ≡ map row (filter (λ r. not (P r)) rs)
       taken_out rs table rows is same =
           let ids = IsPermutation-map (λ r. id_in (rowid r)) _ rows same in
-          let known = ap (λ l. ids_of (map (showing params project) (passing params terms l))) is ∙ ap (λ l. ids_of (map (showing params project) l)) (found_rows rs) ∙ ids_mapped (filter P rs) in
+          let known =
+          ap (λ l. ids_of (map (showing params project) (passing params terms l))) is ∙ ap (λ l. ids_of (map (showing params project) l)) (found_rows rs)
+          ∙ ids_mapped (filter P rs) in
           ap (λ l. without_all l (ids_of rows)) is ∙ left_over rs (ids_of rows) (subst (λ l. IsPermutation l (ids_of rows)) known ids)

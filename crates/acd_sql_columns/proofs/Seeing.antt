@@ -22,11 +22,14 @@ use Rattle.acd_sql_columns.proofs.Listings.{Listing, query_of, begun}
 use Rattle.acd_sql_columns.proofs.Scans.{scanned, showing, passing}
 use Rattle.acd_lemmas.proofs.Lists.{filter_true}
 
-module _ (base : List Made) (text : List ℕ) (it : Listing base text) (params : Row) (d : Database) (old new : State) (rows : List Row) (old_database : HasDatabase old d) (b : BeginsSchema base d.schema) (h : Shown text params old new rows) where
+module _ (base : List Made) (text : List ℕ) (it : Listing base text) (params : Row) (d : Database) (old new : State) (rows : List Row)
+    (old_database : HasDatabase old d) (b : BeginsSchema base d.schema) (h : Shown text params old new rows) where
   pub answer_in : IsProgramAnswer [] (query_of it) d.trees params rows
   answer_in =
       let whole_schema = with_later base b.0 d.schema in
-      let read = reads_as text params old new whole_schema (ap (λ (x : Database). x.schema) old_database.now ∙ begun base d.schema b) _ (it.command b.0 d.schema) (it.plain b.0 d.schema) (it.unlisted b.0 d.schema) rows h in
+      let read =
+      reads_as text params old new whole_schema (ap (λ (x : Database). x.schema) old_database.now ∙ begun base d.schema b) _ (it.command b.0 d.schema)
+      (it.plain b.0 d.schema) (it.unlisted b.0 d.schema) rows h in
       subst (λ (x : Database). IsProgramAnswer [] (query_of it) x.trees params rows) old_database.now read.answer
 
 -- the text asks for the values of all rows of the table
@@ -36,11 +39,13 @@ pub record AsksAll (t : Table) (base : List Made) (text : List ℕ) (it : Listin
   pub unlimited : it.limit ≡ no_limit
   pub shows : (r : Row) → showing [] it.project r ≡ values_in t r
 
-pub shown_all : (t : Table) (base : List Made) (text : List ℕ) (it : Listing base text) → AsksAll t base text it → (d : Database) (old new : State) (rows : List Row) → HasDatabase old d → BeginsSchema base d.schema → Shown text [] old new rows
+pub shown_all : (t : Table) (base : List Made) (text : List ℕ) (it : Listing base text) → AsksAll t base text it
+    → (d : Database) (old new : State) (rows : List Row) → HasDatabase old d → BeginsSchema base d.schema → Shown text [] old new rows
     → IsPermutation (rows_in t d.trees) rows
 shown_all t base text it asks d old new rows old_database b h =
     let all = scanned it.tree it.terms it.project it.order d.trees [] rows
-    (subst (λ l. IsProgramAnswer [] (record (query_of it) { limit = l }) d.trees [] rows) asks.unlimited (answer_in base text it [] d old new rows old_database b h)) in
+    (subst (λ l. IsProgramAnswer [] (record (query_of it) { limit = l }) d.trees [] rows) asks.unlimited
+    (answer_in base text it [] d old new rows old_database b h)) in
     let same : map (showing [] it.project) (passing [] it.terms (d.trees it.tree)) ≡ rows_in t d.trees =
     ap (λ ts. map (showing [] it.project) (passing [] ts (d.trees it.tree))) asks.all
     ∙ ap (map (showing [] it.project)) (filter_true (d.trees it.tree))
@@ -48,6 +53,9 @@ shown_all t base text it asks d old new rows old_database b h =
     ∙ ap (λ n. map (values_in t) (d.trees n)) asks.tree in
     subst (λ l. IsPermutation l rows) same all
 
-pub sees_all : (d : Database) (old new : State) (r : Result (Vec Row Global) Error) (t : Table) (base : List Made) (text : List ℕ) (it : Listing base text) → AsksAll t base text it → BeginsSchema base d.schema
+pub sees_all : (d : Database) (old new : State) (r : Result (Vec Row Global) Error) (t : Table) (base : List Made) (text : List ℕ) (it : Listing base text)
+    → AsksAll t base text it → BeginsSchema base d.schema
     → Sees d old new r (λ rows. Shown text [] old new rows.items) → Sees d old new r (λ rows. IsPermutation (rows_in t d.trees) rows.items)
-sees_all d old new r t base text it asks b h = sees_so d old new r (λ rows. Shown text [] old new rows.items) (λ rows. IsPermutation (rows_in t d.trees) rows.items) (λ old_database rows shown. shown_all t base text it asks d old new rows.items old_database b shown) h
+sees_all d old new r t base text it asks b h =
+    sees_so d old new r (λ rows. Shown text [] old new rows.items) (λ rows. IsPermutation (rows_in t d.trees) rows.items)
+    (λ old_database rows shown. shown_all t base text it asks d old new rows.items old_database b shown) h

@@ -39,7 +39,8 @@ pub record Selection (schema : Schema) (text : List ℕ) : Type 0 where
   pub unlisted : reads_listing schema text ≡ false
 
 -- the rows that pass, in some order
-pub selected : (schema : Schema) (text : List ℕ) (it : Selection schema text) (params : Row) (old new : State) (rows : List Row) → old.now.schema ≡ schema → Shown text params old new rows
+pub selected : (schema : Schema) (text : List ℕ) (it : Selection schema text) (params : Row) (old new : State) (rows : List Row) → old.now.schema ≡ schema
+    → Shown text params old new rows
     → IsPermutation (map (showing params it.project) (passing params it.terms (old.now.trees it.tree))) rows
 selected schema text it params old new rows has h =
     let read = reads_as text params old new schema has _ it.command it.plain it.unlisted rows h in
@@ -63,14 +64,16 @@ meta_selection rest s = record {
 pub meta_plain : (s : Schema) → BeginsSchema nine s → IsPlain (understood s SELECT_META.now)
 meta_plain s b = subst (λ (x : Schema). IsPlain (understood x SELECT_META.now)) (sym (begun nine s b)) (meta_selection b.0 s).plain
 
-reads_meta : (old new : State) (rows : List Row) → Shown SELECT_META.now [] old new rows → (c : Content) → HoldsContent old c → rows ≡ meta_shown (meta_of c.rows) ∷ []
+reads_meta : (old new : State) (rows : List Row) → Shown SELECT_META.now [] old new rows → (c : Content) → HoldsContent old c
+    → rows ≡ meta_shown (meta_of c.rows) ∷ []
 unfolding meta_selection
 reads_meta old new rows h c held =
     let has = ap (λ (d : Database). d.schema) held.idle ∙ held.schema in
     let table_is = ap (λ (d : Database). d.trees schema.meta.tree) held.idle ∙ held.encodes table.Meta in
     let it = meta_selection two book_schema in
     let found = selected book_schema SELECT_META.now it [] old new rows has h in
-    one_permutation _ rows (subst (λ l. IsPermutation l rows) (ap (map (showing [] it.project)) (filter_true (old.now.trees schema.meta.tree) ∙ table_is)) found)
+    one_permutation _ rows
+    (subst (λ l. IsPermutation l rows) (ap (map (showing [] it.project)) (filter_true (old.now.trees schema.meta.tree) ∙ table_is)) found)
 
 pub reads_meta_if : (old new : State) (r : Result (Vec Row Global) Error) → IfOk r (λ rows. Shown SELECT_META.now [] old new rows.items)
     → IfOk r (λ rows. (c : Content) → HoldsContent old c → rows.items ≡ meta_shown (meta_of c.rows) ∷ [])

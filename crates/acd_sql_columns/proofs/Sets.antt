@@ -30,7 +30,8 @@ no_rows [] e = refl
 no_rows (x ∷ rows) e = absurd (omega (arith, e))
 
 -- no row was changed
-pub set_none : (schema : Schema) (text : List ℕ) (it : Updating schema text) (params : Row) (old new : State) (count : ℕ) → old.now.schema ≡ schema → Executes text params old new (Ok count) → count ≡ 0
+pub set_none : (schema : Schema) (text : List ℕ) (it : Updating schema text) (params : Row) (old new : State) (count : ℕ) → old.now.schema ≡ schema
+    → Executes text params old new (Ok count) → count ≡ 0
     → Replaces schema it.layout.tree (old.now.trees it.layout.tree) old new
 set_none schema text it params old new count has ran missed =
     let db = old.now.trees in
@@ -39,7 +40,8 @@ set_none schema text it params old new count has ran missed =
     replaces schema old new (updating_edit db it.layout made.rows) (db it.layout.tree) made.changed (ap (λ l. edited db (updating_edit db it.layout l)) none)
 
 -- where a row was shown, a record has the key
-some_record : {R : Type 0} (key : R → ℕ) (shows : R → Row) (new : R) (rs : List R) (rows : List Row) (count : ℕ) (found : List R) → filter (λ r. key r == key new) rs ≡ found
+some_record : {R : Type 0} (key : R → ℕ) (shows : R → Row) (new : R) (rs : List R) (rows : List Row) (count : ℕ) (found : List R)
+    → filter (λ r. key r == key new) rs ≡ found
     → IsPermutation (map shows found) rows → count ≡ length rows → (count ≡ 0 → ⊥) → (x : R) × Among x rs × (key x ≡ key new)
 some_record key shows new rs rows count [] is same counted some = absurd (some (counted ∙ length_permutation [] rows same))
 some_record {R = R} key shows new rs rows count (x ∷ more) is same counted some =
@@ -51,26 +53,37 @@ map_twice f g [] = refl
 map_twice f g (x ∷ xs) = ap (λ l. f (g x) ∷ l) (map_twice f g xs)
 
 -- the columns shown of the rows that are found
-shown_keyed : {R : Type 0} (schema : Schema) (text : List ℕ) (key : R → ℕ) (row params : R → Row) (s : Sets schema text key row params) (r : R) (rs : List R) (rows : List Row) → AreRows key row rows rs
-    → map (showing (params r) s.it.project) (passing (params r) s.it.terms rows) ≡ map (λ (y : R). showing (params r) s.it.project (row y)) (filter (λ (y : R). key y == key r) rs)
+shown_keyed : {R : Type 0} (schema : Schema) (text : List ℕ) (key : R → ℕ) (row params : R → Row) (s : Sets schema text key row params) (r : R) (rs : List R)
+    (rows : List Row)
+    → AreRows key row rows rs
+    → map (showing (params r) s.it.project) (passing (params r) s.it.terms rows)
+    ≡ map (λ (y : R). showing (params r) s.it.project (row y)) (filter (λ (y : R). key y == key r) rs)
 shown_keyed {R = R} schema text key row params s r rs rows are =
     let shows = showing (params r) s.it.project in
-    let passed = ap (passing (params r) s.it.terms) are.rows_are ∙ found_rows key row (keyed_by s.it.layout key row s.files) (λ y. key y == key r) (λ a b e. ap (λ k. k == key r) e) (params r) s.it.terms (λ (y : R). s.finds r y) rs in
+    let passed =
+    ap (passing (params r) s.it.terms) are.rows_are
+    ∙ found_rows key row (keyed_by s.it.layout key row s.files) (λ y. key y == key r) (λ a b e. ap (λ k. k == key r) e) (params r) s.it.terms
+    (λ (y : R). s.finds r y) rs in
     ap (map shows) passed ∙ map_twice shows row (filter (λ (y : R). key y == key r) rs)
 
 -- a row was changed
-pub set_row : {R : Type 0} (schema : Schema) (text : List ℕ) (key : R → ℕ) (row params : R → Row) (s : Sets schema text key row params) (r : R) (rs : List R) (old new : State) (count : ℕ)
-    → old.now.schema ≡ schema → AreRows key row (old.now.trees s.it.layout.tree) rs → Executes text (params r) old new (Ok count) → (count ≡ 0 → ⊥) → Put schema s.it.layout.tree key row r rs old new
+pub set_row : {R : Type 0} (schema : Schema) (text : List ℕ) (key : R → ℕ) (row params : R → Row) (s : Sets schema text key row params) (r : R) (rs : List R)
+    (old new : State) (count : ℕ)
+    → old.now.schema ≡ schema → AreRows key row (old.now.trees s.it.layout.tree) rs → Executes text (params r) old new (Ok count) → (count ≡ 0 → ⊥)
+    → Put schema s.it.layout.tree key row r rs old new
 set_row {R = R} schema text key row params s r rs old new count has are ran some =
     let db = old.now.trees in
     let made = updated schema text s.it (params r) old new count has ran in
     let shows = showing (params r) s.it.project in
     let tests = λ (y : R). s.finds r y in
     let shown = shown_keyed schema text key row params s r rs (db s.it.layout.tree) are in
-    let x = some_record key (λ (y : R). shows (row y)) r rs made.rows count (filter (λ (y : R). key y == key r) rs) refl (subst (λ l. IsPermutation l made.rows) shown made.found) made.counted some in
+    let x =
+    some_record key (λ (y : R). shows (row y)) r rs made.rows count (filter (λ (y : R). key y == key r) rs) refl
+    (subst (λ l. IsPermutation l made.rows) shown made.found) made.counted some in
     record {
       replaces = replaces schema old new (updating_edit db s.it.layout made.rows) _ made.changed
-          (one_changed s.it.layout key row s.files (params r) s.it.terms s.it.project r tests (λ (y : R). s.shows r y) x.0 rs db made.rows are.rows_are are.ascending x.1 x.2 made.found);
+          (one_changed s.it.layout key row s.files (params r) s.it.terms s.it.project r tests (λ (y : R). s.shows r y) x.0 rs db made.rows are.rows_are
+          are.ascending x.1 x.2 made.found);
       are_rows = are_put key row r rs are.ascending;
     }
 
@@ -79,11 +92,15 @@ unmapped f [] e = refl
 unmapped f (x ∷ xs) e = absurd (omega (arith, e))
 
 -- where none was, no record has the key
-pub none_has_key : {R : Type 0} (schema : Schema) (text : List ℕ) (key : R → ℕ) (row params : R → Row) (s : Sets schema text key row params) (r : R) (rs : List R) (old new : State) (count : ℕ)
-    → old.now.schema ≡ schema → AreRows key row (old.now.trees s.it.layout.tree) rs → Executes text (params r) old new (Ok count) → count ≡ 0 → filter (λ y. key y == key r) rs ≡ []
+pub none_has_key : {R : Type 0} (schema : Schema) (text : List ℕ) (key : R → ℕ) (row params : R → Row) (s : Sets schema text key row params) (r : R)
+    (rs : List R) (old new : State) (count : ℕ)
+    → old.now.schema ≡ schema → AreRows key row (old.now.trees s.it.layout.tree) rs → Executes text (params r) old new (Ok count) → count ≡ 0
+    → filter (λ y. key y == key r) rs ≡ []
 none_has_key {R = R} schema text key row params s r rs old new count has are ran missed =
     let made = updated schema text s.it (params r) old new count has ran in
     let old_records = filter (λ (y : R). key y == key r) rs in
     let shown = shown_keyed schema text key row params s r rs (old.now.trees s.it.layout.tree) are in
-    let same = length_permutation (map (λ (y : R). showing (params r) s.it.project (row y)) old_records) made.rows (subst (λ l. IsPermutation l made.rows) shown made.found) in
+    let same =
+    length_permutation (map (λ (y : R). showing (params r) s.it.project (row y)) old_records) made.rows
+    (subst (λ l. IsPermutation l made.rows) shown made.found) in
     unmapped (λ (y : R). showing (params r) s.it.project (row y)) old_records (sym same ∙ (sym made.counted ∙ missed))

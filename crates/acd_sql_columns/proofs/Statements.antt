@@ -74,7 +74,8 @@ inserts_rows schema layout limit params terms width db w h =
     let written = went (went given.2).2 in
     let counted = went written.2 in
     let trees : w.trees ≡ written.0 = ap (λ (it : Written). it.trees) (same_value counted.2) ∙ same_value counted.1 in
-    let rows : given.0 ≡ value_rows params width (length terms / width) terms = given.1.1 ∙ ap (λ (ps : Row). value_rows ps width (length terms / width) terms) (append-nil params) in
+    let rows : given.0 ≡ value_rows params width (length terms / width) terms =
+    given.1.1 ∙ ap (λ (ps : Row). value_rows ps width (length terms / width) terms) (append-nil params) in
     subst₂ (λ (all : List Row) (t : Trees). action.Writes schema Enforced db (edit_of db (table_of layout) [] Chosen 0 all) (Ok t)) rows (sym trees) written.1
 
 pub inserted : (schema : Schema) (text : List ℕ) (it : Insertion schema text) (params : Row) (old new : State) (count : ℕ) → old.now.schema ≡ schema
@@ -85,7 +86,16 @@ inserted schema text it params old new count has h =
     let w = runs_as text params old new schema has command it.command it.plain count h in
     let words = statement_of text (understood schema text) in
     let does = subst (λ s. Does old.step_limit (mode_of old) params (record old.now { schema = s }) words None command (Ok (w.tally, new.now))) has w.changed in
-    let done = went (at_place (λ (t : Table). OnRows (record { limit = old.step_limit; keys = Enforced; schema = schema; table = t; params = params }) (mode_of old) None command db) (slice_get schema.tables it.at) (table_of it.layout) (w.tally, new.now) it.place does) in
+    let done =
+    went (at_place
+    (λ (t : Table). OnRows (record {
+      limit = old.step_limit;
+      keys = Enforced;
+      schema = schema;
+      table = t;
+      params = params;
+    }) (mode_of old) None command db)
+    (slice_get schema.tables it.at) (table_of it.layout) (w.tally, new.now) it.place does) in
     let now : new.now ≡ record { schema = schema; trees = done.0.trees } = ap (λ (p : Tally × Database). p.1) (same_value (went (went done.2).2).2) in
     let writes = inserts_rows schema it.layout old.step_limit params it.terms it.width db done.0 done.1 in
     record {
@@ -93,7 +103,10 @@ inserted schema text it params old new count has h =
       marks = w.marks;
       schema_is = ap (λ (d : Database). d.schema) now;
       sound = obeyed schema new (ap (λ (d : Database). d.schema) now) w.sound;
-      applies = subst (Applies schema Enforced db (insertion_edit it params db)) (sym (ap (λ (d : Database). d.trees) now)) (one_step schema Enforced db done.0.trees (insertion_edit it params db) (it.inert (taken_by db (insertion_edit it params db)) (insertion_edit it params db).news) writes);
+      applies =
+          subst (Applies schema Enforced db (insertion_edit it params db)) (sym (ap (λ (d : Database). d.trees) now))
+          (one_step schema Enforced db done.0.trees (insertion_edit it params db)
+          (it.inert (taken_by db (insertion_edit it params db)) (insertion_edit it params db).news) writes);
     }
 
 -- one table has these rows, and all else is as it was
@@ -104,8 +117,15 @@ pub record Replaces (schema : Schema) (tree : ℕ) (rows : List Row) (old new : 
   pub rows_are : new.now.trees tree ≡ rows
   pub others : AllByRecursion (λ t. t.tree ≢ tree → new.now.trees t.tree ≡ old.now.trees t.tree) schema.tables
 
-pub replaces : (schema : Schema) (old new : State) (edit : Edit) (rows : List Row) → Changed schema old new edit → edited old.now.trees edit ≡ rows → Replaces schema edit.table.tree rows old new
-replaces schema old new edit rows made is = record { mode = made.shown.mode; schema_is = made.schema_is; sound = made.sound; rows_are = made.applies.rows ∙ is; others = made.applies.tables }
+pub replaces : (schema : Schema) (old new : State) (edit : Edit) (rows : List Row) → Changed schema old new edit → edited old.now.trees edit ≡ rows
+    → Replaces schema edit.table.tree rows old new
+replaces schema old new edit rows made is = record {
+  mode = made.shown.mode;
+  schema_is = made.schema_is;
+  sound = made.sound;
+  rows_are = made.applies.rows ∙ is;
+  others = made.applies.tables;
+}
 
 -- ---- no foreign key of the schema acts
 
@@ -134,18 +154,21 @@ inert_works schema h tree olds news = no_works schema tree olds news schema.tabl
 
 -- ---- inside a transaction
 
-pub counted_inside : (text : List ℕ) (params : Row) (old new : State) (e : Error) (count : ℕ) → (old.in_transaction ≡ false → Ok count ≡ Err e) → (IsTrue old.in_transaction → ExecutesInside 0 text params old new (Ok count))
+pub counted_inside : (text : List ℕ) (params : Row) (old new : State) (e : Error) (count : ℕ) → (old.in_transaction ≡ false → Ok count ≡ Err e)
+    → (IsTrue old.in_transaction → ExecutesInside 0 text params old new (Ok count))
     → Executes text params old new (Ok count)
 counted_inside text params old new e count ended runs = elim (cases_Bool old.in_transaction) [
   | inl inside ↦ (runs inside).0
   | inr outside ↦ absurd (let k = ended outside in cc)
 ]
 
-pub ran_inside : (text : List ℕ) (params : Row) (old new : State) (e : Error) (count : ℕ) → (old.in_transaction ≡ false → Ok count ≡ Err e) → (IsTrue old.in_transaction → ExecutesInside 0 text params old new (Ok count))
+pub ran_inside : (text : List ℕ) (params : Row) (old new : State) (e : Error) (count : ℕ) → (old.in_transaction ≡ false → Ok count ≡ Err e)
+    → (IsTrue old.in_transaction → ExecutesInside 0 text params old new (Ok count))
     → RanStatement text params old new
 ran_inside text params old new e count ended runs = (count, counted_inside text params old new e count ended runs)
 
-pub counts_inside : (text : List ℕ) (params : Row) (old new : State) (e : Error) (r : Result ℕ Error) → (old.in_transaction ≡ false → r ≡ Err e) → (IsTrue old.in_transaction → ExecutesInside 0 text params old new r)
+pub counts_inside : (text : List ℕ) (params : Row) (old new : State) (e : Error) (r : Result ℕ Error) → (old.in_transaction ≡ false → r ≡ Err e)
+    → (IsTrue old.in_transaction → ExecutesInside 0 text params old new r)
     → IfOk r (λ count. Executes text params old new (Ok count))
 counts_inside text params old new e (Err f) ended runs = tt
 counts_inside text params old new e (Ok count) ended runs = counted_inside text params old new e count ended runs
@@ -158,7 +181,8 @@ kept_inside text params old new (Err e) (inl h) = elim h.1 [
 ]
 kept_inside text params old new (Err e) (inr h) = record { was_open = λ up. h.2.0.was_open; committed = λ up. h.2.0.committed_is }
 
-pub works_inside : (text : List ℕ) (params : Row) (old new : State) (r : Result ℕ Error) → Survives old new (λ _. ⊥) → (HasCleanDisk new → IsTrue old.in_transaction → ExecutesInside 0 text params old new r)
+pub works_inside : (text : List ℕ) (params : Row) (old new : State) (r : Result ℕ Error) → Survives old new (λ _. ⊥)
+    → (HasCleanDisk new → IsTrue old.in_transaction → ExecutesInside 0 text params old new r)
     → (old.in_transaction ≡ false → new ≡ old) → Works old new
 works_inside text params old new r survives runs ended = record {
   survives = survives;
@@ -197,7 +221,16 @@ deleted schema text it params old new count has h =
     let w = runs_as text params old new schema has command it.command it.plain count h in
     let words = statement_of text (understood schema text) in
     let does = subst (λ s. Does old.step_limit (mode_of old) params (record old.now { schema = s }) words None command (Ok (w.tally, new.now))) has w.changed in
-    let done = went (at_place (λ (t : Table). OnRows (record { limit = old.step_limit; keys = Enforced; schema = schema; table = t; params = params }) (mode_of old) None command db) (slice_get schema.tables it.at) (table_of it.layout) (w.tally, new.now) it.place does) in
+    let done =
+    went (at_place
+    (λ (t : Table). OnRows (record {
+      limit = old.step_limit;
+      keys = Enforced;
+      schema = schema;
+      table = t;
+      params = params;
+    }) (mode_of old) None command db)
+    (slice_get schema.tables it.at) (table_of it.layout) (w.tally, new.now) it.place does) in
     let now : new.now ≡ record { schema = schema; trees = done.0.trees } = ap (λ (p : Tally × Database). p.1) (same_value (went (went done.2).2).2) in
     let read = went done.1 in
     let edit = deletion_edit it read.0 db in
@@ -211,6 +244,8 @@ deleted schema text it params old new count has h =
         marks = w.marks;
         schema_is = ap (λ (d : Database). d.schema) now;
         sound = obeyed schema new (ap (λ (d : Database). d.schema) now) w.sound;
-        applies = subst (Applies schema Enforced db edit) (sym (ap (λ (d : Database). d.trees) now ∙ trees)) (one_step schema Enforced db next.0 edit (it.inert (taken_by db edit) edit.news) next.1);
+        applies =
+            subst (Applies schema Enforced db edit) (sym (ap (λ (d : Database). d.trees) now ∙ trees))
+            (one_step schema Enforced db next.0 edit (it.inert (taken_by db edit) edit.news) next.1);
       };
     }

@@ -85,15 +85,27 @@ module _ {R : Type 0} (d : Description R) (f : Described d) where
         let old_rows = f.held c db uncommitted.tables in
         let made = deleted book_schema text deletion (id_value n ∷ []) old new count uncommitted.schema ran in
         let keyed = λ (r : R). ap (λ (k : Row). column k 0) (headed d f r) in
-        let left = taken_out d.key (row_of d) keyed (λ x. not (nat_lt n (d.key x))) (λ a b e. ap (λ k. not (nat_lt n k)) e) (id_value n ∷ []) up_to_parameter (λ r. is_up_to n (d.key r) (row_of d r) _ (headed d f r)) (col 1 0 ∷ []) keyed (d.records c) (db d.layout.tree) made.rows old_rows.0.rows_are made.found in
-        let same = filter_like (λ r. not (not (nat_lt n (d.key r)))) (λ r. nat_lt n (d.key r)) (d.records c) (each _ (d.records c) (λ r. not_not (nat_lt n (d.key r)))) in
-        let replaced = replaces book_schema old new (deletion_edit deletion made.rows db) (map (row_of d) (rest n (d.records c))) made.changed (left ∙ ap (map (row_of d)) same) in
-        let are : AreRows d.key (row_of d) (map (row_of d) (rest n (d.records c))) (rest n (d.records c)) = record { rows_are = refl; ascending = ascending-filter (λ a b. nat_cmp (d.key a) (d.key b) ≡ _) (λ r. nat_lt n (d.key r)) (d.records c) old_rows.0.ascending } in
+        let left =
+        taken_out d.key (row_of d) keyed (λ x. not (nat_lt n (d.key x))) (λ a b e. ap (λ k. not (nat_lt n k)) e) (id_value n ∷ []) up_to_parameter
+        (λ r. is_up_to n (d.key r) (row_of d r) _ (headed d f r)) (col 1 0 ∷ []) keyed (d.records c) (db d.layout.tree) made.rows old_rows.0.rows_are
+        made.found in
+        let same =
+        filter_like (λ r. not (not (nat_lt n (d.key r)))) (λ r. nat_lt n (d.key r)) (d.records c)
+        (each _ (d.records c) (λ r. not_not (nat_lt n (d.key r)))) in
+        let replaced =
+        replaces book_schema old new (deletion_edit deletion made.rows db) (map (row_of d) (rest n (d.records c))) made.changed
+        (left ∙ ap (map (row_of d)) same) in
+        let are : AreRows d.key (row_of d) (map (row_of d) (rest n (d.records c))) (rest n (d.records c)) = record {
+          rows_are = refl;
+          ascending = ascending-filter (λ a b. nat_cmp (d.key a) (d.key b) ≡ _) (λ r. nat_lt n (d.key r)) (d.records c) old_rows.0.ascending;
+        } in
         record {
           inside = replaced.mode ∙ uncommitted.inside;
           schema = replaced.schema_is;
           sound = replaced.sound;
-          tables = f.framed (rest n (d.records c)) _ old.now.trees new.now.trees c are (every-filter d.IsRead (λ r. nat_lt n (d.key r)) (d.records c) old_rows.1) replaced.rows_are replaced.others uncommitted.tables;
+          tables =
+              f.framed (rest n (d.records c)) _ old.now.trees new.now.trees c are (every-filter d.IsRead (λ r. nat_lt n (d.key r)) (d.records c) old_rows.1)
+              replaced.rows_are replaced.others uncommitted.tables;
         }
 
 pub kept_clears : Clears kept kept_described DELETE_KEPT_UP_TO.now

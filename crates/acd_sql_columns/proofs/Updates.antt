@@ -57,7 +57,16 @@ updated schema text it params old new count has h =
     let w = runs_as text params old new schema has command it.command it.plain count h in
     let words = statement_of text (understood schema text) in
     let does = subst (λ s. Does old.step_limit (mode_of old) params (record old.now { schema = s }) words None command (Ok (w.tally, new.now))) has w.changed in
-    let done = went (at_place (λ (t : Table). OnRows (record { limit = old.step_limit; keys = Enforced; schema = schema; table = t; params = params }) (mode_of old) None command db) (slice_get schema.tables it.at) (table_of it.layout) (w.tally, new.now) it.place does) in
+    let done =
+    went (at_place
+    (λ (t : Table). OnRows (record {
+      limit = old.step_limit;
+      keys = Enforced;
+      schema = schema;
+      table = t;
+      params = params;
+    }) (mode_of old) None command db)
+    (slice_get schema.tables it.at) (table_of it.layout) (w.tally, new.now) it.place does) in
     let now : new.now ≡ record { schema = schema; trees = done.0.trees } = ap (λ (p : Tally × Database). p.1) (same_value (went (went done.2).2).2) in
     let read = went done.1 in
     let edit = updating_edit db it.layout read.0 in
@@ -74,6 +83,8 @@ updated schema text it params old new count has h =
         marks = w.marks;
         schema_is = ap (λ (d : Database). d.schema) now;
         sound = obeyed schema new (ap (λ (d : Database). d.schema) now) w.sound;
-        applies = subst (Applies schema Enforced db edit) (sym (ap (λ (d : Database). d.trees) now ∙ trees)) (one_step schema Enforced db next.0 edit (it.inert (taken_by db edit) edit.news) next.1);
+        applies =
+            subst (Applies schema Enforced db edit) (sym (ap (λ (d : Database). d.trees) now ∙ trees))
+            (one_step schema Enforced db next.0 edit (it.inert (taken_by db edit) edit.news) next.1);
       };
     }

@@ -57,7 +57,8 @@ module _ {T : Type 0} (cmp : T → T → Ordering) (total : IsTotalOrder cmp) (s
     every_put [] h = tt
     every_put (y ∷ ys) h = (h.0, every_put ys h.1)
 
-    every_merged : (x : T) (rest : List T → List (Step T)) → P x → ((ys : List T) → Every P ys → Every (λ s. P (record_of s)) (rest ys)) → (ys : List T) → Every P ys → Every (λ s. P (record_of s)) (merged_from cmp same x rest ys)
+    every_merged : (x : T) (rest : List T → List (Step T)) → P x → ((ys : List T) → Every P ys → Every (λ s. P (record_of s)) (rest ys)) → (ys : List T)
+        → Every P ys → Every (λ s. P (record_of s)) (merged_from cmp same x rest ys)
     every_merged x rest p more [] h = (p, more [] tt)
     every_merged x rest p more (y ∷ ys) h = go (cmp x y) (every_merged x rest p more ys h.1)
       where
@@ -65,7 +66,8 @@ module _ {T : Type 0} (cmp : T → T → Ordering) (total : IsTotalOrder cmp) (s
         either true = more ys h.1
         either false = (h.0, more ys h.1)
 
-        go : (o : Ordering) → Every (λ s. P (record_of s)) (merged_from cmp same x rest ys) → Every (λ s. P (record_of s)) (match_ordering o (gone x ∷ rest (y ∷ ys)) (replaced same x y (rest ys)) (put y ∷ merged_from cmp same x rest ys))
+        go : (o : Ordering) → Every (λ s. P (record_of s)) (merged_from cmp same x rest ys)
+            → Every (λ s. P (record_of s)) (match_ordering o (gone x ∷ rest (y ∷ ys)) (replaced same x y (rest ys)) (put y ∷ merged_from cmp same x rest ys))
         go Less ih = (p, more (y ∷ ys) h)
         go Equal ih = either (same y x)
         go Greater ih = (h.0, ih)
@@ -96,7 +98,8 @@ module _ {T : Type 0} (cmp : T → T → Ordering) (total : IsTotalOrder cmp) (s
   ascending_put [] up = tt
   ascending_put (y ∷ ys) up = (all_later (put y) (map put ys) (every_put (λ x. cmp y x ≡ Less) ys (later y ys up.0)), ascending_put ys up.1)
 
-  ascending_merged : (x : T) (held : List T) → AllAfter cmp x held → ((ys : List T) → IsAscending cmp ys → IsAscending by_record (merged cmp same held ys)) → (new : List T) → IsAscending cmp new
+  ascending_merged : (x : T) (held : List T) → AllAfter cmp x held → ((ys : List T) → IsAscending cmp ys → IsAscending by_record (merged cmp same held ys))
+      → (new : List T) → IsAscending cmp new
       → IsAscending by_record (merged cmp same (x ∷ held) new)
   ascending_merged x held low more [] up = (all_later (gone x) (merged cmp same held []) (after_steps x held [] low tt), more [] tt)
   ascending_merged x held low more (y ∷ ys) up = go (cmp x y) refl (ascending_merged x held low more ys up.1)
@@ -105,8 +108,11 @@ module _ {T : Type 0} (cmp : T → T → Ordering) (total : IsTotalOrder cmp) (s
       either true e = more ys up.1
       either false e = (all_later (put y) (merged cmp same held ys) (after_steps y held ys (level_all x y held low e) up.0), more ys up.1)
 
-      go : (o : Ordering) → cmp x y ≡ o → IsAscending by_record (merged cmp same (x ∷ held) ys) → IsAscending by_record (match_ordering o (gone x ∷ merged cmp same held (y ∷ ys)) (replaced same x y (merged cmp same held ys)) (put y ∷ merged cmp same (x ∷ held) ys))
-      go Less e ih = (all_later (gone x) (merged cmp same held (y ∷ ys)) (after_steps x held (y ∷ ys) low (e, after_lower cmp total x y e ys up.0)), more (y ∷ ys) up)
+      go : (o : Ordering) → cmp x y ≡ o → IsAscending by_record (merged cmp same (x ∷ held) ys)
+          → IsAscending by_record
+          (match_ordering o (gone x ∷ merged cmp same held (y ∷ ys)) (replaced same x y (merged cmp same held ys)) (put y ∷ merged cmp same (x ∷ held) ys))
+      go Less e ih =
+          (all_later (gone x) (merged cmp same held (y ∷ ys)) (after_steps x held (y ∷ ys) low (e, after_lower cmp total x y e ys up.0)), more (y ∷ ys) up)
       go Equal e ih = either (same y x) e
       go Greater e ih =
           let first = turned x y Greater e in
@@ -144,21 +150,27 @@ module _ {T : Type 0} (cmp : T → T → Ordering) (total : IsTotalOrder cmp) (s
     made_put [] up = refl
     made_put (y ∷ ys) up = past y [] (map put ys) (every_put (λ x. cmp y x ≡ Less) ys (later y ys up.0)) ∙ ap (λ l. y ∷ l) (made_put ys up.1)
 
-    made_merged : (x : T) (held : List T) → AllAfter cmp x held → ((ys : List T) → IsAscending cmp ys → stepped cmp held (merged cmp same held ys) ≡ ys) → (new : List T) → IsAscending cmp new
+    made_merged : (x : T) (held : List T) → AllAfter cmp x held → ((ys : List T) → IsAscending cmp ys → stepped cmp held (merged cmp same held ys) ≡ ys)
+        → (new : List T) → IsAscending cmp new
         → stepped cmp (x ∷ held) (merged cmp same (x ∷ held) new) ≡ new
     made_merged x held low more [] up = ap (λ l. stepped cmp l (merged cmp same held [])) (first_gone x held) ∙ more [] tt
     made_merged x held low more (y ∷ ys) up = go (cmp x y) refl (made_merged x held low more ys up.1)
       where
-        either : (b : Bool) → same y x ≡ b → cmp x y ≡ Equal → stepped cmp (x ∷ held) (cond b (merged cmp same held ys) (put y ∷ merged cmp same held ys)) ≡ y ∷ ys
+        either : (b : Bool) → same y x ≡ b → cmp x y ≡ Equal
+            → stepped cmp (x ∷ held) (cond b (merged cmp same held ys) (put y ∷ merged cmp same held ys)) ≡ y ∷ ys
         either true k e =
             let is = exact y x k in
-            past x held (merged cmp same held ys) (after_steps x held ys low (subst (λ z. AllAfter cmp z ys) is up.0)) ∙ ap (λ l. x ∷ l) (more ys up.1) ∙ ap (λ z. z ∷ ys) (sym is)
+            past x held (merged cmp same held ys) (after_steps x held ys low (subst (λ z. AllAfter cmp z ys) is up.0)) ∙ ap (λ l. x ∷ l) (more ys up.1)
+            ∙ ap (λ z. z ∷ ys) (sym is)
         either false k e =
             ap (λ o. stepped cmp (match_ordering o (y ∷ x ∷ held) (y ∷ held) (x ∷ put_by (cmp y) held y)) (merged cmp same held ys)) (turned x y Equal e)
             ∙ past y held (merged cmp same held ys) (after_steps y held ys (level_all x y held low e) up.0) ∙ ap (λ l. y ∷ l) (more ys up.1)
 
         go : (o : Ordering) → cmp x y ≡ o → stepped cmp (x ∷ held) (merged cmp same (x ∷ held) ys) ≡ ys
-            → stepped cmp (x ∷ held) (match_ordering o (gone x ∷ merged cmp same held (y ∷ ys)) (replaced same x y (merged cmp same held ys)) (put y ∷ merged cmp same (x ∷ held) ys)) ≡ y ∷ ys
+            → stepped cmp (x
+            ∷ held) (match_ordering o (gone x ∷ merged cmp same held (y ∷ ys)) (replaced same x y (merged cmp same held ys))
+            (put y ∷ merged cmp same (x ∷ held) ys))
+            ≡ y ∷ ys
         go Less e ih = ap (λ l. stepped cmp l (merged cmp same held (y ∷ ys))) (first_gone x held) ∙ more (y ∷ ys) up
         go Equal e ih = either (same y x) refl e
         go Greater e ih =
@@ -194,7 +206,8 @@ module _ {T : Type 0} (cmp : T → T → Ordering) (total : IsTotalOrder cmp) (s
   abbrev NamesGone : List T → List T → Type 0
   NamesGone held new = (z : T) → GoneIn z held new (merged cmp same held new)
 
-  names_merged : (x : T) (held : List T) → AllAfter cmp x held → ((ys : List T) → IsAscending cmp ys → NamesGone held ys) → (new : List T) → IsAscending cmp new → NamesGone (x ∷ held) new
+  names_merged : (x : T) (held : List T) → AllAfter cmp x held → ((ys : List T) → IsAscending cmp ys → NamesGone held ys) → (new : List T) → IsAscending cmp new
+      → NamesGone (x ∷ held) new
   names_merged x held low more [] up z = (
     λ a. elim a [ inl e ↦ (inl (gone_is z x e), tt) | inr k ↦ (inr ((more [] tt z).0 k).0, tt) ],
     λ h. elim h.0 [ inl e ↦ inl (ap gone e) | inr k ↦ inr ((more [] tt z).1 (k, tt)) ],
@@ -218,10 +231,15 @@ module _ {T : Type 0} (cmp : T → T → Ordering) (total : IsTotalOrder cmp) (s
         λ h. elim h.0 [ inl is ↦ absurd (first h.1 e is) | inr k ↦ inr ((more ys up.1 z).1 (k, h.1.1)) ],
       )
 
-      go : (o : Ordering) → cmp x y ≡ o → GoneIn z (x ∷ held) ys (merged cmp same (x ∷ held) ys) → GoneIn z (x ∷ held) (y ∷ ys) (match_ordering o (gone x ∷ merged cmp same held (y ∷ ys)) (replaced same x y (merged cmp same held ys)) (put y ∷ merged cmp same (x ∷ held) ys))
+      go : (o : Ordering) → cmp x y ≡ o → GoneIn z (x ∷ held) ys (merged cmp same (x ∷ held) ys)
+          → GoneIn z (x ∷ held) (y ∷ ys)
+          (match_ordering o (gone x ∷ merged cmp same held (y ∷ ys)) (replaced same x y (merged cmp same held ys)) (put y ∷ merged cmp same (x ∷ held) ys))
       go Less e ih = (
         λ a. elim a [
-          | inl is ↦ (inl (gone_is z x is), subst (λ k. IsNoKey cmp k (y ∷ ys)) (sym (gone_is z x is)) (not_equal x y Less e refl, no_key x ys (after_lower cmp total x y e ys up.0)))
+          | inl is ↦ (
+            inl (gone_is z x is),
+            subst (λ k. IsNoKey cmp k (y ∷ ys)) (sym (gone_is z x is)) (not_equal x y Less e refl, no_key x ys (after_lower cmp total x y e ys up.0)),
+          )
           | inr b ↦ let k = (more (y ∷ ys) up z).0 b in (inr k.0, k.1)
         ],
         λ h. elim h.0 [ inl is ↦ inl (ap gone is) | inr k ↦ inr ((more (y ∷ ys) up z).1 (k, h.1)) ],
@@ -231,8 +249,16 @@ module _ {T : Type 0} (cmp : T → T → Ordering) (total : IsTotalOrder cmp) (s
         λ a. elim a [
           | inl is ↦ absurd (gone_not_put z y is)
           | inr b ↦
-              let k = ih.0 b in
-              (k.0, (elim k.0 [ inl is ↦ λ same_key. not_equal x y Greater e refl (ap (λ v. cmp v y) (sym is) ∙ same_key) | inr m ↦ clear (before_all x y held low e) m ], k.1))
+              let k = ih.0 b in (
+                k.0,
+                (
+                  elim k.0 [
+                    | inl is ↦ λ same_key. not_equal x y Greater e refl (ap (λ v. cmp v y) (sym is) ∙ same_key)
+                    | inr m ↦ clear (before_all x y held low e) m
+                  ],
+                  k.1,
+                ),
+              )
         ],
         λ h. inr (ih.1 (h.0, h.1.1)),
       )
@@ -247,7 +273,8 @@ module _ {T : Type 0} (cmp : T → T → Ordering) (total : IsTotalOrder cmp) (s
   abbrev NamesPut : List T → List T → Type 0
   NamesPut held new = (z : T) → PutIn z held new (merged cmp same held new)
 
-  puts_merged : (x : T) (held : List T) → AllAfter cmp x held → ((ys : List T) → IsAscending cmp ys → NamesPut held ys) → (new : List T) → IsAscending cmp new → NamesPut (x ∷ held) new
+  puts_merged : (x : T) (held : List T) → AllAfter cmp x held → ((ys : List T) → IsAscending cmp ys → NamesPut held ys) → (new : List T) → IsAscending cmp new
+      → NamesPut (x ∷ held) new
   puts_merged x held low more [] up z = (
     λ a. elim a [ inl e ↦ absurd (gone_not_put x z (sym e)) | inr k ↦ absurd ((more [] tt z).0 k).0 ],
     λ h. absurd h.0,
@@ -271,22 +298,33 @@ module _ {T : Type 0} (cmp : T → T → Ordering) (total : IsTotalOrder cmp) (s
       )
       either false k e = (
         λ a. elim a [
-          | inl is ↦ (inl (put_is z y is), subst (λ v. IsOther cmp same v (x ∷ held)) (sym (put_is z y is)) (λ _. k, other_after y held (level_all x y held low e)))
+          | inl is ↦ (
+            inl (put_is z y is),
+            subst (λ v. IsOther cmp same v (x ∷ held)) (sym (put_is z y is)) (λ _. k, other_after y held (level_all x y held low e)),
+          )
           | inr b ↦ let m = (more ys up.1 z).0 b in (inr m.0, (ahead (after_level e m.0), m.1))
         ],
         λ h. elim h.0 [ inl is ↦ inl (ap put is) | inr m ↦ inr ((more ys up.1 z).1 (m, h.1.1)) ],
       )
 
-      go : (o : Ordering) → cmp x y ≡ o → PutIn z (x ∷ held) ys (merged cmp same (x ∷ held) ys) → PutIn z (x ∷ held) (y ∷ ys) (match_ordering o (gone x ∷ merged cmp same held (y ∷ ys)) (replaced same x y (merged cmp same held ys)) (put y ∷ merged cmp same (x ∷ held) ys))
+      go : (o : Ordering) → cmp x y ≡ o → PutIn z (x ∷ held) ys (merged cmp same (x ∷ held) ys)
+          → PutIn z (x ∷ held) (y ∷ ys)
+          (match_ordering o (gone x ∷ merged cmp same held (y ∷ ys)) (replaced same x y (merged cmp same held ys)) (put y ∷ merged cmp same (x ∷ held) ys))
       go Less e ih =
           let all : AllAfter cmp x (y ∷ ys) = (e, after_lower cmp total x y e ys up.0) in (
-            λ a. elim a [ inl is ↦ absurd (gone_not_put x z (sym is)) | inr b ↦ let m = (more (y ∷ ys) up z).0 b in (m.0, (ahead (after_among cmp x (y ∷ ys) z all m.0), m.1)) ],
+            λ a. elim a [
+              | inl is ↦ absurd (gone_not_put x z (sym is))
+              | inr b ↦ let m = (more (y ∷ ys) up z).0 b in (m.0, (ahead (after_among cmp x (y ∷ ys) z all m.0), m.1))
+            ],
             λ h. inr ((more (y ∷ ys) up z).1 (h.0, h.1.1)),
           )
       go Equal e ih = either (same y x) refl e
       go Greater e ih = (
         λ a. elim a [
-          | inl is ↦ (inl (put_is z y is), subst (λ v. IsOther cmp same v (x ∷ held)) (sym (put_is z y is)) (other_after y (x ∷ held) (turned x y Greater e, before_all x y held low e)))
+          | inl is ↦ (
+            inl (put_is z y is),
+            subst (λ v. IsOther cmp same v (x ∷ held)) (sym (put_is z y is)) (other_after y (x ∷ held) (turned x y Greater e, before_all x y held low e)),
+          )
           | inr b ↦ let m = ih.0 b in (inr m.0, m.1)
         ],
         λ h. elim h.0 [ inl is ↦ inl (ap put is) | inr m ↦ inr (ih.1 (m, h.1)) ],

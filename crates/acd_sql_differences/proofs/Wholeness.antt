@@ -54,14 +54,16 @@ module _ {T : Type 0} (off on : T → Change) where
 
       whole_keeps : ((x : T) → off x ≡ Nothing) → AreWhole (differences cmp same off on held new) → Every (λ x. IsNoKey cmp x new → ⊥) held
       whole_keeps never whole =
-          every_from (λ x. IsNoKey cmp x new → ⊥) held (λ x a alone. whole_at (merged cmp same held new) (gone x) whole ((names_gone cmp total same held new h k x).1 (a, alone)) (never x))
+          every_from (λ x. IsNoKey cmp x new → ⊥) held
+          (λ x a alone. whole_at (merged cmp same held new) (gone x) whole ((names_gone cmp total same held new h k x).1 (a, alone)) (never x))
 
 -- ---- agents, who are in between without the stations that they give up
 
 abbrev StaysIn : List AgentRecord → AgentRecord → Type 0
 StaysIn new x = IsNoKey agent_order x new → ⊥
 
-same_agents : (new all : List AgentRecord) (xs : List AgentRecord) → (Every (StaysIn all) (map (unseated new) xs) → Every (StaysIn all) xs) × (Every (StaysIn all) xs → Every (StaysIn all) (map (unseated new) xs))
+same_agents : (new all : List AgentRecord) (xs : List AgentRecord)
+    → (Every (StaysIn all) (map (unseated new) xs) → Every (StaysIn all) xs) × (Every (StaysIn all) xs → Every (StaysIn all) (map (unseated new) xs))
 unfolding unseated
 same_agents new all [] = (λ h. tt, λ h. tt)
 same_agents new all (x ∷ xs) = let rest = same_agents new all xs in (λ h. (h.0, rest.0 h.1), λ h. (h.0, rest.1 h.1))
@@ -114,11 +116,15 @@ module _ (held new : Rows) (o : Orders held) (n : Orders new) where
   plan_whole : KeepsPlan held new → AreWhole (plan_differences held new)
   unfolding plan_differences
   plan_whole keeps =
-      every-append (λ c. c ≡ Nothing → ⊥) _ _ (keeps_whole none_gone PutGroup group_order group_eq no_group groups_total held.groups new.groups o.groups n.groups keeps.groups)
-      (every-append (λ c. c ≡ Nothing → ⊥) _ _ (keeps_whole none_gone PutStation station_order station_eq no_station stations_total held.stations new.stations o.stations n.stations keeps.stations)
+      every-append (λ c. c ≡ Nothing → ⊥) _ _
+      (keeps_whole none_gone PutGroup group_order group_eq no_group groups_total held.groups new.groups o.groups n.groups keeps.groups)
       (every-append (λ c. c ≡ Nothing → ⊥) _ _
-      (keeps_whole none_gone PutAgent agent_order agent_eq no_agent agents_total held.agents between o.agents between_rises (every_from (StaysIn between) held.agents (λ x a. among_unseated new.agents held.agents x a)))
-      (keeps_whole none_gone PutAgent agent_order agent_eq no_agent agents_total between new.agents between_rises n.agents ((same_agents new.agents new.agents held.agents).1 keeps.agents))))
+      (keeps_whole none_gone PutStation station_order station_eq no_station stations_total held.stations new.stations o.stations n.stations keeps.stations)
+      (every-append (λ c. c ≡ Nothing → ⊥) _ _
+      (keeps_whole none_gone PutAgent agent_order agent_eq no_agent agents_total held.agents between o.agents between_rises
+      (every_from (StaysIn between) held.agents (λ x a. among_unseated new.agents held.agents x a)))
+      (keeps_whole none_gone PutAgent agent_order agent_eq no_agent agents_total between new.agents between_rises n.agents
+      ((same_agents new.agents new.agents held.agents).1 keeps.agents))))
 
   whole_plan : AreWhole (plan_differences held new) → KeepsPlan held new
   unfolding plan_differences
@@ -127,9 +133,15 @@ module _ (held new : Rows) (o : Orders held) (n : Orders new) where
       let after_stations = whole_back (differences station_order station_eq none_gone PutStation held.stations new.stations) _ after_groups in
       let last = whole_back (differences agent_order agent_eq none_gone PutAgent held.agents between) _ after_stations in
       record {
-        groups = whole_keeps none_gone PutGroup group_order group_eq no_group groups_total held.groups new.groups o.groups n.groups (λ x. refl) (whole_front _ _ whole);
-        stations = whole_keeps none_gone PutStation station_order station_eq no_station stations_total held.stations new.stations o.stations n.stations (λ x. refl) (whole_front _ _ after_groups);
-        agents = (same_agents new.agents new.agents held.agents).0 (whole_keeps none_gone PutAgent agent_order agent_eq no_agent agents_total between new.agents between_rises n.agents (λ x. refl) last);
+        groups =
+            whole_keeps none_gone PutGroup group_order group_eq no_group groups_total held.groups new.groups o.groups n.groups (λ x. refl)
+            (whole_front _ _ whole);
+        stations =
+            whole_keeps none_gone PutStation station_order station_eq no_station stations_total held.stations new.stations o.stations n.stations (λ x. refl)
+            (whole_front _ _ after_groups);
+        agents =
+            (same_agents new.agents new.agents held.agents).0
+            (whole_keeps none_gone PutAgent agent_order agent_eq no_agent agents_total between new.agents between_rises n.agents (λ x. refl) last);
       }
 
   abbrev Whole : Change → Type 0
@@ -152,9 +164,11 @@ module _ (held new : Rows) (o : Orders held) (n : Orders new) where
       (always_whole monitor_gone PutMonitor monitor_order monitor_eq no_monitor gone_monitor held.monitors new.monitors)))
 
 -- the whole
-pub keeps_plan : (held new : Rows) (all : List Change) → all ≡ rows_differences held new → Orders held → Orders new → (AreWhole all → KeepsPlan held new) × (KeepsPlan held new → AreWhole all)
+pub keeps_plan : (held new : Rows) (all : List Change) → all ≡ rows_differences held new → Orders held → Orders new
+    → (AreWhole all → KeepsPlan held new) × (KeepsPlan held new → AreWhole all)
 unfolding rows_differences
 keeps_plan held new all is o n = (
   λ whole. whole_plan held new o n (whole_front (plan_differences held new) (traffic_differences held new) (subst AreWhole is whole)),
-  λ keeps. subst AreWhole (sym is) (every-append (λ c. c ≡ Nothing → ⊥) (plan_differences held new) (traffic_differences held new) (plan_whole held new o n keeps) (traffic_whole held new o n)),
+  λ keeps. subst AreWhole (sym is) (every-append (λ c. c ≡ Nothing → ⊥) (plan_differences held new) (traffic_differences held new)
+      (plan_whole held new o n keeps) (traffic_whole held new o n)),
 )

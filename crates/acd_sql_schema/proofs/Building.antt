@@ -15,16 +15,20 @@ use Rattle.acd_sql_columns.specs.Making.{MakesTable, Builds, HasRows}
 use Rattle.acd_sql_columns.proofs.Statements.{went, same_value}
 
 -- the kept rows are those that were there, and the last table's come after them
-all_rows : (old new : Trees) (ts : List Table) (rows : List (List Row)) (t : Table) → AllByRecursion (λ u. new u.tree ≡ old u.tree) ts → HasRows old ts rows → new t.tree ≡ [] → HasRows new (ts ++ t ∷ []) (rows ++ [] ∷ [])
+all_rows : (old new : Trees) (ts : List Table) (rows : List (List Row)) (t : Table) → AllByRecursion (λ u. new u.tree ≡ old u.tree) ts → HasRows old ts rows
+    → new t.tree ≡ [] → HasRows new (ts ++ t ∷ []) (rows ++ [] ∷ [])
 all_rows old new [] [] t kept old_rows none = (none, tt)
 all_rows old new [] (r ∷ rows) t kept old_rows none = absurd old_rows
 all_rows old new (u ∷ ts) [] t kept old_rows none = absurd old_rows
 all_rows old new (u ∷ ts) (r ∷ rows) t kept old_rows none = (kept.0 ∙ old_rows.0, all_rows old new ts rows t kept.1 old_rows.1 none)
 
-pub builds : (schema : Schema) (text : List ℕ) (table : Table) (rows : List (List Row)) (it : MakesTable schema text table) (old new : State) (count : ℕ) → Builds old schema rows → Executes text [] old new (Ok count)
+pub builds : (schema : Schema) (text : List ℕ) (table : Table) (rows : List (List Row)) (it : MakesTable schema text table) (old new : State) (count : ℕ)
+    → Builds old schema rows → Executes text [] old new (Ok count)
     → Builds new (created schema table) (rows ++ [] ∷ [])
 builds schema text table rows it old new count b h =
-    let w = subst (λ t. Writes old new None CreateTable t [] count) it.statement (runs_as text [] old new schema b.schema_is CreateTable it.command it.plain count h) in
+    let w =
+    subst (λ t. Writes old new None CreateTable t [] count) it.statement
+    (runs_as text [] old new schema b.schema_is CreateTable it.command it.plain count h) in
     let all = went w.changed in
     let first = went all.1 in
     let made = first.1 in
@@ -44,5 +48,6 @@ builds schema text table rows it old new count b h =
     }
 
 -- a transaction begins
-pub begins_with : (old : State) (schema : Schema) (rows : List (List Row)) → old.now.schema ≡ schema → HasRows old.now.trees schema.tables rows → Builds (record old { in_transaction = true }) schema rows
+pub begins_with : (old : State) (schema : Schema) (rows : List (List Row)) → old.now.schema ≡ schema → HasRows old.now.trees schema.tables rows
+    → Builds (record old { in_transaction = true }) schema rows
 begins_with old schema rows is old_rows = record { inside = refl; schema_is = is; rows_are = old_rows }

@@ -25,23 +25,33 @@ use Rattle.acd_sql_schema.proofs.Looks.{Good, Left, begins_not, every_at}
 
 -- ---- one after another
 
-module _ (l : Log) (n : ℕ) (old mid new : State) (seen : (d : Database) → BeginsSchema nine d.schema → Sees {A = Unit {0}} d old mid (Ok tt) (Left l n d.trees)) (first : HasLookCause {A = Unit {0}} (IsPaged l) old mid (Ok tt)) where
-  pub pages_looked : (r : Result Page Error) → ((d : Database) → BeginsSchema nine d.schema → Sees d mid new r (λ page. IsPageOfLog l n d.trees page)) → HasLookCause (IsPaged l) mid new r → HasLookCause (IsPaged l) old new r
+module _ (l : Log) (n : ℕ) (old mid new : State) (seen : (d : Database) → BeginsSchema nine d.schema → Sees {A = Unit {0}} d old mid (Ok tt) (Left l n d.trees))
+    (first : HasLookCause {A = Unit {0}} (IsPaged l) old mid (Ok tt)) where
+  pub pages_looked : (r : Result Page Error) → ((d : Database) → BeginsSchema nine d.schema → Sees d mid new r (λ page. IsPageOfLog l n d.trees page))
+      → HasLookCause (IsPaged l) mid new r → HasLookCause (IsPaged l) old new r
   pages_looked r last next =
-      looks_then (IsPaged l) (IsPaged l) (IsPaged l) (λ (d : Database) (x : Unit {0}). Left l n d.trees x) (λ (d : Database) (page : Page). IsPageOfLog l n d.trees page) old mid new tt r (λ d h. h) first (λ d h. seen d h.0) (λ d h p. h) (λ d h. last d h.0) next
+      looks_then (IsPaged l) (IsPaged l) (IsPaged l) (λ (d : Database) (x : Unit {0}). Left l n d.trees x)
+      (λ (d : Database) (page : Page). IsPageOfLog l n d.trees page) old mid new tt r (λ d h. h) first (λ d h. seen d h.0) (λ d h p. h) (λ d h. last d h.0)
+      next
 
-module _ (old mid new : State) (tables : List Table) (i : ℕ) (seen : (d : Database) → Every (Covers d.schema) tables → Sees {A = Unit {0}} d old mid (Ok tt) (Good (take i tables) d.trees))
+module _ (old mid new : State) (tables : List Table) (i : ℕ)
+    (seen : (d : Database) → Every (Covers d.schema) tables → Sees {A = Unit {0}} d old mid (Ok tt) (Good (take i tables) d.trees))
     (first : HasLookCause {A = Unit {0}} (HasCanonical (λ s. Every (Covers s) tables)) old mid (Ok tt)) where
-  pub tables_looked : (t x : Table) (r : Result Bool Error) → t ≡ get_or tables i x → i < length tables → ((d : Database) → Covers d.schema t → Sees d mid new r (λ good. FindsGood t d.trees good)) → HasLookCause (HasCanonical (λ s. Covers s t)) mid new r
+  pub tables_looked : (t x : Table) (r : Result Bool Error) → t ≡ get_or tables i x → i < length tables
+      → ((d : Database) → Covers d.schema t → Sees d mid new r (λ good. FindsGood t d.trees good)) → HasLookCause (HasCanonical (λ s. Covers s t)) mid new r
       → HasLookCause (HasCanonical (λ s. Every (Covers s) tables)) old new r
   tables_looked t x r at low last next =
-      let covers : (d : Database) → Every (Covers d.schema) tables → Covers d.schema t = λ d all. subst (Covers d.schema) (sym at) (every_at (Covers d.schema) tables i x all low) in
-      looks_then (HasCanonical (λ s. Every (Covers s) tables)) (HasCanonical (λ s. Every (Covers s) tables)) (HasCanonical (λ s. Covers s t)) (λ (d : Database) (u : Unit {0}). Good (take i tables) d.trees u) (λ (d : Database) (good : Bool). FindsGood t d.trees good)
+      let covers : (d : Database) → Every (Covers d.schema) tables → Covers d.schema t =
+      λ d all. subst (Covers d.schema) (sym at) (every_at (Covers d.schema) tables i x all low) in
+      looks_then (HasCanonical (λ s. Every (Covers s) tables)) (HasCanonical (λ s. Every (Covers s) tables)) (HasCanonical (λ s. Covers s t))
+      (λ (d : Database) (u : Unit {0}). Good (take i tables) d.trees u) (λ (d : Database) (good : Bool). FindsGood t d.trees good)
       old mid new tt r (λ d h. h) first (λ d h. seen d h.0) (λ d h p. (covers d h.0, h.1)) (λ d h. last d (covers d h.0)) next
 
 -- the rows of the database that is there are canonical
-pub canonical_there : (v : Version) (s : State) (d : Database) → s.now.schema ≡ schema_of v → HasDatabase s d → IsCanonical d → HasCanonical (λ x. x ≡ schema_of v) d
-canonical_there v s d is old_database canonical = let here = sym (ap (λ (x : Database). x.schema) old_database.now) ∙ is in (here, as_first v d.trees (canonical v here))
+pub canonical_there : (v : Version) (s : State) (d : Database) → s.now.schema ≡ schema_of v → HasDatabase s d → IsCanonical d
+    → HasCanonical (λ x. x ≡ schema_of v) d
+canonical_there v s d is old_database canonical =
+    let here = sym (ap (λ (x : Database). x.schema) old_database.now) ∙ is in (here, as_first v d.trees (canonical v here))
 
 -- ---- comparisons
 
@@ -59,7 +69,8 @@ plain_as version.First = plain_old
 plain_as version.Second = plain_new
 
 -- another schema than that of a version, by the answer of a comparison
-pub not_same : (v : Version) (s of_book : Schema) (same : Bool) → of_book ≡ schema_of v → (is_plain_schema of_book ≡ true → s ≡ of_book → same ≡ true) → same ≡ false → s ≢ schema_of v
+pub not_same : (v : Version) (s of_book : Schema) (same : Bool) → of_book ≡ schema_of v → (is_plain_schema of_book ≡ true → s ≡ of_book → same ≡ true)
+    → same ≡ false → s ≢ schema_of v
 not_same v s of_book same is back differs e = absurd (let apart = sym (back (ap is_plain_schema is ∙ plain_as v) (e ∙ sym is)) ∙ differs in cc)
 
 pub no_book : (s : Schema) → s ≢ old_schema → s ≢ book_schema → IsNoBook s
@@ -67,7 +78,8 @@ no_book s old new version.First = old
 no_book s old new version.Second = new
 
 -- nor does it begin with the first table of a book
-pub not_first : (a b : List Made) (s of_book : Schema) (same : Bool) → a ≡ s.tables → b ≡ of_book.tables → of_book ≡ old_schema → (is_plain_first b ≡ true → AreSameFirst a b → same ≡ true) → same ≡ false → ¬ (BeginsAsBook s)
+pub not_first : (a b : List Made) (s of_book : Schema) (same : Bool) → a ≡ s.tables → b ≡ of_book.tables → of_book ≡ old_schema
+    → (is_plain_first b ≡ true → AreSameFirst a b → same ≡ true) → same ≡ false → ¬ (BeginsAsBook s)
 not_first a b s of_book same first second is back differs begins =
     let plain : is_plain_first b ≡ true = ap is_plain_first (second ∙ ap (λ (x : Schema). x.tables) is) ∙ plain_first in
     absurd (let apart = sym (back plain (begins_not a b s of_book first second is begins)) ∙ differs in cc)

@@ -68,11 +68,13 @@ no_rows : (f : Row → Row) (rows : List Row) → length (map f rows) ≡ 0 → 
 no_rows f [] h = refl
 no_rows f (row ∷ rows) h = absurd (omega (arith, h))
 
-is_version_read : (d : Database) (b : BeginsAsBook d.schema) (r : Row) → Has (d.trees schema.meta.tree) r → (o : Option ℕ) → whole_at r 2 ≡ o → IsVersionRead d (version_read_of o)
+is_version_read : (d : Database) (b : BeginsAsBook d.schema) (r : Row) → Has (d.trees schema.meta.tree) r → (o : Option ℕ) → whole_at r 2 ≡ o
+    → IsVersionRead d (version_read_of o)
 is_version_read d b row h None e = inr (inl (refl, b, (row, h, e)))
 is_version_read d b row h (Some n) e = go (n == 1) (n == 2) refl refl
   where
-    go : (one two : Bool) → (n == 1) ≡ one → (n == 2) ≡ two → IsVersionRead d (cond one (Of version.First) (cond two (Of version.Second) (Faulty (WrongVersion n))))
+    go : (one two : Bool) → (n == 1) ≡ one → (n == 2) ≡ two
+        → IsVersionRead d (cond one (Of version.First) (cond two (Of version.Second) (Faulty (WrongVersion n))))
     go true two is other = (row, h, e ∙ ap Some (sym (same_number n 1 is)))
     go false true is other = (row, h, e ∙ ap Some (sym (same_number n 2 other)))
     go false false is other = (apart n 1 is, apart n 2 other, inr (b, inr (row, h, e)))
@@ -80,49 +82,64 @@ is_version_read d b row h (Some n) e = go (n == 1) (n == 2) refl refl
 abbrev Shows : Trees → Row → Type 0
 Shows db shown = (r : Row) × Has (db schema.meta.tree) r × (shown ≡ column r 2 ∷ [])
 
-version_found : (d : Database) (b : BeginsAsBook d.schema) (rows : List Row) → IsPermutation (map (λ r. column r 2 ∷ []) (d.trees schema.meta.tree)) rows → AllByRecursion (Shows d.trees) rows → IsVersionRead d (version_read_in rows)
-version_found d b [] same all = (apart 0 1 refl, apart 0 2 refl, inr (b, inl (no_rows (λ r. column r 2 ∷ []) (d.trees schema.meta.tree) (sym (length_permutation _ [] same)), refl)))
+version_found : (d : Database) (b : BeginsAsBook d.schema) (rows : List Row) → IsPermutation (map (λ r. column r 2 ∷ []) (d.trees schema.meta.tree)) rows
+    → AllByRecursion (Shows d.trees) rows → IsVersionRead d (version_read_in rows)
+version_found d b [] same all =
+    (apart 0 1 refl, apart 0 2 refl, inr (b, inl (no_rows (λ r. column r 2 ∷ []) (d.trees schema.meta.tree) (sym (length_permutation _ [] same)), refl)))
 version_found d b (shown ∷ rows) same all =
     let from = all.0 in
     subst (λ r. IsVersionRead d (version_read_of (whole_at r 0))) (sym from.2) (is_version_read d b from.0 from.1 (whole_at from.0 2) refl)
 
 pub version_read : (d : Database) (old new : State) (rows : Vec Row Global) (t : VersionRead) → BeginsAsBook d.schema → t ≡ version_read_in rows.items
-    → Sees d old new (Ok rows) (λ rows. IsPermutation (map (λ r. column r 2 ∷ []) (d.trees schema.meta.tree)) rows.items) → Sees d old new (Ok t) (λ t. IsVersionRead d t)
+    → Sees d old new (Ok rows) (λ rows. IsPermutation (map (λ r. column r 2 ∷ []) (d.trees schema.meta.tree)) rows.items)
+    → Sees d old new (Ok t) (λ t. IsVersionRead d t)
 version_read d old new rows t b is h =
     sees_on d old new rows (λ rows. IsPermutation (map (λ r. column r 2 ∷ []) (d.trees schema.meta.tree)) rows.items) (λ t. IsVersionRead d t) (Ok t) h
     (λ old_database same.
-    let here = moved_all (Shows d.trees) _ rows.items same (mapped_all (Shows d.trees) (λ r. column r 2 ∷ []) (d.trees schema.meta.tree) (all_from (λ r. Shows d.trees (column r 2 ∷ [])) (d.trees schema.meta.tree) (λ r k. (r, k, refl)))) in
+    let here =
+    moved_all (Shows d.trees) _ rows.items same
+    (mapped_all (Shows d.trees) (λ r. column r 2 ∷ []) (d.trees schema.meta.tree)
+    (all_from (λ r. Shows d.trees (column r 2 ∷ [])) (d.trees schema.meta.tree) (λ r k. (r, k, refl)))) in
     subst (IsVersionRead d) (sym is) (version_found d b rows.items same here))
 
 -- what was read of the version is a fault
-pub fault_read : (d : Database) (old new : State) (f : AdoptFault) → Sees d old new (Ok (Faulty f)) (λ t. IsVersionRead d t) → Sees d old new (Ok (Fault f)) (λ f. IsFound d f)
+pub fault_read : (d : Database) (old new : State) (f : AdoptFault) → Sees d old new (Ok (Faulty f)) (λ t. IsVersionRead d t)
+    → Sees d old new (Ok (Fault f)) (λ f. IsFound d f)
 fault_read d old new f h = sees_on d old new (Faulty f) (λ t. IsVersionRead d t) (λ f. IsFound d f) (Ok (Fault f)) h (λ old_database p. p)
 
 -- the version is that of other tables
-pub other_read : (d : Database) (old new : State) (v : Version) → (IsVersionIn d.trees (Some (number_of v)) → IsUnlike d) → Sees d old new (Ok (Of v)) (λ t. IsVersionRead d t) → Sees d old new (Ok (Fault Store)) (λ f. IsFound d f)
+pub other_read : (d : Database) (old new : State) (v : Version) → (IsVersionIn d.trees (Some (number_of v)) → IsUnlike d)
+    → Sees d old new (Ok (Of v)) (λ t. IsVersionRead d t) → Sees d old new (Ok (Fault Store)) (λ f. IsFound d f)
 other_read d old new v unlike h = sees_on d old new (Of v) (λ t. IsVersionRead d t) (λ f. IsFound d f) (Ok (Fault Store)) h (λ old_database p. unlike p)
 
 abbrev pub IsFoundIn : Version → Database → Found → Type 0
 IsFoundIn v d f = IsVersionIn d.trees (Some (number_of v)) → IsFound d f
 
-pub row_fault : (v : Version) (d : Database) (old new : State) (f : AdoptFault) → Sees d old new (Ok (Some f)) (λ f. IsRowFound v d f) → Sees d old new (Ok (Fault f)) (λ f. IsFoundIn v d f)
+pub row_fault : (v : Version) (d : Database) (old new : State) (f : AdoptFault) → Sees d old new (Ok (Some f)) (λ f. IsRowFound v d f)
+    → Sees d old new (Ok (Fault f)) (λ f. IsFoundIn v d f)
 row_fault v d old new f h = sees_on d old new (Some f) (λ f. IsRowFound v d f) (λ f. IsFoundIn v d f) (Ok (Fault f)) h (λ old_database p read. p)
 
-pub rows_good : (v : Version) (d : Database) (old new : State) → d.schema ≡ schema_of v → Sees d old new (Ok None) (λ f. IsRowFound v d f) → Sees d old new (Ok (Book v)) (λ f. IsFoundIn v d f)
+pub rows_good : (v : Version) (d : Database) (old new : State) → d.schema ≡ schema_of v → Sees d old new (Ok None) (λ f. IsRowFound v d f)
+    → Sees d old new (Ok (Book v)) (λ f. IsFoundIn v d f)
 rows_good v d old new is h =
-    sees_on d old new None (λ f. IsRowFound v d f) (λ f. IsFoundIn v d f) (Ok (Book v)) h (λ old_database p read. record { schema_is = is; version = read; in_range = p.1; placed = p.0 })
+    sees_on d old new None (λ f. IsRowFound v d f) (λ f. IsFoundIn v d f) (Ok (Book v)) h
+    (λ old_database p read. record { schema_is = is; version = read; in_range = p.1; placed = p.0 })
 
-pub rows_after : (v other : Version) (d : Database) (old mid new : State) (r : Result Found Error) → other ≡ v → Sees d old mid (Ok (Of other)) (λ t. IsVersionRead d t) → Sees d mid new r (λ f. IsFoundIn v d f)
+pub rows_after : (v other : Version) (d : Database) (old mid new : State) (r : Result Found Error) → other ≡ v
+    → Sees d old mid (Ok (Of other)) (λ t. IsVersionRead d t) → Sees d mid new r (λ f. IsFoundIn v d f)
     → Sees d old new r (λ f. IsFound d f)
 rows_after v other d old mid new r same first next =
-    sees_then d old mid new (Of other) (λ t. IsVersionRead d t) first (λ f. IsFoundIn v d f) (λ f. IsFound d f) r (λ p f q. q (subst (λ u. IsVersionIn d.trees (Some (number_of u))) same p)) next
+    sees_then d old mid new (Of other) (λ t. IsVersionRead d t) first (λ f. IsFoundIn v d f) (λ f. IsFound d f) r
+    (λ p f q. q (subst (λ u. IsVersionIn d.trees (Some (number_of u))) same p)) next
 
 -- ---- tables that are read in pages
 
-pub page_found : (d : Database) (old new : State) (l : Log) (n : ℕ) (rows : Vec Row Global) (r : Result Page Error) → IfOk r (λ page. IsLogPage l n rows.items page)
+pub page_found : (d : Database) (old new : State) (l : Log) (n : ℕ) (rows : Vec Row Global) (r : Result Page Error)
+    → IfOk r (λ page. IsLogPage l n rows.items page)
     → Sees d old new (Ok rows) (λ rows. IsPageRows l n 1000 d.trees rows.items) → Sees d old new r (λ page. IsPageOfLog l n d.trees page)
 page_found d old new l n rows (Ok page) is h =
-    sees_on d old new rows (λ rows. IsPageRows l n 1000 d.trees rows.items) (λ page. IsPageOfLog l n d.trees page) (Ok page) h (λ old_database are. page_is l n d rows.items page are is)
+    sees_on d old new rows (λ rows. IsPageRows l n 1000 d.trees rows.items) (λ page. IsPageOfLog l n d.trees page) (Ok page) h
+    (λ old_database are. page_is l n d rows.items page are is)
 page_found d old new l n rows (Err e) is h =
     sees_on d old new rows (λ rows. IsPageRows l n 1000 d.trees rows.items) (λ page. IsPageOfLog l n d.trees page) (Err e) h (λ old_database are. tt)
 
@@ -133,19 +150,22 @@ module _ (d : Database) (old mid new : State) (l : Log) (n : ℕ) (first : Sees 
   pub pages_bad : Sees d mid new (Ok Bad) (λ page. IsPageOfLog l n d.trees page) → Sees d old new (Ok false) (λ good. FindsGoodAfter l d.trees good)
   pages_bad next =
       sees_on d old new Bad (λ page. IsPageOfLog l n d.trees page) (λ good. FindsGoodAfter l d.trees good) (Ok false)
-      (sees_then d old mid new tt (Left l n d.trees) first (λ page. IsPageOfLog l n d.trees page) (λ page. IsPageOfLog l n d.trees page) (Ok Bad) (λ p b q. q) next)
+      (sees_then d old mid new tt (Left l n d.trees) first (λ page. IsPageOfLog l n d.trees page) (λ page. IsPageOfLog l n d.trees page) (Ok Bad) (λ p b q. q)
+      next)
       (λ old_database bad. record { bad = λ e. bad; canonical = λ e. absurd (cc e) })
 
   pub pages_last : Sees d mid new (Ok Last) (λ page. IsPageOfLog l n d.trees page) → Sees d old new (Ok true) (λ good. FindsGoodAfter l d.trees good)
   pages_last next =
       sees_on d old new Last (λ page. IsPageOfLog l n d.trees page × Left l n d.trees tt) (λ good. FindsGoodAfter l d.trees good) (Ok true)
-      (sees_then d old mid new tt (Left l n d.trees) first (λ page. IsPageOfLog l n d.trees page) (λ page. IsPageOfLog l n d.trees page × Left l n d.trees tt) (Ok Last) (λ p b q. (q, p)) next)
+      (sees_then d old mid new tt (Left l n d.trees) first (λ page. IsPageOfLog l n d.trees page) (λ page. IsPageOfLog l n d.trees page × Left l n d.trees tt)
+      (Ok Last) (λ p b q. (q, p)) next)
       (λ old_database both. record { bad = λ e. absurd (cc e); canonical = λ e xs are. sym (both.1 xs are) ∙ both.0 xs are })
 
   pub pages_more : (m : ℕ) → Sees d mid new (Ok (More m)) (λ page. IsPageOfLog l n d.trees page) → Sees d old new (Ok tt) (Left l m d.trees)
   pages_more m next =
       sees_on d old new (More m) (λ page. IsPageOfLog l n d.trees page × Left l n d.trees tt) (Left l m d.trees) (Ok tt)
-      (sees_then d old mid new tt (Left l n d.trees) first (λ page. IsPageOfLog l n d.trees page) (λ page. IsPageOfLog l n d.trees page × Left l n d.trees tt) (Ok (More m)) (λ p b q. (q, p)) next)
+      (sees_then d old mid new tt (Left l n d.trees) first (λ page. IsPageOfLog l n d.trees page) (λ page. IsPageOfLog l n d.trees page × Left l n d.trees tt)
+      (Ok (More m)) (λ p b q. (q, p)) next)
       (λ old_database both xs are. sym (both.0 xs are) ∙ both.1 xs are)
 
   pub pages_fail : (e : Error) → Sees d mid new (Err e) (λ page. IsPageOfLog l n d.trees page) → Sees d old new (Err e) (λ good. FindsGoodAfter l d.trees good)
@@ -159,9 +179,11 @@ module _ (d : Database) (old mid : State) (l : Log) (low : Vec Row Global) (firs
       sees_on d old mid low (λ rows. FindsLow l d.trees rows.items) (λ good. FindsGood (table_of_log l) d.trees good) (Ok false) first
       (λ old_database finds. record { bad = λ e. finds.some some; canonical = λ canonical. sym (finds.some some) })
 
-  pub log_pages : (new : State) (r : Result Bool Error) → low.items ≡ [] → Sees d mid new r (λ good. FindsGoodAfter l d.trees good) → Sees d old new r (λ good. FindsGood (table_of_log l) d.trees good)
+  pub log_pages : (new : State) (r : Result Bool Error) → low.items ≡ [] → Sees d mid new r (λ good. FindsGoodAfter l d.trees good)
+      → Sees d old new r (λ good. FindsGood (table_of_log l) d.trees good)
   log_pages new r none next =
-      sees_then d old mid new low (λ rows. FindsLow l d.trees rows.items) first (λ good. FindsGoodAfter l d.trees good) (λ good. FindsGood (table_of_log l) d.trees good) r
+      sees_then d old mid new low (λ rows. FindsLow l d.trees rows.items) first (λ good. FindsGoodAfter l d.trees good)
+      (λ good. FindsGood (table_of_log l) d.trees good) r
       (λ finds good after. log_found l d.trees good (finds.none none) after) next
 
 -- ---- the tables, one after the other
@@ -185,19 +207,24 @@ abbrev pub Good : List Table → Trees → Unit {0} → Type 0
 Good tables db x = IsCanonicalAs version.First db → Every (λ t. is_good_in t db ≡ true) tables
 
 module _ (d : Database) (old mid new : State) (tables : List Table) (i : ℕ) (first : Sees d old mid (Ok tt) (Good (take i tables) d.trees)) where
-  pub tables_next : (t x : Table) (good : Bool) → t ≡ get_or tables i x → i < length tables → good ≡ true → Sees d mid new (Ok good) (λ good. FindsGood t d.trees good)
+  pub tables_next : (t x : Table) (good : Bool) → t ≡ get_or tables i x → i < length tables → good ≡ true
+      → Sees d mid new (Ok good) (λ good. FindsGood t d.trees good)
       → Sees d old new (Ok tt) (Good (take (i + 1) tables) d.trees)
   tables_next t x good at low is next =
       sees_on d old new good (λ good. FindsGood t d.trees good × Good (take i tables) d.trees tt) (Good (take (i + 1) tables) d.trees) (Ok tt)
-      (sees_then d old mid new tt (Good (take i tables) d.trees) first (λ good. FindsGood t d.trees good) (λ good. FindsGood t d.trees good × Good (take i tables) d.trees tt) (Ok good) (λ p b q. (q, p)) next)
+      (sees_then d old mid new tt (Good (take i tables) d.trees) first (λ good. FindsGood t d.trees good)
+      (λ good. FindsGood t d.trees good × Good (take i tables) d.trees tt) (Ok good) (λ p b q. (q, p)) next)
       (λ old_database both canonical.
       subst (Every (λ t. is_good_in t d.trees ≡ true)) (sym (one_more tables i x low))
-      (every_pushed (λ t. is_good_in t d.trees ≡ true) (take i tables) (get_or tables i x) (both.1 canonical) (subst (λ t. is_good_in t d.trees ≡ true) at (sym (both.0.canonical canonical) ∙ is))))
+      (every_pushed (λ t. is_good_in t d.trees ≡ true) (take i tables) (get_or tables i x) (both.1 canonical)
+      (subst (λ t. is_good_in t d.trees ≡ true) at (sym (both.0.canonical canonical) ∙ is))))
 
-  pub tables_bad : (t : Table) (good : Bool) → Covers d.schema t → good ≡ false → Sees d mid new (Ok good) (λ good. FindsGood t d.trees good) → Sees d old new (Ok (Some t)) (λ bad. IsBadOf tables d bad)
+  pub tables_bad : (t : Table) (good : Bool) → Covers d.schema t → good ≡ false → Sees d mid new (Ok good) (λ good. FindsGood t d.trees good)
+      → Sees d old new (Ok (Some t)) (λ bad. IsBadOf tables d bad)
   tables_bad t good covers is next =
       sees_on d old new good (λ good. FindsGood t d.trees good) (λ bad. IsBadOf tables d bad) (Ok (Some t))
-      (sees_then d old mid new tt (Good (take i tables) d.trees) first (λ good. FindsGood t d.trees good) (λ good. FindsGood t d.trees good) (Ok good) (λ p b q. q) next)
+      (sees_then d old mid new tt (Good (take i tables) d.trees) first (λ good. FindsGood t d.trees good) (λ good. FindsGood t d.trees good) (Ok good)
+      (λ p b q. q) next)
       (λ old_database finds. (covers, finds.bad is))
 
   pub tables_fail : (t : Table) (e : Error) → Sees d mid new (Err e) (λ good. FindsGood t d.trees good) → Sees d old new (Err e) (λ bad. IsBadOf tables d bad)
@@ -205,9 +232,11 @@ module _ (d : Database) (old mid new : State) (tables : List Table) (i : ℕ) (f
       sees_then d old mid new tt (Good (take i tables) d.trees) first (λ bad. IsBadOf tables d bad) (λ bad. IsBadOf tables d bad) (Err e) (λ p b q. q)
       (sees_fail d mid new e (λ good. FindsGood t d.trees good) (λ bad. IsBadOf tables d bad) next)
 
-pub tables_end : (d : Database) (old new : State) (tables : List Table) (i : ℕ) → Sees d old new (Ok tt) (Good (take i tables) d.trees) → length tables ≤ i → Sees d old new (Ok None) (λ bad. IsBadOf tables d bad)
+pub tables_end : (d : Database) (old new : State) (tables : List Table) (i : ℕ) → Sees d old new (Ok tt) (Good (take i tables) d.trees) → length tables ≤ i
+    → Sees d old new (Ok None) (λ bad. IsBadOf tables d bad)
 tables_end d old new tables i h all =
-    sees_on d old new tt (Good (take i tables) d.trees) (λ bad. IsBadOf tables d bad) (Ok None) h (λ old_database p canonical. subst (Every (λ t. is_good_in t d.trees ≡ true)) (taken tables i all) (p canonical))
+    sees_on d old new tt (Good (take i tables) d.trees) (λ bad. IsBadOf tables d bad) (Ok None) h
+    (λ old_database p canonical. subst (Every (λ t. is_good_in t d.trees ≡ true)) (taken tables i all) (p canonical))
 
 pub each_good : (v : Version) (db : Trees) → Every (λ t. is_good_in t db ≡ true) (tables_of v) → (t : Table) → IsIn v t → is_good_in t db ≡ true
 each_good version.First db h table.Meta here = h.0
@@ -238,13 +267,17 @@ pub covered : (v : Version) (s : Schema) → s ≡ schema_of v → Every (Covers
 covered version.First s is = let b = version_begins version.First s is in (b, (b, (b, (b, (b, (b, (b, (b, (b, tt)))))))))
 covered version.Second s is = let b = version_begins version.Second s is in (b, (b, (b, (b, (b, (b, (b, (b, (b, (is, (is, tt)))))))))))
 
-pub bad_found : (v : Version) (d : Database) (old new : State) (t : Table) → Sees d old new (Ok (Some t)) (λ bad. IsBadOf (tables_of v) d bad) → Sees d old new (Ok (Some (BadRow t))) (λ f. IsRowFound v d f)
-bad_found v d old new t h = sees_on d old new (Some t) (λ bad. IsBadOf (tables_of v) d bad) (λ f. IsRowFound v d f) (Ok (Some (BadRow t))) h (λ old_database bad. inl bad)
+pub bad_found : (v : Version) (d : Database) (old new : State) (t : Table) → Sees d old new (Ok (Some t)) (λ bad. IsBadOf (tables_of v) d bad)
+    → Sees d old new (Ok (Some (BadRow t))) (λ f. IsRowFound v d f)
+bad_found v d old new t h =
+    sees_on d old new (Some t) (λ bad. IsBadOf (tables_of v) d bad) (λ f. IsRowFound v d f) (Ok (Some (BadRow t))) h (λ old_database bad. inl bad)
 
 -- where each table is good by itself, the look finds the misplaced row
-pub place_after : (v : Version) (d : Database) (old mid new : State) (r : Result (Option AdoptFault) Error) → Sees d old mid (Ok None) (λ bad. IsBadOf (tables_of v) d bad) → Sees d mid new r (λ f. IsPlaceFound v d f)
+pub place_after : (v : Version) (d : Database) (old mid new : State) (r : Result (Option AdoptFault) Error)
+    → Sees d old mid (Ok None) (λ bad. IsBadOf (tables_of v) d bad) → Sees d mid new r (λ f. IsPlaceFound v d f)
     → Sees d old new r (λ f. IsRowFound v d f)
-place_after v d old mid new r first next = sees_then d old mid new None (λ bad. IsBadOf (tables_of v) d bad) first (λ f. IsPlaceFound v d f) (λ f. IsRowFound v d f) r both next
+place_after v d old mid new r first next =
+    sees_then d old mid new None (λ bad. IsBadOf (tables_of v) d bad) first (λ f. IsPlaceFound v d f) (λ f. IsRowFound v d f) r both next
   where
     both : IsBadOf (tables_of v) d None → (f : Option AdoptFault) → IsPlaceFound v d f → IsRowFound v d f
     both all None placed = (placed, λ canonical. each_good v d.trees (all canonical))
@@ -259,15 +292,24 @@ module _ (d : Database) (old mid : State) (is : d.schema ≡ book_schema) where
   pub ranks_right : Sees d old mid (Ok true) (λ placed. placed ≡ is_ranked d.trees) → Sees d old mid (Ok None) (λ f. IsRankFound d f)
   ranks_right h = sees_on d old mid true (λ placed. placed ≡ is_ranked d.trees) (λ f. IsRankFound d f) (Ok None) h (λ old_database p beside. (beside, sym p))
 
-  pub ranks_wrong : Sees d old mid (Ok false) (λ placed. placed ≡ is_ranked d.trees) → Sees d old mid (Ok (Some (BadRow table.GroupPriority))) (λ f. IsRankFound d f)
-  ranks_wrong h = sees_on d old mid false (λ placed. placed ≡ is_ranked d.trees) (λ f. IsRankFound d f) (Ok (Some (BadRow table.GroupPriority))) h (λ old_database p beside. inr (inr (is, sym p)))
+  pub ranks_wrong : Sees d old mid (Ok false) (λ placed. placed ≡ is_ranked d.trees)
+      → Sees d old mid (Ok (Some (BadRow table.GroupPriority))) (λ f. IsRankFound d f)
+  ranks_wrong h =
+      sees_on d old mid false (λ placed. placed ≡ is_ranked d.trees) (λ f. IsRankFound d f) (Ok (Some (BadRow table.GroupPriority))) h
+      (λ old_database p beside. inr (inr (is, sym p)))
 
-  pub further_wrong : Sees d old mid (Ok false) (λ placed. placed ≡ is_beside d.trees) → Sees d old mid (Ok (Some (BadRow table.AgentGroups))) (λ f. IsPlaceFound version.Second d f)
-  further_wrong h = sees_on d old mid false (λ placed. placed ≡ is_beside d.trees) (λ f. IsPlaceFound version.Second d f) (Ok (Some (BadRow table.AgentGroups))) h (λ old_database p. inr (inr (is, sym p)))
+  pub further_wrong : Sees d old mid (Ok false) (λ placed. placed ≡ is_beside d.trees)
+      → Sees d old mid (Ok (Some (BadRow table.AgentGroups))) (λ f. IsPlaceFound version.Second d f)
+  further_wrong h =
+      sees_on d old mid false (λ placed. placed ≡ is_beside d.trees) (λ f. IsPlaceFound version.Second d f) (Ok (Some (BadRow table.AgentGroups))) h
+      (λ old_database p. inr (inr (is, sym p)))
 
-  pub further_right : (new : State) (r : Result (Option AdoptFault) Error) → Sees d old mid (Ok true) (λ placed. placed ≡ is_beside d.trees) → Sees d mid new r (λ f. IsRankFound d f)
+  pub further_right : (new : State) (r : Result (Option AdoptFault) Error) → Sees d old mid (Ok true) (λ placed. placed ≡ is_beside d.trees)
+      → Sees d mid new r (λ f. IsRankFound d f)
       → Sees d old new r (λ f. IsPlaceFound version.Second d f)
-  further_right new r first next = sees_then d old mid new true (λ placed. placed ≡ is_beside d.trees) first (λ f. IsRankFound d f) (λ f. IsPlaceFound version.Second d f) r (λ p f q. q (sym p)) next
+  further_right new r first next =
+      sees_then d old mid new true (λ placed. placed ≡ is_beside d.trees) first (λ f. IsRankFound d f) (λ f. IsPlaceFound version.Second d f) r
+      (λ p f q. q (sym p)) next
 
 -- ---- the whole look
 
@@ -286,13 +328,15 @@ begins_back (t ∷ rest) h = cc h.1
 
 -- and one whose first table isn't that of a book doesn't begin with it
 pub begins_not : (a b : List Made) (s of_book : Schema) → a ≡ s.tables → b ≡ of_book.tables → of_book ≡ old_schema → BeginsAsBook s → AreSameFirst a b
-begins_not a b s of_book first second is begins = subst₂ AreSameFirst (sym first) (sym (second ∙ ap (λ (x : Schema). x.tables) is)) (begins_back s.tables begins)
+begins_not a b s of_book first second is begins =
+    subst₂ AreSameFirst (sym first) (sym (second ∙ ap (λ (x : Schema). x.tables) is)) (begins_back s.tables begins)
 
 pub begins_of : (a b : List Made) (s of_book : Schema) → AreSameFirst a b → a ≡ s.tables → b ≡ of_book.tables → of_book ≡ old_schema → BeginsAsBook s
 begins_of a b s of_book same first second is = begins_of_first s.tables (subst₂ AreSameFirst first (second ∙ ap (λ (x : Schema). x.tables) is) same)
 
 -- the view of the database that is there
-pub sees_at : {A : Type 0} (d : Database) (old new : State) (r : Result A Error) (P : Database → A → Type 0) → Sees old.now old new r (P old.now) → Sees d old new r (P d)
+pub sees_at : {A : Type 0} (d : Database) (old new : State) (r : Result A Error) (P : Database → A → Type 0) → Sees old.now old new r (P old.now)
+    → Sees d old new r (P d)
 sees_at d old new r P h =
     let there : HasDatabase old d → Sees d old new r (P d) = λ old_database. subst (λ x. Sees x old new r (P x)) old_database.now h in
     record {
@@ -305,7 +349,8 @@ sees_at d old new r P h =
     }
 
 module _ {A : Type 0} (old mid new : State) (r : Result A Error) (P : Database → A → Type 0) where
-  pub looked : Sees {A = Unit {0}} old.now old mid (Ok tt) (λ _. ⊤) → (HasCleanDisk mid → IsTrue mid.is_open) → (HasCleanDisk mid → NoStop old mid) → (IsTrue old.is_open → old.now ≡ old.committed)
+  pub looked : Sees {A = Unit {0}} old.now old mid (Ok tt) (λ _. ⊤) → (HasCleanDisk mid → IsTrue mid.is_open) → (HasCleanDisk mid → NoStop old mid)
+      → (IsTrue old.is_open → old.now ≡ old.committed)
       → (IsTrue old.is_open → IsDatabase old.now) → Sees mid.now mid new r (P mid.now) → HasLooked old new r P
   looked first up still settled obeys next =
       let here = sees_at old.now mid new r P next in
@@ -320,6 +365,13 @@ module _ {A : Type 0} (old mid new : State) (r : Result A Error) (P : Database �
         stops = λ k db left. still (here.clean k) db (here.stops k (old_database (here.clean k)) db left);
       }
 
-pub looked_not : {A : Type 0} (old new : State) (e : Error) (P : Database → A → Type 0) → Sees {A = Unit {0}} old.now old new (Err e) (λ _. ⊤) → (HasCleanDisk new → NoStop old new)
+pub looked_not : {A : Type 0} (old new : State) (e : Error) (P : Database → A → Type 0) → Sees {A = Unit {0}} old.now old new (Err e) (λ _. ⊤)
+    → (HasCleanDisk new → NoStop old new)
     → (IsTrue old.is_open → old.now ≡ old.committed) → (IsTrue old.is_open → IsDatabase old.now) → HasLooked old new (Err e) P
-looked_not old new e P first still settled obeys = record { seen = sees_fail old.now old new e (λ _. ⊤) (P old.now) first; up = λ k. tt; settled = settled; obeys = obeys; stops = still }
+looked_not old new e P first still settled obeys = record {
+  seen = sees_fail old.now old new e (λ _. ⊤) (P old.now) first;
+  up = λ k. tt;
+  settled = settled;
+  obeys = obeys;
+  stops = still;
+}

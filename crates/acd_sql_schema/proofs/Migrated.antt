@@ -59,7 +59,8 @@ module _ (old mid new : State) (b : Builds mid book_schema ((rows_of old.now.tre
     };
   }
 
-pub altered_if : (old mid new : State) (r : Result (Unit {0}) Error) → ((rows : List (List Row)) → Builds old old_schema rows → Builds mid book_schema ((rows ++ [] ∷ []) ++ [] ∷ []))
+pub altered_if : (old mid new : State) (r : Result (Unit {0}) Error)
+    → ((rows : List (List Row)) → Builds old old_schema rows → Builds mid book_schema ((rows ++ [] ∷ []) ++ [] ∷ []))
     → OnOk r (mid.now.schema ≡ book_schema → SetsSecondVersion mid new) → IsTrue old.in_transaction → old.now.schema ≡ old_schema → OnOk r (IsAltered old new)
 altered_if old mid new (Err e) makes set inside is = tt
 altered_if old mid new (Ok x) makes set inside is =
@@ -67,7 +68,8 @@ altered_if old mid new (Ok x) makes set inside is =
 
 -- ---- after it
 
-pub made_of : (old mid new : State) (r : Result (Unit {0}) Error) → IsAltered old mid → OnOk r (IsTrue mid.in_transaction × Shows mid new mid.now mid.now false × KeepsCounts mid new × (new.marks ≡ [])) → OnOk r (IsMade old new)
+pub made_of : (old mid new : State) (r : Result (Unit {0}) Error) → IsAltered old mid
+    → OnOk r (IsTrue mid.in_transaction × Shows mid new mid.now mid.now false × KeepsCounts mid new × (new.marks ≡ [])) → OnOk r (IsMade old new)
 made_of old mid new (Err e) a ended = tt
 made_of old mid new (Ok x) a ended = record {
   is_open = ended.1.is_open;
@@ -76,7 +78,8 @@ made_of old mid new (Ok x) a ended = record {
   tables = subst (λ (d : Database). IsMigration old.now.trees d.trees) (sym ended.1.committed_is) a.tables;
 }
 
-pub restored : (old mid new : State) (r : Result (Unit {0}) Error) → KeepsCommit old mid → IsAltered old mid → IfErr r (FailsToCommit mid new) → OnErr r (IsTrue new.is_open → IsRestored old new)
+pub restored : (old mid new : State) (r : Result (Unit {0}) Error) → KeepsCommit old mid → IsAltered old mid → IfErr r (FailsToCommit mid new)
+    → OnErr r (IsTrue new.is_open → IsRestored old new)
 restored old mid new (Ok x) kept a fails = tt
 restored old mid new (Err e) kept a fails = λ (up : IsTrue new.is_open). elim fails [
   | inl failed ↦
@@ -85,7 +88,8 @@ restored old mid new (Err e) kept a fails = λ (up : IsTrue new.is_open). elim f
   | inr late ↦ absurd (let e = sym a.inside ∙ late.1 in cc)
 ]
 
-pub may_alter : (old begun mid new : State) → ((db : Trees) → begun.may_leave db → old.may_leave db) → Survives begun mid (λ _. ⊥) → Survives mid new (λ db. db ≡ mid.now.trees) → IsAltered old mid → HasCleanDisk mid → HasCleanDisk new
+pub may_alter : (old begun mid new : State) → ((db : Trees) → begun.may_leave db → old.may_leave db) → Survives begun mid (λ _. ⊥)
+    → Survives mid new (λ db. db ≡ mid.now.trees) → IsAltered old mid → HasCleanDisk mid → HasCleanDisk new
     → MayAlter old new
 may_alter old begun mid new back first second a middle late db left = elim (second.crash late db left) [
   | inl was ↦ elim (first.crash middle db was) [ inl older ↦ inl (back db older) | inr none ↦ absurd none ]
@@ -93,7 +97,8 @@ may_alter old begun mid new back first second a middle late db left = elim (seco
 ]
 
 -- nothing was begun that ends
-pub still_stops : (old begun mid : State) → ((db : Trees) → begun.may_leave db → old.may_leave db) → Survives begun mid (λ _. ⊥) → HasCleanDisk mid → MayAlter old mid
+pub still_stops : (old begun mid : State) → ((db : Trees) → begun.may_leave db → old.may_leave db) → Survives begun mid (λ _. ⊥) → HasCleanDisk mid
+    → MayAlter old mid
 still_stops old begun mid back first middle db left = elim (first.crash middle db left) [ inl older ↦ inl (back db older) | inr none ↦ absurd none ]
 
 -- ---- why it isn't made
@@ -119,12 +124,15 @@ pub unmade : (old new : State) (e : Error) → FailsToMake old new e → FailsTo
 unmade old new e (inl memory) = inl memory
 unmade old new e (inr failed) = inr (inl failed)
 
-version_refused : (old mid new : State) (e : Error) → Works old mid → HasCleanDisk mid → mid.faults ≤ new.faults → Builds mid book_schema ((rows_of old.now.trees ++ [] ∷ []) ++ [] ∷ []) → FailsToWrite mid new UPDATE_VERSION.now [] e → FailsToMigrate old new e
+version_refused : (old mid new : State) (e : Error) → Works old mid → HasCleanDisk mid → mid.faults ≤ new.faults
+    → Builds mid book_schema ((rows_of old.now.trees ++ [] ∷ []) ++ [] ∷ []) → FailsToWrite mid new UPDATE_VERSION.now [] e → FailsToMigrate old new e
 version_refused old mid new e w k counts b (inl memory) = inl memory
 version_refused old mid new e w k counts b (inr (inl failed)) = inr (inl (failed_after old mid new w.survives k counts failed))
-version_refused old mid new e w k counts b (inr (inr refused)) = inr (inr (mid.now, beside old.now.trees mid b, subst (λ l. Refuses l mid.now UPDATE_VERSION.now []) w.survives.limit refused))
+version_refused old mid new e w k counts b (inr (inr refused)) =
+    inr (inr (mid.now, beside old.now.trees mid b, subst (λ l. Refuses l mid.now UPDATE_VERSION.now []) w.survives.limit refused))
 
-pub version_refused_if : (old mid new : State) (r : Result (Unit {0}) Error) → Works old mid → HasCleanDisk mid → mid.faults ≤ new.faults → Builds mid book_schema ((rows_of old.now.trees ++ [] ∷ []) ++ [] ∷ []) → IfErr r (FailsToWrite mid new UPDATE_VERSION.now [])
+pub version_refused_if : (old mid new : State) (r : Result (Unit {0}) Error) → Works old mid → HasCleanDisk mid → mid.faults ≤ new.faults
+    → Builds mid book_schema ((rows_of old.now.trees ++ [] ∷ []) ++ [] ∷ []) → IfErr r (FailsToWrite mid new UPDATE_VERSION.now [])
     → IfErr r (FailsToMigrate old new)
 version_refused_if old mid new (Ok x) w k counts b h = tt
 version_refused_if old mid new (Err e) w k counts b h = version_refused old mid new e w k counts b h

@@ -75,14 +75,17 @@ module _ (n : ℕ) where
   put_adds p [] = omega arith
   put_adds p (q ∷ ps) = by (pair_order p q) (put_adds p ps)
     where
-      by : (o : Ordering) → count (put_by (pair_order p) ps p) ≤ count (p ∷ ps) → count (match_ordering o (p ∷ q ∷ ps) (p ∷ ps) (q ∷ put_by (pair_order p) ps p)) ≤ count (p ∷ q ∷ ps)
+      by : (o : Ordering) → count (put_by (pair_order p) ps p) ≤ count (p ∷ ps)
+          → count (match_ordering o (p ∷ q ∷ ps) (p ∷ ps) (q ∷ put_by (pair_order p) ps p)) ≤ count (p ∷ q ∷ ps)
       by Less more = omega arith
       by Equal more =
           subst (λ k. count (p ∷ ps) ≤ k) (sym (one_more p (q ∷ ps)))
           (subst (λ k. k ≤ cond (p.0 == n) (suc (count (q ∷ ps))) (count (q ∷ ps))) (sym (one_more p ps))
           (longer_by (p.0 == n) (count ps) (count (q ∷ ps)) (subst (λ k. count ps ≤ k) (sym (one_more q ps)) (at_most (q.0 == n) (count ps)))))
       by Greater more =
-          subst (λ k. count (q ∷ put_by (pair_order p) ps p) ≤ k) (sym (one_more p (q ∷ ps) ∙ ap (λ k. cond (p.0 == n) (suc k) k) (one_more q ps) ∙ swapped (p.0 == n) (q.0 == n) (count ps) ∙ ap (λ k. cond (q.0 == n) (suc k) k) (sym (one_more p ps))))
+          subst (λ k. count (q ∷ put_by (pair_order p) ps p) ≤ k)
+          (sym (one_more p (q ∷ ps) ∙ ap (λ k. cond (p.0 == n) (suc k) k) (one_more q ps) ∙ swapped (p.0 == n) (q.0 == n) (count ps)
+          ∙ ap (λ k. cond (q.0 == n) (suc k) k) (sym (one_more p ps))))
           (subst (λ k. k ≤ cond (q.0 == n) (suc (count (p ∷ ps))) (count (p ∷ ps))) (sym (one_more q (put_by (pair_order p) ps p)))
           (longer_by (q.0 == n) (count (put_by (pair_order p) ps p)) (count (p ∷ ps)) more))
 
@@ -100,23 +103,29 @@ module _ (n : ℕ) where
 -- they come after the first groups of their agents in whatever order they come
 after_in_order : (agents : List AgentRow) (pairs : List (ℕ × ℕ)) → are_after agents pairs ≡ true → are_after agents (in_order pair_order pairs) ≡ true
 after_in_order agents pairs h =
-    let parts = and_parts (list_all (λ (p : ℕ × ℕ). list_any (λ (a : AgentRow). is_after a p) agents) pairs) (list_all (λ (a : AgentRow). nat_le (length (groups_beside pairs a.agent)) 7) agents) h in
+    let parts =
+    and_parts (list_all (λ (p : ℕ × ℕ). list_any (λ (a : AgentRow). is_after a p) agents) pairs)
+    (list_all (λ (a : AgentRow). nat_le (length (groups_beside pairs a.agent)) 7) agents) h in
     and_from _ _
-    (all_from (λ (p : ℕ × ℕ). list_any (λ (a : AgentRow). is_after a p) agents) (in_order pair_order pairs) (λ p k. all_true (λ (q : ℕ × ℕ). list_any (λ (a : AgentRow). is_after a q) agents) pairs parts.0 p (from_order pair_order pairs p k)))
+    (all_from (λ (p : ℕ × ℕ). list_any (λ (a : AgentRow). is_after a p) agents) (in_order pair_order pairs)
+    (λ p k. all_true (λ (q : ℕ × ℕ). list_any (λ (a : AgentRow). is_after a q) agents) pairs parts.0 p (from_order pair_order pairs p k)))
     (all_from (λ (a : AgentRow). nat_le (length (groups_beside (in_order pair_order pairs) a.agent)) 7) agents
     (λ a k. few _ _ (in_order_at_most a.agent pairs) (all_true (λ (x : AgentRow). nat_le (length (groups_beside pairs x.agent)) 7) agents parts.1 a k)))
 
 -- ---- what the rows show
 
-shown : {R : Type 0} (show : Row → R) (see : Row → Row) (row : R → Row) → ((x : R) → show (see (row x)) ≡ x) → (xs : List R) → map show (map see (map row xs)) ≡ xs
+shown : {R : Type 0} (show : Row → R) (see : Row → Row) (row : R → Row) → ((x : R) → show (see (row x)) ≡ x) → (xs : List R)
+    → map show (map see (map row xs)) ≡ xs
 shown show see row back [] = refl
 shown show see row back (x ∷ xs) = ap₂ (λ y l. y ∷ l) (back x) (shown show see row back xs)
 
-pairs_seen : (rows : List Row) → ((r : Row) → Has rows r → (id : ℤ) × (p : ℕ × ℕ) × (r ≡ further_row id p)) → map as_further (map (values_in table.AgentGroups) rows) ≡ map (λ r. as_further (drop 1 r)) rows
+pairs_seen : (rows : List Row) → ((r : Row) → Has rows r → (id : ℤ) × (p : ℕ × ℕ) × (r ≡ further_row id p))
+    → map as_further (map (values_in table.AgentGroups) rows) ≡ map (λ r. as_further (drop 1 r)) rows
 pairs_seen [] h = refl
 pairs_seen (r ∷ rows) h =
     let from = h r (inl refl) in
-    ap₂ (λ p ps. p ∷ ps) (subst (λ s. as_further (values_in table.AgentGroups s) ≡ as_further (drop 1 s)) (sym from.2) refl) (pairs_seen rows (λ s k. h s (inr k)))
+    ap₂ (λ p ps. p ∷ ps) (subst (λ s. as_further (values_in table.AgentGroups s) ≡ as_further (drop 1 s)) (sym from.2) refl)
+    (pairs_seen rows (λ s k. h s (inr k)))
 
 -- a priority in its range isn't 0
 none_read : (o : Option ℕ) (next : ℕ → Option GroupPriority) → ((x : ℕ) → next x ≡ None) → is_some (o >>= next) ≡ false
@@ -125,7 +134,9 @@ none_read (Some x) next none = ap is_some (none x)
 
 no_rank : (d n : ℕ) → n ≡ 0 → is_some (priority_in (priority_values (record { device = d; priority = n }))) ≡ false
 unfolding priority_at number_between
-no_rank d n e = subst (λ k. is_some (priority_in (priority_values (record { device = d; priority = k }))) ≡ false) (sym e) (none_read (device_at (id_value d ∷ id_value 0 ∷ []) 0) _ (λ x. refl))
+no_rank d n e =
+    subst (λ k. is_some (priority_in (priority_values (record { device = d; priority = k }))) ≡ false) (sym e)
+    (none_read (device_at (id_value d ∷ id_value 0 ∷ []) 0) _ (λ x. refl))
 
 one_ranked : (p : GroupPriority) → is_some (priority_in (priority_values p)) ≡ true → (p.priority == 0) ≡ false
 one_ranked p h = by (p.priority == 0) refl
@@ -134,14 +145,19 @@ one_ranked p h = by (p.priority == 0) refl
     by true e = absurd (let no = no_rank p.device p.priority (eqb-true p.priority 0 e) in cc (no, h))
     by false e = refl
 
-all_ranked : (ps : List GroupPriority) → are_good table.GroupPriority (map priority_values ps) ≡ true → (p : GroupPriority) → Among p ps → (p.priority == 0) ≡ false
+all_ranked : (ps : List GroupPriority) → are_good table.GroupPriority (map priority_values ps) ≡ true → (p : GroupPriority) → Among p ps
+    → (p.priority == 0) ≡ false
 unfolding are_good
 all_ranked ps h p k = one_ranked p (go ps h k)
   where
-    go : (ps : List GroupPriority) → list_all (is_good table.GroupPriority) (map priority_values ps) ≡ true → Among p ps → is_good table.GroupPriority (priority_values p) ≡ true
+    go : (ps : List GroupPriority) → list_all (is_good table.GroupPriority) (map priority_values ps) ≡ true → Among p ps
+        → is_good table.GroupPriority (priority_values p) ≡ true
     go [] h k = absurd k
-    go (q ∷ ps) h (inl e) = subst (λ (x : GroupPriority). is_good table.GroupPriority (priority_values x) ≡ true) (sym e) (and_parts (is_good table.GroupPriority (priority_values q)) (list_all (is_good table.GroupPriority) (map priority_values ps)) h).0
-    go (q ∷ ps) h (inr k) = go ps (and_parts (is_good table.GroupPriority (priority_values q)) (list_all (is_good table.GroupPriority) (map priority_values ps)) h).1 k
+    go (q ∷ ps) h (inl e) =
+        subst (λ (x : GroupPriority). is_good table.GroupPriority (priority_values x) ≡ true) (sym e)
+        (and_parts (is_good table.GroupPriority (priority_values q)) (list_all (is_good table.GroupPriority) (map priority_values ps)) h).0
+    go (q ∷ ps) h (inr k) =
+        go ps (and_parts (is_good table.GroupPriority (priority_values q)) (list_all (is_good table.GroupPriority) (map priority_values ps)) h).1 k
 
 -- ---- in a version
 
@@ -185,17 +201,23 @@ none_beside db agents groups = record {
   priorities_good = refl;
 }
 
-module _ (db : Trees) (agents : List AgentRow) (groups : List GroupRow) (further : List (ℕ × ℕ)) (priorities : List GroupPriority) (agents_are : AreRows (λ (a : AgentRow). a.agent) agent_row (db (tree_of table.Agents)) agents)
-    (groups_are : AreRows (λ (g : GroupRow). g.device) group_row (db (tree_of table.Groups)) groups) (further_are : AreHeaped pair_order further_row (db (tree_of table.AgentGroups)) further)
+module _ (db : Trees) (agents : List AgentRow) (groups : List GroupRow) (further : List (ℕ × ℕ)) (priorities : List GroupPriority)
+    (agents_are : AreRows (λ (a : AgentRow). a.agent) agent_row (db (tree_of table.Agents)) agents)
+    (groups_are : AreRows (λ (g : GroupRow). g.device) group_row (db (tree_of table.Groups)) groups)
+    (further_are : AreHeaped pair_order further_row (db (tree_of table.AgentGroups)) further)
     (priorities_are : AreRows (λ (p : GroupPriority). p.device) priority_row (db (tree_of table.GroupPriority)) priorities) where
   agents_seen : map as_agent (rows_in table.Agents db) ≡ agents
-  agents_seen = ap (λ rows. map as_agent (map (values_in table.Agents) rows)) agents_are.rows_are ∙ shown as_agent (values_in table.Agents) agent_row agent_back agents
+  agents_seen =
+      ap (λ rows. map as_agent (map (values_in table.Agents) rows)) agents_are.rows_are ∙ shown as_agent (values_in table.Agents) agent_row agent_back agents
 
   groups_seen : map as_group (rows_in table.Groups db) ≡ groups
-  groups_seen = ap (λ rows. map as_group (map (values_in table.Groups) rows)) groups_are.rows_are ∙ shown as_group (values_in table.Groups) group_row group_back groups
+  groups_seen =
+      ap (λ rows. map as_group (map (values_in table.Groups) rows)) groups_are.rows_are ∙ shown as_group (values_in table.Groups) group_row group_back groups
 
   priorities_seen : map as_priority (rows_in table.GroupPriority db) ≡ priorities
-  priorities_seen = ap (λ rows. map as_priority (map (values_in table.GroupPriority) rows)) priorities_are.rows_are ∙ shown as_priority (values_in table.GroupPriority) priority_row priority_back priorities
+  priorities_seen =
+      ap (λ rows. map as_priority (map (values_in table.GroupPriority) rows)) priorities_are.rows_are
+      ∙ shown as_priority (values_in table.GroupPriority) priority_row priority_back priorities
 
   further_seen : in_order pair_order (map as_further (rows_in table.AgentGroups db)) ≡ further
   further_seen =
@@ -205,13 +227,18 @@ module _ (db : Trees) (agents : List AgentRow) (groups : List GroupRow) (further
   are_all_after : is_beside db ≡ true → are_after agents further ≡ true
   unfolding is_beside
   are_all_after h =
-      subst (λ ps. are_after agents ps ≡ true) further_seen (after_in_order agents (map as_further (rows_in table.AgentGroups db)) (subst (λ rows. are_after rows (map as_further (rows_in table.AgentGroups db)) ≡ true) agents_seen h))
+      subst (λ ps. are_after agents ps ≡ true) further_seen
+      (after_in_order agents (map as_further (rows_in table.AgentGroups db))
+      (subst (λ rows. are_after rows (map as_further (rows_in table.AgentGroups db)) ≡ true) agents_seen h))
 
   are_all_known : is_ranked db ≡ true → are_of_groups groups priorities ≡ true
   unfolding is_ranked
-  are_all_known h = subst (λ ps. are_of_groups groups ps ≡ true) priorities_seen (subst (λ rows. are_of_groups rows (map as_priority (rows_in table.GroupPriority db)) ≡ true) groups_seen h)
+  are_all_known h =
+      subst (λ ps. are_of_groups groups ps ≡ true) priorities_seen
+      (subst (λ rows. are_of_groups rows (map as_priority (rows_in table.GroupPriority db)) ≡ true) groups_seen h)
 
-  pub all_beside : ArePlaced version.Second db → are_good table.AgentGroups (map further_values further) ≡ true → are_good table.GroupPriority (map priority_values priorities) ≡ true → Beside version.Second db agents groups
+  pub all_beside : ArePlaced version.Second db → are_good table.AgentGroups (map further_values further) ≡ true
+      → are_good table.GroupPriority (map priority_values priorities) ≡ true → Beside version.Second db agents groups
   all_beside placed right ranks = record {
     further = further;
     priorities = priorities;

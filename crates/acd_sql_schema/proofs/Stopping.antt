@@ -18,17 +18,20 @@ use Rattle.acd_sql_schema.specs.SettingUp.{FailsToMake, FailsToSetUp, start_of}
 use Rattle.acd_sql_schema.proofs.Taken.{IsTaken, never_refused}
 
 -- a text, which the store doesn't refuse
-pub step_failed : (schema : Schema) (text : List ℕ) (table : Table) → MakesTable schema text table → IsTaken schema text table → (rows : List (List Row)) (old new : State) (e : Error) → Builds old schema rows → FailsToWrite old new text [] e → FailsToMake old new e
+pub step_failed : (schema : Schema) (text : List ℕ) (table : Table) → MakesTable schema text table → IsTaken schema text table
+    → (rows : List (List Row)) (old new : State) (e : Error) → Builds old schema rows → FailsToWrite old new text [] e → FailsToMake old new e
 step_failed schema text table makes taken rows old new e b (inl memory) = inl memory
 step_failed schema text table makes taken rows old new e b (inr (inl failed)) = inr failed
-step_failed schema text table makes taken rows old new e b (inr (inr refused)) = absurd (never_refused schema text table makes taken old.step_limit old.now b.schema_is refused)
+step_failed schema text table makes taken rows old new e b (inr (inr refused)) =
+    absurd (never_refused schema text table makes taken old.step_limit old.now b.schema_is refused)
 
 -- a failure after what was made
 pub make_later : (old mid new : State) (e : Error) → Works old mid → HasCleanDisk mid → mid.faults ≤ new.faults → FailsToMake mid new e → FailsToMake old new e
 make_later old mid new e w k counts (inl memory) = inl memory
 make_later old mid new e w k counts (inr failed) = inr (failed_after old mid new w.survives k counts failed)
 
-pub make_later_if : (old mid new : State) (r : Result (Unit {0}) Error) → Works old mid → HasCleanDisk mid → mid.faults ≤ new.faults → IfErr r (FailsToMake mid new) → IfErr r (FailsToMake old new)
+pub make_later_if : (old mid new : State) (r : Result (Unit {0}) Error) → Works old mid → HasCleanDisk mid → mid.faults ≤ new.faults
+    → IfErr r (FailsToMake mid new) → IfErr r (FailsToMake old new)
 make_later_if old mid new (Ok x) w k counts h = tt
 make_later_if old mid new (Err e) w k counts h = make_later old mid new e w k counts h
 
@@ -38,7 +41,8 @@ make_still old mid new e counts (inl memory) = inl memory
 make_still old mid new e counts (inr failed) = inr (failed_before old mid new failed counts)
 
 -- the end of a transaction
-pub commit_fails : (old mid new : State) (r : Result (Unit {0}) Error) → Works old mid → HasCleanDisk mid → mid.faults ≤ new.faults → IsTrue mid.in_transaction → IfErr r (FailsToCommit mid new) → IfErr r (FailsToMake old new)
+pub commit_fails : (old mid new : State) (r : Result (Unit {0}) Error) → Works old mid → HasCleanDisk mid → mid.faults ≤ new.faults → IsTrue mid.in_transaction
+    → IfErr r (FailsToCommit mid new) → IfErr r (FailsToMake old new)
 commit_fails old mid new (Ok x) w k counts inside h = tt
 commit_fails old mid new (Err e) w k counts inside h = elim (commit_failed mid new e inside h) [
   | inl memory ↦ inl memory
@@ -53,10 +57,12 @@ module _ (limits : Limits) where
   none_set_up old new e (inr failed) = inr (inl failed)
 
   -- the row of the limits
-  pub start_failed : (old mid new : State) (e : Error) → Works old mid → HasCleanDisk mid → mid.faults ≤ new.faults → Builds mid book_schema (no_rows 11) → FailsToStart (start_of limits) mid new e → FailsToSetUp old new limits e
+  pub start_failed : (old mid new : State) (e : Error) → Works old mid → HasCleanDisk mid → mid.faults ≤ new.faults → Builds mid book_schema (no_rows 11)
+      → FailsToStart (start_of limits) mid new e → FailsToSetUp old new limits e
   start_failed old mid new e w k counts b (inl memory) = inl memory
   start_failed old mid new e w k counts b (inr (inl failed)) = inr (inl (failed_after old mid new w.survives k counts failed))
-  start_failed old mid new e w k counts b (inr (inr refused)) = inr (inr (mid.now, b.schema_is, b.rows_are, subst (λ l. Refuses l mid.now INSERT_META.now (meta_values (start_of limits))) w.survives.limit refused))
+  start_failed old mid new e w k counts b (inr (inr refused)) =
+      inr (inr (mid.now, b.schema_is, b.rows_are, subst (λ l. Refuses l mid.now INSERT_META.now (meta_values (start_of limits))) w.survives.limit refused))
 
   -- nothing after a failure changes it
   pub still_failed : (old mid new : State) (e : Error) → mid.faults ≤ new.faults → FailsToSetUp old mid limits e → FailsToSetUp old new limits e
@@ -65,7 +71,8 @@ module _ (limits : Limits) where
   still_failed old mid new e counts (inr (inr other)) = inr (inr other)
 
   -- the end of the transaction
-  pub commit_stops : (old mid new : State) (r : Result (Unit {0}) Error) → Works old mid → HasCleanDisk mid → mid.faults ≤ new.faults → IsTrue mid.in_transaction → IfErr r (FailsToCommit mid new) → IfErr r (FailsToSetUp old new limits)
+  pub commit_stops : (old mid new : State) (r : Result (Unit {0}) Error) → Works old mid → HasCleanDisk mid → mid.faults ≤ new.faults
+      → IsTrue mid.in_transaction → IfErr r (FailsToCommit mid new) → IfErr r (FailsToSetUp old new limits)
   commit_stops old mid new (Ok x) w k counts inside h = tt
   commit_stops old mid new (Err e) w k counts inside h = elim (commit_failed mid new e inside h) [
     | inl memory ↦ inl memory

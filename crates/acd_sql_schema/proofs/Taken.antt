@@ -57,17 +57,29 @@ pub record IsTaken (s : Schema) (text : List ℕ) (t : Table) : Type 0 where
   pub low : nat_lt (next_tree s + length t.uniques) 65536 ≡ true
   pub reals : (nat_lt (table_reals t) (2 ^ 64) ≡ true) × (list_all (λ (key : List ℕ). nat_lt (index_reals (table_reals t) key) (2 ^ 64)) t.uniques ≡ true)
   pub formed : is_formed t ≡ true
-  pub fit : (bytes_eq t.name t.name ≡ true) × (is_free_name t.name ≡ true) × (begins (codes "create") (Text text) ≡ true) × (begins (codes "create virtual") (Text text) ≡ false)
+  pub fit : (bytes_eq t.name t.name ≡ true) × (is_free_name t.name ≡ true) × (begins (codes "create") (Text text) ≡ true)
+      × (begins (codes "create virtual") (Text text) ≡ false)
   pub short : nat_lt (2 * length t.name + length text + 200) (10 ^ 9) ≡ true
 
 no_more : (n m : ℕ) → nat_lt n m ≡ true → m ≤ n → ⊥
 no_more n m low high = grind (arith, nat_tests)
 
-fit_for : (name text : List ℕ) → bytes_eq name name ≡ true → is_free_name name ≡ true → begins (codes "create") (Text text) ≡ true → begins (codes "create virtual") (Text text) ≡ false
+fit_for : (name text : List ℕ) → bytes_eq name name ≡ true → is_free_name name ≡ true → begins (codes "create") (Text text) ≡ true
+    → begins (codes "create virtual") (Text text) ≡ false
     → is_fit (Text (codes "table")) (Text name) (Text name) (Text text) ≡ true
 unfolding fits_kind
 fit_for name text same free creates virtual =
-    rw (text_tied (codes "table") (codes "index"), text_tied (codes "table") (codes "table"), text_tied (codes "table") (codes "view"), text_tied (codes "table") (codes "trigger"), text_tied name name, same, free, creates, virtual) refl
+    rw (
+      text_tied (codes "table") (codes "index"),
+      text_tied (codes "table") (codes "table"),
+      text_tied (codes "table") (codes "view"),
+      text_tied (codes "table") (codes "trigger"),
+      text_tied name name,
+      same,
+      free,
+      creates,
+      virtual,
+    ) refl
 
 any_has : {X : Type 0} (p : X → Bool) (xs : List X) (x : X) → list_any p xs ≡ false → Has xs x → p x ≡ true → ⊥
 any_has p [] x none h is = h
@@ -90,23 +102,34 @@ module _ (s : Schema) (text : List ℕ) (t : Table) (m : MakesTable s text t) (k
 
   refuses : (reason : Refusal) → RefusesTable s text reason → ⊥
   refuses (why.Invalid e) h = absurd (let apart = sym h ∙ m.defined in cc)
-  refuses why.NameTaken h = elim (subst (λ u. (is_used s u.name ≡ true) ⊎ ((index : Index) × Has (automatics u 0 0 u.uniques) index × (is_used s index.name ≡ true))) (same_table h.0 h.1) h.2) [
-    | inl used ↦ absurd (let apart = sym used ∙ k.free.0 in cc)
-    | inr some ↦ any_has (λ (i : Index). is_used s i.name) (automatics t 0 0 t.uniques) some.0 k.free.1 some.1 some.2
-  ]
+  refuses why.NameTaken h =
+      elim (subst (λ u. (is_used s u.name ≡ true) ⊎ ((index : Index) × Has (automatics u 0 0 u.uniques) index × (is_used s index.name ≡ true)))
+      (same_table h.0 h.1) h.2) [
+        | inl used ↦ absurd (let apart = sym used ∙ k.free.0 in cc)
+        | inr some ↦ any_has (λ (i : Index). is_used s i.name) (automatics t 0 0 t.uniques) some.0 k.free.1 some.1 some.2
+      ]
   refuses why.BadName h = elim h.2 [
     | inl unread ↦ unread (subst (λ u. IsUtf8 u.name) (sym (same_table h.0 h.1)) (utf8_ascii t.name k.ascii.1))
     | inr reserved ↦ absurd (let apart = sym (subst (λ u. is_reserved u.name ≡ true) (same_table h.0 h.1) reserved.0) ∙ k.plain in cc)
   ]
-  refuses why.TooBig h = elim (subst (λ u. (65536 ≤ next_tree s + length u.uniques) ⊎ ((2 ^ 64 ≤ table_reals u) ⊎ ((key : List ℕ) × Has u.uniques key × (2 ^ 64 ≤ index_reals (table_reals u) key)))) (same_table h.0 h.1) h.2) [
-    | inl many ↦ no_more _ _ k.low many
-    | inr wide ↦ elim wide [
-      | inl reals ↦ no_more _ _ k.reals.0 reals
-      | inr key ↦ no_more _ _ (all_has (λ (key : List ℕ). nat_lt (index_reals (table_reals t) key) (2 ^ 64)) t.uniques key.0 k.reals.1 key.1) key.2
-    ]
-  ]
+  refuses why.TooBig h =
+      elim (subst
+      (λ u. (65536 ≤ next_tree s + length u.uniques)
+      ⊎ ((2 ^ 64 ≤ table_reals u) ⊎ ((key : List ℕ) × Has u.uniques key × (2 ^ 64 ≤ index_reals (table_reals u) key))))
+      (same_table h.0 h.1) h.2) [
+        | inl many ↦ no_more _ _ k.low many
+        | inr wide ↦ elim wide [
+          | inl reals ↦ no_more _ _ k.reals.0 reals
+          | inr key ↦ no_more _ _ (all_has (λ (key : List ℕ). nat_lt (index_reals (table_reals t) key) (2 ^ 64)) t.uniques key.0 k.reals.1 key.1) key.2
+        ]
+      ]
   refuses why.BadKey h = absurd (let apart = sym (subst (λ u. is_formed u ≡ false) (same_table h.0 h.1) h.2) ∙ k.formed in cc)
-  refuses why.BadText h = absurd (let apart = sym (subst (λ u. is_fit (Text (codes "table")) (Text u.name) (Text u.name) (Text text) ≡ false) (same_table h.0 h.1) h.2) ∙ fit_for t.name text k.fit.0 k.fit.1 k.fit.2 k.fit.3 in cc)
+  refuses why.BadText h =
+      absurd (
+      let apart =
+      sym (subst (λ u. is_fit (Text (codes "table")) (Text u.name) (Text u.name) (Text text) ≡ false) (same_table h.0 h.1) h.2)
+      ∙ fit_for t.name text k.fit.0 k.fit.1 k.fit.2 k.fit.3 in
+      cc)
   refuses (why.Violates rule) h = h
 
   unmade : (d : Database) → d.schema ≡ s → (stop : Option Error) → MakesAsked text d (Err stop) → ⊥
@@ -126,7 +149,8 @@ module _ (s : Schema) (text : List ℕ) (t : Table) (m : MakesTable s text t) (k
   ]
   undone limit d is stop (inr h) = absurd (cc h.2)
 
-  against : (limit : Option ℕ) (d : Database) → d.schema ≡ s → (stop : Option Error) (params : Row) (x : List ℕ) (r : Option Returning) (k : Command) → params ≡ [] → x ≡ text → r ≡ None → k ≡ CreateTable
+  against : (limit : Option ℕ) (d : Database) → d.schema ≡ s → (stop : Option Error) (params : Row) (x : List ℕ) (r : Option Returning) (k : Command)
+      → params ≡ [] → x ≡ text → r ≡ None → k ≡ CreateTable
       → Does limit at_once params d x r k (Err stop) → ⊥
   against limit d is stop params x r k none same bare makes h =
       undone limit d is stop
@@ -169,7 +193,8 @@ module _ (s : Schema) (text : List ℕ) (t : Table) (m : MakesTable s text t) (k
           | inr run ↦
               let none : timed [] h.0.formats run.0 ≡ [] = ap (λ f. timed [] f run.0) plain.1 in
               elim run.1 [
-                | inl read ↦ against limit d is (Some read.0) (timed [] h.0.formats run.0) (text_of text h.0) h.0.returning h.0.command none same plain.0 makes read.1
+                | inl read ↦ against limit d is (Some read.0) (timed [] h.0.formats run.0) (text_of text h.0) h.0.returning h.0.command none same plain.0 makes
+                    read.1
                 | inr large ↦ against limit d is None (timed [] h.0.formats run.0) (text_of text h.0) h.0.returning h.0.command none same plain.0 makes large
               ]
         ]

@@ -11,44 +11,155 @@ use Rattle.acd_sql_schema.proofs.Taken.{IsTaken}
 
 pub takes_meta : IsTaken no_schema CREATE_META.now (unplaced meta)
 unfolding understood everything digits begins same_name is_free_name
-takes_meta = record { one = (refl, refl); ascii = (refl, refl); free = (refl, refl); plain = refl; low = refl; reals = (refl, refl); formed = refl; fit = (refl, refl, refl, refl); short = refl }
+takes_meta = record {
+  one = (refl, refl);
+  ascii = (refl, refl);
+  free = (refl, refl);
+  plain = refl;
+  low = refl;
+  reals = (refl, refl);
+  formed = refl;
+  fit = (refl, refl, refl, refl);
+  short = refl;
+}
 
 pub takes_groups : IsTaken (with_tables no_schema (meta ∷ [])) CREATE_GROUPS.now (unplaced groups)
 unfolding understood everything digits begins same_name is_free_name
-takes_groups = record { one = (refl, refl); ascii = (refl, refl); free = (refl, refl); plain = refl; low = refl; reals = (refl, refl); formed = refl; fit = (refl, refl, refl, refl); short = refl }
+takes_groups = record {
+  one = (refl, refl);
+  ascii = (refl, refl);
+  free = (refl, refl);
+  plain = refl;
+  low = refl;
+  reals = (refl, refl);
+  formed = refl;
+  fit = (refl, refl, refl, refl);
+  short = refl;
+}
 
 pub takes_stations : IsTaken (with_tables no_schema (meta ∷ groups ∷ [])) CREATE_STATIONS.now (unplaced stations)
 unfolding understood everything digits begins same_name is_free_name
-takes_stations = record { one = (refl, refl); ascii = (refl, refl); free = (refl, refl); plain = refl; low = refl; reals = (refl, refl); formed = refl; fit = (refl, refl, refl, refl); short = refl }
+takes_stations = record {
+  one = (refl, refl);
+  ascii = (refl, refl);
+  free = (refl, refl);
+  plain = refl;
+  low = refl;
+  reals = (refl, refl);
+  formed = refl;
+  fit = (refl, refl, refl, refl);
+  short = refl;
+}
 
 pub takes_agents : IsTaken (with_tables no_schema (meta ∷ groups ∷ stations ∷ [])) CREATE_AGENTS.now (unplaced agents)
 unfolding understood everything digits begins same_name is_free_name
-takes_agents = record { one = (refl, refl); ascii = (refl, refl); free = (refl, refl); plain = refl; low = refl; reals = (refl, refl); formed = refl; fit = (refl, refl, refl, refl); short = refl }
+takes_agents = record {
+  one = (refl, refl);
+  ascii = (refl, refl);
+  free = (refl, refl);
+  plain = refl;
+  low = refl;
+  reals = (refl, refl);
+  formed = refl;
+  fit = (refl, refl, refl, refl);
+  short = refl;
+}
 
 pub takes_calls : IsTaken plan_schema CREATE_CALLS.now (unplaced calls)
 unfolding understood everything digits begins same_name is_free_name
-takes_calls = record { one = (refl, refl); ascii = (refl, refl); free = (refl, refl); plain = refl; low = refl; reals = (refl, refl); formed = refl; fit = (refl, refl, refl, refl); short = refl }
+takes_calls = record {
+  one = (refl, refl);
+  ascii = (refl, refl);
+  free = (refl, refl);
+  plain = refl;
+  low = refl;
+  reals = (refl, refl);
+  formed = refl;
+  fit = (refl, refl, refl, refl);
+  short = refl;
+}
 
 pub takes_connections : IsTaken (with_tables plan_schema (calls ∷ [])) CREATE_CONNECTIONS.now (unplaced connections)
 unfolding understood everything digits begins same_name is_free_name
-takes_connections = record { one = (refl, refl); ascii = (refl, refl); free = (refl, refl); plain = refl; low = refl; reals = (refl, refl); formed = refl; fit = (refl, refl, refl, refl); short = refl }
+takes_connections = record {
+  one = (refl, refl);
+  ascii = (refl, refl);
+  free = (refl, refl);
+  plain = refl;
+  low = refl;
+  reals = (refl, refl);
+  formed = refl;
+  fit = (refl, refl, refl, refl);
+  short = refl;
+}
 
 pub takes_monitors : IsTaken (with_tables plan_schema (calls ∷ connections ∷ [])) CREATE_MONITORS.now (unplaced monitors)
 unfolding understood everything digits begins same_name is_free_name
-takes_monitors = record { one = (refl, refl); ascii = (refl, refl); free = (refl, refl); plain = refl; low = refl; reals = (refl, refl); formed = refl; fit = (refl, refl, refl, refl); short = refl }
+takes_monitors = record {
+  one = (refl, refl);
+  ascii = (refl, refl);
+  free = (refl, refl);
+  plain = refl;
+  low = refl;
+  reals = (refl, refl);
+  formed = refl;
+  fit = (refl, refl, refl, refl);
+  short = refl;
+}
 
 pub takes_events : IsTaken state_schema CREATE_EVENTS.now (unplaced events)
 unfolding understood everything digits begins same_name is_free_name
-takes_events = record { one = (refl, refl); ascii = (refl, refl); free = (refl, refl); plain = refl; low = refl; reals = (refl, refl); formed = refl; fit = (refl, refl, refl, refl); short = refl }
+takes_events = record {
+  one = (refl, refl);
+  ascii = (refl, refl);
+  free = (refl, refl);
+  plain = refl;
+  low = refl;
+  reals = (refl, refl);
+  formed = refl;
+  fit = (refl, refl, refl, refl);
+  short = refl;
+}
 
 pub takes_kept : IsTaken (with_tables state_schema (events ∷ [])) CREATE_KEPT.now (unplaced kept)
 unfolding understood everything digits begins same_name is_free_name
-takes_kept = record { one = (refl, refl); ascii = (refl, refl); free = (refl, refl); plain = refl; low = refl; reals = (refl, refl); formed = refl; fit = (refl, refl, refl, refl); short = refl }
+takes_kept = record {
+  one = (refl, refl);
+  ascii = (refl, refl);
+  free = (refl, refl);
+  plain = refl;
+  low = refl;
+  reals = (refl, refl);
+  formed = refl;
+  fit = (refl, refl, refl, refl);
+  short = refl;
+}
 
+-- the two tables that version 2 adds
 pub takes_agent_groups : IsTaken old_schema CREATE_AGENT_GROUPS.now (unplaced agent_groups)
 unfolding understood everything digits begins same_name is_free_name
-takes_agent_groups = record { one = (refl, refl); ascii = (refl, refl); free = (refl, refl); plain = refl; low = refl; reals = (refl, refl); formed = refl; fit = (refl, refl, refl, refl); short = refl }
+takes_agent_groups = record {
+  one = (refl, refl);
+  ascii = (refl, refl);
+  free = (refl, refl);
+  plain = refl;
+  low = refl;
+  reals = (refl, refl);
+  formed = refl;
+  fit = (refl, refl, refl, refl);
+  short = refl;
+}
 
 pub takes_group_priority : IsTaken (with_tables old_schema (agent_groups ∷ [])) CREATE_GROUP_PRIORITY.now (unplaced group_priority)
 unfolding understood everything digits begins same_name is_free_name
-takes_group_priority = record { one = (refl, refl); ascii = (refl, refl); free = (refl, refl); plain = refl; low = refl; reals = (refl, refl); formed = refl; fit = (refl, refl, refl, refl); short = refl }
+takes_group_priority = record {
+  one = (refl, refl);
+  ascii = (refl, refl);
+  free = (refl, refl);
+  plain = refl;
+  low = refl;
+  reals = (refl, refl);
+  formed = refl;
+  fit = (refl, refl, refl, refl);
+  short = refl;
+}

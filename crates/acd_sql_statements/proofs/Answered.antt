@@ -55,7 +55,8 @@ module _ (s : Schema) (text : List ℕ) (params : Row) where
       ]
 
   never : (k : Command) (db : Database) → db.schema ≡ s → IsSimple k → IsUnanswered k db params → ⊥
-  never (Select q names) db is simple (inl untyped) = absurd (let apart = sym simple.0 ∙ subst (λ x. accepts_program x (lets_of q) q.body params ≡ false) is untyped in cc)
+  never (Select q names) db is simple (inl untyped) =
+      absurd (let apart = sym simple.0 ∙ subst (λ x. accepts_program x (lets_of q) q.body params ≡ false) is untyped in cc)
   never (Select q names) db is simple (inr over) = none_over db.trees (lets_of q) q.body simple.1 simple.2 simple.3 over
   never (Rows values width names) db is simple h = h
   never _ db is simple h = simple
@@ -84,7 +85,9 @@ module _ (s : Schema) (text : List ℕ) (params : Row) where
         ]
 
 -- whatever tables come later
-pub over : (base : List Table) (text : List ℕ) (params : Row) → ((rest : List Table) (s : Schema) → (reads_listing (with_later base rest s) text ≡ false) × IsWhole (with_later base rest s) text params (understood (with_later base rest s) text))
+pub over : (base : List Table) (text : List ℕ) (params : Row)
+    → ((rest : List Table) (s : Schema)
+    → (reads_listing (with_later base rest s) text ≡ false) × IsWhole (with_later base rest s) text params (understood (with_later base rest s) text))
     → IsAnsweredOver base text params
 over base text params whole d b = answered (with_later base b.0 d.schema) text params (whole b.0 d.schema).0 (whole b.0 d.schema).1 d (begun base d.schema b)
 
@@ -148,14 +151,16 @@ monitors_answered d is = monitors_over d (book_begins d.schema is)
 
 pub kept_after_over : (stamp limit : ℕ) → IsAnsweredOver nine SELECT_KEPT_AFTER.now (id_value stamp ∷ id_value limit ∷ [])
 unfolding understood everything
-kept_after_over stamp limit = over nine SELECT_KEPT_AFTER.now (id_value stamp ∷ id_value limit ∷ []) (λ rest s. (refl, (refl, refl, refl, refl, (refl, refl, refl, refl))))
+kept_after_over stamp limit =
+    over nine SELECT_KEPT_AFTER.now (id_value stamp ∷ id_value limit ∷ []) (λ rest s. (refl, (refl, refl, refl, refl, (refl, refl, refl, refl))))
 
 pub kept_after_answered : (stamp limit : ℕ) → IsAnswered SELECT_KEPT_AFTER.now (id_value stamp ∷ id_value limit ∷ [])
 kept_after_answered stamp limit d is = kept_after_over stamp limit d (book_begins d.schema is)
 
 pub events_after_over : (number limit : ℕ) → IsAnsweredOver nine SELECT_EVENTS_AFTER.now (id_value number ∷ id_value limit ∷ [])
 unfolding understood everything
-events_after_over number limit = over nine SELECT_EVENTS_AFTER.now (id_value number ∷ id_value limit ∷ []) (λ rest s. (refl, (refl, refl, refl, refl, (refl, refl, refl, refl))))
+events_after_over number limit =
+    over nine SELECT_EVENTS_AFTER.now (id_value number ∷ id_value limit ∷ []) (λ rest s. (refl, (refl, refl, refl, refl, (refl, refl, refl, refl))))
 
 pub events_after_answered : (number limit : ℕ) → IsAnswered SELECT_EVENTS_AFTER.now (id_value number ∷ id_value limit ∷ [])
 events_after_answered number limit d is = events_after_over number limit d (book_begins d.schema is)
@@ -182,7 +187,8 @@ low_kept_over = over nine SELECT_LOW_KEPT.now [] (λ rest s. (refl, (refl, refl,
 
 pub kept_of_answered : (requester : List ℕ) (invoke : ℕ) → IsAnswered SELECT_KEPT_OF_REQUEST.now (Text requester ∷ id_value invoke ∷ [])
 unfolding understood everything
-kept_of_answered requester invoke = answered book_schema SELECT_KEPT_OF_REQUEST.now (Text requester ∷ id_value invoke ∷ []) refl (refl, refl, refl, refl, (refl, refl, refl, refl))
+kept_of_answered requester invoke =
+    answered book_schema SELECT_KEPT_OF_REQUEST.now (Text requester ∷ id_value invoke ∷ []) refl (refl, refl, refl, refl, (refl, refl, refl, refl))
 
 pub further_answered : IsAnswered SELECT_AGENT_GROUPS.now []
 unfolding understood everything
@@ -194,4 +200,6 @@ monitor_answered monitor = answered book_schema SELECT_MONITOR.now (id_value mon
 
 pub events_at_answered : (number device limit : ℕ) → IsAnswered SELECT_EVENTS_AT_DEVICE.now (id_value number ∷ id_value device ∷ id_value limit ∷ [])
 unfolding understood everything
-events_at_answered number device limit = answered book_schema SELECT_EVENTS_AT_DEVICE.now (id_value number ∷ id_value device ∷ id_value limit ∷ []) refl (refl, refl, refl, refl, (refl, refl, refl, refl))
+events_at_answered number device limit =
+    answered book_schema SELECT_EVENTS_AT_DEVICE.now (id_value number ∷ id_value device ∷ id_value limit ∷ []) refl
+    (refl, refl, refl, refl, (refl, refl, refl, refl))

@@ -53,7 +53,8 @@ module _ (old new : State) where
     ]
     misplaced k (inr h) = inr (inr (inr (h.1, h.2)))
 
-    alone : (c : Compiled) (it : IsStatement old sql params c) → RunsAlone false old new sql c (timed params c.formats it.now) (Err e) → FailsToWrite old new sql params e
+    alone : (c : Compiled) (it : IsStatement old sql params c) → RunsAlone false old new sql c (timed params c.formats it.now) (Err e)
+        → FailsToWrite old new sql params e
     unfolding Refuses
     alone c it h = elim (cases_Bool (shows_rows false c)) [
       | inl shows ↦ inr (inr (inr (c, it.is, inr (inl shows))))
@@ -68,7 +69,9 @@ module _ (old new : State) where
           | inl wrong ↦ inr (inr (inr (c, it.is, inl (misplaced c.command wrong))))
           | inr refused ↦ inr (inr (against (inl (e, refused.1))))
         ]
-        command (inr h) = weaker e (λ big. against (inr big)) (store_failed (Does old.step_limit (mode_of old) (timed params c.formats it.now) old.now (text_of sql c) c.returning c.command (Err None)) e h)
+        command (inr h) =
+            weaker e (λ big. against (inr big))
+            (store_failed (Does old.step_limit (mode_of old) (timed params c.formats it.now) old.now (text_of sql c) c.returning c.command (Err None)) e h)
 
     executed : ExecutesIn false sql params old new (Err e) → FailsToWrite old new sql params e
     unfolding ExecutesIn Refuses
@@ -105,7 +108,8 @@ pub failed_before : (old mid new : State) → StoreHasFailed old mid → mid.fau
 failed_before old mid new (inl more) counts = inl (omega (arith, more, counts))
 failed_before old mid new (inr shut) counts = inr shut
 
-pub failed_after : {P : Trees → Type 0} (old mid new : State) → Survives old mid P → HasCleanDisk mid → mid.faults ≤ new.faults → StoreHasFailed mid new → StoreHasFailed old new
+pub failed_after : {P : Trees → Type 0} (old mid new : State) → Survives old mid P → HasCleanDisk mid → mid.faults ≤ new.faults → StoreHasFailed mid new
+    → StoreHasFailed old new
 failed_after old mid new first k counts (inl more) = inl (omega (arith, more, first.counts))
 failed_after old mid new first k counts (inr shut) = elim (cases_Bool old.is_open) [
   | inl up ↦ elim (first.closes k up) [

@@ -20,14 +20,19 @@ below g (x ∷ front) d rest h = below g front d rest h.1
 above : (g d : ℕ) → nat_cmp g d ≡ Less → ◌≡◌ {A = Bool} (g == d) false
 above g d h = grind (arith, nat_tests)
 
-last_in : (front : List ℕ) (d : ℕ) (rest : List ℕ) → IsAscending nat_cmp (front ++ d ∷ rest) → (is_one_of front d ≡ false) × (put_by (nat_cmp d) front d ≡ front ++ d ∷ [])
+last_in : (front : List ℕ) (d : ℕ) (rest : List ℕ) → IsAscending nat_cmp (front ++ d ∷ rest)
+    → (is_one_of front d ≡ false) × (put_by (nat_cmp d) front d ≡ front ++ d ∷ [])
 last_in [] d rest up = (refl, refl)
 last_in (g ∷ front) d rest up =
     let more = last_in front d rest up.1 in
-    let low = below g front d rest up.0 in
-    (rw (above g d low) more.0, ap (λ o. match_ordering o (d ∷ g ∷ front) (d ∷ front) (g ∷ put_by (nat_cmp d) front d)) (greater_is g d low) ∙ ap (λ l. g ∷ l) more.1)
+    let low = below g front d rest up.0 in (
+      rw (above g d low) more.0,
+      ap (λ o. match_ordering o (d ∷ g ∷ front) (d ∷ front) (g ∷ put_by (nat_cmp d) front d)) (greater_is g d low)
+          ∙ ap (λ l. g ∷ l) more.1,
+    )
 
-one_more : (front : List ℕ) (d : ℕ) (rest : List ℕ) → IsAscending nat_cmp (front ++ d ∷ rest) → length (front ++ d ∷ rest) ≤ 8 → with_one_more front d ≡ Some (front ++ d ∷ [])
+one_more : (front : List ℕ) (d : ℕ) (rest : List ℕ) → IsAscending nat_cmp (front ++ d ∷ rest) → length (front ++ d ∷ rest) ≤ 8
+    → with_one_more front d ≡ Some (front ++ d ∷ [])
 unfolding with_one_more
 one_more front d rest up few =
     let long = subst (λ n. n ≤ 8) (length-append front (d ∷ rest)) few in
@@ -47,7 +52,8 @@ few_of n h = grind (arith, nat_tests)
 
 pub not_groups : (list : List ℕ) → (with_all [] list ≡ Some list → ⊥) → are_groups list ≡ false
 not_groups list other = elim (cases_Bool (are_groups list)) [
-  | inl are ↦ let both = and_parts (nat_le (length list) 8) (ascends nat_cmp list) are in absurd (other (all_in [] list (ascending_from nat_cmp nat_cmp_total list both.1) (few_of (length list) both.0)))
+  | inl are ↦ let both = and_parts (nat_le (length list) 8) (ascends nat_cmp list) are in
+      absurd (other (all_in [] list (ascending_from nat_cmp nat_cmp_total list both.1) (few_of (length list) both.0)))
   | inr stray ↦ stray
 ]
 
@@ -61,7 +67,8 @@ equal_self (x ∷ xs) = rw (reflexive x) (equal_self xs)
 pub not_made : (list slice : List ℕ) (o : Option (List ℕ)) → o ≡ None → o ≡ with_all [] slice → slice ≡ list → are_groups list ≡ false
 not_made list slice o none is same = not_groups list (λ some. absurd (let apart = sym none ∙ is ∙ ap (with_all []) same ∙ some in cc))
 
-pub not_same : (list slice groups xs ys : List ℕ) (o : Option (List ℕ)) (b : Bool) → o ≡ Some groups → o ≡ with_all [] slice → slice ≡ list → b ≡ pointwise nat_eq xs ys → b ≡ false → xs ≡ groups → ys ≡ list → are_groups list ≡ false
+pub not_same : (list slice groups xs ys : List ℕ) (o : Option (List ℕ)) (b : Bool) → o ≡ Some groups → o ≡ with_all [] slice → slice ≡ list
+    → b ≡ pointwise nat_eq xs ys → b ≡ false → xs ≡ groups → ys ≡ list → are_groups list ≡ false
 not_same list slice groups xs ys o b made is same tests apart xs-are ys-are =
     not_groups list (λ some.
     let same_groups : groups ≡ list = cc (sym made ∙ is ∙ ap (with_all []) same ∙ some) in

@@ -33,7 +33,8 @@ at_greatest n large = elim (cases_Bool (nat_lt n (2 ^ 63))) [ inl below ↦ absu
 -- ---- lists
 
 empty_parts : {X : Type 0} (p : X → Bool) (x : X) (xs : List X) → filter p (x ∷ xs) ≡ [] → (p x ≡ false) × (filter p xs ≡ [])
-empty_parts p x xs = elim (p x) as (λ t. cond t (x ∷ filter p xs) (filter p xs) ≡ [] → (t ≡ false) × (filter p xs ≡ [])) [ true ↦ λ h. absurd (cc h) | false ↦ λ h. (refl, h) ]
+empty_parts p x xs =
+    elim (p x) as (λ t. cond t (x ∷ filter p xs) (filter p xs) ≡ [] → (t ≡ false) × (filter p xs ≡ [])) [ true ↦ λ h. absurd (cc h) | false ↦ λ h. (refl, h) ]
 
 take_none : {X : Type 0} (n : ℕ) (xs : List X) → take n xs ≡ [] → (n ≡ 0) ⊎ (xs ≡ [])
 take_none zero xs h = inl refl
@@ -52,7 +53,8 @@ under n m xs few low = elim (cases_Bool (nat_lt (length xs) n)) [
       absurd (omega (arith, few, length-take-le n xs long))
 ]
 
-same_limit : {X : Type 0} (xs : List X) (limit : ℕ) → (¬ (Fits limit) → length (take (min limit greatest) xs) < greatest) → take (min limit greatest) xs ≡ take limit xs
+same_limit : {X : Type 0} (xs : List X) (limit : ℕ) → (¬ (Fits limit) → length (take (min limit greatest) xs) < greatest)
+    → take (min limit greatest) xs ≡ take limit xs
 same_limit xs limit fewer = elim (fits_or_not limit) [
   | inl fits ↦ ap (λ n. take n xs) (least_of_fit limit fits)
   | inr large ↦
@@ -79,21 +81,24 @@ module _ {X : Type 0} (test : ℕ → X → Bool) (falls : (a b : ℕ) (x : X) �
   ]
 
   module _ (values : X → Row) (number limit : ℕ) where
-    above : (xs : List X) (rows : List Row) → rows ≡ map values (take (min limit greatest) (filter (test (min number greatest)) xs)) → (¬ (Fits number) → rows ≡ [])
+    above : (xs : List X) (rows : List Row) → rows ≡ map values (take (min limit greatest) (filter (test (min number greatest)) xs))
+        → (¬ (Fits number) → rows ≡ [])
         → take (min limit greatest) (filter (test (min number greatest)) xs) ≡ take (min limit greatest) (filter (test number) xs)
     above xs rows is none = elim (fits_or_not number) [
       | inl fits ↦ ap (λ n. take (min limit greatest) (filter (test n) xs)) (least_of_fit number fits)
       | inr large ↦ same_above (min limit greatest) (min number greatest) number xs (min-le_left number greatest) (map_none values _ (sym is ∙ none large))
     ]
 
-    page_is : (xs : List X) (rows : List Row) → rows ≡ map values (take (min limit greatest) (filter (test (min number greatest)) xs)) → (¬ (Fits number) → rows ≡ []) → (¬ (Fits limit) → length rows < greatest)
+    page_is : (xs : List X) (rows : List Row) → rows ≡ map values (take (min limit greatest) (filter (test (min number greatest)) xs))
+        → (¬ (Fits number) → rows ≡ []) → (¬ (Fits limit) → length rows < greatest)
         → rows ≡ map values (take limit (filter (test number) xs))
     page_is xs rows is none fewer =
         let here = is ∙ ap (map values) (above xs rows is none) in
         let long = ap length here ∙ length-map (take (min limit greatest) (filter (test number) xs)) values in
         here ∙ ap (map values) (same_limit (filter (test number) xs) limit (λ large. subst (λ n. n < greatest) long (fewer large)))
 
-    pub paged : (part : Content → List X) (old new : State) (rows : Vec Row Global) (r : Result (Vec Row Global) Error) (least page : ℕ) → least ≡ min number greatest → page ≡ min limit greatest
+    pub paged : (part : Content → List X) (old new : State) (rows : Vec Row Global) (r : Result (Vec Row Global) Error) (least page : ℕ)
+        → least ≡ min number greatest → page ≡ min limit greatest
         → Finds {E = Error} old new (Ok rows) (λ c rows. rows.items ≡ map values (take page (filter (test least) (part c))))
         → IfOk r (λ same. same ≡ rows) → OnOk r (¬ (Fits number) → rows.items ≡ []) → OnOk r (¬ (Fits limit) → length rows.items < greatest)
         → Finds old new r (λ c rows. rows.items ≡ map values (take limit (filter (test number) (part c))))
@@ -102,10 +107,13 @@ module _ {X : Type 0} (test : ℕ → X → Bool) (falls : (a b : ℕ) (x : X) �
       up = h.up;
       quiet = h.quiet;
       stops = h.stops;
-      answer = λ k c held. ap (λ (v : Vec Row Global). v.items) same ∙ page_is (part c) rows.items (h.answer k c held ∙ ap₂ (λ l n. map values (take l (filter (test n) (part c)))) short low) none fewer;
+      answer =
+          λ k c held. ap (λ (v : Vec Row Global). v.items) same
+          ∙ page_is (part c) rows.items (h.answer k c held ∙ ap₂ (λ l n. map values (take l (filter (test n) (part c)))) short low) none fewer;
     }
 
 -- ---- tests of a number
 
 pub falls_at_after : (device : Option ℕ) (a b : ℕ) (e : Event) → a ≤ b → is_at_after device b e ≡ true → is_at_after device a e ≡ true
-falls_at_after device a b e low h = let both = and_parts (is_at device e) (nat_lt b e.number) h in and_from (is_at device e) (nat_lt a e.number) both.0 (still_below a b e.number low both.1)
+falls_at_after device a b e low h =
+    let both = and_parts (is_at device e) (nat_lt b e.number) h in and_from (is_at device e) (nat_lt a e.number) both.0 (still_below a b e.number low both.1)

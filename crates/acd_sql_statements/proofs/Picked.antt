@@ -18,7 +18,8 @@ picked_append events (n ∷ ns) ms =
     ap (λ l. events_after events (n - 1) 1 ++ l) (picked_append events ns ms)
     ∙ sym (append_assoc (events_after events (n - 1) 1) (picked events ns) (picked events ms))
 
-picked_next : (events : List Event) (ns : List ℕ) (i n d : ℕ) → n ≡ get_or ns i d → i < length ns → picked events (take (i + 1) ns) ≡ picked events (take i ns) ++ events_after events (n - 1) 1
+picked_next : (events : List Event) (ns : List ℕ) (i n d : ℕ) → n ≡ get_or ns i d → i < length ns
+    → picked events (take (i + 1) ns) ≡ picked events (take i ns) ++ events_after events (n - 1) 1
 picked_next events ns i n d is low =
     ap (picked events) (take_more ns i d low ∙ ap (λ m. take i ns ++ m ∷ []) (sym is))
     ∙ picked_append events (take i ns) (n ∷ [])
@@ -37,7 +38,8 @@ module _ (old mid new : State) (found next : Vec Event Global) (ns : List ℕ) (
   pub picked_more : Finds {A = Unit {0}} {E = Error} mid new (Ok tt) (λ c done. next.items ≡ found.items ++ events_after c.events (n - 1) 1)
       → Finds {E = Error} old new (Ok next) (λ c events. events.items ≡ picked c.events (take (i + 1) ns))
   picked_more second =
-      chained old mid new found (λ (c : Content) (events : Vec Event Global). events.items ≡ picked c.events (take i ns)) (λ (c : Content) (done : Unit {0}). next.items ≡ found.items ++ events_after c.events (n - 1) 1) first
+      chained old mid new found (λ (c : Content) (events : Vec Event Global). events.items ≡ picked c.events (take i ns))
+      (λ (c : Content) (done : Unit {0}). next.items ≡ found.items ++ events_after c.events (n - 1) 1) first
       tt next (λ (c : Content) (events : Vec Event Global). events.items ≡ picked c.events (take (i + 1) ns))
       (λ c p q. q ∙ ap (λ l. l ++ events_after c.events (n - 1) 1) p ∙ sym (picked_next c.events ns i n d is low)) second
 
@@ -48,5 +50,6 @@ pub picked_broken : (old mid new : State) (found next : Vec Event Global) (ns ms
     → (r : Result (Vec Event Global) Error) → r ≡ Err e → Finds old new r (λ c events. events.items ≡ picked c.events ns)
 picked_broken old mid new found next ns ms n e first second r is =
     subst (λ (r : Result (Vec Event Global) Error). Finds old new r (λ c events. events.items ≡ picked c.events ns)) (sym is)
-    (broken old mid new found (λ (c : Content) (events : Vec Event Global). events.items ≡ picked c.events ms) (λ (c : Content) (done : Unit {0}). next.items ≡ found.items ++ events_after c.events (n - 1) 1) first
+    (broken old mid new found (λ (c : Content) (events : Vec Event Global). events.items ≡ picked c.events ms)
+    (λ (c : Content) (done : Unit {0}). next.items ≡ found.items ++ events_after c.events (n - 1) 1) first
     e (λ (c : Content) (events : Vec Event Global). events.items ≡ picked c.events ns) second)

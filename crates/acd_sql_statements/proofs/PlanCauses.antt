@@ -35,17 +35,22 @@ every_has P [] x all h = absurd h
 every_has P (y ∷ xs) x all (inl is) = subst P (sym is) all.0
 every_has P (y ∷ xs) x all (inr h) = every_has P xs x all.1 h
 
-stray : (c : Content) (further : List (ℕ × ℕ)) (parts : List AgentRow) → map (joined_agent further) parts ≡ c.rows.agents → HasStray further parts → ¬ (IsInRange c)
+stray : (c : Content) (further : List (ℕ × ℕ)) (parts : List AgentRow) → map (joined_agent further) parts ≡ c.rows.agents → HasStray further parts
+    → ¬ (IsInRange c)
 stray c further parts joined h range =
     let among = subst (λ l. Has l (joined_agent further h.0)) joined (mapped_has (joined_agent further) parts h.0 h.1) in
     absurd (let apart = sym h.2 ∙ every_has (λ (a : AgentRecord). are_groups a.groups ≡ true) c.rows.agents (joined_agent further h.0) range.groups among in cc)
 
-pub cause_grouped : (old new : State) (found : Vec (ℕ × ℕ) Global) (parts : List AgentRow) (pairs : List (ℕ × ℕ)) (r : Result (Vec AgentRecord Global) Error) → pairs ≡ found.items → HasReadCause old new (Ok found)
-    → Finds {E = Error} old new (Ok found) (λ c found. found.items ≡ further_in c.rows.agents) → IfErr r (λ e. IsMemory e ⊎ HasStray pairs parts) → HasReadCauseIf (λ c. parts ≡ map agent_part c.rows.agents) old new r
+pub cause_grouped : (old new : State) (found : Vec (ℕ × ℕ) Global) (parts : List AgentRow) (pairs : List (ℕ × ℕ)) (r : Result (Vec AgentRecord Global) Error)
+    → pairs ≡ found.items → HasReadCause old new (Ok found)
+    → Finds {E = Error} old new (Ok found) (λ c found. found.items ≡ further_in c.rows.agents) → IfErr r (λ e. IsMemory e ⊎ HasStray pairs parts)
+    → HasReadCauseIf (λ c. parts ≡ map agent_part c.rows.agents) old new r
 cause_grouped old new found parts pairs (Ok joined) same h is fails = record { spares = h.spares; cause = λ k c held of_content. tt }
 cause_grouped old new found parts pairs (Err e) same h is fails = record {
   spares = h.spares;
-  cause = λ k c held of_content. each c fails (ap₂ (λ qs xs. map (joined_agent qs) xs) (same ∙ is.answer k c held) of_content ∙ agents_joined c.rows.agents (agents_rise c.rows.agents (stored table.Agents old c held).ascending));
+  cause =
+      λ k c held of_content. each c fails (ap₂ (λ qs xs. map (joined_agent qs) xs) (same ∙ is.answer k c held) of_content
+      ∙ agents_joined c.rows.agents (agents_rise c.rows.agents (stored table.Agents old c held).ascending));
 }
   where
     each : (c : Content) → IsMemory e ⊎ HasStray pairs parts → map (joined_agent pairs) parts ≡ c.rows.agents → FailsToRead c old new e

@@ -22,23 +22,30 @@ use Rattle.acd_lemmas.proofs.Lists.{take-push, map-push}
 
 -- ---- the result
 
-pub ranked_so : (old new : State) (ps : Vec GroupPriority Global) (parts qs : List _) (r : Result (Vec GroupRecord Global) Error) → qs ≡ ps.items → Finds {E = Error} old new (Ok ps) (λ c ps. ps.items ≡ priorities_in c.rows.groups)
+pub ranked_so : (old new : State) (ps : Vec GroupPriority Global) (parts qs : List _) (r : Result (Vec GroupRecord Global) Error) → qs ≡ ps.items
+    → Finds {E = Error} old new (Ok ps) (λ c ps. ps.items ≡ priorities_in c.rows.groups)
     → IfOk r (λ gs. gs.items ≡ map (joined_group qs) parts) → Finds old new r (λ c gs. parts ≡ map group_part c.rows.groups → gs.items ≡ c.rows.groups)
 ranked_so old new ps parts qs (Ok gs) same h is = record {
   up = h.up;
   quiet = h.quiet;
   stops = h.stops;
-  answer = λ k c held e. is ∙ ap₂ (λ qs xs. map (joined_group qs) xs) (same ∙ h.answer k c held) e ∙ groups_joined c.rows.groups (groups_rise c.rows.groups (stored table.Groups old c held).ascending);
+  answer =
+      λ k c held e. is ∙ ap₂ (λ qs xs. map (joined_group qs) xs) (same ∙ h.answer k c held) e
+      ∙ groups_joined c.rows.groups (groups_rise c.rows.groups (stored table.Groups old c held).ascending);
 }
 ranked_so old new ps parts qs (Err e) same h is = record { up = λ k. tt; quiet = h.quiet; stops = h.stops; answer = λ k. tt }
 
-pub grouped_so : (old new : State) (ps : Vec (ℕ × ℕ) Global) (parts : List AgentRow) (qs : List (ℕ × ℕ)) (r : Result (Vec AgentRecord Global) Error) → qs ≡ ps.items → Finds {E = Error} old new (Ok ps) (λ c ps. ps.items ≡ further_in c.rows.agents)
-    → IfOk r (λ agents. agents.items ≡ map (joined_agent qs) parts) → Finds old new r (λ c agents. parts ≡ map agent_part c.rows.agents → agents.items ≡ c.rows.agents)
+pub grouped_so : (old new : State) (ps : Vec (ℕ × ℕ) Global) (parts : List AgentRow) (qs : List (ℕ × ℕ)) (r : Result (Vec AgentRecord Global) Error)
+    → qs ≡ ps.items → Finds {E = Error} old new (Ok ps) (λ c ps. ps.items ≡ further_in c.rows.agents)
+    → IfOk r (λ agents. agents.items ≡ map (joined_agent qs) parts)
+    → Finds old new r (λ c agents. parts ≡ map agent_part c.rows.agents → agents.items ≡ c.rows.agents)
 grouped_so old new ps parts qs (Ok agents) same h is = record {
   up = h.up;
   quiet = h.quiet;
   stops = h.stops;
-  answer = λ k c held e. is ∙ ap₂ (λ qs xs. map (joined_agent qs) xs) (same ∙ h.answer k c held) e ∙ agents_joined c.rows.agents (agents_rise c.rows.agents (stored table.Agents old c held).ascending);
+  answer =
+      λ k c held e. is ∙ ap₂ (λ qs xs. map (joined_agent qs) xs) (same ∙ h.answer k c held) e
+      ∙ agents_joined c.rows.agents (agents_rise c.rows.agents (stored table.Agents old c held).ascending);
 }
 grouped_so old new ps parts qs (Err e) same h is = record { up = λ k. tt; quiet = h.quiet; stops = h.stops; answer = λ k. tt }
 
@@ -50,7 +57,8 @@ all_put_more (q ∷ ps) p pairs = all_put_more ps p (put_by (pair_order q) pairs
 
 -- one further group more
 pub pairs_more : (agent i : ℕ) (groups : List ℕ) (g d : ℕ) (pairs : List (ℕ × ℕ)) → g ≡ get_or groups i d → i < length groups
-    → all_put (map (λ (k : ℕ). (agent, k)) (take (i + 1) groups)) pairs ≡ put_by (pair_order (agent, g)) (all_put (map (λ (k : ℕ). (agent, k)) (take i groups)) pairs) (agent, g)
+    → all_put (map (λ (k : ℕ). (agent, k)) (take (i + 1) groups)) pairs
+    ≡ put_by (pair_order (agent, g)) (all_put (map (λ (k : ℕ). (agent, k)) (take i groups)) pairs) (agent, g)
 pairs_more agent i groups g d pairs at low =
     ap (λ (ks : List ℕ). all_put (map (λ (k : ℕ). (agent, k)) ks) pairs) (take-push i groups d low ∙ ap (λ k. take i groups ++ k ∷ []) (sym at))
     ∙ ap (λ ps. all_put ps pairs) (map-push (λ (k : ℕ). (agent, k)) (take i groups) g)
@@ -61,15 +69,22 @@ pub same_numbers : (xs ys : List ℕ) → pointwise nat_eq xs ys ≡ true → xs
 same_numbers [] [] h = refl
 same_numbers [] (y ∷ ys) h = absurd (cc h)
 same_numbers (x ∷ xs) [] h = absurd (cc h)
-same_numbers (x ∷ xs) (y ∷ ys) h = let both = and_parts (nat_eq x y) (pointwise nat_eq xs ys) h in ap₂ (λ z zs. z ∷ zs) (eqb-true x y both.0) (same_numbers xs ys both.1)
+same_numbers (x ∷ xs) (y ∷ ys) h =
+    let both = and_parts (nat_eq x y) (pointwise nat_eq xs ys) h in ap₂ (λ z zs. z ∷ zs) (eqb-true x y both.0) (same_numbers xs ys both.1)
 
 -- ---- statements, one after the other
 
-pub leaves_on : (old mid new : State) (r : Result (Unit {0}) Error) (f g h : Relations → Relations) → ((x : Relations) → HoldsUncommitted old x → HoldsUncommitted mid (f x)) → OnOk r ((x : Relations) → HoldsUncommitted mid x → HoldsUncommitted new (g x)) → ((x : Relations) → g (f x) ≡ h x)
-    → OnOk r ((x : Relations) → HoldsUncommitted old x → HoldsUncommitted new (h x))
-leaves_on old mid new (Err e) f g h first next same = tt
-leaves_on old mid new (Ok y) f g h first next same = λ (x : Relations) (d : HoldsUncommitted old x). subst (HoldsUncommitted new) (same x) (next (f x) (first x d))
+-- the tables of the one are what this makes of those of the other
+abbrev pub ChangesEach : (Relations → Relations) → State → State → Type 0
+ChangesEach change old new = (x : Relations) → HoldsUncommitted old x → HoldsUncommitted new (change x)
 
-pub leaves_as : (old new : State) (r : Result (Unit {0}) Error) (f g : Relations → Relations) → OnOk r ((x : Relations) → HoldsUncommitted old x → HoldsUncommitted new (f x)) → ((x : Relations) → f x ≡ g x) → OnOk r ((x : Relations) → HoldsUncommitted old x → HoldsUncommitted new (g x))
+pub leaves_on : (old mid new : State) (r : Result (Unit {0}) Error) (f g h : Relations → Relations) → ChangesEach f old mid → OnOk r (ChangesEach g mid new)
+    → ((x : Relations) → g (f x) ≡ h x) → OnOk r (ChangesEach h old new)
+leaves_on old mid new (Err e) f g h first next same = tt
+leaves_on old mid new (Ok y) f g h first next same =
+    λ (x : Relations) (d : HoldsUncommitted old x). subst (HoldsUncommitted new) (same x) (next (f x) (first x d))
+
+pub leaves_as : (old new : State) (r : Result (Unit {0}) Error) (f g : Relations → Relations) → OnOk r (ChangesEach f old new) → ((x : Relations) → f x ≡ g x)
+    → OnOk r (ChangesEach g old new)
 leaves_as old new (Err e) f g put same = tt
 leaves_as old new (Ok y) f g put same = λ (x : Relations) (d : HoldsUncommitted old x). subst (HoldsUncommitted new) (same x) (put x d)

@@ -50,11 +50,16 @@ pub nothing_read : (s : State) → Spares s s
 nothing_read s = record { counts = omega arith; limit = refl; idle = λ idle. idle }
 
 pub read_then : {old mid new : State} → Spares old mid → Spares mid new → Spares old new
-read_then first next = record { counts = omega (arith, first.counts, next.counts); limit = next.limit ∙ first.limit; idle = λ idle. next.idle (first.idle idle) }
+read_then first next = record {
+  counts = omega (arith, first.counts, next.counts);
+  limit = next.limit ∙ first.limit;
+  idle = λ idle. next.idle (first.idle idle);
+}
 
 -- ---- one query
 
-unanswered : (limit : Option ℕ) (k : Command) (db : Database) (params : Row) (e : Error) → RefusesToRead limit k db params e → IsSome limit ⊎ IsUnanswered k db params
+unanswered : (limit : Option ℕ) (k : Command) (db : Database) (params : Row) (e : Error) → RefusesToRead limit k db params e
+    → IsSome limit ⊎ IsUnanswered k db params
 unanswered limit (Select q names) db params e (inl typed) = inr (inl typed.1)
 unanswered limit (Select q names) db params e (inr (inl over)) = inr (inr over.1)
 unanswered limit (Select q names) db params e (inr (inr steps)) = inl steps.1
@@ -62,7 +67,8 @@ unanswered limit (Rows values width names) db params e h = inl h.1
 unanswered limit _ db params e h = inr tt
 
 module _ (sql : List ℕ) (params : Row) (old new : State) where
-  shows : (e : Error) (c : Compiled) (it : IsStatement old sql params c) (r : Option Returning) → c.returning ≡ r → FailsToShowRows old new sql c (timed params c.formats it.now) e r
+  shows : (e : Error) (c : Compiled) (it : IsStatement old sql params c) (r : Option Returning) → c.returning ≡ r
+      → FailsToShowRows old new sql c (timed params c.formats it.now) e r
       → IsSome old.step_limit ⊎ RefusesToShow old.now sql params
   unfolding RefusesToShow
   shows e c it None none h = elim (unanswered old.step_limit c.command h.0 (timed params c.formats it.now) e h.2) [
@@ -80,24 +86,37 @@ module _ (sql : List ℕ) (params : Row) (old new : State) where
   query_failed e (inr h) = inr (inr (shows e h.0 h.1 h.0.returning refl h.2))
 
   -- of a content
-  read_failed : (c : Content) → HoldsContent old c → ¬ (RefusesToShow old.now sql params) → (e : Error) → FailsToShow old new sql params e → FailsToRead c old new e
+  read_failed : (c : Content) → HoldsContent old c → ¬ (RefusesToShow old.now sql params) → (e : Error) → FailsToShow old new sql params e
+      → FailsToRead c old new e
   read_failed c held never e (inl memory) = inl memory
   read_failed c held never e (inr (inl (inl more))) = inr (inl more)
   read_failed c held never e (inr (inl (inr shut))) = absurd (let apart = sym held.is_open ∙ shut in cc)
   read_failed c held never e (inr (inr (inl steps))) = inr (inr (inl steps))
   read_failed c held never e (inr (inr (inr refused))) = absurd (never refused)
 
-  pub cause_query : {A : Type 0} {P : Trees → Type 0} (r : Result A Error) → IsAnswered sql params → Survives old new P → (old.in_transaction ≡ false → new.in_transaction ≡ false) → (HasCleanDisk new → IfErr r (FailsToQuery sql params old new)) → HasReadCause old new r
+  pub cause_query : {A : Type 0} {P : Trees → Type 0} (r : Result A Error) → IsAnswered sql params → Survives old new P
+      → (old.in_transaction ≡ false → new.in_transaction ≡ false) → (HasCleanDisk new → IfErr r (FailsToQuery sql params old new)) → HasReadCause old new r
   cause_query r answers s idle fails = record { spares = read_spares s idle; cause = λ k c held any. each r (fails k) c held }
     where
-      each : {A : Type 0} (r : Result A Error) → IfErr r (FailsToQuery sql params old new) → (c : Content) → HoldsContent old c → IfErr r (FailsToRead c old new)
+      each : {A : Type 0} (r : Result A Error) → IfErr r (FailsToQuery sql params old new) → (c : Content) → HoldsContent old c
+          → IfErr r (FailsToRead c old new)
       each (Ok x) h c held = tt
       each (Err e) h c held = read_failed c held (answers old.now (schema_is old c held)) e (query_failed e h)
 
 -- ---- the query that reads no table
 
 abbrev one : Query
-one = record { from = end; filter = []; group = None; project = lit (Int (pos 1)) ∷ []; distinct = false; collations = []; order = []; limit = lit (Int (negsuc 0)); offset = lit (Int (pos 0)) }
+one = record {
+  from = end;
+  filter = [];
+  group = None;
+  project = lit (Int (pos 1)) ∷ [];
+  distinct = false;
+  collations = [];
+  order = [];
+  limit = lit (Int (negsuc 0));
+  offset = lit (Int (pos 0));
+}
 
 probe_command : (s : Schema) → command_of (understood s probe_text) ≡ Select (record { lets = []; body = one }) (codes "1" ∷ [])
 unfolding understood everything
@@ -121,7 +140,8 @@ one_row db rows h =
 
 never_none : (old new : State) → Shown probe_text [] old new [] → ⊥
 never_none old new h =
-    let read = reads_as probe_text [] old new old.now.schema refl _ (probe_command old.now.schema) (probe_plain old.now.schema) (probe_unlisted old.now.schema) [] h in
+    let read =
+    reads_as probe_text [] old new old.now.schema refl _ (probe_command old.now.schema) (probe_plain old.now.schema) (probe_unlisted old.now.schema) [] h in
     absurd (let apart = one_row old.now.trees [] read.answer in cc)
 
 pub row_failed : (old new : State) (e : Error) → QueriesRow probe_text [] old new (Err e) → FailsToShow old new probe_text [] e
@@ -129,7 +149,9 @@ unfolding QueriesRow
 row_failed old new e (inl h) = query_failed probe_text [] old new e h
 row_failed old new e (inr h) = absurd (never_none old new h.1)
 
-pub cause_probe : {A : Type 0} {P : Trees → Type 0} (old new : State) (e : Error) → Survives old new P → (old.in_transaction ≡ false → new.in_transaction ≡ false) → (HasCleanDisk new → QueriesRow probe_text [] old new (Err e)) → HasReadCause {A = A} old new (Err e)
+pub cause_probe : {A : Type 0} {P : Trees → Type 0} (old new : State) (e : Error) → Survives old new P
+    → (old.in_transaction ≡ false → new.in_transaction ≡ false) → (HasCleanDisk new → QueriesRow probe_text [] old new (Err e))
+    → HasReadCause {A = A} old new (Err e)
 cause_probe old new e s idle fails = record {
   spares = read_spares s idle;
   cause = λ k c held any. read_failed probe_text [] old new c held (probe_answered old.now) e (row_failed old new e (fails k));
@@ -137,7 +159,8 @@ cause_probe old new e s idle fails = record {
 
 -- ---- one after the other
 
-pub cause_none : {A : Type 0} {P : Trees → Type 0} (old new : State) (a : A) → Survives old new P → (old.in_transaction ≡ false → new.in_transaction ≡ false) → HasReadCause old new (Ok a)
+pub cause_none : {A : Type 0} {P : Trees → Type 0} (old new : State) (a : A) → Survives old new P → (old.in_transaction ≡ false → new.in_transaction ≡ false)
+    → HasReadCause old new (Ok a)
 cause_none old new a s idle = record { spares = read_spares s idle; cause = λ k c held any. tt }
 
 pub cause_still : {A : Type 0} (s : State) (a : A) → HasReadCause s s (Ok a)
@@ -151,35 +174,41 @@ pub cause_as : {A B : Type 0} (old new : State) (e : Error) (r : Result B Error)
 cause_as old new e r is h = subst (HasReadCause old new) (sym is) (cause_failed old new e h)
 
 -- the answer of a read is used for the next result
-pub cause_on : {A B : Type 0} (old new : State) (a : A) (r : Result B Error) → HasReadCause old new (Ok a) → (HasCleanDisk new → (c : Content) → HoldsContent old c → IfErr r (FailsToRead c old new)) → HasReadCause old new r
+pub cause_on : {A B : Type 0} (old new : State) (a : A) (r : Result B Error) → HasReadCause old new (Ok a)
+    → (HasCleanDisk new → (c : Content) → HoldsContent old c → IfErr r (FailsToRead c old new)) → HasReadCause old new r
 cause_on old new a r h on = record { spares = h.spares; cause = λ k c held any. on k c held }
 
 pub cause_done : {A B : Type 0} (old new : State) (a : A) (b : B) → HasReadCause old new (Ok a) → HasReadCause old new (Ok b)
 cause_done old new a b h = cause_on old new a (Ok b) h (λ k c held. tt)
 
 -- a failure after what was read is one of the whole
-later : (c : Content) (old mid new : State) (e : Error) → old.faults ≤ mid.faults → mid.step_limit ≡ old.step_limit → FailsToRead c mid new e → FailsToRead c old new e
+later : (c : Content) (old mid new : State) (e : Error) → old.faults ≤ mid.faults → mid.step_limit ≡ old.step_limit → FailsToRead c mid new e
+    → FailsToRead c old new e
 later c old mid new e counts limit (inl memory) = inl memory
 later c old mid new e counts limit (inr (inl more)) = inr (inl (omega (arith, more, counts)))
 later c old mid new e counts limit (inr (inr (inl steps))) = inr (inr (inl (subst IsSome limit steps)))
 later c old mid new e counts limit (inr (inr (inr bad))) = inr (inr (inr bad))
 
-later_if : {B : Type 0} (c : Content) (old mid new : State) (r : Result B Error) → old.faults ≤ mid.faults → mid.step_limit ≡ old.step_limit → IfErr r (FailsToRead c mid new) → IfErr r (FailsToRead c old new)
+later_if : {B : Type 0} (c : Content) (old mid new : State) (r : Result B Error) → old.faults ≤ mid.faults → mid.step_limit ≡ old.step_limit
+    → IfErr r (FailsToRead c mid new) → IfErr r (FailsToRead c old new)
 later_if c old mid new (Ok x) counts limit h = tt
 later_if c old mid new (Err e) counts limit h = later c old mid new e counts limit h
 
-pub cause_after : {A B : Type 0} (old mid new : State) (a : A) (r : Result B Error) → HasReadCause old mid (Ok a) → Quiet old mid → (HasCleanDisk mid → IsTrue mid.is_open) → (HasCleanDisk new → HasCleanDisk mid) → HasReadCause mid new r → HasReadCause old new r
+pub cause_after : {A B : Type 0} (old mid new : State) (a : A) (r : Result B Error) → HasReadCause old mid (Ok a) → Quiet old mid
+    → (HasCleanDisk mid → IsTrue mid.is_open) → (HasCleanDisk new → HasCleanDisk mid) → HasReadCause mid new r → HasReadCause old new r
 cause_after old mid new a r first quiet live clean next = record {
   spares = read_then first.spares next.spares;
   cause = λ k c held any. later_if c old mid new r first.spares.counts first.spares.limit (next.cause k c (quiet.same (clean k) c held (live (clean k))) any);
 }
 
 -- the second asks for what the first one's answer gives
-pub cause_then : {A B : Type 0} (P : Content → Type 0) (IsAnswer : Content → A → Type 0) (old mid new : State) (a : A) (r : Result B Error) → HasReadCause old mid (Ok a) → Finds {E = Error} old mid (Ok a) IsAnswer → ((c : Content) → IsAnswer c a → P c)
+pub cause_then : {A B : Type 0} (P : Content → Type 0) (IsAnswer : Content → A → Type 0) (old mid new : State) (a : A) (r : Result B Error)
+    → HasReadCause old mid (Ok a) → Finds {E = Error} old mid (Ok a) IsAnswer → ((c : Content) → IsAnswer c a → P c)
     → (HasCleanDisk new → HasCleanDisk mid) → HasReadCauseIf P mid new r → HasReadCause old new r
 cause_then P IsAnswer old mid new a r first found so clean next = record {
   spares = read_then first.spares next.spares;
-  cause = λ k c held any. let m = clean k in later_if c old mid new r first.spares.counts first.spares.limit (next.cause k c (found.quiet.same m c held (found.up m)) (so c (found.answer m c held)));
+  cause = λ k c held any. let m = clean k in
+      later_if c old mid new r first.spares.counts first.spares.limit (next.cause k c (found.quiet.same m c held (found.up m)) (so c (found.answer m c held)));
 }
 
 pub cause_given : {A : Type 0} (P : Content → Type 0) (old new : State) (r : Result A Error) → HasReadCause old new r → HasReadCauseIf P old new r
@@ -200,7 +229,8 @@ unfolding is_good_table
 bad_row t c row has bad range = absurd (let apart = sym (bad_among t (values_of t c) row has bad) ∙ range.tables t in cc)
 
 -- the limits and the counters
-pub cause_meta : (old new : State) (rows : List Row) (a : Vec Row Global) (r : Result Meta Error) → HasReadCause old new (Ok a) → IfErr r (λ e. (m : Meta) → rows ≡ meta_shown m ∷ [] → is_good table.Meta (meta_shown m) ≡ false)
+pub cause_meta : (old new : State) (rows : List Row) (a : Vec Row Global) (r : Result Meta Error) → HasReadCause old new (Ok a)
+    → IfErr r (λ e. (m : Meta) → rows ≡ meta_shown m ∷ [] → is_good table.Meta (meta_shown m) ≡ false)
     → (HasCleanDisk new → (c : Content) → HoldsContent old c → rows ≡ meta_shown (meta_of c.rows) ∷ []) → HasReadCause old new r
 cause_meta old new rows a (Ok found) h bad are = record { spares = h.spares; cause = λ k c held any. tt }
 cause_meta old new rows a (Err e) h bad are = record {

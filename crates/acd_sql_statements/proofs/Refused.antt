@@ -33,20 +33,26 @@ module _ (old new : State) (sql : List ℕ) (params : Row) where
   refused_on e r d (inr (inl failed)) = inr (inl failed)
   refused_on e r d (inr (inr refused)) = inr (inr (record { database = old.now; schema = d.schema; tables = d.tables; refuses = refused }))
 
-  pub by_one : {A : Type 0} (result : Result A Error) → (HasCleanDisk new → IsTrue old.in_transaction → IfErr result (FailsToWrite old new sql params)) → HasWriteCause (RefusesOn sql params) old new result
+  pub by_one : {A : Type 0} (result : Result A Error) → (HasCleanDisk new → IsTrue old.in_transaction → IfErr result (FailsToWrite old new sql params))
+      → HasWriteCause (RefusesOn sql params) old new result
   by_one (Ok x) h = λ clean r d. tt
   by_one (Err e) h = λ clean r d. refused_on e r d (h clean d.inside)
 
 -- ---- what is said of one failure is said of another
 
+-- of each view before something holds, where the disk is clean
+abbrev pub IsKnown : State → State → (Relations → Type 0) → Type 0
+IsKnown old new Is = HasCleanDisk new → (r : Relations) → HoldsUncommitted old r → Is r
+
 module _ (old new : State) where
   -- the same error in an answer of another kind
-  pub by_same : {B : Type 0} (R : Option ℕ → Relations → Type 0) (e : Error) (result : Result B Error) → result ≡ Err e → (HasCleanDisk new → (r : Relations) → HoldsUncommitted old r → FailsToLeave R r old new e) → HasWriteCause R old new result
+  pub by_same : {B : Type 0} (R : Option ℕ → Relations → Type 0) (e : Error) (result : Result B Error) → result ≡ Err e
+      → (HasCleanDisk new → (r : Relations) → HoldsUncommitted old r → FailsToLeave R r old new e) → HasWriteCause R old new result
   by_same R e result is h = λ clean r d. subst (λ b. IfErr b (FailsToLeave R r old new)) (sym is) (h clean r d)
 
   -- where something more is known of the view
-  pub by_known : {A : Type 0} (Is : Relations → Type 0) (P Q : Option ℕ → Relations → Type 0) (result : Result A Error) → (HasCleanDisk new → (r : Relations) → HoldsUncommitted old r → Is r)
-      → ((limit : Option ℕ) (r : Relations) → Is r → P limit r → Q limit r) → HasWriteCause P old new result → HasWriteCause Q old new result
+  pub by_known : {A : Type 0} (Is : Relations → Type 0) (P Q : Option ℕ → Relations → Type 0) (result : Result A Error)
+      → IsKnown old new Is → ((limit : Option ℕ) (r : Relations) → Is r → P limit r → Q limit r) → HasWriteCause P old new result → HasWriteCause Q old new result
   by_known Is P Q (Ok x) known so h = λ clean r d. tt
   by_known Is P Q (Err e) known so h = λ clean r d. each r (known clean r d) (h clean r d)
     where
@@ -55,12 +61,15 @@ module _ (old new : State) where
       each r is (inr (inl failed)) = inr (inl failed)
       each r is (inr (inr p)) = inr (inr (so old.step_limit r is p))
 
-  pub by_more : {A : Type 0} (P Q : Option ℕ → Relations → Type 0) (result : Result A Error) → ((limit : Option ℕ) (r : Relations) → P limit r → Q limit r) → HasWriteCause P old new result → HasWriteCause Q old new result
+  pub by_more : {A : Type 0} (P Q : Option ℕ → Relations → Type 0) (result : Result A Error) → ((limit : Option ℕ) (r : Relations) → P limit r → Q limit r)
+      → HasWriteCause P old new result → HasWriteCause Q old new result
   by_more P Q result so = by_known (λ r. Unit {0}) P Q result (λ clean r d. tt) (λ limit r known p. so limit r p)
 
 -- after what was written before
-pub by_later : {A : Type 0} (old mid new : State) (change : Relations → Relations) (Q : Option ℕ → Relations → Type 0) (result : Result A Error) → Works old mid → Works mid new
-    → (HasCleanDisk mid → (r : Relations) → HoldsUncommitted old r → HoldsUncommitted mid (change r)) → HasWriteCause Q mid new result → HasWriteCause (λ limit r. Q limit (change r)) old new result
+pub by_later : {A : Type 0} (old mid new : State) (change : Relations → Relations) (Q : Option ℕ → Relations → Type 0) (result : Result A Error) → Works old mid
+    → Works mid new
+    → IsKnown old mid (λ r. HoldsUncommitted mid (change r)) → HasWriteCause Q mid new result
+    → HasWriteCause (λ limit r. Q limit (change r)) old new result
 by_later old mid new change Q (Ok x) first second made h = λ clean r d. tt
 by_later old mid new change Q (Err e) first second made h =
     λ clean r d. let middle : HasCleanDisk mid = omega (arith, clean, second.survives.clean) in each r middle (h clean (change r) (made middle r d))
@@ -84,7 +93,9 @@ updating d f text u = record {
   inert = inert_works book_schema inert d.layout.tree;
 }
 
-pub still_uncommitted : {R : Type 0} (d : Description R) (f : Described d) (text : List ℕ) (u : Updates d text) (x : R) (r : Relations) (old mid : State) (none : ℕ) → HoldsUncommitted old r → Executes text (d.values x) old mid (Ok none) → none ≡ 0 → HoldsUncommitted mid r
+pub still_uncommitted : {R : Type 0} (d : Description R) (f : Described d) (text : List ℕ) (u : Updates d text) (x : R) (r : Relations) (old mid : State)
+    (none : ℕ)
+    → HoldsUncommitted old r → Executes text (d.values x) old mid (Ok none) → none ≡ 0 → HoldsUncommitted mid r
 unfolding updating
 still_uncommitted d f text u x r old mid none uncommitted ran missed =
     let still = set_none book_schema text (updating d f text u) (d.values x) old mid none uncommitted.schema ran missed in
@@ -96,7 +107,8 @@ still_uncommitted d f text u x r old mid none uncommitted ran missed =
       tables = f.framed (d.records r) (old.now.trees d.layout.tree) old.now.trees mid.now.trees r held.0 held.1 still.rows_are still.others uncommitted.tables;
     })
 
-pub still_connected : (x : ConnectionRecord) (r : Relations) (old mid : State) (none : ℕ) → HoldsUncommitted old r → Executes UPDATE_CONNECTION.now (connection_values x) old mid (Ok none) → none ≡ 0 → HoldsUncommitted mid r
+pub still_connected : (x : ConnectionRecord) (r : Relations) (old mid : State) (none : ℕ) → HoldsUncommitted old r
+    → Executes UPDATE_CONNECTION.now (connection_values x) old mid (Ok none) → none ≡ 0 → HoldsUncommitted mid r
 still_connected x r old mid none uncommitted ran missed = after_none x (λ r. r) old mid mid none (Ok tt) ran missed (λ r d. d) r uncommitted
 
 -- ---- further groups, one after the other

@@ -60,14 +60,17 @@ pub monitor_has : (c : Content) (n : ℕ) (w : MonitorRecord) → Has (option_to
 monitor_has c n w h = found_has (λ (w : MonitorRecord). w.monitor == n) c.rows.monitors w (subst (λ o. Has (option_to_list o) w) (monitor_find c.rows n) h)
 
 -- of some of the records the rows are among those of all
-pub rows_has : {X : Type 0} (values : X → Row) (some all : List X) (row : Row) → ((x : X) → Has some x → Has all x) → Has (map values some) row → Has (map values all) row
-rows_has values some all row within h = let from = has_mapped values some row h in subst (Has (map values all)) (sym from.2) (mapped_has values all from.0 (within from.0 from.1))
+pub rows_has : {X : Type 0} (values : X → Row) (some all : List X) (row : Row) → ((x : X) → Has some x → Has all x) → Has (map values some) row
+    → Has (map values all) row
+rows_has values some all row within h =
+    let from = has_mapped values some row h in subst (Has (map values all)) (sym from.2) (mapped_has values all from.0 (within from.0 from.1))
 
 -- ---- rows that represent no record
 
 module _ {R : Type 0} (in_row : Row → Option R) where
   -- of one of them
-  pub bad_at : (i : ℕ) (rows : List Row) (row d : Row) (e : Error) → row ≡ get_or rows i d → i < length rows → FailsToDecode in_row (row ∷ []) e → FailsToDecode in_row rows e
+  pub bad_at : (i : ℕ) (rows : List Row) (row d : Row) (e : Error) → row ≡ get_or rows i d → i < length rows → FailsToDecode in_row (row ∷ []) e
+      → FailsToDecode in_row rows e
   bad_at i rows row d e at low (inl memory) = inl memory
   bad_at i rows row d e at low (inr h) = inr (row, at_has i rows row d at low, of_row h.1)
     where
@@ -76,20 +79,25 @@ module _ {R : Type 0} (in_row : Row → Option R) where
       of_row (inr k) = absurd k
 
   -- as a `?` in a loop over them hands it on
-  pub none_decoded : {A : Type 0} (i : ℕ) (rows : List Row) (row d : Row) (e : Error) (r : Result A Error) → r ≡ Err e → row ≡ get_or rows i d → i < length rows → FailsToDecode in_row (row ∷ []) e → IfErr r (FailsToDecode in_row rows)
+  pub none_decoded : {A : Type 0} (i : ℕ) (rows : List Row) (row d : Row) (e : Error) (r : Result A Error) → r ≡ Err e → row ≡ get_or rows i d → i < length rows
+      → FailsToDecode in_row (row ∷ []) e → IfErr r (FailsToDecode in_row rows)
   none_decoded i rows row d e r is at low h = subst (λ r. IfErr r (FailsToDecode in_row rows)) (sym is) (bad_at i rows row d e at low h)
 
   -- one more of them represents one more record
-  pub one_more_decoded : (i : ℕ) (rows : List Row) (row d : Row) (before after : List R) (one : R) → row ≡ get_or rows i d → i < length rows → map Some before ≡ map in_row (take i rows) → Some one ≡ in_row row → after ≡ before ++ one ∷ []
+  pub one_more_decoded : (i : ℕ) (rows : List Row) (row d : Row) (before after : List R) (one : R) → row ≡ get_or rows i d → i < length rows
+      → map Some before ≡ map in_row (take i rows) → Some one ≡ in_row row → after ≡ before ++ one ∷ []
       → map Some after ≡ map in_row (take (i + 1) rows)
   one_more_decoded i rows row d before after one at low so_far is added = rw (added, map-append, so_far, is, at, take_more rows i d low, map-append)
 
   module _ (t : Table) (decides : (row : Row) → is_good t row ≡ is_some (in_row row)) where
-    pub cause_records : {B : Type 0} (old new : State) (rows : Vec Row Global) (r : Result B Error) (shown : Content → List Row) → ((c : Content) (row : Row) → Has (shown c) row → Has (values_of t c) row)
-        → HasReadCause old new (Ok rows) → Finds {E = Error} old new (Ok rows) (λ c rows. rows.items ≡ shown c) → IfErr r (FailsToDecode in_row rows.items) → HasReadCause old new r
+    pub cause_records : {B : Type 0} (old new : State) (rows : Vec Row Global) (r : Result B Error) (shown : Content → List Row)
+        → ((c : Content) (row : Row) → Has (shown c) row → Has (values_of t c) row)
+        → HasReadCause old new (Ok rows) → Finds {E = Error} old new (Ok rows) (λ c rows. rows.items ≡ shown c) → IfErr r (FailsToDecode in_row rows.items)
+        → HasReadCause old new r
     cause_records old new rows r shown within h found fails = cause_on old new rows r h (λ k c held. each r c fails (found.answer k c held))
       where
-        each : {B : Type 0} (r : Result B Error) (c : Content) → IfErr r (FailsToDecode in_row rows.items) → rows.items ≡ shown c → IfErr r (FailsToRead c old new)
+        each : {B : Type 0} (r : Result B Error) (c : Content) → IfErr r (FailsToDecode in_row rows.items) → rows.items ≡ shown c
+            → IfErr r (FailsToRead c old new)
         each (Ok b) c h is = tt
         each (Err e) c (inl memory) is = inl memory
         each (Err e) c (inr h) is = inr (inr (inr (bad_row t c h.0 (within c h.0 (subst (λ l. Has l h.0) is h.1)) (decides h.0 ∙ ap is_some h.2))))
@@ -106,18 +114,25 @@ first_fits rows one o at is fits = (one, first_has rows one at, λ n found. subs
 between : (n k : ℕ) → n - 1 < k → k < n → ⊥
 between n k above below = omega (arith, above, below)
 
-module _ {X : Type 0} (test : ℕ → X → Bool) (key : X → ℕ) (values : X → Row) (above : (n : ℕ) (x : X) → test n x ≡ true → n < key x) (begins : (x : X) → whole_at (values x) 0 ≡ Some (key x)) where
-  none_held : (number page : ℕ) (xs : List X) (rows : List Row) → ¬ (Fits number) → rows ≡ map values (take page (filter (test (min number greatest)) xs)) → HasFitting rows → ⊥
+module _ {X : Type 0} (test : ℕ → X → Bool) (key : X → ℕ) (values : X → Row) (above : (n : ℕ) (x : X) → test n x ≡ true → n < key x)
+    (begins : (x : X) → whole_at (values x) 0 ≡ Some (key x)) where
+  none_held : (number page : ℕ) (xs : List X) (rows : List Row) → ¬ (Fits number) → rows ≡ map values (take page (filter (test (min number greatest)) xs))
+      → HasFitting rows → ⊥
   none_held number page xs rows large is h =
       let from = has_mapped values _ h.0 (subst (λ l. Has l h.0) is h.1) in
       let passed = of_filter (test (min number greatest)) xs from.0 (taken_has page _ from.0 from.1) in
-      between (2 ^ 63) (key from.0) (subst (λ n. n < key from.0) (least_of_large number large) (above (min number greatest) from.0 passed.1)) (h.2 (key from.0) (ap (λ r. whole_at r 0) from.2 ∙ begins from.0))
+      between (2 ^ 63) (key from.0) (subst (λ n. n < key from.0) (least_of_large number large) (above (min number greatest) from.0 passed.1))
+      (h.2 (key from.0) (ap (λ r. whole_at r 0) from.2 ∙ begins from.0))
 
-  pub cause_page : (part : Content → List X) (old new : State) (rows : Vec Row Global) (r : Result (Vec Row Global) Error) (number least page : ℕ) → least ≡ min number greatest → HasReadCause old new (Ok rows)
-      → Finds {E = Error} old new (Ok rows) (λ c rows. rows.items ≡ map values (take page (filter (test least) (part c)))) → IfErr r (λ e. IsMemory e ⊎ ((¬ (Fits number)) × HasFitting rows.items)) → HasReadCause old new r
+  pub cause_page : (part : Content → List X) (old new : State) (rows : Vec Row Global) (r : Result (Vec Row Global) Error) (number least page : ℕ)
+      → least ≡ min number greatest → HasReadCause old new (Ok rows)
+      → Finds {E = Error} old new (Ok rows) (λ c rows. rows.items ≡ map values (take page (filter (test least) (part c))))
+      → IfErr r (λ e. IsMemory e ⊎ ((¬ (Fits number)) × HasFitting rows.items)) → HasReadCause old new r
   cause_page part old new rows r number least page low h found fails = cause_on old new rows r h (λ k c held. each r c fails (found.answer k c held))
     where
-      each : (r : Result (Vec Row Global) Error) (c : Content) → IfErr r (λ e. IsMemory e ⊎ ((¬ (Fits number)) × HasFitting rows.items)) → rows.items ≡ map values (take page (filter (test least) (part c))) → IfErr r (FailsToRead c old new)
+      each : (r : Result (Vec Row Global) Error) (c : Content) → IfErr r (λ e. IsMemory e ⊎ ((¬ (Fits number)) × HasFitting rows.items))
+          → rows.items ≡ map values (take page (filter (test least) (part c))) → IfErr r (FailsToRead c old new)
       each (Ok b) c h is = tt
       each (Err e) c (inl memory) is = inl memory
-      each (Err e) c (inr h) is = absurd (none_held number page (part c) rows.items h.0 (is ∙ ap (λ n. map values (take page (filter (test n) (part c)))) low) h.1)
+      each (Err e) c (inr h) is =
+          absurd (none_held number page (part c) rows.items h.0 (is ∙ ap (λ n. map values (take page (filter (test n) (part c)))) low) h.1)

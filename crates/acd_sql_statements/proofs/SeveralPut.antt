@@ -80,12 +80,14 @@ have_numbers : (rows : List Row) (es : List Event) → numbered Chosen rows (map
 have_numbers rows [] = refl
 have_numbers rows (e ∷ es) = ap (λ (l : List Row). event_row e ∷ l) (have_numbers (put_row (event_row e) rows) es)
 
-are_numbered : (rows : List Row) (es : List Event) → numbered Chosen rows (map (λ s. cast_row (table_of schema.events) (drop 0 s)) (map event_row es)) ≡ map event_row es
+are_numbered : (rows : List Row) (es : List Event)
+    → numbered Chosen rows (map (λ s. cast_row (table_of schema.events) (drop 0 s)) (map event_row es)) ≡ map event_row es
 are_numbered rows es = ap (numbered Chosen rows) (are_cast es) ∙ have_numbers rows es
 
 rows_put : (es rs : List Event) → put_all (map event_row rs) (map event_row es) ≡ map event_row (all_put es rs)
 rows_put [] rs = refl
-rows_put (e ∷ es) rs = ap (λ (rows : List Row). put_all rows (map event_row es)) (puts number event_row (λ x. refl) e rs) ∙ rows_put es (put_by (by_key number e) rs e)
+rows_put (e ∷ es) rs =
+    ap (λ (rows : List Row). put_all rows (map event_row es)) (puts number event_row (λ x. refl) e rs) ∙ rows_put es (put_by (by_key number e) rs e)
 
 still_ascending : (es rs : List Event) → IsAscending (by_key number) rs → IsAscending (by_key number) (all_put es rs)
 still_ascending [] rs up = up
@@ -97,9 +99,19 @@ all_are (e ∷ es) r = all_are es (with_part table.Events (put_by (by_key number
 
 module _ (text : List ℕ) (terms : List Term) (es : List Event) (p : Puts text terms es) where
   abbrev insertion : Insertion book_schema text
-  insertion = record { at = 7; layout = schema.events; terms = terms; width = 11; place = refl; command = p.command; plain = p.plain; inert = inert_works book_schema inert schema.events.tree }
+  insertion = record {
+    at = 7;
+    layout = schema.events;
+    terms = terms;
+    width = 11;
+    place = refl;
+    command = p.command;
+    plain = p.plain;
+    inert = inert_works book_schema inert schema.events.tree;
+  }
 
-  put_at_once : (r : Relations) (old new : State) (count : ℕ) → HoldsUncommitted old r → Executes text (values_of es) old new (Ok count) → HoldsUncommitted new (with_all es r)
+  put_at_once : (r : Relations) (old new : State) (count : ℕ) → HoldsUncommitted old r → Executes text (values_of es) old new (Ok count)
+      → HoldsUncommitted new (with_all es r)
   put_at_once r old new count d ran =
       let db = old.now.trees in
       let are = d.tables table.Events in
@@ -109,10 +121,14 @@ module _ (text : List ℕ) (terms : List Term) (es : List Event) (p : Puts text 
       let numbers = ap (put_all rows) (are_numbered rows es) in
       let before = ap (λ (l : List Row). put_all l (map event_row es)) are.rows_are in
       subst (HoldsUncommitted new) (all_are es r)
-      (holds_replaced table.Events (all_put es r.events) (map event_row (all_put es r.events)) old new r (record { rows_are = refl; ascending = still_ascending es r.events are.ascending })
-      (replaces book_schema old new (insertion_edit insertion (values_of es) db) (map event_row (all_put es r.events)) made (source ∙ numbers ∙ before ∙ rows_put es r.events)) d)
+      (holds_replaced table.Events (all_put es r.events) (map event_row (all_put es r.events)) old new r
+      (record { rows_are = refl; ascending = still_ascending es r.events are.ascending })
+      (replaces book_schema old new (insertion_edit insertion (values_of es) db) (map event_row (all_put es r.events)) made
+      (source ∙ numbers ∙ before ∙ rows_put es r.events))
+      d)
 
-pub put_several : (es : List Event) → es ≢ [] → length es ≤ 4 → (r : Relations) (old new : State) (count : ℕ) → HoldsUncommitted old r → Executes (text_of (length es)) (values_of es) old new (Ok count) → HoldsUncommitted new (with_all es r)
+pub put_several : (es : List Event) → es ≢ [] → length es ≤ 4 → (r : Relations) (old new : State) (count : ℕ) → HoldsUncommitted old r
+    → Executes (text_of (length es)) (values_of es) old new (Ok count) → HoldsUncommitted new (with_all es r)
 put_several [] some few = absurd (some refl)
 put_several (a ∷ []) some few = put_at_once _ _ _ (puts_one a)
 put_several (a ∷ b ∷ []) some few = put_at_once _ _ _ (puts_two a b)

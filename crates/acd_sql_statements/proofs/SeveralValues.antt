@@ -9,5 +9,7 @@ values_push : (es : List Event) (x : Event) → values_of (es ++ x ∷ []) ≡ v
 values_push [] x = refl
 values_push (e ∷ es) x = ap (λ l. events.values e ++ l) (values_push es x)
 
-pub values_next : (es : List Event) (i : ℕ) (x d : Event) → x ≡ get_or es i d → i < length es → values_of (take (i + 1) es) ≡ values_of (take i es) ++ events.values x
-values_next es i x d at low = ap values_of (take_more es i d low) ∙ values_push (take i es) (get_or es i d) ∙ ap (λ (y : Event). values_of (take i es) ++ events.values y) (sym at)
+pub values_next : (es : List Event) (i : ℕ) (x d : Event) → x ≡ get_or es i d → i < length es
+    → values_of (take (i + 1) es) ≡ values_of (take i es) ++ events.values x
+values_next es i x d at low =
+    ap values_of (take_more es i d low) ∙ values_push (take i es) (get_or es i d) ∙ ap (λ (y : Event). values_of (take i es) ++ events.values y) (sym at)

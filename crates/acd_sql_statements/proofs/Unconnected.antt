@@ -31,7 +31,10 @@ use Rattle.acd_sql_columns.proofs.Statements.{inert_works}
 use Rattle.acd_sql_columns.proofs.Updates.{Updating, updated}
 use Rattle.acd_sql_statements.specs.Refusing.{HasNoConnection}
 
-updates : command_of (understood book_schema UPDATE_CONNECTION.now) ≡ Update connections.place (record { lets = []; body = scan connections.layout.tree by_two (columns_given (after_both connections)) [] })
+updates : command_of (understood book_schema UPDATE_CONNECTION.now) ≡ Update connections.place (record {
+  lets = [];
+  body = scan connections.layout.tree by_two (columns_given (after_both connections)) [];
+})
 unfolding understood everything
 updates = refl
 
@@ -59,7 +62,8 @@ none_left : {X : Type 0} (p : X → Bool) (xs left : List X) → filter p xs ≡
 none_left p xs [] is never = is
 none_left p xs (x ∷ left) is never = absurd (let met = filter_among p xs x (subst (Among x) (sym is) (inl refl)) in never x met.0 met.1)
 
-pub none_connected : (x : ConnectionRecord) (r : Relations) (old mid : State) (none : ℕ) → HoldsUncommitted old r → Executes UPDATE_CONNECTION.now (connection_values x) old mid (Ok none) → none ≡ 0 → HasNoConnection x r
+pub none_connected : (x : ConnectionRecord) (r : Relations) (old mid : State) (none : ℕ) → HoldsUncommitted old r
+    → Executes UPDATE_CONNECTION.now (connection_values x) old mid (Ok none) → none ≡ 0 → HasNoConnection x r
 none_connected x r old mid none uncommitted ran missed =
     let rows = old.now.trees connections.layout.tree in
     let passes : Row → Bool = λ (row : Row). list_all (holds (connection_values x ∷ row ∷ [])) by_two in

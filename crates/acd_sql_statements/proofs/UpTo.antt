@@ -12,7 +12,8 @@ use Rattle.acd_sql_columns.proofs.TablesDescribed.{events_described, kept_descri
 use Rattle.acd_sql_columns.proofs.UpTo.{cleared_in, events_clears, kept_clears}
 use Rattle.acd_sql_statements.specs.UpTo.{text_up_to, without_up_to}
 
-pub removed_up_to : (l : Log) (number : ℕ) (r : Relations) (old new : State) (count : ℕ) → HoldsUncommitted old r → Executes (text_up_to l) (id_value number ∷ []) old new (Ok count)
+pub removed_up_to : (l : Log) (number : ℕ) (r : Relations) (old new : State) (count : ℕ) → HoldsUncommitted old r
+    → Executes (text_up_to l) (id_value number ∷ []) old new (Ok count)
     → HoldsUncommitted new (without_up_to l number r)
 removed_up_to log.Events = cleared_in events events_described DELETE_EVENTS_UP_TO.now events_clears
 removed_up_to log.Kept = cleared_in kept kept_described DELETE_KEPT_UP_TO.now kept_clears

@@ -49,16 +49,28 @@ apart_schemas e = let many : ◌≡◌ {A = ℕ} 11 9 = ap (λ (s : Schema). len
 
 pub migrated_encodes : (old new : Trees) (c : Content) → EncodesAs version.First old c → IsMigration old new → Encodes new c
 migrated_encodes old new c is m table.Meta = m.version_is (meta_of c.rows) (is.tables table.Meta tt)
-migrated_encodes old new c is m table.Groups = subst (λ rows. Stores table.Groups rows (part table.Groups (relations_of c))) (sym (m.kept table.Groups tt (λ e. cc e))) (is.tables table.Groups tt)
-migrated_encodes old new c is m table.Stations = subst (λ rows. Stores table.Stations rows (part table.Stations (relations_of c))) (sym (m.kept table.Stations tt (λ e. cc e))) (is.tables table.Stations tt)
-migrated_encodes old new c is m table.Agents = subst (λ rows. Stores table.Agents rows (part table.Agents (relations_of c))) (sym (m.kept table.Agents tt (λ e. cc e))) (is.tables table.Agents tt)
-migrated_encodes old new c is m table.Calls = subst (λ rows. Stores table.Calls rows (part table.Calls (relations_of c))) (sym (m.kept table.Calls tt (λ e. cc e))) (is.tables table.Calls tt)
-migrated_encodes old new c is m table.Connections = subst (λ rows. Stores table.Connections rows (part table.Connections (relations_of c))) (sym (m.kept table.Connections tt (λ e. cc e))) (is.tables table.Connections tt)
-migrated_encodes old new c is m table.Monitors = subst (λ rows. Stores table.Monitors rows (part table.Monitors (relations_of c))) (sym (m.kept table.Monitors tt (λ e. cc e))) (is.tables table.Monitors tt)
-migrated_encodes old new c is m table.Events = subst (λ rows. Stores table.Events rows (part table.Events (relations_of c))) (sym (m.kept table.Events tt (λ e. cc e))) (is.tables table.Events tt)
-migrated_encodes old new c is m table.Kept = subst (λ rows. Stores table.Kept rows (part table.Kept (relations_of c))) (sym (m.kept table.Kept tt (λ e. cc e))) (is.tables table.Kept tt)
-migrated_encodes old new c is m table.AgentGroups = subst (Stores table.AgentGroups (new (tree_of table.AgentGroups))) (sym is.fits.0) (none_heaped pair_order further_row (new (tree_of table.AgentGroups)) m.further)
-migrated_encodes old new c is m table.GroupPriority = subst (Stores table.GroupPriority (new (tree_of table.GroupPriority))) (sym is.fits.1) (record { rows_are = m.priorities; ascending = tt })
+migrated_encodes old new c is m table.Groups =
+    subst (λ rows. Stores table.Groups rows (part table.Groups (relations_of c))) (sym (m.kept table.Groups tt (λ e. cc e))) (is.tables table.Groups tt)
+migrated_encodes old new c is m table.Stations =
+    subst (λ rows. Stores table.Stations rows (part table.Stations (relations_of c))) (sym (m.kept table.Stations tt (λ e. cc e))) (is.tables table.Stations tt)
+migrated_encodes old new c is m table.Agents =
+    subst (λ rows. Stores table.Agents rows (part table.Agents (relations_of c))) (sym (m.kept table.Agents tt (λ e. cc e))) (is.tables table.Agents tt)
+migrated_encodes old new c is m table.Calls =
+    subst (λ rows. Stores table.Calls rows (part table.Calls (relations_of c))) (sym (m.kept table.Calls tt (λ e. cc e))) (is.tables table.Calls tt)
+migrated_encodes old new c is m table.Connections =
+    subst (λ rows. Stores table.Connections rows (part table.Connections (relations_of c))) (sym (m.kept table.Connections tt (λ e. cc e)))
+    (is.tables table.Connections tt)
+migrated_encodes old new c is m table.Monitors =
+    subst (λ rows. Stores table.Monitors rows (part table.Monitors (relations_of c))) (sym (m.kept table.Monitors tt (λ e. cc e))) (is.tables table.Monitors tt)
+migrated_encodes old new c is m table.Events =
+    subst (λ rows. Stores table.Events rows (part table.Events (relations_of c))) (sym (m.kept table.Events tt (λ e. cc e))) (is.tables table.Events tt)
+migrated_encodes old new c is m table.Kept =
+    subst (λ rows. Stores table.Kept rows (part table.Kept (relations_of c))) (sym (m.kept table.Kept tt (λ e. cc e))) (is.tables table.Kept tt)
+migrated_encodes old new c is m table.AgentGroups =
+    subst (Stores table.AgentGroups (new (tree_of table.AgentGroups))) (sym is.fits.0)
+    (none_heaped pair_order further_row (new (tree_of table.AgentGroups)) m.further)
+migrated_encodes old new c is m table.GroupPriority =
+    subst (Stores table.GroupPriority (new (tree_of table.GroupPriority))) (sym is.fits.1) (record { rows_are = m.priorities; ascending = tt })
 
 second_encodes : (db : Trees) (c : Content) → EncodesAs version.Second db c → Encodes db c
 second_encodes db c is = λ t. is.tables t tt
@@ -104,13 +116,20 @@ module _ (old mid : State) (settles : Settles old) (k : HasCleanDisk mid) where
     left = λ db left. sound.left db (h.stops k db left);
   }
 
-  same_content : (r : Result Found Error) → HasLooked old mid r IsFound → IsTrue mid.is_open → IsTrue old.is_open × (content_of mid.committed.trees ≡ content_of old.committed.trees)
+  same_content : (r : Result Found Error) → HasLooked old mid r IsFound → IsTrue mid.is_open
+      → IsTrue old.is_open × (content_of mid.committed.trees ≡ content_of old.committed.trees)
   same_content r h up =
       let was = h.seen.was_open k up in
       (was, ap (λ (d : Database). content_of d.trees) (same_commit r h was up))
 
-  back : (r : Result Found Error) (f : AdoptFault) → HasLooked old mid r IsFound → IsAdoptFaultOf old.now f → IsHandedBack old.now (book_state old 0) (book_state mid 0) f
-  back r f h fault = record { sound = still_sound r h; same = same_content r h; stops = λ canonical c stop. (stop.0, h.stops k stop.0 stop.1, stop.2); cause = fault }
+  back : (r : Result Found Error) (f : AdoptFault) → HasLooked old mid r IsFound → IsAdoptFaultOf old.now f
+      → IsHandedBack old.now (book_state old 0) (book_state mid 0) f
+  back r f h fault = record {
+    sound = still_sound r h;
+    same = same_content r h;
+    stops = λ canonical c stop. (stop.0, h.stops k stop.0 stop.1, stop.2);
+    cause = fault;
+  }
 
   found_fault : (f : AdoptFault) → IsFoundFaultOf old.now f → IsAdoptFaultOf old.now f
   found_fault (WrongVersion n) h = h
@@ -127,13 +146,16 @@ module _ (old mid : State) (settles : Settles old) (k : HasCleanDisk mid) where
   of_store NoMemory h = tt
   of_store Store h = tt
 
-  pub back_failed : (e : Error) (f : AdoptFault) → IsAdoptStoreFault f → HasLooked old mid (Err e) IsFound → IsHandedBack old.now (book_state old 0) (book_state mid 0) f
+  pub back_failed : (e : Error) (f : AdoptFault) → IsAdoptStoreFault f → HasLooked old mid (Err e) IsFound
+      → IsHandedBack old.now (book_state old 0) (book_state mid 0) f
   back_failed e f is h = back (Err e) f h (of_store f is)
 
   -- the rows of a store that isn't broken rise
-  pub files : (v : Version) → HasLooked old mid (Ok (Book v)) IsFound → (w : View) → old.now.trees ≡ w.trees → IsListed (w.trees catalog_tree) w.shape w.reals → IsOrdered w.shape w.trees → HasAllColumns old.now → IsCanonical old.now
+  pub files : (v : Version) → HasLooked old mid (Ok (Book v)) IsFound → (w : View) → old.now.trees ≡ w.trees → IsListed (w.trees catalog_tree) w.shape w.reals
+      → IsOrdered w.shape w.trees → HasAllColumns old.now → IsCanonical old.now
   files v h w same listed ordered whole u is =
-      let obeys : IsDatabase (record { schema = old.now.schema; trees = w.trees }) = subst (λ t. IsDatabase (record { schema = old.now.schema; trees = t })) same (h.obeys (was_up (Book v) h)) in
+      let obeys : IsDatabase (record { schema = old.now.schema; trees = w.trees }) =
+      subst (λ t. IsDatabase (record { schema = old.now.schema; trees = t })) same (h.obeys (was_up (Book v) h)) in
       subst (IsCanonicalAs u) (sym same) (canonical_by_store u w old.now.schema is obeys listed ordered (subst (HaveAllColumns u) same (whole u is)))
 
   pub adopted : Settles mid → Stays mid → HasLooked old mid (Ok (Book version.Second)) IsFound → IsAdopted old.now (book_state old 0) (book_state mid 0)
@@ -142,8 +164,11 @@ module _ (old mid : State) (settles : Settles old) (k : HasCleanDisk mid) where
       let same = same_content (Ok (Book version.Second)) h up in
       let after = after_look (Book version.Second) h in
       let found = found_in (Book version.Second) h in
-      let made : IsCanonical old.now → (c : Content) × Encodes old.now.trees c × IsInRange c = λ canonical. let c = content_in version.Second old.now found (h.obeys same.0) (canonical version.Second found.schema_is) in (c.0, second_encodes old.now.trees c.0 c.1, c.2) in
-      let held : (c : (c : Content) × Encodes old.now.trees c × IsInRange c) → c.0 ≡ content_of mid.committed.trees = λ c. sym (decoded old.now.trees c.0 c.1) ∙ sym (ap (λ (d : Database). content_of d.trees) after.committed) in
+      let made : IsCanonical old.now → (c : Content) × Encodes old.now.trees c × IsInRange c =
+      λ canonical. let c = content_in version.Second old.now found (h.obeys same.0) (canonical version.Second found.schema_is) in
+      (c.0, second_encodes old.now.trees c.0 c.1, c.2) in
+      let held : (c : (c : Content) × Encodes old.now.trees c × IsInRange c) → c.0 ≡ content_of mid.committed.trees =
+      λ c. sym (decoded old.now.trees c.0 c.1) ∙ sym (ap (λ (d : Database). content_of d.trees) after.committed) in
       record {
         was_open = same.0;
         live = up;
@@ -151,7 +176,9 @@ module _ (old mid : State) (settles : Settles old) (k : HasCleanDisk mid) where
         content = λ canonical. same.1;
         stops = λ canonical c stop. (stop.0, h.stops k stop.0 stop.1, stop.2);
         keeps = λ canonical c stop. (mid.committed.trees, stays up, stop.2 ∙ ap content_of (settles stop.0 same.0 stop.1) ∙ sym same.1);
-        canonical = λ sound. let held = sound.stands same.0 in second_canonical old.now held.0 (ap (λ (d : Database). d.schema) held.1.idle ∙ held.1.schema) (subst (λ (d : Database). Encodes d.trees held.0) (sym held.1.idle) held.1.encodes);
+        canonical = λ sound. let held = sound.stands same.0 in
+            second_canonical old.now held.0 (ap (λ (d : Database). d.schema) held.1.idle ∙ held.1.schema)
+            (subst (λ (d : Database). Encodes d.trees held.0) (sym held.1.idle) held.1.encodes);
         sound = λ canonical.
             let c = made canonical in
             let whole : IsSound book_schema old.now.trees = subst (λ (s : Schema). IsSound s old.now.trees) found.schema_is (h.obeys same.0) in
@@ -174,7 +201,8 @@ module _ (old mid : State) (settles : Settles old) (k : HasCleanDisk mid) where
 
 -- ---- and after the migration
 
-module _ (old mid new : State) (settles : Settles old) (stays : Stays old) (k : HasCleanDisk mid) (h : HasLooked old mid (Ok (Book version.First)) IsFound) where
+module _ (old mid new : State) (settles : Settles old) (stays : Stays old) (k : HasCleanDisk mid)
+    (h : HasLooked old mid (Ok (Book version.First)) IsFound) where
   first : IsOfBook version.First old.now
   first = found_in old mid settles k (Book version.First) h
 
@@ -228,8 +256,10 @@ module _ (old mid new : State) (settles : Settles old) (stays : Stays old) (k : 
   pub adopted_first : Settles new → Stays new → MayAlter mid new → IsMade mid new → IsAdopted old.now (book_state old 0) (book_state new 0)
   adopted_first settled_after stays_after may m =
       let moved = migrates new.committed.trees m.tables in
-      let whole : (c : (c : Content) × EncodesAs version.First old.now.trees c × IsInRange c) → Encodes new.committed.trees c.0 = λ c. migrated_encodes old.now.trees new.committed.trees c.0 c.1 moved in
-      let held : (c : (c : Content) × EncodesAs version.First old.now.trees c × IsInRange c) → c.0 ≡ content_of new.committed.trees = λ c. sym (decoded new.committed.trees c.0 (whole c)) in
+      let whole : (c : (c : Content) × EncodesAs version.First old.now.trees c × IsInRange c) → Encodes new.committed.trees c.0 =
+      λ c. migrated_encodes old.now.trees new.committed.trees c.0 c.1 moved in
+      let held : (c : (c : Content) × EncodesAs version.First old.now.trees c × IsInRange c) → c.0 ≡ content_of new.committed.trees =
+      λ c. sym (decoded new.committed.trees c.0 (whole c)) in
       record {
         was_open = was;
         live = m.is_open;
@@ -237,16 +267,24 @@ module _ (old mid new : State) (settles : Settles old) (stays : Stays old) (k : 
         canonical = λ sound. absurd (never_sound sound);
         content = λ canonical. same_there new.committed.trees moved canonical;
         stops = within may;
-        keeps = λ canonical c stop. (new.committed.trees, stays_after m.is_open, stop.2 ∙ ap content_of (settles stop.0 was stop.1) ∙ sym (same_there new.committed.trees moved canonical));
+        keeps =
+            λ canonical c stop. (
+              new.committed.trees,
+              stays_after m.is_open,
+              stop.2 ∙ ap content_of (settles stop.0 was stop.1)
+                  ∙ sym (same_there new.committed.trees moved canonical),
+            );
         sound = λ canonical.
             let c = made canonical in
-            let held : HoldsContent new c.0 = record { is_open = m.is_open; idle = m.idle; schema = m.schema_is; sound = moved.sound; encodes = whole c; range = c.2 } in
+            let held : HoldsContent new c.0 =
+            record { is_open = m.is_open; idle = m.idle; schema = m.schema_is; sound = moved.sound; encodes = whole c; range = c.2 } in
             record { stands = λ up. (c.0, held); left = λ db left. (c.0, is_book new c.0 db held (settled_after db m.is_open left)) };
         in_range = λ canonical. let c = made canonical in subst IsInRange (held c) c.2;
         ordered = λ canonical. let c = made canonical in subst IsInOrder (held c) (stored_ordered new.committed.trees c.0 (whole c) c.2);
       }
 
-  pub back_unmade : (f : AdoptFault) → IsAdoptStoreFault f → MayAlter mid new → (IsTrue new.is_open → IsRestored mid new) → IsHandedBack old.now (book_state old 0) (book_state new 0) f
+  pub back_unmade : (f : AdoptFault) → IsAdoptStoreFault f → MayAlter mid new → (IsTrue new.is_open → IsRestored mid new)
+      → IsHandedBack old.now (book_state old 0) (book_state new 0) f
   back_unmade f is may restored = record {
     sound = λ sound. absurd (never_sound sound);
     same = λ up. (was, ap (λ (d : Database). content_of d.trees) ((restored up).committed ∙ after.committed ∙ h.settled was));
@@ -275,21 +313,26 @@ module _ (old mid : State) (free : old.step_limit ≡ None) (settles : Settles o
   look_cause e f is store (inr (inr steps)) = absurd (never_limited old.step_limit free steps)
 
   -- the look failed
-  pub fail_cause : (e : Error) (f : AdoptFault) → f ≡ adopt_fault_of e → f ≡ Store → HasLooked old mid (Err e) IsFound → HasLookCause {A = Found} IsCanonical old mid (Err e) → IsCanonical old.now → AdoptCause old mid
+  pub fail_cause : (e : Error) (f : AdoptFault) → f ≡ adopt_fault_of e → f ≡ Store → HasLooked old mid (Err e) IsFound
+      → HasLookCause {A = Found} IsCanonical old mid (Err e) → IsCanonical old.now → AdoptCause old mid
   fail_cause e f is store h causes canonical = elim (cases_Bool old.is_open) [
     | inl up ↦ look_cause e f is store (causes.cause k old.now (old_database old mid settles k (Err e) h up) canonical)
     | inr down ↦ shut down
   ]
 
 -- the migration failed after the look
-pub unmade_cause : (old mid new : State) (free : old.step_limit ≡ None) (settles : Settles old) (k : HasCleanDisk mid) (e : Error) (f : AdoptFault) → f ≡ adopt_fault_of e → f ≡ Store → HasLooked old mid (Ok (Book version.First)) IsFound
+pub unmade_cause : (old mid new : State) (free : old.step_limit ≡ None) (settles : Settles old) (k : HasCleanDisk mid) (e : Error) (f : AdoptFault)
+    → f ≡ adopt_fault_of e → f ≡ Store → HasLooked old mid (Ok (Book version.First)) IsFound
     → HasLookCause {A = Found} IsCanonical old mid (Ok (Book version.First)) → mid.faults ≤ new.faults → FailsToMigrate mid new e → AdoptCause old new
 unmade_cause old mid new free settles k e f is store h causes counts (inl memory) = absurd (no_memory e f is store memory)
-unmade_cause old mid new free settles k e f is store h causes counts (inr (inl (inl more))) = failed (let first = causes.spares.counts in omega (arith, more, first))
+unmade_cause old mid new free settles k e f is store h causes counts (inr (inl (inl more))) =
+    failed (let first = causes.spares.counts in omega (arith, more, first))
 unmade_cause old mid new free settles k e f is store h causes counts (inr (inl (inr down))) = absurd (let up = h.up k in let apart = sym up ∙ down in cc)
 unmade_cause old mid new free settles k e f is store h causes counts (inr (inr unread)) =
     let same = (after_look old mid settles k (Book version.First) h).now in
-    refused ((found_in old mid settles k (Book version.First) h).schema_is) (subst (λ (l : Option ℕ). IsVersionRefused l old.now.trees) (causes.spares.limit ∙ free) (subst (λ (d : Database). IsVersionRefused mid.step_limit d.trees) same unread))
+    refused ((found_in old mid settles k (Book version.First) h).schema_is)
+    (subst (λ (l : Option ℕ). IsVersionRefused l old.now.trees) (causes.spares.limit ∙ free)
+    (subst (λ (d : Database). IsVersionRefused mid.step_limit d.trees) same unread))
 
 -- ---- a limit of steps that was removed before makes no difference
 
@@ -299,7 +342,17 @@ without_limit s = record s { step_limit = None }
 module _ (s : State) where
   sound_before : IsSoundState s → IsSoundState (without_limit s)
   sound_before sound = record {
-    stands = λ up. let held = sound.stands up in (held.0, record { is_open = held.1.is_open; idle = held.1.idle; schema = held.1.schema; sound = held.1.sound; encodes = held.1.encodes; range = held.1.range });
+    stands = λ up. let held = sound.stands up in (
+      held.0,
+      record {
+        is_open = held.1.is_open;
+        idle = held.1.idle;
+        schema = held.1.schema;
+        sound = held.1.sound;
+        encodes = held.1.encodes;
+        range = held.1.range;
+      },
+    );
     left = sound.left;
   }
 
@@ -317,7 +370,8 @@ module _ (s : State) where
     ordered = h.ordered;
   }
 
-  pub back_before : (d : Database) (new : BookState) (f : AdoptFault) → IsHandedBack d (book_state (without_limit s) 0) new f → IsHandedBack d (book_state s 0) new f
+  pub back_before : (d : Database) (new : BookState) (f : AdoptFault) → IsHandedBack d (book_state (without_limit s) 0) new f
+      → IsHandedBack d (book_state s 0) new f
   back_before d new f h = record { sound = λ sound. h.sound (sound_before sound); same = h.same; stops = h.stops; cause = h.cause }
 
   pub untouched_before : (new : State) → IsUntouched (without_limit s) new → IsUntouched s new

@@ -37,13 +37,15 @@ store_cause asked old new (inl more) = failed more
 store_cause asked old new (inr down) = shut down
 
 -- the making began without a limit of steps
-pub create_cause : (limits : Limits) (old new : State) (e : Error) (f : BookFault) → old.step_limit ≡ None → f ≡ fault_of e → f ≡ Store → FailsToSetUp old new limits e → StoreCause (create limits) old new
+pub create_cause : (limits : Limits) (old new : State) (e : Error) (f : BookFault) → old.step_limit ≡ None → f ≡ fault_of e → f ≡ Store
+    → FailsToSetUp old new limits e → StoreCause (create limits) old new
 create_cause limits old new e f free is store (inl memory) = absurd (not_memory e f is store memory)
 create_cause limits old new e f free is store (inr (inl fails)) = store_cause (create limits) old new fails
 create_cause limits old new e f free is store (inr (inr refusal)) = refused (subst (λ l. IsUnstarted l limits) free refusal)
 
 -- as it was with a limit that was removed
-pub create_unlimited : (limits : Limits) (old new : State) → StoreCause (create limits) (record old { step_limit = None }) new → StoreCause (create limits) old new
+pub create_unlimited : (limits : Limits) (old new : State) → StoreCause (create limits) (record old { step_limit = None }) new
+    → StoreCause (create limits) old new
 create_unlimited limits old new (failed more) = failed more
 create_unlimited limits old new (shut down) = shut down
 create_unlimited limits old new (unfit large) = unfit large
@@ -59,13 +61,15 @@ pub never_limited : (limit : Option ℕ) → limit ≡ None → IsSome limit →
 never_limited None free some = absurd (cc some)
 never_limited (Some n) free some = absurd (cc free)
 
-read_cause : (old new : State) (c : Content) → old.step_limit ≡ None → content_of old.committed.trees ≡ c → (e : Error) → fault_of e ≡ Store → FailsToRead c old new e → StoreCause read old new
+read_cause : (old new : State) (c : Content) → old.step_limit ≡ None → content_of old.committed.trees ≡ c → (e : Error) → fault_of e ≡ Store
+    → FailsToRead c old new e → StoreCause read old new
 read_cause old new c free is e store (inl memory) = absurd (not_memory e (fault_of e) refl store memory)
 read_cause old new c free is e store (inr (inl more)) = failed more
 read_cause old new c free is e store (inr (inr (inl steps))) = absurd (never_limited old.step_limit free steps)
 read_cause old new c free is e store (inr (inr (inr bad))) = unreadable (λ range. bad (subst IsInRange is range))
 
-pub reads_caused : {A : Type 0} (old new : State) (r : Result A Error) (answer : Result A BookFault) → old.step_limit ≡ None → answer ≡ answered r → HasReadCause old new r → HasCleanDisk new → IsSoundState old → answer ≡ Err Store → StoreCause read old new
+pub reads_caused : {A : Type 0} (old new : State) (r : Result A Error) (answer : Result A BookFault) → old.step_limit ≡ None → answer ≡ answered r
+    → HasReadCause old new r → HasCleanDisk new → IsSoundState old → answer ≡ Err Store → StoreCause read old new
 reads_caused old new (Ok a) answer free is h clean sound store = absurd (let apart = sym store ∙ is in cc)
 reads_caused old new (Err e) answer free is h clean sound store =
     let fault : fault_of e ≡ Store = cc in
@@ -77,16 +81,19 @@ reads_caused old new (Err e) answer free is h clean sound store =
 -- ---- commits
 
 -- a call that reads first fails as a read does, or stops
-module _ (asked : BookCall) (old new : State) (Stops : Content → Type 0) (free : old.step_limit ≡ None) (bad : ¬ (IsInRange (content_of old.committed.trees)) → IsUnreadable asked old)
+module _ (asked : BookCall) (old new : State) (Stops : Content → Type 0) (free : old.step_limit ≡ None)
+    (bad : ¬ (IsInRange (content_of old.committed.trees)) → IsUnreadable asked old)
     (stopped : (c : Content) → content_of old.committed.trees ≡ c → Stops c → StoreCause asked old new) where
-  each_cause : (c : Content) → content_of old.committed.trees ≡ c → (e : Error) → fault_of e ≡ Store → FailsToRead c old new e ⊎ Stops c → StoreCause asked old new
+  each_cause : (c : Content) → content_of old.committed.trees ≡ c → (e : Error) → fault_of e ≡ Store → FailsToRead c old new e ⊎ Stops c
+      → StoreCause asked old new
   each_cause c is e store (inl (inl memory)) = absurd (not_memory e (fault_of e) refl store memory)
   each_cause c is e store (inl (inr (inl more))) = failed more
   each_cause c is e store (inl (inr (inr (inl steps)))) = absurd (never_limited old.step_limit free steps)
   each_cause c is e store (inl (inr (inr (inr out)))) = unreadable (bad (λ range. out (subst IsInRange is range)))
   each_cause c is e store (inr stops) = stopped c is stops
 
-  pub commit_caused : (r : Result (Unit {0}) Error) (answer : Result (Unit {0}) BookFault) → answer ≡ answered r → IsCausedByReadOr Stops old new r → HasCleanDisk new → IsSoundState old → answer ≡ Err Store → StoreCause asked old new
+  pub commit_caused : (r : Result (Unit {0}) Error) (answer : Result (Unit {0}) BookFault) → answer ≡ answered r → IsCausedByReadOr Stops old new r
+      → HasCleanDisk new → IsSoundState old → answer ≡ Err Store → StoreCause asked old new
   commit_caused (Ok a) answer is h clean sound store = absurd (let apart = sym store ∙ is in cc)
   commit_caused (Err e) answer is h clean sound store =
       let fault : fault_of e ≡ Store = cc in
@@ -105,13 +112,17 @@ module _ (changes : List Change) (events : List Event) (kept : Kept) (old new : 
       ]
 
   -- with the counters that are held, which are those of what the connection holds while it is open
-  held_stops : (held : Option Meta) → (IsTrue old.is_open → AreCounters held (content_of old.committed.trees)) → (c : Content) → content_of old.committed.trees ≡ c → StopsWith held (StopsCommit changes events kept) c → StoreCause (change changes events kept) old new
+  held_stops : (held : Option Meta) → (IsTrue old.is_open → AreCounters held (content_of old.committed.trees)) → (c : Content)
+      → content_of old.committed.trees ≡ c → StopsWith held (StopsCommit changes events kept) c → StoreCause (change changes events kept) old new
   held_stops held of c is stops =
       elim (cases_Bool old.is_open) [ inl up ↦ change_stops c is (stops (subst (AreCounters held) is (of up))) | inr down ↦ shut down ]
 
-  pub changes_caused : (held : Option Meta) → (IsTrue old.is_open → AreCounters held (content_of old.committed.trees)) → (r : Result (Unit {0}) Error) (answer : Result (Unit {0}) BookFault) → answer ≡ answered r → IsCausedByReadOr (StopsWith held (StopsCommit changes events kept)) old new r
+  pub changes_caused : (held : Option Meta) → (IsTrue old.is_open → AreCounters held (content_of old.committed.trees))
+      → (r : Result (Unit {0}) Error) (answer : Result (Unit {0}) BookFault) → answer ≡ answered r
+      → IsCausedByReadOr (StopsWith held (StopsCommit changes events kept)) old new r
       → HasCleanDisk new → IsSoundState old → answer ≡ Err Store → StoreCause (change changes events kept) old new
-  changes_caused held of = commit_caused (change changes events kept) old new (StopsWith held (StopsCommit changes events kept)) free (λ out. out) (held_stops held of)
+  changes_caused held of =
+      commit_caused (change changes events kept) old new (StopsWith held (StopsCommit changes events kept)) free (λ out. out) (held_stops held of)
 
 module _ (rows : Rows) (events : List Event) (kept : Kept) (old new : State) (free : old.step_limit ≡ None) where
   replace_stops : (c : Content) → content_of old.committed.trees ≡ c → StopsReplace rows events kept c → StoreCause (replace rows events kept) old new
@@ -123,7 +134,8 @@ module _ (rows : Rows) (events : List Event) (kept : Kept) (old new : State) (fr
         | inr refuses ↦ refused (subst (λ (x : Content). RefusesInAll ⊥ (rows_differences x.rows rows) events kept (meta_of rows) x) (sym is) refuses)
       ]
 
-  pub replace_caused : (r : Result (Unit {0}) Error) (answer : Result (Unit {0}) BookFault) → answer ≡ answered r → IsCausedByReadOr (StopsReplace rows events kept) old new r → HasCleanDisk new → IsSoundState old → answer ≡ Err Store
+  pub replace_caused : (r : Result (Unit {0}) Error) (answer : Result (Unit {0}) BookFault) → answer ≡ answered r
+      → IsCausedByReadOr (StopsReplace rows events kept) old new r → HasCleanDisk new → IsSoundState old → answer ≡ Err Store
       → StoreCause (replace rows events kept) old new
   replace_caused = commit_caused (replace rows events kept) old new (StopsReplace rows events kept) free (λ out. out) replace_stops
 
@@ -136,4 +148,5 @@ only_store (Err Store) failures next is more = refl
 
 pub recorded_cause : {A : Type 0} (asked : BookCall) (old new : State) (failures next : ℕ) (answer : Result A BookFault) → next ≡ failures_after answer failures
     → (HasCleanDisk new → IsSoundState old → answer ≡ Err Store → StoreCause asked old new) → HasCause asked old new failures next answer
-recorded_cause asked old new failures next answer is cause = record { answer = cause; count = λ clean sound more. cause clean sound (only_store answer failures next is more) }
+recorded_cause asked old new failures next answer is cause =
+    record { answer = cause; count = λ clean sound more. cause clean sound (only_store answer failures next is more) }

@@ -46,7 +46,9 @@ same_tables s t a b (change ∷ changes) e =
     same_tables (changed s change) (changed t change) a b changes
     (sym (change_apart s a b change) ∙ ap (λ r. at (changed r change) a b) e ∙ change_apart t a b change)
 
-applied_is : (c : Content) (changes : List Change) → all_applied c changes ≡ record c { rows = at (changed_by c.rows changes) c.rows.last_call c.rows.last_monitor }
+applied_is : (c : Content) (changes : List Change) → all_applied c changes ≡ record c {
+  rows = at (changed_by c.rows changes) c.rows.last_call c.rows.last_monitor;
+}
 applied_is c [] = refl
 applied_is c (change ∷ changes) =
     applied_is (applied c change) changes
@@ -75,30 +77,37 @@ every_more : (last : ℕ) (es : List Event) → Every (λ (x : Event). x.number 
 every_more last [] h = tt
 every_more last (x ∷ es) h = (let k = h.0 in omega arith, every_more last es h.1)
 
-events_are : (last : ℕ) (c : Content) (es : List Event) → GoOn last es → Every (λ (x : Event). x.number ≤ last) c.events → with_events c es ≡ record c { events = c.events ++ es }
+events_are : (last : ℕ) (c : Content) (es : List Event) → GoOn last es → Every (λ (x : Event). x.number ≤ last) c.events
+    → with_events c es ≡ record c { events = c.events ++ es }
 events_are last c [] go low = ap (λ l. record c { events = l }) (sym (append-nil c.events))
 events_are last c (e ∷ es) go low =
     let put = put_last (λ (x : Event). x.number) e c.events (every_less (λ (x : Event). x.number) last e.number c.events (let k = go.0 in omega arith) low) in
     let next : Every (λ (x : Event). x.number ≤ last + 1) (with_event c e).events =
-    subst (Every (λ (x : Event). x.number ≤ last + 1)) (sym put) (every_push (λ (x : Event). x.number ≤ last + 1) c.events e (every_more last c.events low) (let k = go.0 in omega arith)) in
+    subst (Every (λ (x : Event). x.number ≤ last + 1)) (sym put)
+    (every_push (λ (x : Event). x.number ≤ last + 1) c.events e (every_more last c.events low) (let k = go.0 in omega arith)) in
     events_are (last + 1) (with_event c e) es go.1 next
     ∙ ap (λ l. record c { events = l }) (ap (λ l. l ++ es) put ∙ append_assoc c.events (e ∷ []) es)
 
-kept_is : (c : Content) (k : Kept) (last : ℕ) → last < k.stamp → Every (λ (x : Kept). x.stamp ≤ last) c.kept → with_kept c k ≡ record c { kept = c.kept ++ k ∷ [] }
-kept_is c k last low h = ap (λ l. record c { kept = l }) (put_last (λ (x : Kept). x.stamp) k c.kept (every_less (λ (x : Kept). x.stamp) last k.stamp c.kept low h))
+kept_is : (c : Content) (k : Kept) (last : ℕ) → last < k.stamp → Every (λ (x : Kept). x.stamp ≤ last) c.kept
+    → with_kept c k ≡ record c { kept = c.kept ++ k ∷ [] }
+kept_is c k last low h =
+    ap (λ l. record c { kept = l }) (put_last (λ (x : Kept). x.stamp) k c.kept (every_less (λ (x : Kept). x.stamp) last k.stamp c.kept low h))
 
 -- events whose numbers rise
-rises_are : (last : ℕ) (c : Content) (es : List Event) → Rises number_of last es → Every (λ (x : Event). x.number ≤ last) c.events → with_events c es ≡ record c { events = c.events ++ es }
+rises_are : (last : ℕ) (c : Content) (es : List Event) → Rises number_of last es → Every (λ (x : Event). x.number ≤ last) c.events
+    → with_events c es ≡ record c { events = c.events ++ es }
 rises_are last c [] up low = ap (λ l. record c { events = l }) (sym (append-nil c.events))
 rises_are last c (e ∷ es) up low =
     let put = put_last (λ (x : Event). x.number) e c.events (every_less (λ (x : Event). x.number) last e.number c.events up.0 low) in
     let next : Every (λ (x : Event). x.number ≤ e.number) (with_event c e).events =
-    subst (Every (λ (x : Event). x.number ≤ e.number)) (sym put) (every_push (λ (x : Event). x.number ≤ e.number) c.events e (events_raised last e.number c.events (let k = up.0 in omega arith) low) (omega arith)) in
+    subst (Every (λ (x : Event). x.number ≤ e.number)) (sym put)
+    (every_push (λ (x : Event). x.number ≤ e.number) c.events e (events_raised last e.number c.events (let k = up.0 in omega arith) low) (omega arith)) in
     rises_are e.number (with_event c e) es up.1 next
     ∙ ap (λ l. record c { events = l }) (ap (λ l. l ++ es) put ∙ append_assoc c.events (e ∷ []) es)
 
 -- a commit of such events puts them after the others
-pub written_events : (changes : List Change) (events : List Event) (kept : Kept) (c : Content) (last : ℕ) → Rises number_of last events → Every (λ (x : Event). x.number ≤ last) c.events
+pub written_events : (changes : List Change) (events : List Event) (kept : Kept) (c : Content) (last : ℕ) → Rises number_of last events
+    → Every (λ (x : Event). x.number ≤ last) c.events
     → (written_by changes events kept c).events ≡ c.events ++ events
 written_events changes events kept c last up low =
     let tables = at (changed_by c.rows changes) c.rows.last_call c.rows.last_monitor in
@@ -108,7 +117,11 @@ written_events changes events kept c last up low =
 -- the writes add the events and the kept record after the others, and make the changes
 written_are : (changes : List Change) (events : List Event) (kept : Kept) (m : Meta) (rows : Rows) (c : Content) → Follows rows events kept c
     → made_by changes events kept m c
-    ≡ with_meta m (record { rows = at (changed_by c.rows changes) c.rows.last_call c.rows.last_monitor; events = c.events ++ events; kept = c.kept ++ kept ∷ [] })
+    ≡ with_meta m (record {
+      rows = at (changed_by c.rows changes) c.rows.last_call c.rows.last_monitor;
+      events = c.events ++ events;
+      kept = c.kept ++ kept ∷ [];
+    })
 written_are changes events kept m rows c follows =
     let tables = at (changed_by c.rows changes) c.rows.last_call c.rows.last_monitor in
     let d : Content = record c { rows = tables } in
@@ -127,7 +140,8 @@ made_is changes events kept c follows = written_are changes events kept (meta_of
 -- changes that lead to the tables of rows make the rows, with their counters
 pub rows_made : (changes : List Change) (events : List Event) (kept : Kept) (rows : Rows) (c : Content) → Follows rows events kept c
     → (changed_by c.rows changes).groups ≡ rows.groups → (changed_by c.rows changes).stations ≡ rows.stations → (changed_by c.rows changes).agents ≡ rows.agents
-    → (changed_by c.rows changes).calls ≡ rows.calls → (changed_by c.rows changes).connections ≡ rows.connections → (changed_by c.rows changes).monitors ≡ rows.monitors
+    → (changed_by c.rows changes).calls ≡ rows.calls → (changed_by c.rows changes).connections ≡ rows.connections
+    → (changed_by c.rows changes).monitors ≡ rows.monitors
     → made_by changes events kept (meta_of rows) c ≡ committed rows events kept c
 rows_made changes events kept rows c follows groups stations agents calls connections monitors =
     written_are changes events kept (meta_of rows) rows c follows ∙ rw (groups, stations, agents, calls, connections, monitors) refl
@@ -168,7 +182,8 @@ monitors_after : (s : Rows) (changes : List Change) → (changed_by s changes).l
 monitors_after s [] = refl
 monitors_after s (change ∷ changes) = monitors_after (changed s change) changes ∙ ap (λ n. last_monitor n changes) (monitor_after s change)
 
-pub counts_are : (changes : List Change) (events : List Event) (kept : Kept) (c : Content) → meta_of (rows_by changes events kept c) ≡ counted (meta_of c.rows) changes (length events) kept
+pub counts_are : (changes : List Change) (events : List Event) (kept : Kept) (c : Content)
+    → meta_of (rows_by changes events kept c) ≡ counted (meta_of c.rows) changes (length events) kept
 unfolding with_last
 counts_are changes events kept c = rw (limits-changed_by c.rows changes, calls_after c.rows changes, monitors_after c.rows changes) refl
 
@@ -180,8 +195,10 @@ commit_is changes events kept m c is follows =
     ∙ ap (λ k. made_by changes events kept k c) (sym (counts_are changes events kept c))
     ∙ made_is changes events kept c follows
 
-pub call_next : (n : ℕ) (i : ℕ) (changes : List Change) (x d : Change) → x ≡ get_or changes i d → i < length changes → last_call n (take (i + 1) changes) ≡ top_call (last_call n (take i changes)) x
+pub call_next : (n : ℕ) (i : ℕ) (changes : List Change) (x d : Change) → x ≡ get_or changes i d → i < length changes
+    → last_call n (take (i + 1) changes) ≡ top_call (last_call n (take i changes)) x
 call_next = next last_call top_call (λ n. refl) (λ n x xs. refl)
 
-pub monitor_next : (n : ℕ) (i : ℕ) (changes : List Change) (x d : Change) → x ≡ get_or changes i d → i < length changes → last_monitor n (take (i + 1) changes) ≡ top_monitor (last_monitor n (take i changes)) x
+pub monitor_next : (n : ℕ) (i : ℕ) (changes : List Change) (x d : Change) → x ≡ get_or changes i d → i < length changes
+    → last_monitor n (take (i + 1) changes) ≡ top_monitor (last_monitor n (take i changes)) x
 monitor_next = next last_monitor top_monitor (λ n. refl) (λ n x xs. refl)

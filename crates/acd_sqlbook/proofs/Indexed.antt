@@ -43,11 +43,13 @@ among_after x e (y ∷ events) after (inr a) = among_after x e events after.1 a
 pub one_there : (events : List Event) (e : Event) → Ascends events → Among e events → 0 < e.number → events_after events (e.number - 1) 1 ≡ e ∷ []
 one_there [] e up a low = absurd a
 one_there (x ∷ events) e up (inl is) low =
-    ap (λ (b : Bool). take 1 (cond b (x ∷ filter (λ (y : Event). nat_lt (e.number - 1) y.number) events) (filter (λ (y : Event). nat_lt (e.number - 1) y.number) events)))
+    ap (λ (b : Bool). take 1
+    (cond b (x ∷ filter (λ (y : Event). nat_lt (e.number - 1) y.number) events) (filter (λ (y : Event). nat_lt (e.number - 1) y.number) events)))
     (ap (λ (z : Event). nat_lt (e.number - 1) z.number) (sym is) ∙ is_above e.number low)
     ∙ ap (λ (z : Event). z ∷ []) (sym is)
 one_there (x ∷ events) e up (inr a) low =
-    ap (λ (b : Bool). take 1 (cond b (x ∷ filter (λ (y : Event). nat_lt (e.number - 1) y.number) events) (filter (λ (y : Event). nat_lt (e.number - 1) y.number) events)))
+    ap (λ (b : Bool). take 1
+    (cond b (x ∷ filter (λ (y : Event). nat_lt (e.number - 1) y.number) events) (filter (λ (y : Event). nat_lt (e.number - 1) y.number) events)))
     (not_above x.number e.number (among_after x e events up.0 a))
     ∙ one_there events e up.1 a low
 
@@ -65,10 +67,13 @@ more_there : (x : Event) (events some : List Event) → Every (IsThere events) s
 more_there x events [] all = tt
 more_there x events (y ∷ some) all = ((inr all.0.0, all.0.1), more_there x events some all.1)
 
-next_there : (device n : ℕ) (x : Event) (events : List Event) (b : Bool) → is_at_after (Some device) n x ≡ b → Every (IsThere events) (filter (is_at_after (Some device) n) events)
+next_there : (device n : ℕ) (x : Event) (events : List Event) (b : Bool) → is_at_after (Some device) n x ≡ b
+    → Every (IsThere events) (filter (is_at_after (Some device) n) events)
     → Every (IsThere (x ∷ events)) (cond b (x ∷ filter (is_at_after (Some device) n) events) (filter (is_at_after (Some device) n) events))
-next_there device n x events true passes rest =
-    ((inl refl, over_zero n x.number (and_parts (is_at (Some device) x) (nat_lt n x.number) passes).1), more_there x events (filter (is_at_after (Some device) n) events) rest)
+next_there device n x events true passes rest = (
+  (inl refl, over_zero n x.number (and_parts (is_at (Some device) x) (nat_lt n x.number) passes).1),
+  more_there x events (filter (is_at_after (Some device) n) events) rest,
+)
 next_there device n x events false passes rest = more_there x events (filter (is_at_after (Some device) n) events) rest
 
 passing_there : (device n : ℕ) (events : List Event) → Every (IsThere events) (filter (is_at_after (Some device) n) events)
@@ -76,11 +81,13 @@ passing_there device n [] = tt
 passing_there device n (x ∷ events) = next_there device n x events (is_at_after (Some device) n x) refl (passing_there device n events)
 
 -- the events of a page of numbers are the page
-pub page_picked : (device n limit : ℕ) (events : List Event) (numbers : List ℕ) → Ascends events → numbers ≡ map number_of (take limit (filter (is_at_after (Some device) n) events))
+pub page_picked : (device n limit : ℕ) (events : List Event) (numbers : List ℕ) → Ascends events
+    → numbers ≡ map number_of (take limit (filter (is_at_after (Some device) n) events))
     → picked events numbers ≡ take limit (filter (is_at_after (Some device) n) events)
 page_picked device n limit events numbers up is =
     let page = take limit (filter (is_at_after (Some device) n) events) in
-    ap (picked events) is ∙ all_there events page up (every-take (IsThere events) limit (filter (is_at_after (Some device) n) events) (passing_there device n events))
+    ap (picked events) is
+    ∙ all_there events page up (every-take (IsThere events) limit (filter (is_at_after (Some device) n) events) (passing_there device n events))
 
 -- ---- events that go on
 
@@ -94,14 +101,19 @@ pub all_taken : (i : ℕ) (xs : List Event) → length xs ≤ i → take i xs �
 all_taken i xs h = grind (arith, common_steps)
 
 -- one more event, which continues
-pub rises_on : (top i : ℕ) (events : List Event) (e : Event) → i < length events → e ≡ get_or events i e → top < e.number → Rises number_of e.number (drop (i + 1) events) → Rises number_of top (drop i events)
-rises_on top i events e low is up rest = subst (Rises number_of top) (sym (drop_next i events e low ∙ ap (λ (x : Event). x ∷ drop (i + 1) events) (sym is))) (up, rest)
+pub rises_on : (top i : ℕ) (events : List Event) (e : Event) → i < length events → e ≡ get_or events i e → top < e.number
+    → Rises number_of e.number (drop (i + 1) events) → Rises number_of top (drop i events)
+rises_on top i events e low is up rest =
+    subst (Rises number_of top) (sym (drop_next i events e low ∙ ap (λ (x : Event). x ∷ drop (i + 1) events) (sym is))) (up, rest)
 
-pub ends_on : (top i : ℕ) (events : List Event) (e : Event) → i < length events → e ≡ get_or events i e → last_of top (drop i events) ≡ last_of e.number (drop (i + 1) events)
+pub ends_on : (top i : ℕ) (events : List Event) (e : Event) → i < length events → e ≡ get_or events i e
+    → last_of top (drop i events) ≡ last_of e.number (drop (i + 1) events)
 ends_on top i events e low is = ap (last_of top) (drop_next i events e low ∙ ap (λ (x : Event). x ∷ drop (i + 1) events) (sym is))
 
-pub below_on : (top i : ℕ) (events : List Event) (e : Event) → i < length events → e ≡ get_or events i e → top < e.number → Every (λ (x : Event). x.number ≤ top) (take i events)
+pub below_on : (top i : ℕ) (events : List Event) (e : Event) → i < length events → e ≡ get_or events i e → top < e.number
+    → Every (λ (x : Event). x.number ≤ top) (take i events)
     → Every (λ (x : Event). x.number ≤ e.number) (take (i + 1) events)
 below_on top i events e low is up all =
     subst (Every (λ (x : Event). x.number ≤ e.number)) (sym (take_more events i e low ∙ ap (λ (x : Event). take i events ++ x ∷ []) (sym is)))
-    (every-append (λ (x : Event). x.number ≤ e.number) (take i events) (e ∷ []) (events_raised top e.number (take i events) (omega (arith, up)) all) (omega arith, tt))
+    (every-append (λ (x : Event). x.number ≤ e.number) (take i events) (e ∷ []) (events_raised top e.number (take i events) (omega (arith, up)) all)
+    (omega arith, tt))

@@ -23,7 +23,7 @@ use Rattle.acd_sqlbook.specs.State.{IsSoundState, answered}
 use Rattle.acd_sqlbook.specs.Stopping.{IsCausedByReadOr, IsUndone}
 use Rattle.acd_sqlbook.proofs.Caused.{commit_caused}
 use Rattle.acd_sqlbook.proofs.Counting.{counts_done, undone_after}
-use Rattle.acd_sqlbook.proofs.Standing.{commits_after}
+use Rattle.acd_sqlbook.proofs.Standing.{CommitsAs, commits_after}
 
 -- ---- each value that is left is in its range
 
@@ -44,9 +44,13 @@ pub pruned_in_range : (stamp number : ℕ) (c : Content) → IsInRange c → IsI
 pruned_in_range stamp number c h = in_range (pruned stamp number c) (left_good stamp number c (goods c h))
 
 -- two writes of tables, one after the other
+abbrev pub KeepsRange : (Content → Content) → Type 0
+KeepsRange after = (c : Content) → IsInRange c → IsInRange (after c)
+
 pub leaving_both : (old mid new : State) (r : Result (Unit {0}) Error) (first second : Relations → Relations) (after : Content → Content)
-    → ((c : Content) → second (first (relations_of c)) ≡ relations_of (after c)) → ((c : Content) → IsInRange c → IsInRange (after c))
-    → ((x : Relations) → HoldsUncommitted old x → HoldsUncommitted mid (first x)) → OnOk r ((x : Relations) → HoldsUncommitted mid x → HoldsUncommitted new (second x)) → OnOk r (MakesOfEach after old new)
+    → ((c : Content) → second (first (relations_of c)) ≡ relations_of (after c)) → KeepsRange after
+    → ((x : Relations) → HoldsUncommitted old x → HoldsUncommitted mid (first x))
+    → OnOk r ((x : Relations) → HoldsUncommitted mid x → HoldsUncommitted new (second x)) → OnOk r (MakesOfEach after old new)
 leaving_both old mid new (Err e) first second after same stays one two = tt
 leaving_both old mid new (Ok x) first second after same stays one two =
     λ (c : Content) (d : HoldsGood old c). record {
@@ -64,26 +68,27 @@ tried old new quiet live still = record { quiet = quiet; up = live; stops = λ k
 
 -- a commit over it
 pub replaces_tried : (old mid new : State) (r : Result (Unit {0}) Error) (Follows : Content → Type 0) (after : Content → Content) → Tried old mid
-    → (HasCleanDisk new → HasCleanDisk mid) → (HasCleanDisk new → OnOk r (IsTrue mid.is_open × IsTrue new.is_open)) → (HasCleanDisk new → IsTrue new.is_open → IsTrue mid.is_open)
-    → (HasCleanDisk new → OnOk r ((c : Content) → HoldsContent mid c → HoldsContent new (after c)))
-    → (HasCleanDisk new → OnErr r ((c : Content) → HoldsContent mid c → IsTrue new.is_open → HoldsContent new c))
-    → (HasCleanDisk new → AddsStop mid new after) → HasReplaced old new r Follows after
-replaces_tried old mid new r Follows after read clean up was done undone stops = record {
+    → CommitsAs mid new r after → HasReplaced old new r Follows after
+replaces_tried old mid new r Follows after read h = record {
   written = after;
-  commits = commits_after old mid new r after after tt (λ (c : Content) (found : Unit {0}). Unit {0}) read (λ c found. refl) clean up was done undone stops;
+  commits = commits_after old mid new r after after tt (λ (c : Content) (found : Unit {0}). Unit {0}) read (λ c found. refl) h;
   same = λ k c held follows. refl;
 }
 
 -- ---- why it fails
 
 module _ (stamp number : ℕ) where
-  pub prune_untried : (old new : State) (e : Error) (r : Result (Unit {0}) Error) → r ≡ Err e → HasReadCause {A = Unit {0}} old new (Err e) → IsCausedByReadOr (StopsPrune stamp number) old new r
-  prune_untried old new e r is h = λ k c held. subst (λ b. IfErr b (λ e. FailsToRead c old new e ⊎ StopsPrune stamp number c)) (sym is) (inl (h.cause k c held tt))
+  pub prune_untried : (old new : State) (e : Error) (r : Result (Unit {0}) Error) → r ≡ Err e → HasReadCause {A = Unit {0}} old new (Err e)
+      → IsCausedByReadOr (StopsPrune stamp number) old new r
+  prune_untried old new e r is h =
+      λ k c held. subst (λ b. IfErr b (λ e. FailsToRead c old new e ⊎ StopsPrune stamp number c)) (sym is) (inl (h.cause k c held tt))
 
-  pub prune_undone : (old mid new : State) (r : Result (Unit {0}) Error) → Tried old mid → HasReadCause {A = Unit {0}} old mid (Ok tt) → (HasCleanDisk new → HasCleanDisk mid) → IsUndone (RefusesPrune stamp number) mid new r
+  pub prune_undone : (old mid new : State) (r : Result (Unit {0}) Error) → Tried old mid → HasReadCause {A = Unit {0}} old mid (Ok tt)
+      → (HasCleanDisk new → HasCleanDisk mid) → IsUndone (RefusesPrune stamp number) mid new r
       → IsCausedByReadOr (StopsPrune stamp number) old new r
   prune_undone old mid new r read h clean fails =
-      undone_after (RefusesPrune stamp number) (RefusesPrune stamp number) (StopsPrune stamp number) (λ (c : Content) (found : Unit {0}). Unit {0}) old mid new tt r read (counts_done (RefusesPrune stamp number) old mid tt tt h) clean fails
+      undone_after (RefusesPrune stamp number) (RefusesPrune stamp number) (StopsPrune stamp number) (λ (c : Content) (found : Unit {0}). Unit {0}) old mid new
+      tt r read (counts_done (RefusesPrune stamp number) old mid tt tt h) clean fails
       (λ c found refuses. inr refuses)
 
   module _ (old new : State) (free : old.step_limit ≡ None) where
@@ -91,6 +96,7 @@ module _ (stamp number : ℕ) where
     prune_stops c is (inl large) = unfit large
     prune_stops c is (inr refuses) = refused (subst (RefusesPrune stamp number) (sym is) refuses)
 
-    pub prune_caused : (r : Result (Unit {0}) Error) (answer : Result (Unit {0}) BookFault) → answer ≡ answered r → IsCausedByReadOr (StopsPrune stamp number) old new r → HasCleanDisk new → IsSoundState old → answer ≡ Err Store
+    pub prune_caused : (r : Result (Unit {0}) Error) (answer : Result (Unit {0}) BookFault) → answer ≡ answered r
+        → IsCausedByReadOr (StopsPrune stamp number) old new r → HasCleanDisk new → IsSoundState old → answer ≡ Err Store
         → StoreCause (prune stamp number) old new
     prune_caused = commit_caused (prune stamp number) old new (StopsPrune stamp number) free (λ out. out) prune_stops

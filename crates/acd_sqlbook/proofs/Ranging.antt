@@ -23,7 +23,17 @@ use Rattle.acd_sqlbook.specs.Commit.{IsGoodChange, MakesOfEach, MakesTablesOfEac
 all_applied_good : (v : Change) → IsGoodChange v → (c : Content) → AllGood c → AllGood (applied c v)
 unfolding with_group with_station with_agent with_call with_connection with_monitor without_call without_connection without_monitor
 all_applied_good Nothing good c h =
-    record { meta = h.meta; groups = h.groups; stations = h.stations; agents = h.agents; calls = h.calls; connections = h.connections; monitors = h.monitors; events = h.events; kept = h.kept }
+    record {
+      meta = h.meta;
+      groups = h.groups;
+      stations = h.stations;
+      agents = h.agents;
+      calls = h.calls;
+      connections = h.connections;
+      monitors = h.monitors;
+      events = h.events;
+      kept = h.kept;
+    }
 all_applied_good (PutGroup g) good c h = record {
   meta = h.meta;
   groups = every-put (at_group g.device) IsGoodGroup g good c.rows.groups h.groups;
@@ -156,7 +166,17 @@ kept_record_good k good c h = record {
 
 counters_good : (m : Meta) → IsGoodMeta m → (c : Content) → AllGood c → AllGood (with_meta m c)
 counters_good m good c h =
-    record { meta = good; groups = h.groups; stations = h.stations; agents = h.agents; calls = h.calls; connections = h.connections; monitors = h.monitors; events = h.events; kept = h.kept }
+    record {
+      meta = good;
+      groups = h.groups;
+      stations = h.stations;
+      agents = h.agents;
+      calls = h.calls;
+      connections = h.connections;
+      monitors = h.monitors;
+      events = h.events;
+      kept = h.kept;
+    }
 
 -- ---- of a content
 
@@ -173,6 +193,7 @@ pub meta_in_range : (m : Meta) → IsGoodMeta m → (c : Content) → IsInRange 
 meta_in_range m good c h = in_range (with_meta m c) (counters_good m good c (goods c h))
 
 -- a write whose values are in their ranges keeps them so
-pub ranging : (old new : State) (r : Result (Unit {0}) Error) (after : Content → Content) → ((c : Content) → IsInRange c → IsInRange (after c)) → OnOk r (MakesTablesOfEach after old new) → OnOk r (MakesOfEach after old new)
+pub ranging : (old new : State) (r : Result (Unit {0}) Error) (after : Content → Content) → ((c : Content) → IsInRange c → IsInRange (after c))
+    → OnOk r (MakesTablesOfEach after old new) → OnOk r (MakesOfEach after old new)
 ranging old new (Err e) after stays put = tt
 ranging old new (Ok x) after stays put = λ (c : Content) (d : HoldsGood old c). record { relations = put c d.relations; range = stays c d.range }

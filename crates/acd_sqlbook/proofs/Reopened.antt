@@ -101,19 +101,22 @@ append_among (x ∷ xs) ys z (inr h) = elim (append_among xs ys z h) [ inl k ↦
 -- ---- the rows of a table show the values of its records
 
 module _ {R : Type 0} (t : Table) (values : R → Row) (db : Trees) (records : List R) where
-  keyed : (key : R → ℕ) (row : R → Row) → ((x : R) → values_in t (row x) ≡ values x) → AreRows key row (db (tree_of t)) records → rows_in t db ≡ map values records
+  keyed : (key : R → ℕ) (row : R → Row) → ((x : R) → values_in t (row x) ≡ values x) → AreRows key row (db (tree_of t)) records
+      → rows_in t db ≡ map values records
   keyed key row shows are = ap (map (values_in t)) are.rows_are ∙ go records
     where
       go : (xs : List R) → map (values_in t) (map row xs) ≡ map values xs
       go [] = refl
       go (x ∷ xs) = ap₂ (λ v l. v ∷ l) (shows x) (go xs)
 
-  heaped : (order : R → R → Ordering) (row : ℤ → R → Row) → ((id : ℤ) (x : R) → values_in t (row id x) ≡ values x) → AreHeaped order row (db (tree_of t)) records → are_good t (map values records) ≡ true → is_good_in t db ≡ true
+  heaped : (order : R → R → Ordering) (row : ℤ → R → Row) → ((id : ℤ) (x : R) → values_in t (row id x) ≡ values x)
+      → AreHeaped order row (db (tree_of t)) records → are_good t (map values records) ≡ true → is_good_in t db ≡ true
   unfolding is_good_in are_good
   heaped order row shows are good = go (db (tree_of t)) (λ r k.
       let from = are.known r k in
       ap (λ s. is_good t (values_in t s)) from.2 ∙ ap (is_good t) (shows from.0 from.1)
-      ∙ all_has (λ x. is_good t (values x) ≡ true) records from.1 (of_mapped (λ v. is_good t v ≡ true) values records (each_good t (map values records) good)) (has_among records from.1 from.3))
+      ∙ all_has (λ x. is_good t (values x) ≡ true) records from.1 (of_mapped (λ v. is_good t v ≡ true) values records (each_good t (map values records) good))
+      (has_among records from.1 from.3))
     where
       go : (rows : List Row) → ((r : Row) → Has rows r → is_good t (values_in t r) ≡ true) → are_good t (map (values_in t) rows) ≡ true
       go [] h = refl
@@ -135,19 +138,32 @@ module _ (db : Trees) (c : Content) (is : Encodes db c) where
   agents_seen = keyed table.Agents agent_values db (map agent_part c.rows.agents) (λ (a : AgentRow). a.agent) agent_row (λ a. refl) (is table.Agents)
 
   priorities_seen : rows_in table.GroupPriority db ≡ map priority_values (priorities_in c.rows.groups)
-  priorities_seen = keyed table.GroupPriority priority_values db (priorities_in c.rows.groups) (λ (p : GroupPriority). p.device) priority_row (λ p. refl) (is table.GroupPriority)
+  priorities_seen =
+      keyed table.GroupPriority priority_values db (priorities_in c.rows.groups) (λ (p : GroupPriority). p.device) priority_row (λ p. refl)
+      (is table.GroupPriority)
 
   good : IsInRange c → (t : Table) → is_good_in t db ≡ true
   good range table.Meta = good_as table.Meta db (meta_shown (meta_of c.rows) ∷ []) (ap (map (values_in table.Meta)) (is table.Meta)) (right table.Meta c range)
   good range table.Groups = good_as table.Groups db _ (groups_seen ∙ mapped_twice group_values group_part c.rows.groups) (right table.Groups c range)
-  good range table.Stations = good_as table.Stations db _ (keyed table.Stations station_values db c.rows.stations (λ s. s.device) station_row (λ s. refl) (is table.Stations)) (right table.Stations c range)
+  good range table.Stations =
+      good_as table.Stations db _ (keyed table.Stations station_values db c.rows.stations (λ s. s.device) station_row (λ s. refl) (is table.Stations))
+      (right table.Stations c range)
   good range table.Agents = good_as table.Agents db _ (agents_seen ∙ mapped_twice agent_values agent_part c.rows.agents) (right table.Agents c range)
-  good range table.Calls = good_as table.Calls db _ (keyed table.Calls call_values db c.rows.calls (λ k. k.call) call_row (λ k. refl) (is table.Calls)) (right table.Calls c range)
-  good range table.Connections = heaped table.Connections connection_values db c.rows.connections _ connection_row (λ id x. refl) (is table.Connections) (right table.Connections c range)
-  good range table.Monitors = good_as table.Monitors db _ (keyed table.Monitors monitor_values db c.rows.monitors (λ w. w.monitor) monitor_row (λ w. refl) (is table.Monitors)) (right table.Monitors c range)
-  good range table.Events = good_as table.Events db _ (keyed table.Events event_values db c.events (λ e. e.number) event_row (λ e. refl) (is table.Events)) (right table.Events c range)
-  good range table.Kept = good_as table.Kept db _ (keyed table.Kept kept_values db c.kept (λ k. k.stamp) kept_row (λ k. refl) (is table.Kept).0) (right table.Kept c range)
-  good range table.AgentGroups = heaped table.AgentGroups further_values db (further_in c.rows.agents) pair_order further_row (λ id p. refl) (is table.AgentGroups) (right table.AgentGroups c range)
+  good range table.Calls =
+      good_as table.Calls db _ (keyed table.Calls call_values db c.rows.calls (λ k. k.call) call_row (λ k. refl) (is table.Calls)) (right table.Calls c range)
+  good range table.Connections =
+      heaped table.Connections connection_values db c.rows.connections _ connection_row (λ id x. refl) (is table.Connections) (right table.Connections c range)
+  good range table.Monitors =
+      good_as table.Monitors db _ (keyed table.Monitors monitor_values db c.rows.monitors (λ w. w.monitor) monitor_row (λ w. refl) (is table.Monitors))
+      (right table.Monitors c range)
+  good range table.Events =
+      good_as table.Events db _ (keyed table.Events event_values db c.events (λ e. e.number) event_row (λ e. refl) (is table.Events))
+      (right table.Events c range)
+  good range table.Kept =
+      good_as table.Kept db _ (keyed table.Kept kept_values db c.kept (λ k. k.stamp) kept_row (λ k. refl) (is table.Kept).0) (right table.Kept c range)
+  good range table.AgentGroups =
+      heaped table.AgentGroups further_values db (further_in c.rows.agents) pair_order further_row (λ id p. refl) (is table.AgentGroups)
+      (right table.AgentGroups c range)
   good range table.GroupPriority = good_as table.GroupPriority db _ priorities_seen (right table.GroupPriority c range)
 
 -- ---- priorities belong to their groups
@@ -155,16 +171,21 @@ module _ (db : Trees) (c : Content) (is : Encodes db c) where
 rank_of : (groups : List GroupRecord) (p : GroupPriority) → Among p (priorities_in groups) → (g : GroupRecord) × Among g groups × (p.device ≡ g.device)
 rank_of [] p h = absurd h
 rank_of (g ∷ groups) p h =
-    (elim (g.priority == 0) as (λ b. Among p (cond b (priorities_in groups) (priority_part g ∷ priorities_in groups)) → (x : GroupRecord) × Among x (g ∷ groups) × (p.device ≡ x.device)) [
+    (elim (g.priority == 0) as (λ b. Among p (cond b (priorities_in groups) (priority_part g ∷ priorities_in groups))
+    → (x : GroupRecord) × Among x (g ∷ groups) × (p.device ≡ x.device)) [
       | true ↦ λ k. let more = rank_of groups p k in (more.0, inr more.1, more.2)
-      | false ↦ λ k. elim k [ inl e ↦ (g, inl refl, ap (λ (q : GroupPriority). q.device) e) | inr m ↦ let more = rank_of groups p m in (more.0, inr more.1, more.2) ]
+      | false ↦ λ k. elim k [
+        | inl e ↦ (g, inl refl, ap (λ (q : GroupPriority). q.device) e)
+        | inr m ↦ let more = rank_of groups p m in (more.0, inr more.1, more.2)
+      ]
     ]) h
 
 ranks_known : (groups : List GroupRecord) → are_of_groups (map group_part groups) (priorities_in groups) ≡ true
 ranks_known groups =
     all_from (λ (p : GroupPriority). list_any (λ (g : GroupRow). g.device == p.device) (map group_part groups)) (priorities_in groups) (λ p h.
     let from = rank_of groups p h in
-    any_some (λ (g : GroupRow). g.device == p.device) (map group_part groups) (group_part from.0) (among_map group_part groups from.0 from.1) (eq-eqb from.0.device p.device (sym from.2)))
+    any_some (λ (g : GroupRow). g.device == p.device) (map group_part groups) (group_part from.0) (among_map group_part groups from.0 from.1)
+    (eq-eqb from.0.device p.device (sym from.2)))
 
 ranked : (db : Trees) (c : Content) → Encodes db c → is_ranked db ≡ true
 unfolding is_ranked
@@ -190,7 +211,8 @@ one_fewer (g ∷ gs) h = fewer (length gs) h
     fewer n h = grind (arith, nat_tests)
 
 -- the agent of a pair
-seat_of : (agents : List AgentRecord) (p : ℕ × ℕ) → Among p (further_in agents) → (a : AgentRecord) × Among a agents × (p.0 ≡ a.agent) × Among p.1 (further_groups a.groups)
+seat_of : (agents : List AgentRecord) (p : ℕ × ℕ) → Among p (further_in agents)
+    → (a : AgentRecord) × Among a agents × (p.0 ≡ a.agent) × Among p.1 (further_groups a.groups)
 seat_of [] p h = absurd h
 seat_of (a ∷ agents) p h = elim (append_among (further_of a) (further_in agents) p h) [
   | inl k ↦ let from = map_among (λ (g : ℕ). (a.agent, g)) (further_groups a.groups) p k in
@@ -200,7 +222,8 @@ seat_of (a ∷ agents) p h = elim (append_among (further_of a) (further_in agent
 
 module _ (agents : List AgentRecord) (up : IsAscending agent_order agents) (grouped : Every (λ (a : AgentRecord). are_groups a.groups ≡ true) agents) where
   groups_of : (a : AgentRecord) → Among a agents → (nat_le (length a.groups) 8 ≡ true) × (ascends nat_cmp a.groups ≡ true)
-  groups_of a h = and_parts (nat_le (length a.groups) 8) (ascends nat_cmp a.groups) (every_among (λ (x : AgentRecord). are_groups x.groups ≡ true) agents a grouped h)
+  groups_of a h =
+      and_parts (nat_le (length a.groups) 8) (ascends nat_cmp a.groups) (every_among (λ (x : AgentRecord). are_groups x.groups ≡ true) agents a grouped h)
 
   parts_after : are_after (map agent_part agents) (further_in agents) ≡ true
   parts_after = and_from _ _
@@ -208,7 +231,8 @@ module _ (agents : List AgentRecord) (up : IsAscending agent_order agents) (grou
       let from = seat_of agents p h in
       let a = from.0 in
       any_some (λ (x : AgentRow). is_after x p) (map agent_part agents) (agent_part a) (among_map agent_part agents a from.1)
-      (and_from (a.agent == p.0) (is_above (least_group a.groups) p.1) (eq-eqb a.agent p.0 (sym from.2)) (above_first a.groups p.1 (ascending_from nat_cmp nat_cmp_total a.groups (groups_of a from.1).1) from.3))))
+      (and_from (a.agent == p.0) (is_above (least_group a.groups) p.1) (eq-eqb a.agent p.0 (sym from.2))
+      (above_first a.groups p.1 (ascending_from nat_cmp nat_cmp_total a.groups (groups_of a from.1).1) from.3))))
       (all_from (λ (x : AgentRow). nat_le (length (groups_beside (further_in agents) x.agent)) 7) (map agent_part agents) (λ x h.
       let from = map_among agent_part agents x h in
       let a = from.0 in
@@ -219,13 +243,16 @@ module _ (agents : List AgentRecord) (up : IsAscending agent_order agents) (grou
 -- ---- in whatever order their rows are
 
 -- pairs that are in another order come after them too
-after_moved : (agents : List AgentRow) (ps qs : List (ℕ × ℕ)) → ((q : ℕ × ℕ) → Has qs q → Has ps q) → IsPermutation ps qs → are_after agents ps ≡ true → are_after agents qs ≡ true
+after_moved : (agents : List AgentRow) (ps qs : List (ℕ × ℕ)) → ((q : ℕ × ℕ) → Has qs q → Has ps q) → IsPermutation ps qs → are_after agents ps ≡ true
+    → are_after agents qs ≡ true
 after_moved agents ps qs within same h =
     let parts = and_parts _ _ h in
     and_from _ _
-    (all_from (λ (p : ℕ × ℕ). list_any (λ (a : AgentRow). is_after a p) agents) qs (λ p k. all_true (λ (q : ℕ × ℕ). list_any (λ (a : AgentRow). is_after a q) agents) ps parts.0 p (among_has ps p (within p (has_among qs p k)))))
+    (all_from (λ (p : ℕ × ℕ). list_any (λ (a : AgentRow). is_after a p) agents) qs
+    (λ p k. all_true (λ (q : ℕ × ℕ). list_any (λ (a : AgentRow). is_after a q) agents) ps parts.0 p (among_has ps p (within p (has_among qs p k)))))
     (all_from (λ (a : AgentRow). nat_le (length (groups_beside qs a.agent)) 7) agents (λ a k.
-    ap (λ n. nat_le n 7) (length_permutation (groups_beside ps a.agent) (groups_beside qs a.agent) (IsPermutation-map (λ (p : ℕ × ℕ). p.1) _ _ (IsPermutation-filter (λ (p : ℕ × ℕ). p.0 == a.agent) ps qs same)))
+    ap (λ n. nat_le n 7) (length_permutation (groups_beside ps a.agent) (groups_beside qs a.agent)
+    (IsPermutation-map (λ (p : ℕ × ℕ). p.1) _ _ (IsPermutation-filter (λ (p : ℕ × ℕ). p.0 == a.agent) ps qs same)))
     ∙ all_true (λ (x : AgentRow). nat_le (length (groups_beside ps x.agent)) 7) agents parts.1 a k))
 
 tied_less : {X : Type 0} (o : Ordering) → o ≡ Less → o ≡ Equal → X
@@ -233,8 +260,11 @@ tied_less o low tied = absurd (let never : Equal ≡ Less = sym tied ∙ low in 
 
 pairs_apart : (ps : List (ℕ × ℕ)) → IsAscending pair_order ps → AreApart ps
 pairs_apart [] up = tt
-pairs_apart (p ∷ ps) up =
-    (each_from (Differ p) ps (λ q h e. tied_less (pair_order p p) (ap (pair_order p) e ∙ after_among pair_order p ps q up.0 (among_has ps q h)) (tied_itself (by_both_total agent_groups) p)), pairs_apart ps up.1)
+pairs_apart (p ∷ ps) up = (
+  each_from (Differ p) ps (λ q h e. tied_less (pair_order p p) (ap (pair_order p) e ∙ after_among pair_order p ps q up.0 (among_has ps q h))
+      (tied_itself (by_both_total agent_groups) p)),
+  pairs_apart ps up.1,
+)
 
 module _ (rows : List Row) (pairs : List (ℕ × ℕ)) (are : AreHeaped pair_order further_row rows pairs) where
   abbrev pair_in : Row → ℕ × ℕ
@@ -249,14 +279,17 @@ module _ (rows : List Row) (pairs : List (ℕ × ℕ)) (are : AreHeaped pair_ord
       let x = are.known r h in
       let y = are.known s k in
       let same = sym (pair_is r h) ∙ e ∙ pair_is s k in
-      are.apart r s h k (ap (λ v. column v 1) x.2 ∙ ap (λ (p : ℕ × ℕ). id_value p.0) same ∙ ap (λ v. column v 1) (sym y.2)) (ap (λ v. column v 2) x.2 ∙ ap (λ (p : ℕ × ℕ). id_value p.1) same ∙ ap (λ v. column v 2) (sym y.2))
+      are.apart r s h k (ap (λ v. column v 1) x.2 ∙ ap (λ (p : ℕ × ℕ). id_value p.0) same ∙ ap (λ v. column v 1) (sym y.2))
+      (ap (λ v. column v 2) x.2 ∙ ap (λ (p : ℕ × ℕ). id_value p.1) same ∙ ap (λ v. column v 2) (sym y.2))
 
   seen_apart : AreApart (map pair_in rows)
   seen_apart = apart_under pair_in rows (λ r s h k low e.
-      tied_less (value_cmp (rowid r) (rowid r)) (ap (λ v. value_cmp (rowid r) (rowid v)) (same_row r s h k e) ∙ low) (tied_itself value_cmp_total (rowid r))) are.rising
+      tied_less (value_cmp (rowid r) (rowid r)) (ap (λ v. value_cmp (rowid r) (rowid v)) (same_row r s h k e) ∙ low) (tied_itself value_cmp_total (rowid r)))
+      are.rising
 
   pair_there : (p : ℕ × ℕ) → Has pairs p → Has (map pair_in rows) p
-  pair_there p h = let at = are.stored p (among_has pairs p h) in subst (Has (map pair_in rows)) (further_back p) (mapped_has pair_in rows (further_row at.0 p) at.1)
+  pair_there p h = let at = are.stored p (among_has pairs p h) in
+      subst (Has (map pair_in rows)) (further_back p) (mapped_has pair_in rows (further_row at.0 p) at.1)
 
   pair_known : (p : ℕ × ℕ) → Has (map pair_in rows) p → Has pairs p
   pair_known p h =
@@ -265,15 +298,19 @@ module _ (rows : List Row) (pairs : List (ℕ × ℕ)) (are : AreHeaped pair_ord
       subst (Has pairs) (sym (from.2 ∙ pair_is from.0 from.1)) (has_among pairs x.1 x.3)
 
   pairs_after : (agents : List AgentRow) → are_after agents pairs ≡ true → are_after agents (map pair_in rows) ≡ true
-  pairs_after agents = after_moved agents pairs (map pair_in rows) pair_known (same_members pairs (map pair_in rows) (pairs_apart pairs are.ascending) seen_apart pair_there pair_known)
+  pairs_after agents =
+      after_moved agents pairs (map pair_in rows) pair_known
+      (same_members pairs (map pair_in rows) (pairs_apart pairs are.ascending) seen_apart pair_there pair_known)
 
 beside : (db : Trees) (c : Content) → Encodes db c → IsInRange c → is_beside db ≡ true
 unfolding is_beside
 beside db c is range =
     let agents = map agent_part c.rows.agents in
     let rows = db (tree_of table.AgentGroups) in
-    ap₂ are_after (ap (map as_agent) (agents_seen db c is) ∙ mapped_back as_agent agent_values agent_back agents) (mapped_twice as_further (values_in table.AgentGroups) rows)
-    ∙ pairs_after rows (further_in c.rows.agents) (is table.AgentGroups) agents (parts_after c.rows.agents (agents_rise c.rows.agents (is table.Agents).ascending) range.groups)
+    ap₂ are_after (ap (map as_agent) (agents_seen db c is) ∙ mapped_back as_agent agent_values agent_back agents)
+    (mapped_twice as_further (values_in table.AgentGroups) rows)
+    ∙ pairs_after rows (further_in c.rows.agents) (is table.AgentGroups) agents
+    (parts_after c.rows.agents (agents_rise c.rows.agents (is table.Agents).ascending) range.groups)
 
 -- ---- the version
 
@@ -307,7 +344,8 @@ module _ (d : Database) (c : Content) (lists : d.schema ≡ book_schema) (is : E
   is_second version.Second h = refl
 
   never_wrong : (n : ℕ) → (n ≡ 2 → ⊥) → IsVersion d n → ⊥
-  never_wrong n differs (inl without) = absurd (let there = ap (λ (s : Schema). has_meta s.tables) lists ∙ meta_there in let not_there = without.0 in cc (there, not_there))
+  never_wrong n differs (inl without) =
+      absurd (let there = ap (λ (s : Schema). has_meta s.tables) lists ∙ meta_there in let not_there = without.0 in cc (there, not_there))
   never_wrong n differs (inr (_, inl empty)) = absurd (let no = sym empty.0 ∙ is table.Meta in cc no)
   never_wrong n differs (inr (_, inr read)) = differs (some_is n 2 (only_version d.trees c is (Some n) read))
 
@@ -341,7 +379,12 @@ module _ (d : Database) (c : Content) (lists : d.schema ≡ book_schema) (is : E
   never_fault Store h = never_unlike h
 
   of_book : IsOfBook version.Second d
-  of_book = record { schema_is = lists; in_range = λ canonical t here. good d.trees c is range t; version = version_there d.trees c is; placed = (beside d.trees c is range, ranked d.trees c is) }
+  of_book = record {
+    schema_is = lists;
+    in_range = λ canonical t here. good d.trees c is range t;
+    version = version_there d.trees c is;
+    placed = (beside d.trees c is range, ranked d.trees c is);
+  }
 
   only : (found : Found) → IsFound d found → found ≡ Book version.Second
   only (Book v) h = ap Book (second v h.schema_is)
@@ -382,10 +425,14 @@ module _ (old : State) (c : Content) (over : IsOverBook old c) where
   fails new NoMemory fault cause = tt
   fails new Store fault cause = store_cause new (cause over.reopens.canonical refl)
 
-  hands_back_failed : (new : State) (f : AdoptFault) → IsHandedBack old.now (book_state old 0) (book_state new 0) f → HasAdoptCause f old new → FailsToAdopt f old new
+  hands_back_failed : (new : State) (f : AdoptFault) → IsHandedBack old.now (book_state old 0) (book_state new 0) f → HasAdoptCause f old new
+      → FailsToAdopt f old new
   hands_back_failed new f h cause = fails new f h.cause cause
 
 module _ {S : Type 0} (g : Ghosts S) (conn : Held S) (c : Content) (over : IsOverBook (state g conn) c) where
   pub books_are_adopted : (result : AdoptResult S) → IsAdoptAnswer g conn result → Adopts g conn result c
   books_are_adopted (Ok b) h = record { content = λ clean. adopts_content (state g conn) c over (state g b.conn) b.failures (h.adopted clean); failed = tt }
-  books_are_adopted (Err e) h = record { content = tt; failed = λ clean. hands_back_failed (state g conn) c over (state g e.1) e.0 (h.handed_back clean) (h.caused clean) }
+  books_are_adopted (Err e) h = record {
+    content = tt;
+    failed = λ clean. hands_back_failed (state g conn) c over (state g e.1) e.0 (h.handed_back clean) (h.caused clean);
+  }

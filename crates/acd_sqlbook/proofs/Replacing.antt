@@ -22,7 +22,7 @@ use Rattle.acd_sql_columns.proofs.Decoded.{groups_rise, agents_rise}
 use Rattle.acd_sql_differences.specs.Leading.{rows_differences}
 use Rattle.acd_sql_differences.specs.Transition.{HasTables}
 use Rattle.acd_sqlbook.proofs.Committing.{rows_made}
-use Rattle.acd_sqlbook.proofs.Standing.{reads_not, reads_on, commits_not, commits_after}
+use Rattle.acd_sqlbook.proofs.Standing.{CommitsAs, reads_not, reads_on, commits_not, commits_after}
 use Rattle.acd_sql_statements.proofs.Chained.{quiet_still}
 
 -- the held content is in order
@@ -39,16 +39,19 @@ held_in_order s c held = record {
 abbrev pub Leading : Rows → Content → Vec Change Global → Type 0
 Leading rows c changes = LeadsTo rows c changes.items
 
-reads_ordered : (old new : State) (held : Rows) → HasRead old new (Ok held) (λ c (found : Rows). found ≡ c.rows) → HasRead old new (Ok held) (λ c (found : Rows). (found ≡ c.rows) × Orders c.rows)
+reads_ordered : (old new : State) (held : Rows) → HasRead old new (Ok held) (λ c (found : Rows). found ≡ c.rows)
+    → HasRead old new (Ok held) (λ c (found : Rows). (found ≡ c.rows) × Orders c.rows)
 reads_ordered old new held h = record { quiet = h.quiet; up = h.up; stops = h.stops; value = λ k c holds. (h.value k c holds, held_in_order old c holds) }
 
 -- changes that lead on from the tables that were read lead on from those that are held
 pub reads_leading : (old new : State) (held rows : Rows) (r : Result (Vec Change Global) Error) → HasRead old new (Ok held) (λ c (found : Rows). found ≡ c.rows)
-    → IfOk r (λ changes. changes.items ≡ rows_differences held rows) → IfOk r (λ changes. Orders held → Orders rows → HasTables (changed_by held changes.items) rows) → HasRead old new r (Leading rows)
+    → IfOk r (λ changes. changes.items ≡ rows_differences held rows)
+    → IfOk r (λ changes. Orders held → Orders rows → HasTables (changed_by held changes.items) rows) → HasRead old new r (Leading rows)
 reads_leading old new held rows r read is leads =
     reads_on old new held r (λ c (found : Rows). (found ≡ c.rows) × Orders c.rows) (Leading rows) (reads_ordered old new held read) (on r is leads)
   where
-    on : (r : Result (Vec Change Global) Error) → IfOk r (λ changes. changes.items ≡ rows_differences held rows) → IfOk r (λ changes. Orders held → Orders rows → HasTables (changed_by held changes.items) rows)
+    on : (r : Result (Vec Change Global) Error) → IfOk r (λ changes. changes.items ≡ rows_differences held rows)
+        → IfOk r (λ changes. Orders held → Orders rows → HasTables (changed_by held changes.items) rows)
         → IfOk r (λ changes. (c : Content) → (held ≡ c.rows) × Orders c.rows → Leading rows c changes)
     on (Ok changes) e h = λ c p. record {
       exact = e ∙ ap (λ s. rows_differences s rows) p.0;
@@ -57,7 +60,8 @@ reads_leading old new held rows r read is leads =
     on (Err e) is h = tt
 
 -- nothing was written
-pub replaces_not : {A : Type 0} (old new : State) (e : Error) (P : Content → A → Type 0) (rows : Rows) (events : List Event) (kept : Kept) → HasRead old new (Err e) P
+pub replaces_not : {A : Type 0} (old new : State) (e : Error) (P : Content → A → Type 0) (rows : Rows) (events : List Event) (kept : Kept)
+    → HasRead old new (Err e) P
     → HasReplaced old new (Err e) (Follows rows events kept) (committed rows events kept)
 replaces_not old new e P rows events kept h = record {
   written = committed rows events kept;
@@ -66,24 +70,24 @@ replaces_not old new e P rows events kept h = record {
 }
 
 -- nor was the connection asked
-pub replaces_still : (s : State) (e : Error) (rows : Rows) (events : List Event) (kept : Kept) → HasReplaced s s (Err e) (Follows rows events kept) (committed rows events kept)
+pub replaces_still : (s : State) (e : Error) (rows : Rows) (events : List Event) (kept : Kept)
+    → HasReplaced s s (Err e) (Follows rows events kept) (committed rows events kept)
 replaces_still s e rows events kept =
-    replaces_not s s e (λ c (found : Rows). found ≡ c.rows) rows events kept (reads_not s s e (λ c (found : Rows). found ≡ c.rows) (quiet_still s) (λ k db left. left))
+    replaces_not s s e (λ c (found : Rows). found ≡ c.rows) rows events kept
+    (reads_not s s e (λ c (found : Rows). found ≡ c.rows) (quiet_still s) (λ k db left. left))
 
 -- a commit of changes that lead to the tables
-pub replaces : (old mid new : State) (r : Result (Unit {0}) Error) (changes : Vec Change Global) (all : List Change) (meta : Meta) (rows : Rows) (events : List Event) (kept : Kept)
+pub replaces : (old mid new : State) (r : Result (Unit {0}) Error) (changes : Vec Change Global) (all : List Change) (meta : Meta) (rows : Rows)
+    (events : List Event) (kept : Kept)
     → all ≡ changes.items → meta ≡ meta_of rows → HasRead old mid (Ok changes) (Leading rows)
-    → (HasCleanDisk new → HasCleanDisk mid) → (HasCleanDisk new → OnOk r (IsTrue mid.is_open × IsTrue new.is_open)) → (HasCleanDisk new → IsTrue new.is_open → IsTrue mid.is_open)
-    → (HasCleanDisk new → OnOk r ((c : Content) → HoldsContent mid c → HoldsContent new (made_by all events kept meta c)))
-    → (HasCleanDisk new → OnErr r ((c : Content) → HoldsContent mid c → IsTrue new.is_open → HoldsContent new c))
-    → (HasCleanDisk new → AddsStop mid new (made_by all events kept meta)) → HasReplaced old new r (Follows rows events kept) (committed rows events kept)
-replaces old mid new r changes all meta rows events kept same counters read clean up was done undone stops =
+    → CommitsAs mid new r (made_by all events kept meta) → HasReplaced old new r (Follows rows events kept) (committed rows events kept)
+replaces old mid new r changes all meta rows events kept same counters read h =
     let written : Content → Content = made_by all events kept meta in
     record {
       written = written;
-      commits = commits_after old mid new r written written changes (Leading rows) read (λ c leads. refl) clean up was done undone stops;
+      commits = commits_after old mid new r written written changes (Leading rows) read (λ c leads. refl) h;
       same = λ k c held follows.
-          let t = (read.value (clean k) c held).leads ((orders_decided rows).0 follows.ordered) in
+          let t = (read.value (h.clean k) c held).leads ((orders_decided rows).0 follows.ordered) in
           ap₂ (λ l m. made_by l events kept m c) same counters
           ∙ rows_made changes.items events kept rows c follows t.groups t.stations t.agents t.calls t.connections t.monitors;
     }

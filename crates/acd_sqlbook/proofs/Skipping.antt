@@ -26,18 +26,22 @@ module _ {T K : Type 0} (r : Keyed T K) (x : T) where
       let p = λ (z : T). not (r.has (r.key x) z) in
       (elim (r.order x y) as (λ o. r.order x y ≡ o → filter p (match_ordering o (x ∷ y ∷ ys) (x ∷ ys) (y ∷ put_by (r.order x) ys x)) ≡ filter p (y ∷ ys)) [
         | Less ↦ λ e. ap (λ b. cond (not b) (x ∷ filter p (y ∷ ys)) (filter p (y ∷ ys))) (r.itself x)
-        | Equal ↦ λ e. ap (λ b. cond (not b) (x ∷ filter p ys) (filter p ys)) (r.itself x) ∙ sym (ap (λ b. cond (not b) (y ∷ filter p ys) (filter p ys)) (r.same (r.key x) x y e ∙ r.itself x))
+        | Equal ↦ λ e. ap (λ b. cond (not b) (x ∷ filter p ys) (filter p ys)) (r.itself x)
+            ∙ sym (ap (λ b. cond (not b) (y ∷ filter p ys) (filter p ys)) (r.same (r.key x) x y e ∙ r.itself x))
         | Greater ↦ λ e. ap (λ l. cond (p y) (y ∷ l) l) (others_stay ys)
       ]) refl
 
   removed_put : (xs : List T) → IsAscending r.order xs → remove_by (r.at (r.key x)) (put_by (r.order x) xs x) ≡ remove_by (r.at (r.key x)) xs
-  removed_put xs h = others_left r (put_by (r.order x) xs x) (ascending-put r.order r.total x xs h) (r.key x) ∙ others_stay xs ∙ sym (others_left r xs h (r.key x))
+  removed_put xs h =
+      others_left r (put_by (r.order x) xs x) (ascending-put r.order r.total x xs h) (r.key x) ∙ others_stay xs ∙ sym (others_left r xs h (r.key x))
 
-pub put_in_vain : (x : ConnectionRecord) (c : Content) → IsAscending connection_order c.rows.connections → applied (applied c (PutConnection x)) (RemoveConnection x.call x.device) ≡ applied c (RemoveConnection x.call x.device)
+pub put_in_vain : (x : ConnectionRecord) (c : Content) → IsAscending connection_order c.rows.connections
+    → applied (applied c (PutConnection x)) (RemoveConnection x.call x.device) ≡ applied c (RemoveConnection x.call x.device)
 unfolding with_connection without_connection
 put_in_vain x c h = ap (λ l. record c { rows = record c.rows { connections = l } }) (removed_put by_connection x c.rows.connections h)
 
-pub in_vain : (first second : Change) (x : ConnectionRecord) (call device : ℕ) → first ≡ PutConnection x → second ≡ RemoveConnection call device → x.call ≡ call → x.device ≡ device
+pub in_vain : (first second : Change) (x : ConnectionRecord) (call device : ℕ) → first ≡ PutConnection x → second ≡ RemoveConnection call device → x.call ≡ call
+    → x.device ≡ device
     → (c : Content) → IsAscending connection_order c.rows.connections → applied (applied c first) second ≡ applied c second
 in_vain first second x call device is_put is_gone same_call same_device c up =
     let gone : second ≡ RemoveConnection x.call x.device = is_gone ∙ sym (ap₂ RemoveConnection same_call same_device) in
@@ -48,11 +52,13 @@ in_vain first second x call device is_put is_gone same_call same_device c up =
 pub next_applied : (old new : State) (first : Change) (rest remaining changes : List Change) (c : Content)
     → ((x : Content) → IsAscending connection_order x.rows.connections → all_applied x rest ≡ all_applied (applied x first) remaining)
     → ((x : Content) → HoldsGood old x → HoldsGood new (applied x first))
-    → (x : Content) × HoldsGood old x × (all_applied x rest ≡ all_applied c changes) → (x : Content) × HoldsGood new x × (all_applied x remaining ≡ all_applied c changes)
+    → (x : Content) × HoldsGood old x × (all_applied x rest ≡ all_applied c changes)
+    → (x : Content) × HoldsGood new x × (all_applied x remaining ≡ all_applied c changes)
 next_applied old new first rest remaining changes c step put held =
     (applied held.0 first, put held.0 held.1, sym (step held.0 (held.1.relations.tables table.Connections).ascending) ∙ held.2)
 
-pub none_left : (s : State) (rest changes : List Change) (c : Content) → rest ≡ [] → (x : Content) × HoldsGood s x × (all_applied x rest ≡ all_applied c changes) → HoldsGood s (all_applied c changes)
+pub none_left : (s : State) (rest changes : List Change) (c : Content) → rest ≡ []
+    → (x : Content) × HoldsGood s x × (all_applied x rest ≡ all_applied c changes) → HoldsGood s (all_applied c changes)
 none_left s rest changes c none held = subst (λ x. HoldsGood s x) (ap (all_applied held.0) (sym none) ∙ held.2) held.1
 
 -- ---- the one that is written next
@@ -84,7 +90,9 @@ module _ (changes : List Change) (first : Change) (remaining : List Change) (all
       applying = λ c up. ap (all_applied c) all;
     }
 
-    pub written_second : is_taken_away first second ≡ true → ((c : Content) → IsAscending connection_order c.rows.connections → applied (applied c first) second ≡ applied c second) → IsWrittenNext changes second rest
+    pub written_second : is_taken_away first second ≡ true
+        → ((c : Content) → IsAscending connection_order c.rows.connections → applied (applied c first) second ≡ applied c second)
+        → IsWrittenNext changes second rest
     written_second taken vain = record {
       skipped = first ∷ [];
       all = both;

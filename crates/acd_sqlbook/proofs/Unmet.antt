@@ -97,11 +97,14 @@ call_unmet k (PutMonitor w) x out no_row = no_row
 call_unmet k (RemoveConnection call device) x out no_row = no_row
 call_unmet k (RemoveMonitor monitor) x out no_row = no_row
 
-connection_unmet : (z : ConnectionRecord) (u : Change) (x : Content) → puts_the_same (PutConnection z) u ≡ false → HasNoRow (PutConnection z) x → HasNoRow (PutConnection z) (applied x u)
+connection_unmet : (z : ConnectionRecord) (u : Change) (x : Content) → puts_the_same (PutConnection z) u ≡ false → HasNoRow (PutConnection z) x
+    → HasNoRow (PutConnection z) (applied x u)
 unfolding with_group with_station with_agent with_call with_connection with_monitor without_call without_connection without_monitor
 connection_unmet z (PutConnection y) x out no_row =
-    none_put (λ (o : ConnectionRecord). (o.call == z.call) && (o.device == z.device)) (at_connection y.call y.device) x.rows.connections y no_row (both_turned z.call z.device y.call y.device out)
-connection_unmet z (RemoveConnection call device) x out no_row = none_removed (λ (o : ConnectionRecord). (o.call == z.call) && (o.device == z.device)) (at_connection call device) x.rows.connections no_row
+    none_put (λ (o : ConnectionRecord). (o.call == z.call) && (o.device == z.device)) (at_connection y.call y.device) x.rows.connections y no_row
+    (both_turned z.call z.device y.call y.device out)
+connection_unmet z (RemoveConnection call device) x out no_row =
+    none_removed (λ (o : ConnectionRecord). (o.call == z.call) && (o.device == z.device)) (at_connection call device) x.rows.connections no_row
 connection_unmet z Nothing x out no_row = no_row
 connection_unmet z (PutGroup g) x out no_row = no_row
 connection_unmet z (PutStation s) x out no_row = no_row
@@ -166,7 +169,8 @@ module _ (rest remaining changes : List Change) (change : Change) (c x : Content
 lower : (m n : ℕ) → nat_lt m n ≡ true → m < n
 lower m n h = grind (arith, nat_tests)
 
-call_above : (last : Option ℕ) (k y : CallRecord) (c : Content) → is_above last k.call ≡ true → Among y c.rows.calls → (y.call == k.call) ≡ true → HasAbove last c
+call_above : (last : Option ℕ) (k y : CallRecord) (c : Content) → is_above last k.call ≡ true → Among y c.rows.calls → (y.call == k.call) ≡ true
+    → HasAbove last c
 call_above None k y c is among met = absurd (cc is)
 call_above (Some last) k y c is among met = λ (all : AreUpTo last c).
     let low = every_among (λ (o : CallRecord). o.call ≤ last) c.rows.calls y all.calls among in
@@ -174,7 +178,8 @@ call_above (Some last) k y c is among met = λ (all : AreUpTo last c).
     let high = lower last k.call is in
     omega (arith, low, same, high)
 
-connection_above : (last : Option ℕ) (z y : ConnectionRecord) (c : Content) → is_above last z.call ≡ true → Among y c.rows.connections → ((y.call == z.call) && (y.device == z.device)) ≡ true → HasAbove last c
+connection_above : (last : Option ℕ) (z y : ConnectionRecord) (c : Content) → is_above last z.call ≡ true → Among y c.rows.connections
+    → ((y.call == z.call) && (y.device == z.device)) ≡ true → HasAbove last c
 connection_above None z y c is among met = absurd (cc is)
 connection_above (Some last) z y c is among met = λ (all : AreUpTo last c).
     let low = every_among (λ (o : ConnectionRecord). o.call ≤ last) c.rows.connections y all.connections among in
@@ -185,7 +190,8 @@ connection_above (Some last) z y c is among met = λ (all : AreUpTo last c).
 equals_itself : (n : ℕ) → (n == n) ≡ true
 equals_itself n = eq-eqb n n refl
 
-calls_unseen : (last : Option ℕ) (k : CallRecord) (c : Content) (Free : Type 0) (found : List CallRecord) → is_above last k.call ≡ true → filter (λ (y : CallRecord). y.call == k.call) c.rows.calls ≡ found
+calls_unseen : (last : Option ℕ) (k : CallRecord) (c : Content) (Free : Type 0) (found : List CallRecord) → is_above last k.call ≡ true
+    → filter (λ (y : CallRecord). y.call == k.call) c.rows.calls ≡ found
     → (HasNoRow (PutCall k) c → Free) → HasAbove last c ⊎ Free
 calls_unseen last k c Free [] high is free = inr (free is)
 calls_unseen last k c Free (y ∷ found) high is free =
@@ -193,21 +199,26 @@ calls_unseen last k c Free (y ∷ found) high is free =
     inl (call_above last k y c high met.0 met.1)
 
 connections_unseen : (last : Option ℕ) (z : ConnectionRecord) (c : Content) (Free : Type 0) (found : List ConnectionRecord) → is_above last z.call ≡ true
-    → filter (λ (y : ConnectionRecord). (y.call == z.call) && (y.device == z.device)) c.rows.connections ≡ found → (HasNoRow (PutConnection z) c → Free) → HasAbove last c ⊎ Free
+    → filter (λ (y : ConnectionRecord). (y.call == z.call) && (y.device == z.device)) c.rows.connections ≡ found → (HasNoRow (PutConnection z) c → Free)
+    → HasAbove last c ⊎ Free
 connections_unseen last z c Free [] high is free = inr (free is)
 connections_unseen last z c Free (y ∷ found) high is free =
-    let met = filter_among (λ (o : ConnectionRecord). (o.call == z.call) && (o.device == z.device)) c.rows.connections y (subst (Among y) (sym is) (inl refl)) in
+    let met =
+    filter_among (λ (o : ConnectionRecord). (o.call == z.call) && (o.device == z.device)) c.rows.connections y (subst (Among y) (sym is) (inl refl)) in
     inl (connection_above last z y c high met.0 met.1)
 
 -- a new record has no row, or some call was above the last one
-unseen : (last : Option ℕ) (rest remaining changes : List Change) (change : Change) (c x : Content) → IsWrittenNext rest change remaining → Unmet rest changes c x → is_new last changes change ≡ true → HasAbove last c ⊎ HasNoRow change x
+unseen : (last : Option ℕ) (rest remaining changes : List Change) (change : Change) (c x : Content) → IsWrittenNext rest change remaining
+    → Unmet rest changes c x → is_new last changes change ≡ true → HasAbove last c ⊎ HasNoRow change x
 unseen last rest remaining changes (PutCall k) c x w h new =
     let parts = and_parts (is_above last k.call) (is_put_once changes (PutCall k)) new in
-    calls_unseen last k c (HasNoRow (PutCall k) x) _ parts.0 refl (h.free (PutCall k) (once rest remaining changes (PutCall k) c x w h (equals_itself k.call) parts.1))
+    calls_unseen last k c (HasNoRow (PutCall k) x) _ parts.0 refl
+    (h.free (PutCall k) (once rest remaining changes (PutCall k) c x w h (equals_itself k.call) parts.1))
 unseen last rest remaining changes (PutConnection z) c x w h new =
     let parts = and_parts (is_above last z.call) (is_put_once changes (PutConnection z)) new in
     connections_unseen last z c (HasNoRow (PutConnection z) x) _ parts.0 refl
-    (h.free (PutConnection z) (once rest remaining changes (PutConnection z) c x w h (and_from (z.call == z.call) (z.device == z.device) (equals_itself z.call) (equals_itself z.device)) parts.1))
+    (h.free (PutConnection z) (once rest remaining changes (PutConnection z) c x w h
+    (and_from (z.call == z.call) (z.device == z.device) (equals_itself z.call) (equals_itself z.device)) parts.1))
 unseen last rest remaining changes Nothing c x w h new = inr tt
 unseen last rest remaining changes (PutGroup g) c x w h new = inr tt
 unseen last rest remaining changes (PutStation s) c x w h new = inr tt
@@ -219,7 +230,8 @@ unseen last rest remaining changes (RemoveMonitor monitor) c x w h new = inr tt
 
 -- ---- what is refused
 
-refuses_so : (New Meets : Type 0) (change : Change) (x : Content) → (New → Meets ⊎ HasNoRow change x) → RefusesChange New change (relations_of x) → RefusesChange Meets change (relations_of x)
+refuses_so : (New Meets : Type 0) (change : Change) (x : Content) → (New → Meets ⊎ HasNoRow change x) → RefusesChange New change (relations_of x)
+    → RefusesChange Meets change (relations_of x)
 refuses_so New Meets (PutCall k) x so (inl put) = inl put
 refuses_so New Meets (PutCall k) x so (inr refused) = elim (so refused.0) [ inl meets ↦ inr (meets, refused.1) | inr none ↦ inl (inr (none, refused.1)) ]
 refuses_so New Meets (PutConnection z) x so (inl put) = inl put
@@ -233,7 +245,9 @@ refuses_so New Meets (RemoveCall call) x so h = h
 refuses_so New Meets (RemoveConnection call device) x so h = h
 refuses_so New Meets (RemoveMonitor monitor) x so h = h
 
-pub stops_unseen : (last : Option ℕ) (rest remaining changes : List Change) (change : Change) (c x : Content) (new : Bool) → new ≡ is_new last changes change → IsWrittenNext rest change remaining → Unmet rest changes c x
+pub stops_unseen : (last : Option ℕ) (rest remaining changes : List Change) (change : Change) (c x : Content) (new : Bool) → new ≡ is_new last changes change
+    → IsWrittenNext rest change remaining → Unmet rest changes c x
     → StopsAtChange (IsTrue new) change x → StopsAtChange (HasAbove last c) change x
 stops_unseen last rest remaining changes change c x new is w h (inl large) = inl large
-stops_unseen last rest remaining changes change c x new is w h (inr refused) = inr (refuses_so (IsTrue new) (HasAbove last c) change x (λ so. unseen last rest remaining changes change c x w h (sym is ∙ so)) refused)
+stops_unseen last rest remaining changes change c x new is w h (inr refused) =
+    inr (refuses_so (IsTrue new) (HasAbove last c) change x (λ so. unseen last rest remaining changes change c x w h (sym is ∙ so)) refused)

@@ -32,11 +32,16 @@ pub offers_left : {m : ℕ} {s : Rows} {j : Journal} (n most : ℕ) → n ≡ mo
 offers_left {m} {s} {j} n most e = rw e (all_left m (offers most s m) s j)
 
 -- one part is carried out on top of another
-pub both_carried : {m : ℕ} {ms ns : List Move} {s t u : Rows} {j k l : Journal} → CarriesOut m ms s j t k → CarriesOut m ns t k u l → CarriesOut m (ms ++ ns) s j u l
+pub both_carried : {m : ℕ} {ms ns : List Move} {s t u : Rows} {j k l : Journal} → CarriesOut m ms s j t k → CarriesOut m ns t k u l
+    → CarriesOut m (ms ++ ns) s j u l
 both_carried {m} {ms} {ns} {s} {t} {u} {j} {k} {l} first next = record {
   rows = next.rows ∙ ap (λ (r : Rows). moved r ns) first.rows ∙ sym (moved_append s ms ns);
-  events = next.events ∙ ap (λ es. es ++ events_of m ns) first.events ∙ append_assoc j.events.items (events_of m ms) (events_of m ns) ∙ ap (λ es. j.events.items ++ es) (sym (events_of_append m ms ns));
-  changes = next.changes ∙ ap (λ cs. cs ++ changes_of ns) first.changes ∙ append_assoc j.changes.items (changes_of ms) (changes_of ns) ∙ ap (λ cs. j.changes.items ++ cs) (sym (changes_of_append ms ns));
+  events =
+      next.events ∙ ap (λ es. es ++ events_of m ns) first.events ∙ append_assoc j.events.items (events_of m ms) (events_of m ns)
+      ∙ ap (λ es. j.events.items ++ es) (sym (events_of_append m ms ns));
+  changes =
+      next.changes ∙ ap (λ cs. cs ++ changes_of ns) first.changes ∙ append_assoc j.changes.items (changes_of ms) (changes_of ns)
+      ∙ ap (λ cs. j.changes.items ++ cs) (sym (changes_of_append ms ns));
 }
 
 module _ {m : ℕ} {s : Rows} {j : Journal} {all : List Move} {start : Rows} {before : Journal} where
@@ -48,15 +53,21 @@ module _ {m : ℕ} {s : Rows} {j : Journal} {all : List Move} {start : Rows} {be
   }
 
   -- the first part of what is left is carried out
-  pub part_carried : {t : Rows} {k : Journal} (ms ns : List Move) → IsLeft m (ms ++ ns) s j all start before → CarriesOut m ms s j t k → IsLeft m ns t k all start before
+  pub part_carried : {t : Rows} {k : Journal} (ms ns : List Move) → IsLeft m (ms ++ ns) s j all start before → CarriesOut m ms s j t k
+      → IsLeft m ns t k all start before
   part_carried {t} {k} ms ns h c = record {
     rows = ap (λ (r : Rows). moved r ns) c.rows ∙ sym (moved_append s ms ns) ∙ h.rows;
-    events = ap (λ es. es ++ events_of m ns) c.events ∙ append_assoc j.events.items (events_of m ms) (events_of m ns) ∙ ap (λ es. j.events.items ++ es) (sym (events_of_append m ms ns)) ∙ h.events;
-    changes = ap (λ cs. cs ++ changes_of ns) c.changes ∙ append_assoc j.changes.items (changes_of ms) (changes_of ns) ∙ ap (λ cs. j.changes.items ++ cs) (sym (changes_of_append ms ns)) ∙ h.changes;
+    events =
+        ap (λ es. es ++ events_of m ns) c.events ∙ append_assoc j.events.items (events_of m ms) (events_of m ns)
+        ∙ ap (λ es. j.events.items ++ es) (sym (events_of_append m ms ns)) ∙ h.events;
+    changes =
+        ap (λ cs. cs ++ changes_of ns) c.changes ∙ append_assoc j.changes.items (changes_of ms) (changes_of ns)
+        ∙ ap (λ cs. j.changes.items ++ cs) (sym (changes_of_append ms ns)) ∙ h.changes;
   }
 
   -- the first move is
-  pub move_carried : {t : Rows} {k : Journal} (x : Move) (xs ys : List Move) → xs ≡ x ∷ ys → IsLeft m xs s j all start before → CarriesOut m (x ∷ []) s j t k → IsLeft m ys t k all start before
+  pub move_carried : {t : Rows} {k : Journal} (x : Move) (xs ys : List Move) → xs ≡ x ∷ ys → IsLeft m xs s j all start before → CarriesOut m (x ∷ []) s j t k
+      → IsLeft m ys t k all start before
   move_carried x xs ys e h c = part_carried (x ∷ []) ys (subst (λ ms. IsLeft m ms s j all start before) e h) c
 
   -- all moves are carried out
@@ -110,7 +121,8 @@ module _ (turn : Turn) {s : Rows} {j : Journal} {start : Rows} {before : Journal
       → IsLeft turn.moment (each (λ t x. return_moves t turn x) s (drop i items)) s j (each (λ t x. return_moves t turn x) start items) start before
       → CarriesOut turn.moment (returns start turn) start before s j
   unfolding returns
-  returns_carried items i past same h = list_carried (λ (t : Rows) (x : ConnectionRecord). return_moves t turn x) (overdue_in start turn.moment) items i past same h
+  returns_carried items i past same h =
+      list_carried (λ (t : Rows) (x : ConnectionRecord). return_moves t turn x) (overdue_in start turn.moment) items i past same h
 
   -- each after-call work that lasted long enough ends
   pub rests_carried : (items : List AgentRecord) (i : ℕ) → length items ≤ i → items ≡ rested_in start turn.moment
@@ -120,7 +132,8 @@ module _ (turn : Turn) {s : Rows} {j : Journal} {start : Rows} {before : Journal
   rests_carried items i past same h = list_carried (λ (t : Rows) (a : AgentRecord). rest_moves turn a) (rested_in start turn.moment) items i past same h
 
 -- a tick: the offers that return, then what ends
-pub tick_carried : (turn : Turn) {s t u : Rows} {i j l : Journal} → CarriesOut turn.moment (returns s turn) s i t j → CarriesOut turn.moment (rests t turn) t j u l
+pub tick_carried : (turn : Turn) {s t u : Rows} {i j l : Journal} → CarriesOut turn.moment (returns s turn) s i t j
+    → CarriesOut turn.moment (rests t turn) t j u l
     → CarriesOut turn.moment (tick s turn) s i u l
 unfolding tick
 tick_carried turn {s} {t} {u} {i} {j} {l} first next = both_carried first (subst (λ (r : Rows). CarriesOut turn.moment (rests r turn) t j u l) first.rows next)

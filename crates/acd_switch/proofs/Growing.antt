@@ -40,7 +40,8 @@ pub one_fits : (s : Rows) (e : Event) (es : List Event) → CountingFits s (e �
 one_fits s e es h = first_fits e es s.groups h
 
 -- after the first event the others fit
-pub others_fit : (s t : Rows) (e : Event) (es : List Event) → IsAscending group_order s.groups → t ≡ changed_by s (growth_by s e) → CountingFits s (e ∷ es) → CountingFits t es
+pub others_fit : (s t : Rows) (e : Event) (es : List Event) → IsAscending group_order s.groups → t ≡ changed_by s (growth_by s e) → CountingFits s (e ∷ es)
+    → CountingFits t es
 unfolding with_figures
 others_fit s t e es a k h = subst (λ (r : Rows). CountingFits r es) (sym (k ∙ one_grown s e a)) (subst AllFit (sym (counting_both e es s.groups)) h)
 

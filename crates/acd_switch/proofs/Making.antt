@@ -10,7 +10,8 @@ use Rattle.acd_laws.proofs.Made.ChangesMade.{step_makes_its_changes}
 use Rattle.acd_switch.specs.declared.switch.Executed.{Executed}
 
 pub made : {E : Type 0} (r : Result Executed E) (s t : Rows) (moment : ℕ) (command : Command) → BreaksNoRule s
-    → IfOk r (λ x. x.changes.items ≡ step_changes s moment command) → IfOk r (λ x. x.events.items ≡ (step s moment command).events) → OnOk r (t ≡ (step s moment command).rows)
+    → IfOk r (λ x. x.changes.items ≡ step_changes s moment command) → IfOk r (λ x. x.events.items ≡ (step s moment command).events)
+    → OnOk r (t ≡ (step s moment command).rows)
     → IfOk r (λ x. rows_made s x.changes.items (next_stamp s) (executed_moment s moment) (length x.events.items) ≡ t)
 made (Ok x) s t moment command h changes events rows =
     ap (λ l. rows_made s l (next_stamp s) (executed_moment s moment) (length x.events.items)) changes

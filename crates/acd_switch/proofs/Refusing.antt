@@ -12,6 +12,7 @@ use Rattle.acd_laws.proofs.Made.ChangesMade.{refused}
 use Rattle.acd_laws.proofs.Offers.OfferFound.{no_offer}
 use Rattle.acd_switch.specs.Kept.{IsRefused}
 
-pub where_refused : (s : Rows) (moment : ℕ) (command : Command) (o : Outcome) → BreaksNoRule s → o ≡ (step s moment command).outcome → IsRefused o → ChangesNothing s moment command
+pub where_refused : (s : Rows) (moment : ℕ) (command : Command) (o : Outcome) → BreaksNoRule s → o ≡ (step s moment command).outcome → IsRefused o
+    → ChangesNothing s moment command
 where_refused s moment command (Done answer) h e r = absurd r
 where_refused s moment command (Refused refusal) h e r = refused s moment command refusal (no_offer s (keeps_read s h).offers) (sym e)

@@ -41,7 +41,8 @@ fitting s m g few small h b =
       waited = omega (arith, h.1, product);
     }
 
-all_fitting : (s : Rows) (m : ℕ) (gs : List GroupRecord) → s.last_stamp ≤ 1000000000 → m < 2 ^ 32 → Every (IsCountedUpTo s.last_stamp m) gs → Every (AddsUp s) gs → AllFit gs
+all_fitting : (s : Rows) (m : ℕ) (gs : List GroupRecord) → s.last_stamp ≤ 1000000000 → m < 2 ^ 32 → Every (IsCountedUpTo s.last_stamp m) gs
+    → Every (AddsUp s) gs → AllFit gs
 all_fitting s m [] few small h b = tt
 all_fitting s m (g ∷ gs) few small h b = (fitting s m g few small h.0 b.0, all_fitting s m gs few small h.1 b.1)
 
@@ -62,7 +63,8 @@ pub moment_after : (s : Rows) (moment : ℕ) (command : Command) → (step s mom
 unfolding step with_last
 moment_after s moment command = refl
 
-pub fits_after : (s : Rows) (moment : ℕ) (command : Command) → BreaksNoRule s → s.last_stamp < s.limits.requests → BreaksNoRule (step s moment command).rows → executed_moment s moment < 2 ^ 32 → CountersFit (step s moment command).rows
+pub fits_after : (s : Rows) (moment : ℕ) (command : Command) → BreaksNoRule s → s.last_stamp < s.limits.requests → BreaksNoRule (step s moment command).rows
+    → executed_moment s moment < 2 ^ 32 → CountersFit (step s moment command).rows
 fits_after s moment command h room kept small =
     let few = requests_few s.limits (keeps_read s h).sizes.limits in
     let stamp = stamp_after s moment command in

@@ -39,7 +39,8 @@ unfolding rested_in
 rested-working s m = filter-filter (is_rested s m) is_working (rested_works s m) s.agents
 
 -- where nothing rings nothing is overdue, and where nobody works nobody has rested
-pub nothing_overdue : (s : Rows) (m : ℕ) (ringing : List ConnectionRecord) → length ringing ≡ 0 → ringing ≡ filter is_ringing s.connections → ringing ≡ overdue_in s m
+pub nothing_overdue : (s : Rows) (m : ℕ) (ringing : List ConnectionRecord) → length ringing ≡ 0 → ringing ≡ filter is_ringing s.connections
+    → ringing ≡ overdue_in s m
 nothing_overdue s m [] _ e = ap (filter (is_overdue s m)) e ∙ overdue-ringing s m
 nothing_overdue s m (_ ∷ _) z e = absurd (cc (z))
 
@@ -48,13 +49,17 @@ nobody_rested s m [] _ e = ap (filter (is_rested s m)) e ∙ rested-working s m
 nobody_rested s m (_ ∷ _) z e = absurd (cc (z))
 
 -- a filter that has tested all
-pub gone_through : {X : Type 0} (p : X → Bool) (done items : List X) (i : ℕ) → length items ≤ i → done ++ filter p (drop i items) ≡ filter p items → done ≡ filter p items
+pub gone_through : {X : Type 0} (p : X → Bool) (done items : List X) (i : ℕ) → length items ≤ i → done ++ filter p (drop i items) ≡ filter p items
+    → done ≡ filter p items
 gone_through p done items i h e = sym (append-nil done) ∙ ap (λ l. done ++ filter p l) (sym (drop_all i items h)) ∙ e
 
 -- a filter that has tested one more
-module _ {X : Type 0} (p : X → Bool) (done items new : List X) (i : ℕ) (there : i < length items) (before : done ++ filter p (drop i items) ≡ filter p items) (x d : X) (is : x ≡ get_or items i d) where
+module _ {X : Type 0} (p : X → Bool) (done items new : List X) (i : ℕ) (there : i < length items) (before : done ++ filter p (drop i items) ≡ filter p items)
+    (x d : X) (is : x ≡ get_or items i d) where
   tested : (b : Bool) → b ≡ p x → done ++ cond b (x ∷ filter p (drop (i + 1) items)) (filter p (drop (i + 1) items)) ≡ filter p items
-  tested b h = ap (λ b. done ++ cond b (x ∷ filter p (drop (i + 1) items)) (filter p (drop (i + 1) items))) h ∙ ap (λ y. done ++ filter p (y ∷ drop (i + 1) items)) is ∙ sym (at_drop_more (λ l. done ++ filter p l) items i d there) ∙ before
+  tested b h =
+      ap (λ b. done ++ cond b (x ∷ filter p (drop (i + 1) items)) (filter p (drop (i + 1) items))) h ∙ ap (λ y. done ++ filter p (y ∷ drop (i + 1) items)) is
+      ∙ sym (at_drop_more (λ l. done ++ filter p l) items i d there) ∙ before
 
   pub keeps_one : true ≡ p x → new ≡ done ++ x ∷ [] → new ++ filter p (drop (i + 1) items) ≡ filter p items
   keeps_one h e = ap (λ l. l ++ filter p (drop (i + 1) items)) e ∙ append_assoc done (x ∷ []) (filter p (drop (i + 1) items)) ∙ tested true h
@@ -84,7 +89,8 @@ module _ {R : Type 0} (p keep : R → Bool) (so : (x : R) → p x ≡ true → k
   any_filtered [] = refl
   any_filtered (x ∷ xs) = by (keep x) refl (any_filtered xs)
     where
-      by : (b : Bool) → keep x ≡ b → list_any p (filter keep xs) ≡ list_any p xs → list_any p (cond b (x ∷ filter keep xs) (filter keep xs)) ≡ (p x || list_any p xs)
+      by : (b : Bool) → keep x ≡ b → list_any p (filter keep xs) ≡ list_any p xs
+          → list_any p (cond b (x ∷ filter keep xs) (filter keep xs)) ≡ (p x || list_any p xs)
       by true e more = ap (λ b. p x || b) more
       by false e more = more ∙ sym (ap (λ b. b || list_any p xs) (fails x e))
 
@@ -101,7 +107,8 @@ module _ {R : Type 0} (p keep : R → Bool) (so : (x : R) → p x ≡ true → k
     any_given : (ks : List K) (xs : List R) → filter_map (λ k. kept keep (f k)) ks ≡ filter keep xs → list_any (λ k. passes p (f k)) ks ≡ list_any p xs
     any_given ks xs e = sym (any_picked ks) ∙ ap (list_any p) e ∙ any_filtered xs
 
-pub overdue_given : (s : Rows) (m : ℕ) (keys : List (ℕ × ℕ)) → filter_map (λ p. kept is_ringing (connection_of s p.0 p.1)) keys ≡ filter is_ringing s.connections
+pub overdue_given : (s : Rows) (m : ℕ) (keys : List (ℕ × ℕ))
+    → filter_map (λ p. kept is_ringing (connection_of s p.0 p.1)) keys ≡ filter is_ringing s.connections
     → list_any (λ p. passes (is_overdue s m) (connection_of s p.0 p.1)) keys ≡ list_any (is_overdue s m) s.connections
 overdue_given s m keys e = any_given (is_overdue s m) is_ringing (overdue_rings s m) (λ p. connection_of s p.0 p.1) keys s.connections e
 

@@ -43,7 +43,8 @@ lines-between d c = by (d == 2 ^ 64 - 1)
     by false = rw (cmp_self d d refl, least_zero c, greater (d + 1) d (omega arith)) refl
 
 -- a call that is listed at a device is among the keys between them
-pub lines-among : (lines : BTreeSet (ℕ × ℕ)) (d c : ℕ) (lo hi : Bound (ℕ × ℕ)) → lo ≡ first_line d → hi ≡ past_lines d → joins lines d c ≡ true → Among (d, c) (keys_between pair_cmp lo hi lines)
+pub lines-among : (lines : BTreeSet (ℕ × ℕ)) (d c : ℕ) (lo hi : Bound (ℕ × ℕ)) → lo ≡ first_line d → hi ≡ past_lines d → joins lines d c ≡ true
+    → Among (d, c) (keys_between pair_cmp lo hi lines)
 lines-among lines d c lo hi l h e =
     let q : ℕ × ℕ → Bool = is_at (pair_cmp (d, c)) in
     let k = some_from (find q lines.keys) (any_found q lines.keys e) in

@@ -12,7 +12,7 @@ use Rattle.std.proofs.lemmas.Cmp.{nat_cmp_total}
 use Rattle.std.specs.BTreeMap.{BTreeMap}
 use Rattle.std.specs.BTreeSet.{BTreeSet}
 use Rattle.acd_tables.specs.Sets.{holds, is_at_key, Sets, Stays}
-use Rattle.acd_tables.specs.Swaps.{is_entry, Enters, Leaves, Undoes}
+use Rattle.acd_tables.specs.Swaps.{is_entry, Enters, Leaves, Undoes, KeepsWaiting}
 use Rattle.acd_tables.proofs.SetLemmas.{holds-same}
 use Rattle.acd_lemmas.proofs.Keyed.{eq_key}
 
@@ -45,13 +45,15 @@ entered false true false h = refl
 entered false false q h = refl
 
 module _ {E : Type 0} (cmp : E → E → Ordering) where
-  entry_last : (gs : List ℕ) (x : ℕ) (k : E) (g : ℕ) (e : E) → is_entry cmp (Some (gs ++ x ∷ [], k)) g e ≡ ((list_any (λ h. h == g) gs || (x == g)) && is_eq (cmp k e))
+  entry_last : (gs : List ℕ) (x : ℕ) (k : E) (g : ℕ) (e : E)
+      → is_entry cmp (Some (gs ++ x ∷ [], k)) g e ≡ ((list_any (λ h. h == g) gs || (x == g)) && is_eq (cmp k e))
   entry_last gs x k g e = ap (λ b. b && is_eq (cmp k e)) (any_last (λ h. h == g) gs x)
 
   at_key : (x : ℕ) (k : E) (g : ℕ) (e : E) → is_at_key nat_cmp cmp x k g e ≡ ((x == g) && is_eq (cmp k e))
   at_key x k g e = ap (λ b. b && is_eq (cmp k e)) (eq_key x g)
 
-  pub leaves_more : (old mid new : BTreeMap ℕ (BTreeSet E)) (gs : List ℕ) (x : ℕ) (k : E) → Leaves cmp old mid (Some (gs, k)) → Sets nat_cmp cmp mid new x k false → Leaves cmp old new (Some (gs ++ x ∷ [], k))
+  pub leaves_more : (old mid new : BTreeMap ℕ (BTreeSet E)) (gs : List ℕ) (x : ℕ) (k : E) → Leaves cmp old mid (Some (gs, k))
+      → Sets nat_cmp cmp mid new x k false → Leaves cmp old new (Some (gs ++ x ∷ [], k))
   leaves_more old mid new gs x k l s = record {
     sets = λ g. s.sets g ∙ l.sets g;
     members = λ g e. s.members g e
@@ -61,7 +63,8 @@ module _ {E : Type 0} (cmp : E → E → Ordering) where
         ∙ ap (λ b. not b && holds nat_cmp cmp old g e) (sym (entry_last gs x k g e));
   }
 
-  pub enters_more : (old mid new : BTreeMap ℕ (BTreeSet E)) (gs : List ℕ) (x : ℕ) (k : E) → Enters cmp old mid (Some (gs, k)) → Sets nat_cmp cmp mid new x k true → Enters cmp old new (Some (gs ++ x ∷ [], k))
+  pub enters_more : (old mid new : BTreeMap ℕ (BTreeSet E)) (gs : List ℕ) (x : ℕ) (k : E) → Enters cmp old mid (Some (gs, k))
+      → Sets nat_cmp cmp mid new x k true → Enters cmp old new (Some (gs ++ x ∷ [], k))
   enters_more old mid new gs x k l s = record {
     sets = λ g. s.sets g ∙ l.sets g;
     members = λ g e. s.members g e
@@ -108,7 +111,8 @@ module _ {E : Type 0} (cmp : E → E → Ordering) where
       table_old a false q h n = refl
 
       by : (w : Bool) → w ≡ not (holds nat_cmp cmp mid x k) → (b : Bool) → (x == g) ≡ b → (q : Bool) → is_eq (cmp k e) ≡ q
-          → (not (a && is_eq (cmp k e)) && holds nat_cmp cmp mid g e) ≡ (not (is_entry cmp (Some (cond w (done ++ x ∷ []) done, k)) g e) && cond ((x == g) && is_eq (cmp k e)) true (holds nat_cmp cmp mid g e))
+          → (not (a && is_eq (cmp k e)) && holds nat_cmp cmp mid g e)
+          ≡ (not (is_entry cmp (Some (cond w (done ++ x ∷ []) done, k)) g e) && cond ((x == g) && is_eq (cmp k e)) true (holds nat_cmp cmp mid g e))
       by true w b p q r =
           table_new a (x == g) (is_eq (cmp k e)) (holds nat_cmp cmp mid g e) (λ m n. there m n ∙ flipped (holds nat_cmp cmp mid x k) w)
           ∙ ap (λ v. not v && cond ((x == g) && is_eq (cmp k e)) true (holds nat_cmp cmp mid g e)) (sym (entry_last done x k g e))
@@ -122,7 +126,8 @@ module _ {E : Type 0} (cmp : E → E → Ordering) where
           flipped true n = refl
           flipped false n = absurd (cc (n))
 
-  pub undoes_one : (old new : BTreeMap ℕ (BTreeSet E)) (x : ℕ) (k : E) (is_new : Bool) → IsTotalOrder cmp → is_new ≡ not (holds nat_cmp cmp old x k) → Sets nat_cmp cmp old new x k true
+  pub undoes_one : (old new : BTreeMap ℕ (BTreeSet E)) (x : ℕ) (k : E) (is_new : Bool) → IsTotalOrder cmp → is_new ≡ not (holds nat_cmp cmp old x k)
+      → Sets nat_cmp cmp old new x k true
       → Undoes cmp old new (cond is_new (Some (x ∷ [], k)) None)
   undoes_one old new x k is_new total f s = by is_new (undoes_more old old new [] x k is_new total (λ g e. refl) f s)
     where
@@ -131,7 +136,8 @@ module _ {E : Type 0} (cmp : E → E → Ordering) where
       by false u = u
 
   -- a failure that changed nothing, and what had entered removed again
-  pub all_undone : (old mid new back : BTreeMap ℕ (BTreeSet E)) (gs done : List ℕ) (k : E) → Enters cmp old mid (Some (gs, k)) → Undoes cmp old mid (Some (done, k)) → Stays nat_cmp cmp mid new → Leaves cmp new back (Some (done, k))
+  pub all_undone : (old mid new back : BTreeMap ℕ (BTreeSet E)) (gs done : List ℕ) (k : E) → Enters cmp old mid (Some (gs, k))
+      → Undoes cmp old mid (Some (done, k)) → Stays nat_cmp cmp mid new → Leaves cmp new back (Some (done, k))
       → Stays nat_cmp cmp old back
   all_undone old mid new back gs done k n u s l = record {
     sets = λ g. l.sets g ∙ s.sets g ∙ n.sets g;
@@ -143,9 +149,9 @@ no_longer true x i old new e h = let l : length new ≡ length old + 1 = ap leng
 no_longer false x i old new e h = let l : length new ≡ length old = ap length e in omega (arith, l, h)
 
 -- where somebody waits is kept
-pub waits_more : (queues : PairSets) (before w new : List ℕ) (x : ℕ) (flag : Bool) → ((g : ℕ) (p : ℕ × ℕ) → is_one_of before g ≡ true → lists queues g p ≡ true → is_one_of w g ≡ true)
-    → (flag ≡ false → (p : ℕ × ℕ) → lists queues x p ≡ false) → new ≡ cond flag (w ++ x ∷ []) w
-    → (g : ℕ) (p : ℕ × ℕ) → is_one_of (before ++ x ∷ []) g ≡ true → lists queues g p ≡ true → is_one_of new g ≡ true
+pub waits_more : (queues : PairSets) (before w new : List ℕ) (x : ℕ) (flag : Bool)
+    → KeepsWaiting queues (is_one_of before) (is_one_of w) → (flag ≡ false → (p : ℕ × ℕ) → lists queues x p ≡ false)
+    → new ≡ cond flag (w ++ x ∷ []) w → KeepsWaiting queues (is_one_of (before ++ x ∷ [])) (is_one_of new)
 waits_more queues before w new x flag h none e g p m l =
     ap (λ (gs : List ℕ). is_one_of gs g) e ∙ by flag refl (is_one_of before g) refl
   where
@@ -162,7 +168,8 @@ waits_more queues before w new x flag h none e g p m l =
     by false f false k = absurd (let no = none f p in let yes = ap (λ v. lists queues v p) (eqb-true x g (at k)) ∙ l in cc (no, yes))
 
 -- the rest of the groups up to one of them
-pub left_more : (gs others left new : List ℕ) (i g : ℕ) (among : Bool) → among ≡ is_one_of others g → drop i gs ≡ g ∷ drop (suc i) gs → new ≡ cond (not among) (left ++ g ∷ []) left
+pub left_more : (gs others left new : List ℕ) (i g : ℕ) (among : Bool) → among ≡ is_one_of others g → drop i gs ≡ g ∷ drop (suc i) gs
+    → new ≡ cond (not among) (left ++ g ∷ []) left
     → left ++ filter (λ (x : ℕ). not (is_one_of others x)) (drop i gs) ≡ filter (λ (x : ℕ). not (is_one_of others x)) gs
     → new ++ filter (λ (x : ℕ). not (is_one_of others x)) (drop (i + 1) gs) ≡ filter (λ (x : ℕ). not (is_one_of others x)) gs
 left_more gs others left new i g among a d n h =

@@ -64,13 +64,22 @@ parts d (Some v) (Some u) e = (v, (u, (refl, refl)))
 
 module _ (s : Rows) (ascending : IsAscending group_order s.groups) where
   -- the value at a key: the offer of a planned group there that has both
-  at_key : (j : OfferKey) (o : Offer) → offer_by_key s j ≡ Some o → (g : GroupRecord) × (Among g s.groups × ((has_both s g ≡ true) × ◌≡◌ {A = OfferKey} (offer_key g) j))
+  at_key : (j : OfferKey) (o : Offer) → offer_by_key s j ≡ Some o
+      → (g : GroupRecord) × (Among g s.groups × ((has_both s g ≡ true) × ◌≡◌ {A = OfferKey} (offer_key g) j))
   at_key j o e = by (group_of s j.1) refl e
     where
       ranked : (g : GroupRecord) → group_of s j.1 ≡ Some g → (b : Bool) → (g.priority == j.0.0) ≡ b → cond b (offer_in s g) None ≡ Some o
           → (h : GroupRecord) × (Among h s.groups × ((has_both s h ≡ true) × ◌≡◌ {A = OfferKey} (offer_key h) j))
-      ranked g q true p e =
-          (g, (group_among s j.1 g q, (both_there g.device (first_waiting s g.device) (first_eligible s g.device) o e, the_key j g.priority g.device (eqb-true g.priority j.0.0 p) (group_key s j.1 g q))))
+      ranked g q true p e = (
+        g,
+        (
+          group_among s j.1 g q,
+          (
+            both_there g.device (first_waiting s g.device) (first_eligible s g.device) o e,
+            the_key j g.priority g.device (eqb-true g.priority j.0.0 p) (group_key s j.1 g q),
+          ),
+        ),
+      )
       ranked g q false p e = absurd (cc (e))
 
       by : (f : Option GroupRecord) → group_of s j.1 ≡ f → option_and_then (if_ranked s j.0.0) f ≡ Some o
@@ -91,7 +100,8 @@ module _ (s : Rows) (ascending : IsAscending group_order s.groups) where
   unfolding offer_of
   first_of = by (foremost None (filter (has_both s) s.groups)) refl
     where
-      by : (f : Option GroupRecord) → foremost None (filter (has_both s) s.groups) ≡ f → IsFirst offer_cmp key_total key_exact (offer_by_key s) (option_and_then (offer_in s) f)
+      by : (f : Option GroupRecord) → foremost None (filter (has_both s) s.groups) ≡ f
+          → IsFirst offer_cmp key_total key_exact (offer_by_key s) (option_and_then (offer_in s) f)
       by None e = λ j. none_from (offer_by_key s j) (λ o k.
           let q = at_key j o k in
           subst (λ l. Among q.0 l) (none_foremost (filter (has_both s) s.groups) e) (among-filter (has_both s) s.groups q.0 q.1.0 q.1.1.0))
@@ -121,5 +131,6 @@ module _ (s : Rows) (x : Indexes) (h : IsIndexed s x) where
   first-offer sorted = one_first offer_cmp key_total key_exact (offer_by_key s) _ _
       (first_sorted offer_cmp key_total key_exact (offer_by_key s) x.offering.keys sorted (λ j o e.
       let q = at_key s h.groups j o e in
-      subst (λ z. Among z x.offering.keys) q.1.1.1 (contained offer_cmp (λ j k e. key_exact j k (eq_is (offer_cmp j k) e)) x.offering (offer_key q.0) (listed q.0 q.1.0 q.1.1.0))))
+      subst (λ z. Among z x.offering.keys) q.1.1.1
+      (contained offer_cmp (λ j k e. key_exact j k (eq_is (offer_cmp j k) e)) x.offering (offer_key q.0) (listed q.0 q.1.0 q.1.1.0))))
       (first_of s h.groups)

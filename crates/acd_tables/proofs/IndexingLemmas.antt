@@ -59,7 +59,8 @@ module _ {K : Type 0} (cmp : K → K → Ordering) (p : K → Bool) (old new : B
   HasExactly-same h w k = w k ∙ h k
 
   -- a key that was indexed before the change, if it belongs there now, and is removed where it has ended
-  pub HasExactly-put : (q : K → Bool) (mid : BTreeSet K) (was is gone : Bool) → gone ≡ (was && not is) → ((k : K) → is_eq (cmp key k) ≡ true → p k ≡ was) → ((k : K) → q k ≡ cond (is_eq (cmp key k)) is (p k)) → HasExactly cmp p old
+  pub HasExactly-put : (q : K → Bool) (mid : BTreeSet K) (was is gone : Bool) → gone ≡ (was && not is) → ((k : K) → is_eq (cmp key k) ≡ true → p k ≡ was)
+      → ((k : K) → q k ≡ cond (is_eq (cmp key k)) is (p k)) → HasExactly cmp p old
       → Inserted cmp old mid key is → Removed cmp mid new key gone → HasExactly cmp q new
   HasExactly-put q mid was is gone g at changed h w f k =
       f k ∙ ap (λ b. not (b && is_eq (cmp key k)) && contains cmp mid k) g
@@ -67,27 +68,31 @@ module _ {K : Type 0} (cmp : K → K → Ordering) (p : K → Bool) (old new : B
       ∙ put_table was is (is_eq (cmp key k)) (p k) (at k) ∙ sym (changed k)
 
   -- a key that was indexed for a change that wasn't made
-  pub HasExactly-back : (mid : BTreeSet K) (was is gone : Bool) → gone ≡ (is && not was) → ((k : K) → is_eq (cmp key k) ≡ true → p k ≡ was) → HasExactly cmp p old → Inserted cmp old mid key is → Removed cmp mid new key gone → HasExactly cmp p new
+  pub HasExactly-back : (mid : BTreeSet K) (was is gone : Bool) → gone ≡ (is && not was) → ((k : K) → is_eq (cmp key k) ≡ true → p k ≡ was)
+      → HasExactly cmp p old → Inserted cmp old mid key is → Removed cmp mid new key gone → HasExactly cmp p new
   HasExactly-back mid was is gone g at h w f k =
       f k ∙ ap (λ b. not (b && is_eq (cmp key k)) && contains cmp mid k) g
       ∙ ap (λ b. not ((is && not was) && is_eq (cmp key k)) && b) (w k ∙ ap (λ b. (is && is_eq (cmp key k)) || b) (h k))
       ∙ back_table was is (is_eq (cmp key k)) (p k) (at k)
 
   -- a key that came, if it is new
-  pub HasExactly-come : (q : K → Bool) (was belongs : Bool) → belongs ≡ not was → ((k : K) → is_eq (cmp key k) ≡ true → p k ≡ was) → ((k : K) → q k ≡ cond (is_eq (cmp key k)) true (p k)) → HasExactly cmp p old → Inserted cmp old new key belongs → HasExactly cmp q new
+  pub HasExactly-come : (q : K → Bool) (was belongs : Bool) → belongs ≡ not was → ((k : K) → is_eq (cmp key k) ≡ true → p k ≡ was)
+      → ((k : K) → q k ≡ cond (is_eq (cmp key k)) true (p k)) → HasExactly cmp p old → Inserted cmp old new key belongs → HasExactly cmp q new
   HasExactly-come q was belongs b at changed h w k =
       w k ∙ ap (λ v. (v && is_eq (cmp key k)) || contains cmp old k) b ∙ ap (λ v. (not was && is_eq (cmp key k)) || v) (h k)
       ∙ come_table was (is_eq (cmp key k)) (p k) (at k) ∙ sym (changed k)
 
   -- and was removed again
-  pub HasExactly-gone : (mid : BTreeSet K) (was belongs : Bool) → belongs ≡ not was → ((k : K) → is_eq (cmp key k) ≡ true → p k ≡ was) → HasExactly cmp p old → Inserted cmp old mid key belongs → Removed cmp mid new key belongs → HasExactly cmp p new
+  pub HasExactly-gone : (mid : BTreeSet K) (was belongs : Bool) → belongs ≡ not was → ((k : K) → is_eq (cmp key k) ≡ true → p k ≡ was) → HasExactly cmp p old
+      → Inserted cmp old mid key belongs → Removed cmp mid new key belongs → HasExactly cmp p new
   HasExactly-gone mid was belongs b at h w f k =
       f k ∙ ap (λ v. not (belongs && is_eq (cmp key k)) && v) (w k ∙ ap (λ v. (belongs && is_eq (cmp key k)) || v) (h k))
       ∙ ap (λ v. not (v && is_eq (cmp key k)) && ((v && is_eq (cmp key k)) || p k)) b
       ∙ gone_table was (is_eq (cmp key k)) (p k) (at k)
 
   -- a key that was removed
-  pub HasExactly-left : (q : K → Bool) → ((k : K) → q k ≡ cond (is_eq (cmp key k)) false (p k)) → HasExactly cmp p old → Removed cmp old new key true → HasExactly cmp q new
+  pub HasExactly-left : (q : K → Bool) → ((k : K) → q k ≡ cond (is_eq (cmp key k)) false (p k)) → HasExactly cmp p old → Removed cmp old new key true
+      → HasExactly cmp q new
   HasExactly-left q changed h f k = f k ∙ ap (λ v. not (true && is_eq (cmp key k)) && v) (h k) ∙ left_table (is_eq (cmp key k)) (p k) ∙ sym (changed k)
 
 -- a test of one of two
@@ -97,12 +102,14 @@ tested f false x y = refl
 
 -- a look-up finds at a key what it finds at an equal one
 module _ (s : Rows) (call device : ℕ) where
-  pub found_at : (f : Option ConnectionRecord → Bool) (p : ℕ × ℕ) → is_eq (pair_cmp (call, device) p) ≡ true → f (connection_of s p.0 p.1) ≡ f (connection_of s call device)
+  pub found_at : (f : Option ConnectionRecord → Bool) (p : ℕ × ℕ) → is_eq (pair_cmp (call, device) p) ≡ true
+      → f (connection_of s p.0 p.1) ≡ f (connection_of s call device)
   found_at f p e =
       let parts = and_parts (call == p.0) (device == p.1) (sym (pair_key call device p) ∙ e) in
       sym (ap (λ c. f (connection_of s c device)) (eqb-true call p.0 parts.0) ∙ ap (λ d. f (connection_of s p.0 d)) (eqb-true device p.1 parts.1))
 
-  pub listed_at : (f : Option ConnectionRecord → Bool) (p : ℕ × ℕ) → is_eq (pair_cmp (device, call) p) ≡ true → f (connection_of s p.1 p.0) ≡ f (connection_of s call device)
+  pub listed_at : (f : Option ConnectionRecord → Bool) (p : ℕ × ℕ) → is_eq (pair_cmp (device, call) p) ≡ true
+      → f (connection_of s p.1 p.0) ≡ f (connection_of s call device)
   listed_at f p e =
       let parts = and_parts (device == p.0) (call == p.1) (sym (pair_key device call p) ∙ e) in
       sym (ap (λ d. f (connection_of s call d)) (eqb-true device p.0 parts.0) ∙ ap (λ c. f (connection_of s c p.0)) (eqb-true call p.1 parts.1))
@@ -115,22 +122,28 @@ turned false false = refl
 
 module _ (s t : Rows) (call device : ℕ) (new : Option ConnectionRecord) (r : Replaces s t call device new) where
   rings_now : (p : ℕ × ℕ) → rings (connection_of t p.0 p.1) ≡ cond (is_eq (pair_cmp (call, device) p)) (rings new) (rings (connection_of s p.0 p.1))
-  rings_now p = ap rings (r.found p.0 p.1) ∙ tested rings (call == p.0 && device == p.1) new (connection_of s p.0 p.1) ∙ ap (λ b. cond b (rings new) (rings (connection_of s p.0 p.1))) (sym (pair_key call device p))
+  rings_now p =
+      ap rings (r.found p.0 p.1) ∙ tested rings (call == p.0 && device == p.1) new (connection_of s p.0 p.1)
+      ∙ ap (λ b. cond b (rings new) (rings (connection_of s p.0 p.1))) (sym (pair_key call device p))
 
   there_now : (p : ℕ × ℕ) → is_some (connection_of t p.1 p.0) ≡ cond (is_eq (pair_cmp (device, call) p)) (is_some new) (is_some (connection_of s p.1 p.0))
   there_now p =
       ap is_some (r.found p.1 p.0) ∙ tested is_some (call == p.1 && device == p.0) new (connection_of s p.1 p.0)
       ∙ ap (λ b. cond b (is_some new) (is_some (connection_of s p.1 p.0))) (turned (call == p.1) (device == p.0) ∙ sym (pair_key device call p))
 
-  pub Ringing-put : (old mid ringing : BTreeSet (ℕ × ℕ)) (is gone : Bool) → is ≡ rings new → gone ≡ (rings (connection_of s call device) && not is) → Ringing s old → Inserted pair_cmp old mid (call, device) is → Removed pair_cmp mid ringing (call, device) gone
+  pub Ringing-put : (old mid ringing : BTreeSet (ℕ × ℕ)) (is gone : Bool) → is ≡ rings new → gone ≡ (rings (connection_of s call device) && not is)
+      → Ringing s old → Inserted pair_cmp old mid (call, device) is → Removed pair_cmp mid ringing (call, device) gone
       → Ringing t ringing
   Ringing-put old mid ringing is gone i g h w f =
-      HasExactly-put pair_cmp (λ p. rings (connection_of s p.0 p.1)) old ringing (call, device) (λ p. rings (connection_of t p.0 p.1)) mid (rings (connection_of s call device)) is gone g (found_at s call device rings)
+      HasExactly-put pair_cmp (λ p. rings (connection_of s p.0 p.1)) old ringing (call, device) (λ p. rings (connection_of t p.0 p.1)) mid
+      (rings (connection_of s call device)) is gone g (found_at s call device rings)
       (λ p. rings_now p ∙ ap (λ v. cond (is_eq (pair_cmp (call, device) p)) v (rings (connection_of s p.0 p.1))) (sym i)) h w f
 
-  pub Lines-put : (old lines : BTreeSet (ℕ × ℕ)) (belongs : Bool) → is_some new ≡ true → belongs ≡ not (is_some (connection_of s call device)) → Lines s old → Inserted pair_cmp old lines (device, call) belongs → Lines t lines
+  pub Lines-put : (old lines : BTreeSet (ℕ × ℕ)) (belongs : Bool) → is_some new ≡ true → belongs ≡ not (is_some (connection_of s call device)) → Lines s old
+      → Inserted pair_cmp old lines (device, call) belongs → Lines t lines
   Lines-put old lines belongs n b h w =
-      HasExactly-come pair_cmp (λ p. is_some (connection_of s p.1 p.0)) old lines (device, call) (λ p. is_some (connection_of t p.1 p.0)) (is_some (connection_of s call device)) belongs b (listed_at s call device is_some)
+      HasExactly-come pair_cmp (λ p. is_some (connection_of s p.1 p.0)) old lines (device, call) (λ p. is_some (connection_of t p.1 p.0))
+      (is_some (connection_of s call device)) belongs b (listed_at s call device is_some)
       (λ p. there_now p ∙ ap (λ v. cond (is_eq (pair_cmp (device, call) p)) v (is_some (connection_of s p.1 p.0))) n) h w
 
   pub Lines-removed : (old lines : BTreeSet (ℕ × ℕ)) → is_some new ≡ false → Lines s old → Removed pair_cmp old lines (device, call) true → Lines t lines
@@ -140,29 +153,39 @@ module _ (s t : Rows) (call device : ℕ) (new : Option ConnectionRecord) (r : R
 
 -- what was indexed for a connection that wasn't put
 module _ (s : Rows) (call device : ℕ) where
-  pub Ringing-back : (old mid ringing : BTreeSet (ℕ × ℕ)) (is gone : Bool) → gone ≡ (is && not (rings (connection_of s call device))) → Ringing s old → Inserted pair_cmp old mid (call, device) is → Removed pair_cmp mid ringing (call, device) gone → Ringing s ringing
+  pub Ringing-back : (old mid ringing : BTreeSet (ℕ × ℕ)) (is gone : Bool) → gone ≡ (is && not (rings (connection_of s call device))) → Ringing s old
+      → Inserted pair_cmp old mid (call, device) is → Removed pair_cmp mid ringing (call, device) gone → Ringing s ringing
   Ringing-back old mid ringing is gone g h w f =
-      HasExactly-back pair_cmp (λ p. rings (connection_of s p.0 p.1)) old ringing (call, device) mid (rings (connection_of s call device)) is gone g (found_at s call device rings) h w f
+      HasExactly-back pair_cmp (λ p. rings (connection_of s p.0 p.1)) old ringing (call, device) mid (rings (connection_of s call device)) is gone g
+      (found_at s call device rings) h w f
 
-  pub Lines-gone : (old mid lines : BTreeSet (ℕ × ℕ)) (belongs : Bool) → belongs ≡ not (is_some (connection_of s call device)) → Lines s old → Inserted pair_cmp old mid (device, call) belongs → Removed pair_cmp mid lines (device, call) belongs → Lines s lines
+  pub Lines-gone : (old mid lines : BTreeSet (ℕ × ℕ)) (belongs : Bool) → belongs ≡ not (is_some (connection_of s call device)) → Lines s old
+      → Inserted pair_cmp old mid (device, call) belongs → Removed pair_cmp mid lines (device, call) belongs → Lines s lines
   Lines-gone old mid lines belongs b h w f =
-      HasExactly-gone pair_cmp (λ p. is_some (connection_of s p.1 p.0)) old lines (device, call) mid (is_some (connection_of s call device)) belongs b (listed_at s call device is_some) h w f
+      HasExactly-gone pair_cmp (λ p. is_some (connection_of s p.1 p.0)) old lines (device, call) mid (is_some (connection_of s call device)) belongs b
+      (listed_at s call device is_some) h w f
 
 module _ (s : Rows) (item : AgentRecord) where
   works_now : (n : ℕ) → works (agent_of (with_agent s item) n) ≡ cond (is_eq (nat_cmp item.agent n)) (works (Some item)) (works (agent_of s n))
-  works_now n = ap works (agent_put s item n) ∙ tested works (item.agent == n) (Some item) (agent_of s n) ∙ ap (λ b. cond b (works (Some item)) (works (agent_of s n))) (sym (eq_key item.agent n))
+  works_now n =
+      ap works (agent_put s item n) ∙ tested works (item.agent == n) (Some item) (agent_of s n)
+      ∙ ap (λ b. cond b (works (Some item)) (works (agent_of s n))) (sym (eq_key item.agent n))
 
   works_at : (n : ℕ) → is_eq (nat_cmp item.agent n) ≡ true → works (agent_of s n) ≡ works (agent_of s item.agent)
   works_at n e = ap (λ k. works (agent_of s k)) (sym (eqb-true item.agent n (sym (eq_key item.agent n) ∙ e)))
 
-  pub Working-put : (old mid working : BTreeSet ℕ) (is gone : Bool) → is ≡ works (Some item) → gone ≡ (works (agent_of s item.agent) && not is) → Working s old → Inserted nat_cmp old mid item.agent is → Removed nat_cmp mid working item.agent gone
+  pub Working-put : (old mid working : BTreeSet ℕ) (is gone : Bool) → is ≡ works (Some item) → gone ≡ (works (agent_of s item.agent) && not is) → Working s old
+      → Inserted nat_cmp old mid item.agent is → Removed nat_cmp mid working item.agent gone
       → Working (with_agent s item) working
   Working-put old mid working is gone i g h w f =
-      HasExactly-put nat_cmp (λ n. works (agent_of s n)) old working item.agent (λ n. works (agent_of (with_agent s item) n)) mid (works (agent_of s item.agent)) is gone g works_at
+      HasExactly-put nat_cmp (λ n. works (agent_of s n)) old working item.agent (λ n. works (agent_of (with_agent s item) n)) mid
+      (works (agent_of s item.agent)) is gone g works_at
       (λ n. works_now n ∙ ap (λ v. cond (is_eq (nat_cmp item.agent n)) v (works (agent_of s n))) (sym i)) h w f
 
-  pub Working-back : (old mid working : BTreeSet ℕ) (is gone : Bool) → gone ≡ (is && not (works (agent_of s item.agent))) → Working s old → Inserted nat_cmp old mid item.agent is → Removed nat_cmp mid working item.agent gone → Working s working
-  Working-back old mid working is gone g h w f = HasExactly-back nat_cmp (λ n. works (agent_of s n)) old working item.agent mid (works (agent_of s item.agent)) is gone g works_at h w f
+  pub Working-back : (old mid working : BTreeSet ℕ) (is gone : Bool) → gone ≡ (is && not (works (agent_of s item.agent))) → Working s old
+      → Inserted nat_cmp old mid item.agent is → Removed nat_cmp mid working item.agent gone → Working s working
+  Working-back old mid working is gone g h w f =
+      HasExactly-back nat_cmp (λ n. works (agent_of s n)) old working item.agent mid (works (agent_of s item.agent)) is gone g works_at h w f
 
 pub Working-kept : (s t : Rows) (working : BTreeSet ℕ) → ((n : ℕ) → agent_of t n ≡ agent_of s n) → Working s working → Working t working
 Working-kept s t working f h n = h n ∙ sym (ap works (f n))
@@ -196,20 +219,23 @@ module _ (s : Rows) (item : AgentRecord) (old : SeatMap) (h : Seats s old) where
   pub stands : (from : Option ℕ) → from ≡ agent_station (agent_of s item.agent) → (d : ℕ) → has from d ≡ true → agent_seated old d ≡ Some item.agent
   stands from of_agent d e = has_is (agent_seated old d) item.agent (h item.agent d ∙ ap (λ o. has o d) (sym of_agent) ∙ e)
 
-  module _ (mid new : SeatMap) (from : Option ℕ) (of_agent : from ≡ agent_station (agent_of s item.agent)) (free : IsFreeFor old item) (sits : Sits old mid item.station item.agent) where
+  module _ (mid new : SeatMap) (from : Option ℕ) (of_agent : from ≡ agent_station (agent_of s item.agent)) (free : IsFreeFor old item)
+      (sits : Sits old mid item.station item.agent) where
     station_at : (n d : ℕ) → (item.agent == n) ≡ true → has (agent_station (agent_of s n)) d ≡ has from d
     station_at n d e = ap (λ k. has (agent_station (agent_of s k)) d) (sym (eqb-true item.agent n e)) ∙ ap (λ o. has o d) (sym of_agent)
 
     pub Seats-put : GetsUp mid new from item.station → Seats (with_agent s item) new
     Seats-put rises n d =
         ap (λ o. has o n) (rises d ∙ ap (λ o. cond (quits from item.station d) None o) (sits d))
-        ∙ put_seat item.agent n (agent_seated old d) (has (agent_station (agent_of s n)) d) (h n d) (has item.station d) (has from d) (item.agent == n) refl (station_at n d) (free d n) (stands from of_agent d)
+        ∙ put_seat item.agent n (agent_seated old d) (has (agent_station (agent_of s n)) d) (h n d) (has item.station d) (has from d) (item.agent == n) refl
+        (station_at n d) (free d n) (stands from of_agent d)
         ∙ sym (ap (λ o. has (agent_station o) d) (agent_put s item n) ∙ tested (λ o. has (agent_station o) d) (item.agent == n) (Some item) (agent_of s n))
 
     pub Seats-back : GetsUp mid new item.station from → Seats s new
     Seats-back rises n d =
         ap (λ o. has o n) (rises d ∙ ap (λ o. cond (quits item.station from d) None o) (sits d))
-        ∙ back_seat item.agent n (agent_seated old d) (has (agent_station (agent_of s n)) d) (h n d) (has item.station d) (has from d) (item.agent == n) refl (station_at n d) (free d n) (stands from of_agent d)
+        ∙ back_seat item.agent n (agent_seated old d) (has (agent_station (agent_of s n)) d) (h n d) (has item.station d) (has from d) (item.agent == n) refl
+        (station_at n d) (free d n) (stands from of_agent d)
 
 pub Seats-same : (s : Rows) (old new : SeatMap) → ((d : ℕ) → agent_seated new d ≡ agent_seated old d) → Seats s old → Seats s new
 Seats-same s old new w h n d = ap (λ o. has o n) (w d) ∙ h n d

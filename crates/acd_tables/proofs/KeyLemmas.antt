@@ -30,35 +30,45 @@ flipped false false e = absurd (cc (e))
 
 module _ (cs : List ConnectionRecord) (call device : ℕ) where
   -- a look-up finds at a key what it finds at an equal one
-  key-at : (p : ℕ × ℕ) → is_eq (pair_cmp (call, device) p) ≡ true → is_some (find_by (at_connection p.0 p.1) cs) ≡ is_some (find_by (at_connection call device) cs)
+  key-at : (p : ℕ × ℕ) → is_eq (pair_cmp (call, device) p) ≡ true
+      → is_some (find_by (at_connection p.0 p.1) cs) ≡ is_some (find_by (at_connection call device) cs)
   key-at p e =
       let parts = and_parts (call == p.0) (device == p.1) (sym (pair_key call device p) ∙ e) in
-      sym (ap (λ c. is_some (find_by (at_connection c device) cs)) (eqb-true call p.0 parts.0) ∙ ap (λ d. is_some (find_by (at_connection p.0 d) cs)) (eqb-true device p.1 parts.1))
+      sym (ap (λ c. is_some (find_by (at_connection c device) cs)) (eqb-true call p.0 parts.0)
+      ∙ ap (λ d. is_some (find_by (at_connection p.0 d) cs)) (eqb-true device p.1 parts.1))
 
 module _ (cs : List ConnectionRecord) (old new : BTreeSet (ℕ × ℕ)) (h : HasKeys cs old) where
   -- a connection that is put, whose key came if it is new
-  pub keys-put : (x : ConnectionRecord) (b : Bool) → is_some (find_by (at_connection x.call x.device) cs) ≡ not b → Inserted pair_cmp old new (x.call, x.device) b → HasKeys (put_by (connection_order x) cs x) new
+  pub keys-put : (x : ConnectionRecord) (b : Bool) → is_some (find_by (at_connection x.call x.device) cs) ≡ not b
+      → Inserted pair_cmp old new (x.call, x.device) b → HasKeys (put_by (connection_order x) cs x) new
   keys-put x b is w = record {
     ascending = ascending-put connection_order connections_total x cs h.ascending;
-    index = HasExactly-come pair_cmp (λ p. is_some (find_by (at_connection p.0 p.1) cs)) old new (x.call, x.device) (λ p. is_some (find_by (at_connection p.0 p.1) (put_by (connection_order x) cs x)))
-        (is_some (find_by (at_connection x.call x.device) cs)) b (flipped (is_some (find_by (at_connection x.call x.device) cs)) b is) (key-at cs x.call x.device) changed h.index w;
+    index =
+        HasExactly-come pair_cmp (λ p. is_some (find_by (at_connection p.0 p.1) cs)) old new (x.call, x.device)
+        (λ p. is_some (find_by (at_connection p.0 p.1) (put_by (connection_order x) cs x)))
+        (is_some (find_by (at_connection x.call x.device) cs)) b (flipped (is_some (find_by (at_connection x.call x.device) cs)) b is)
+        (key-at cs x.call x.device) changed h.index w;
   }
     where
       or_cond : (b v : Bool) → (b || v) ≡ cond b true v
       or_cond true v = refl
       or_cond false v = refl
 
-      changed : (p : ℕ × ℕ) → is_some (find_by (at_connection p.0 p.1) (put_by (connection_order x) cs x)) ≡ cond (is_eq (pair_cmp (x.call, x.device) p)) true (is_some (find_by (at_connection p.0 p.1) cs))
+      changed : (p : ℕ × ℕ)
+          → is_some (find_by (at_connection p.0 p.1) (put_by (connection_order x) cs x))
+          ≡ cond (is_eq (pair_cmp (x.call, x.device) p)) true (is_some (find_by (at_connection p.0 p.1) cs))
       changed p =
           some_put by_connection cs x p ∙ or_cond (is_of p.0 p.1 x) (is_some (find_by (at_connection p.0 p.1) cs))
           ∙ ap (λ v. cond v true (is_some (find_by (at_connection p.0 p.1) cs))) (sym (pair_key x.call x.device p))
 
   -- a connection that isn't put, whose key was added and removed
-  pub keys-back : (mid : BTreeSet (ℕ × ℕ)) (call device : ℕ) (b : Bool) → is_some (find_by (at_connection call device) cs) ≡ not b → Inserted pair_cmp old mid (call, device) b → Removed pair_cmp mid new (call, device) b → HasKeys cs new
+  pub keys-back : (mid : BTreeSet (ℕ × ℕ)) (call device : ℕ) (b : Bool) → is_some (find_by (at_connection call device) cs) ≡ not b
+      → Inserted pair_cmp old mid (call, device) b → Removed pair_cmp mid new (call, device) b → HasKeys cs new
   keys-back mid call device b is w f = record {
     ascending = h.ascending;
     index = HasExactly-gone pair_cmp (λ p. is_some (find_by (at_connection p.0 p.1) cs)) old new (call, device) mid
-        (is_some (find_by (at_connection call device) cs)) b (flipped (is_some (find_by (at_connection call device) cs)) b is) (key-at cs call device) h.index w f;
+        (is_some (find_by (at_connection call device) cs)) b (flipped (is_some (find_by (at_connection call device) cs)) b is) (key-at cs call device) h.index w
+        f;
   }
 
   pub keys-same : ((k : ℕ × ℕ) → contains pair_cmp new k ≡ contains pair_cmp old k) → HasKeys cs new
@@ -68,8 +78,11 @@ module _ (cs : List ConnectionRecord) (old new : BTreeSet (ℕ × ℕ)) (h : Has
   pub keys-remove : (call device : ℕ) → Removed pair_cmp old new (call, device) true → HasKeys (remove_by (at_connection call device) cs) new
   keys-remove call device w = record {
     ascending = ascending-remove connection_order (at_connection call device) cs h.ascending;
-    index = HasExactly-left pair_cmp (λ p. is_some (find_by (at_connection p.0 p.1) cs)) old new (call, device) (λ p. is_some (find_by (at_connection p.0 p.1) (remove_by (at_connection call device) cs)))
-        (λ p. ap is_some (left_at cs h.ascending call device p.0 p.1) ∙ gone (call == p.0 && device == p.1) (find_by (at_connection p.0 p.1) cs) ∙ ap (λ b. cond b false (is_some (find_by (at_connection p.0 p.1) cs))) (sym (pair_key call device p)))
+    index =
+        HasExactly-left pair_cmp (λ p. is_some (find_by (at_connection p.0 p.1) cs)) old new (call, device)
+        (λ p. is_some (find_by (at_connection p.0 p.1) (remove_by (at_connection call device) cs)))
+        (λ p. ap is_some (left_at cs h.ascending call device p.0 p.1) ∙ gone (call == p.0 && device == p.1) (find_by (at_connection p.0 p.1) cs)
+        ∙ ap (λ b. cond b false (is_some (find_by (at_connection p.0 p.1) cs))) (sym (pair_key call device p)))
         h.index w;
   }
     where
@@ -81,14 +94,18 @@ module _ (cs : List ConnectionRecord) (call : ℕ) where
   key-found : (p : ℕ × ℕ) (r : ConnectionRecord) → of_key cs call p ≡ Some r → (p.0 ≡ call) × (find_by (at_connection call p.1) cs ≡ Some r)
   key-found p r e = by (p.0 == call) refl e
     where
-      by : (b : Bool) → (p.0 == call) ≡ b → cond b (find_by (at_connection call p.1) cs) None ≡ Some r → (p.0 ≡ call) × (find_by (at_connection call p.1) cs ≡ Some r)
+      by : (b : Bool) → (p.0 == call) ≡ b → cond b (find_by (at_connection call p.1) cs) None ≡ Some r
+          → (p.0 ≡ call) × (find_by (at_connection call p.1) cs ≡ Some r)
       by true at f = (eqb-true p.0 call at, f)
       by false at f = absurd (cc (f))
 
   -- among the keys are those of all connections of the call
-  pub picks-of : IsAscending connection_order cs → (keys : List (ℕ × ℕ)) → ((d : ℕ) → is_some (find_by (at_connection call d) cs) ≡ true → Among (call, d) keys) → IsStrictlySortedBy pair_cmp keys
+  pub picks-of : IsAscending connection_order cs → (keys : List (ℕ × ℕ)) → ((d : ℕ) → is_some (find_by (at_connection call d) cs) ≡ true → Among (call, d) keys)
+      → IsStrictlySortedBy pair_cmp keys
       → filter_map (of_key cs call) keys ≡ filter (λ c. c.call == call) cs
-  picks-of ascending keys listed sorted = picked pair_cmp connection_order (λ c. (c.call, c.device)) (λ x y. refl) (of_key cs call) has_key connections_total keys (filter (λ c. c.call == call) cs) sorted
+  picks-of ascending keys listed sorted =
+      picked pair_cmp connection_order (λ c. (c.call, c.device)) (λ x y. refl) (of_key cs call) has_key connections_total keys (filter (λ c. c.call == call) cs)
+      sorted
       (ascending-filter connection_order (λ c. c.call == call) cs ascending) forth back
     where
       has_key : (p : ℕ × ℕ) (r : ConnectionRecord) → of_key cs call p ≡ Some r → (r.call, r.device) ≡ p
@@ -134,7 +151,8 @@ find-both q p (x ∷ xs) =
     ])
 
 -- lists with the same members
-pub any-members : {X : Type 0} (p : X → Bool) (xs ys : List X) → ((x : X) → Among x xs → Among x ys) → ((x : X) → Among x ys → Among x xs) → list_any p xs ≡ list_any p ys
+pub any-members : {X : Type 0} (p : X → Bool) (xs ys : List X) → ((x : X) → Among x xs → Among x ys) → ((x : X) → Among x ys → Among x xs)
+    → list_any p xs ≡ list_any p ys
 any-members {X = X} p xs ys forth back = both_ways (list_any p xs) (list_any p ys) (moved xs ys forth) (moved ys xs back)
   where
     moved : (l m : List X) → ((x : X) → Among x l → Among x m) → list_any p l ≡ true → list_any p m ≡ true

@@ -19,10 +19,14 @@ use Rattle.acd_tables.specs.Uses.{is_there_and}
 abbrev pub Standing : Rows → (ConnectionRecord → Bool) → ℕ → Type 0
 Standing s u d = (c : ConnectionRecord) × (connection_of s c.call d ≡ Some c) × (u c ≡ true)
 
-pub there-any : (s : Rows) (u : ConnectionRecord → Bool) (k d : ℕ) (c : ConnectionRecord) → connection_of s k d ≡ Some c → u c ≡ true → list_any (λ (z : ConnectionRecord). z.device == d && u z) s.connections ≡ true
-there-any s u k d c e h = any_some (λ (z : ConnectionRecord). z.device == d && u z) s.connections c (connection_among s k d c e) (and_from (c.device == d) (u c) (eq-eqb c.device d (found_key s k d c e).1) h)
+pub there-any : (s : Rows) (u : ConnectionRecord → Bool) (k d : ℕ) (c : ConnectionRecord) → connection_of s k d ≡ Some c → u c ≡ true
+    → list_any (λ (z : ConnectionRecord). z.device == d && u z) s.connections ≡ true
+there-any s u k d c e h =
+    any_some (λ (z : ConnectionRecord). z.device == d && u z) s.connections c (connection_among s k d c e)
+    (and_from (c.device == d) (u c) (eq-eqb c.device d (found_key s k d c e).1) h)
 
-pub any-there : (s : Rows) (u : ConnectionRecord → Bool) (d : ℕ) → IsAscending connection_order s.connections → list_any (λ (z : ConnectionRecord). z.device == d && u z) s.connections ≡ true → Standing s u d
+pub any-there : (s : Rows) (u : ConnectionRecord → Bool) (d : ℕ) → IsAscending connection_order s.connections
+    → list_any (λ (z : ConnectionRecord). z.device == d && u z) s.connections ≡ true → Standing s u d
 any-there s u d ascending e =
     let p : ConnectionRecord → Bool = λ z. z.device == d && u z in
     let f = some_from (find p s.connections) (any_found p s.connections e) in
@@ -37,10 +41,12 @@ used_some u (Some c) e = (c, refl, e)
 -- among the keys that are listed are all calls that have a connection at the device
 pub any-listed : (s : Rows) (u : ConnectionRecord → Bool) (d : ℕ) (but : Option ℕ) (ks : List (ℕ × ℕ)) → IsAscending connection_order s.connections
     → ((c : ℕ) → is_some (connection_of s c d) ≡ true → Among (d, c) ks)
-    → list_any (λ k. not (has but k.1) && is_there_and u (connection_of s k.1 d)) ks ≡ list_any (λ (z : ConnectionRecord). z.device == d && (not (has but z.call) && u z)) s.connections
+    → list_any (λ k. not (has but k.1) && is_there_and u (connection_of s k.1 d)) ks
+    ≡ list_any (λ (z : ConnectionRecord). z.device == d && (not (has but z.call) && u z)) s.connections
 any-listed s u d but ks ascending listed = both_ways _ _ forth back
   where
-    forth : list_any (λ k. not (has but k.1) && is_there_and u (connection_of s k.1 d)) ks ≡ true → list_any (λ (z : ConnectionRecord). z.device == d && (not (has but z.call) && u z)) s.connections ≡ true
+    forth : list_any (λ k. not (has but k.1) && is_there_and u (connection_of s k.1 d)) ks ≡ true
+        → list_any (λ (z : ConnectionRecord). z.device == d && (not (has but z.call) && u z)) s.connections ≡ true
     forth e =
         let p : ℕ × ℕ → Bool = λ k. not (has but k.1) && is_there_and u (connection_of s k.1 d) in
         let w : ConnectionRecord → Bool = λ z. not (has but z.call) && u z in
@@ -50,13 +56,15 @@ any-listed s u d but ks ascending listed = both_ways _ _ forth back
         let call : c.0.call ≡ k.0.1 = (found_key s k.0.1 d c.0 c.1).0 in
         there-any s w k.0.1 d c.0 c.1 (and_from (not (has but c.0.call)) (u c.0) (ap (λ n. not (has but n)) call ∙ parts.0) c.2)
 
-    back : list_any (λ (z : ConnectionRecord). z.device == d && (not (has but z.call) && u z)) s.connections ≡ true → list_any (λ k. not (has but k.1) && is_there_and u (connection_of s k.1 d)) ks ≡ true
+    back : list_any (λ (z : ConnectionRecord). z.device == d && (not (has but z.call) && u z)) s.connections ≡ true
+        → list_any (λ k. not (has but k.1) && is_there_and u (connection_of s k.1 d)) ks ≡ true
     back e =
         let p : ℕ × ℕ → Bool = λ k. not (has but k.1) && is_there_and u (connection_of s k.1 d) in
         let w : ConnectionRecord → Bool = λ z. not (has but z.call) && u z in
         let c = any-there s w d ascending e in
         let parts = and_parts (not (has but c.0.call)) (u c.0) c.2 in
-        any_some p ks (d, c.0.call) (listed c.0.call (ap is_some c.1)) (and_from (not (has but c.0.call)) (is_there_and u (connection_of s c.0.call d)) parts.0 (ap (is_there_and u) c.1 ∙ parts.1))
+        any_some p ks (d, c.0.call) (listed c.0.call (ap is_some c.1))
+        (and_from (not (has but c.0.call)) (is_there_and u (connection_of s c.0.call d)) parts.0 (ap (is_there_and u) c.1 ∙ parts.1))
 
 module _ (s : Rows) (seats : SeatMap) (ascending : IsAscending agent_order s.agents) (listed : Seats s seats) where
   -- the agent that is at the station

@@ -20,7 +20,8 @@ pub near-forward : (call device : ℕ) → IsForward (IsLeBy pair_cmp) (IsLtBy p
 unfolding start end
 near-forward call device = by (call == 0) (call == 2 ^ 64 - 1)
   where
-    by : (a b : Bool) → IsForward (IsLeBy pair_cmp) (IsLtBy pair_cmp) (cond a Unbounded (Excluded (call - 1, device))) (cond b Unbounded (Excluded (call + 1, device)))
+    by : (a b : Bool)
+        → IsForward (IsLeBy pair_cmp) (IsLtBy pair_cmp) (cond a Unbounded (Excluded (call - 1, device))) (cond b Unbounded (Excluded (call + 1, device)))
     by true b = tt
     by false true = tt
     by false false = ap (λ o. ordering_then o (nat_cmp device device)) (less (call - 1) (call + 1) (omega arith))
@@ -30,7 +31,8 @@ pub near-itself : (call device d : ℕ) → range_contains pair_cmp (start call 
 unfolding start end
 near-itself call device d = by (call == 0) refl (call == 2 ^ 64 - 1)
   where
-    by : (a : Bool) → (call == 0) ≡ a → (b : Bool) → range_contains pair_cmp (cond a Unbounded (Excluded (call - 1, device))) (cond b Unbounded (Excluded (call + 1, device))) (call, d) ≡ true
+    by : (a : Bool) → (call == 0) ≡ a → (b : Bool)
+        → range_contains pair_cmp (cond a Unbounded (Excluded (call - 1, device))) (cond b Unbounded (Excluded (call + 1, device))) (call, d) ≡ true
     by true h true = refl
     by true h false = rw (greater (call + 1) call (omega arith)) refl
     by false h true = rw (less (call - 1) call (grind (arith, h))) refl

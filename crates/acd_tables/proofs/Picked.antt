@@ -30,7 +30,8 @@ module _ {X : Type 0} (cmp : X → X → Ordering) (o : IsTotalOrder cmp) where
   not_both x y e f = let turned = o.antisymm x y ∙ ap ordering_reverse f in absurd (cc (e, turned))
 
   -- ascending lists of the same members are equal
-  pub ascending-same : (xs ys : List X) → IsAscending cmp xs → IsAscending cmp ys → ((z : X) → Among z xs → Among z ys) → ((z : X) → Among z ys → Among z xs) → xs ≡ ys
+  pub ascending-same : (xs ys : List X) → IsAscending cmp xs → IsAscending cmp ys → ((z : X) → Among z xs → Among z ys) → ((z : X) → Among z ys → Among z xs)
+      → xs ≡ ys
   ascending-same [] [] h k forth back = refl
   ascending-same [] (y ∷ ys) h k forth back = absurd (back y (inl refl))
   ascending-same (x ∷ xs) [] h k forth back = absurd (forth x (inl refl))
@@ -55,7 +56,8 @@ module _ {X : Type 0} (cmp : X → X → Ordering) (o : IsTotalOrder cmp) where
       ]
 
 -- what f gives at ascending keys, each under its key
-module _ {K R : Type 0} (cmp : K → K → Ordering) (order : R → R → Ordering) (key : R → K) (keyed : (x y : R) → order x y ≡ cmp (key x) (key y)) (f : K → Option R) (has_key : (k : K) (r : R) → f k ≡ Some r → key r ≡ k) where
+module _ {K R : Type 0} (cmp : K → K → Ordering) (order : R → R → Ordering) (key : R → K) (keyed : (x y : R) → order x y ≡ cmp (key x) (key y))
+    (f : K → Option R) (has_key : (k : K) (r : R) → f k ≡ Some r → key r ≡ k) where
   after-picked : (k : K) (r : R) → key r ≡ k → (ks : List K) → AllByRecursion (λ y. cmp k y ≡ Less) ks → AllAfter order r (filter_map f ks)
   after-picked k r e [] h = tt
   after-picked k r e (y ∷ ks) h = by (f y) refl (after-picked k r e ks h.1)
@@ -77,7 +79,8 @@ module _ {K R : Type 0} (cmp : K → K → Ordering) (order : R → R → Orderi
   picked-among [] r a = absurd a
   picked-among (y ∷ ks) r a = by (f y) refl (picked-among ks r) a
     where
-      by : (o : Option R) → f y ≡ o → (Among r (filter_map f ks) → (k : K) × (f k ≡ Some r)) → Among r (cons_option o (filter_map f ks)) → (k : K) × (f k ≡ Some r)
+      by : (o : Option R) → f y ≡ o → (Among r (filter_map f ks) → (k : K) × (f k ≡ Some r)) → Among r (cons_option o (filter_map f ks))
+          → (k : K) × (f k ≡ Some r)
       by None g more a = more a
       by (Some z) g more (inl e) = (y, g ∙ ap Some (sym e))
       by (Some z) g more (inr a) = more a
@@ -91,7 +94,8 @@ module _ {K R : Type 0} (cmp : K → K → Ordering) (order : R → R → Orderi
       by None more = more
       by (Some z) more = inr more
 
-  pub picked : IsTotalOrder order → (ks : List K) (rs : List R) → IsStrictlySortedBy cmp ks → IsAscending order rs → ((k : K) (r : R) → f k ≡ Some r → Among r rs)
+  pub picked : IsTotalOrder order → (ks : List K) (rs : List R) → IsStrictlySortedBy cmp ks → IsAscending order rs
+      → ((k : K) (r : R) → f k ≡ Some r → Among r rs)
       → ((r : R) → Among r rs → Among (key r) ks × (f (key r) ≡ Some r)) → filter_map f ks ≡ rs
   picked total ks rs sorted ascending forth back = ascending-same order total (filter_map f ks) rs (ascending-picked ks sorted) ascending
       (λ r a. let k = picked-among ks r a in forth k.0 r k.1)
@@ -113,7 +117,8 @@ kept-passes : {T : Type 0} (p : T → Bool) (r : T) → p r ≡ true → kept p 
 kept-passes p r e = rw e refl
 
 -- a key that a set contains is among its keys
-pub contained : {K : Type 0} (cmp : K → K → Ordering) → ((j k : K) → is_eq (cmp j k) ≡ true → j ≡ k) → (set : BTreeSet K) (j : K) → contains cmp set j ≡ true → Among j set.keys
+pub contained : {K : Type 0} (cmp : K → K → Ordering) → ((j k : K) → is_eq (cmp j k) ≡ true → j ≡ k) → (set : BTreeSet K) (j : K) → contains cmp set j ≡ true
+    → Among j set.keys
 contained {K} cmp exact set j e =
     let p : K → Bool = λ k. is_eq (cmp j k) in
     let k = some_from (find p set.keys) (any_found p set.keys e) in
@@ -130,24 +135,34 @@ exact_pair p q e =
 module _ (s : Rows) where
   pub picks-ringing : (index : BTreeSet (ℕ × ℕ)) → IsAscending connection_order s.connections → Ringing s index → IsStrictlySortedBy pair_cmp index.keys
       → filter_map (λ p. kept is_ringing (connection_of s p.0 p.1)) index.keys ≡ filter is_ringing s.connections
-  picks-ringing index ascending h sorted = picked pair_cmp connection_order (λ c. (c.call, c.device)) (λ x y. refl) (λ p. kept is_ringing (connection_of s p.0 p.1)) has_key connections_total index.keys (filter is_ringing s.connections) sorted
+  picks-ringing index ascending h sorted =
+      picked pair_cmp connection_order (λ c. (c.call, c.device)) (λ x y. refl) (λ p. kept is_ringing (connection_of s p.0 p.1)) has_key connections_total
+      index.keys (filter is_ringing s.connections) sorted
       (ascending-filter connection_order is_ringing s.connections ascending) forth back
     where
       has_key : (p : ℕ × ℕ) (r : ConnectionRecord) → kept is_ringing (connection_of s p.0 p.1) ≡ Some r → (r.call, r.device) ≡ p
-      has_key p r e = let k = found_key s p.0 p.1 r (kept-some is_ringing (connection_of s p.0 p.1) r e).0 in ap (λ a. (a, r.device)) k.0 ∙ ap (λ b. (p.0, b)) k.1
+      has_key p r e = let k = found_key s p.0 p.1 r (kept-some is_ringing (connection_of s p.0 p.1) r e).0 in
+          ap (λ a. (a, r.device)) k.0 ∙ ap (λ b. (p.0, b)) k.1
 
       forth : (p : ℕ × ℕ) (r : ConnectionRecord) → kept is_ringing (connection_of s p.0 p.1) ≡ Some r → Among r (filter is_ringing s.connections)
-      forth p r e = let there = kept-some is_ringing (connection_of s p.0 p.1) r e in among-filter is_ringing s.connections r (connection_among s p.0 p.1 r there.0) there.1
+      forth p r e = let there = kept-some is_ringing (connection_of s p.0 p.1) r e in
+          among-filter is_ringing s.connections r (connection_among s p.0 p.1 r there.0) there.1
 
-      back : (r : ConnectionRecord) → Among r (filter is_ringing s.connections) → Among (r.call, r.device) index.keys × (kept is_ringing (connection_of s r.call r.device) ≡ Some r)
+      back : (r : ConnectionRecord) → Among r (filter is_ringing s.connections)
+          → Among (r.call, r.device) index.keys × (kept is_ringing (connection_of s r.call r.device) ≡ Some r)
       back r a =
           let there = filter_among is_ringing s.connections r a in
-          let found = connection_found s ascending r there.0 in
-          (contained pair_cmp exact_pair index (r.call, r.device) (h (r.call, r.device) ∙ ap rings found ∙ there.1), ap (kept is_ringing) found ∙ kept-passes is_ringing r there.1)
+          let found = connection_found s ascending r there.0 in (
+            contained pair_cmp exact_pair index (r.call, r.device) (h (r.call, r.device) ∙ ap rings found ∙ there.1),
+            ap (kept is_ringing) found
+                ∙ kept-passes is_ringing r there.1,
+          )
 
   pub picks-working : (index : BTreeSet ℕ) → IsAscending agent_order s.agents → Working s index → IsStrictlySortedBy nat_cmp index.keys
       → filter_map (λ n. kept is_working (agent_of s n)) index.keys ≡ filter is_working s.agents
-  picks-working index ascending h sorted = picked nat_cmp agent_order (λ a. a.agent) (λ x y. refl) (λ n. kept is_working (agent_of s n)) has_key agents_total index.keys (filter is_working s.agents) sorted
+  picks-working index ascending h sorted =
+      picked nat_cmp agent_order (λ a. a.agent) (λ x y. refl) (λ n. kept is_working (agent_of s n)) has_key agents_total index.keys (filter is_working s.agents)
+      sorted
       (ascending-filter agent_order is_working s.agents ascending) forth back
     where
       has_key : (n : ℕ) (r : AgentRecord) → kept is_working (agent_of s n) ≡ Some r → r.agent ≡ n
@@ -174,14 +189,18 @@ less_line x y same less = rw (cmp_self x.device y.device same) (by (nat_cmp x.ca
   where
     by : (o : Ordering) → nat_cmp x.call y.call ≡ o → o ≡ Less
     by Less e = refl
-    by Equal e = absurd (let both : ordering_then (nat_cmp x.call y.call) (nat_cmp x.device y.device) ≡ Less = less in let at = cmp_self x.device y.device same in cc (both, e, at))
+    by Equal e =
+        absurd (let both : ordering_then (nat_cmp x.call y.call) (nat_cmp x.device y.device) ≡ Less = less in let at = cmp_self x.device y.device same in
+        cc (both, e, at))
     by Greater e = absurd (let both : ordering_then (nat_cmp x.call y.call) (nat_cmp x.device y.device) ≡ Less = less in cc (both, e))
 
-after_line : (d : ℕ) (x : ConnectionRecord) → x.device ≡ d → (xs : List ConnectionRecord) → AllAfter connection_order x xs → ((z : ConnectionRecord) → Among z xs → z.device ≡ d) → AllAfter by_line x xs
+after_line : (d : ℕ) (x : ConnectionRecord) → x.device ≡ d → (xs : List ConnectionRecord) → AllAfter connection_order x xs
+    → ((z : ConnectionRecord) → Among z xs → z.device ≡ d) → AllAfter by_line x xs
 after_line d x at [] h there = tt
 after_line d x at (y ∷ ys) h there = (less_line x y (at ∙ sym (there y (inl refl))) h.0, after_line d x at ys h.1 (λ z a. there z (inr a)))
 
-ascending_lines : (d : ℕ) (xs : List ConnectionRecord) → IsAscending connection_order xs → ((z : ConnectionRecord) → Among z xs → z.device ≡ d) → IsAscending by_line xs
+ascending_lines : (d : ℕ) (xs : List ConnectionRecord) → IsAscending connection_order xs → ((z : ConnectionRecord) → Among z xs → z.device ≡ d)
+    → IsAscending by_line xs
 ascending_lines d [] h there = tt
 ascending_lines d (x ∷ xs) h there = (after_line d x (there x (inl refl)) xs h.0 (λ z a. there z (inr a)), ascending_lines d xs h.1 (λ z a. there z (inr a)))
 
@@ -197,7 +216,8 @@ module _ (s : Rows) (d : ℕ) (ascending : IsAscending connection_order s.connec
   pub picks-at : (keys : List (ℕ × ℕ)) → ((c : ℕ) → is_some (connection_of s c d) ≡ true → Among (d, c) keys) → IsStrictlySortedBy pair_cmp keys
       → filter_map (line_at s d) keys ≡ connections_at s d
   unfolding connections_at
-  picks-at keys listed sorted = picked pair_cmp by_line (λ c. (c.device, c.call)) (λ x y. refl) (line_at s d) has_key by_line_total keys (filter (is_at_device d) s.connections) sorted
+  picks-at keys listed sorted =
+      picked pair_cmp by_line (λ c. (c.device, c.call)) (λ x y. refl) (line_at s d) has_key by_line_total keys (filter (is_at_device d) s.connections) sorted
       (ascending_lines d (filter (is_at_device d) s.connections) (ascending-filter connection_order (is_at_device d) s.connections ascending)
       (λ z a. eqb-true z.device d (filter_among (is_at_device d) s.connections z a).1)) forth back
     where
@@ -211,7 +231,8 @@ module _ (s : Rows) (d : ℕ) (ascending : IsAscending connection_order s.connec
           let there = line-found p r e in
           among-filter (is_at_device d) s.connections r (connection_among s p.1 d r there.1) (eq-eqb r.device d (found_key s p.1 d r there.1).1)
 
-      back : (r : ConnectionRecord) → Among r (filter (is_at_device d) s.connections) → Among (r.device, r.call) keys × (line_at s d (r.device, r.call) ≡ Some r)
+      back : (r : ConnectionRecord) → Among r (filter (is_at_device d) s.connections)
+          → Among (r.device, r.call) keys × (line_at s d (r.device, r.call) ≡ Some r)
       back r a =
           let there = filter_among (is_at_device d) s.connections r a in
           let at = eqb-true r.device d there.1 in

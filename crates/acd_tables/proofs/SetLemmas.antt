@@ -28,7 +28,8 @@ module _ {K E : Type 0} (by : K → K → Ordering) (cmp : E → E → Ordering)
   at_key q h = ap (λ (f : K → Ordering). get_by f old) (λ i z. o.congr k q z (eq_is (by k q) h) i)
 
   -- the set at the key has one member more or less
-  pub set-written : (new : BTreeMap K (BTreeSet E)) (e : E) (there : Bool) (s t : BTreeSet E) → get by old k ≡ Some s → (IsSome (get by old k) → (q : K) → get by new q ≡ cond (is_eq (by k q)) (Some t) (get by old q))
+  pub set-written : (new : BTreeMap K (BTreeSet E)) (e : E) (there : Bool) (s t : BTreeSet E) → get by old k ≡ Some s
+      → (IsSome (get by old k) → (q : K) → get by new q ≡ cond (is_eq (by k q)) (Some t) (get by old q))
       → ((x : E) → contains cmp t x ≡ cond (is_eq (cmp e x)) there (contains cmp s x)) → Sets by cmp old new k e there
   unfolding holds has_set
   set-written new e there s t was written member = record {
@@ -43,6 +44,7 @@ module _ {K E : Type 0} (by : K → K → Ordering) (cmp : E → E → Ordering)
       sets_at q true h = ap is_some (sym was ∙ at_key q h)
       sets_at q false h = refl
 
-      members_at : (q : K) (x : E) (b : Bool) → is_eq (by k q) ≡ b → holds_in by cmp (cond b (Some t) (get by old q)) x ≡ cond (b && is_eq (cmp e x)) there (holds_in by cmp (get by old q) x)
+      members_at : (q : K) (x : E) (b : Bool) → is_eq (by k q) ≡ b
+          → holds_in by cmp (cond b (Some t) (get by old q)) x ≡ cond (b && is_eq (cmp e x)) there (holds_in by cmp (get by old q) x)
       members_at q x true h = member x ∙ ap (λ u. cond (is_eq (cmp e x)) there (holds_in by cmp u x)) (sym was ∙ at_key q h)
       members_at q x false h = refl

@@ -4,7 +4,6 @@ use Rattle.std.specs.Prelude.{◌==◌, unwrap_or, filter}
 use Rattle.std.specs.List.{list_any}
 use Rattle.std.specs.Cmp.{both_ways, IsTotalOrder}
 use Rattle.std.specs.declared.cmp.Ordering.{Ordering}
-use Rattle.std.specs.declared.cmp.Ordering.TheVariants.{Less, Equal, Greater}
 use Rattle.std.specs.Ordering.{is_eq, nat_cmp, ordering_then, ordering_reverse}
 use Rattle.std.proofs.lemmas.Bool.{and_parts, and_from, and_left, and_right, or_cases, or_left, or_right, eqb-true, eq-eqb, false_from_ne_true, not-true}
 use Rattle.acd_terms.specs.Lists.{IsAscending}
@@ -17,12 +16,12 @@ use Rattle.acd_model.specs.Rules.Plan.{agent_order, connection_order}
 use Rattle.acd_model.specs.Scans.{agent_of, agent_at, connection_of}
 use Rattle.acd_model.specs.Writes.{with_agent, with_connection, without_connection}
 use Rattle.acd_lemmas.proofs.Lists.{eq_is, is_eq_of, some_is, ascending-put, ascending-remove}
-use Rattle.acd_lemmas.proofs.Keyed.{cmp_equal, cmp_self, eq_key}
+use Rattle.acd_lemmas.proofs.Keyed.{eq_key}
 use Rattle.acd_lemmas.proofs.State.{connections_total, at_put, at_remove, agent_put, agent_key, found_key, agent_seat, agent_there}
 use Rattle.acd_tables.specs.Indexed.{pair_cmp, waits_at, is_busying, is_busy_at, is_free, is_able_since, Seats, SeatMap}
 use Rattle.acd_tables.specs.Uses.{is_there_and, is_in_use}
 use Rattle.acd_tables.specs.declared.uses.Use.TheVariants.{Busying}
-use Rattle.acd_tables.specs.Swaps.{SwapsTo, differ, is_entry, IsAt, queue_entry, ready_entry, with_or_without, LeavesBut, left_of}
+use Rattle.acd_tables.specs.Swaps.{SwapsTo, differ, is_entry, IsAt, queue_entry, ready_entry, swapped_seat, with_or_without, LeavesBut, left_of}
 use Rattle.acd_tables.specs.declared.indexes.Swap.{Swap}
 use Rattle.acd_tables.proofs.Looking.{there-any, any-there, used_some, seated}
 use Rattle.acd_lemmas.proofs.Numbers.{eq_then}
@@ -55,19 +54,34 @@ pub record Replaces (s t : Rows) (call device : ℕ) (new : Option ConnectionRec
 
 pub Replaces-put : (s : Rows) (c : ConnectionRecord) → IsAscending connection_order s.connections → Replaces s (with_connection s c) c.call c.device (Some c)
 unfolding with_connection agent_of
-Replaces-put s c h = record { found = λ k d. at_put s c k d; agents = λ n. refl; ascending = ascending-put connection_order connections_total c s.connections h }
+Replaces-put s c h = record {
+  found = λ k d. at_put s c k d;
+  agents = λ n. refl;
+  ascending = ascending-put connection_order connections_total c s.connections h;
+}
 
-pub Replaces-removed : (s : Rows) (call device : ℕ) → IsAscending connection_order s.connections → Replaces s (without_connection s call device) call device None
+pub Replaces-removed : (s : Rows) (call device : ℕ) → IsAscending connection_order s.connections
+    → Replaces s (without_connection s call device) call device None
 unfolding without_connection agent_of
-Replaces-removed s call device h = record { found = λ k d. at_remove s call device k d h; agents = λ n. refl; ascending = ascending-remove connection_order (λ x. ordering_then (nat_cmp call x.call) (nat_cmp device x.device)) s.connections h }
+Replaces-removed s call device h = record {
+  found = λ k d. at_remove s call device k d h;
+  agents = λ n. refl;
+  ascending = ascending-remove connection_order (λ x. ordering_then (nat_cmp call x.call) (nat_cmp device x.device)) s.connections h;
+}
 
-pub Replaces-either : (s : Rows) (call device : ℕ) (new : Option ConnectionRecord) → IsAscending connection_order s.connections → IsAt call device new → Replaces s (with_or_without s call device new) call device new
+pub Replaces-either : (s : Rows) (call device : ℕ) (new : Option ConnectionRecord) → IsAscending connection_order s.connections → IsAt call device new
+    → Replaces s (with_or_without s call device new) call device new
 Replaces-either s call device None h at = Replaces-removed s call device h
-Replaces-either s call device (Some c) h at = subst (λ k. Replaces s (with_connection s c) k device (Some c)) at.0 (subst (λ d. Replaces s (with_connection s c) c.call d (Some c)) at.1 (Replaces-put s c h))
+Replaces-either s call device (Some c) h at =
+    subst (λ k. Replaces s (with_connection s c) k device (Some c)) at.0
+    (subst (λ d. Replaces s (with_connection s c) c.call d (Some c)) at.1 (Replaces-put s c h))
 
-module _ (s t : Rows) (call device : ℕ) (new : Option ConnectionRecord) (ascending : IsAscending connection_order s.connections) (at : IsAt call device new) (r : Replaces s t call device new) where
+module _ (s t : Rows) (call device : ℕ) (new : Option ConnectionRecord) (ascending : IsAscending connection_order s.connections) (at : IsAt call device new)
+    (r : Replaces s t call device new) where
   found_here : connection_of t call device ≡ new
-  found_here = r.found call device ∙ ap (λ b. cond b new (connection_of s call device)) (and_from (call == call) (device == device) (eq-eqb call call refl) (eq-eqb device device refl))
+  found_here =
+      r.found call device
+      ∙ ap (λ b. cond b new (connection_of s call device)) (and_from (call == call) (device == device) (eq-eqb call call refl) (eq-eqb device device refl))
 
   found_besides : (k d : ℕ) → (call == k) ≡ false → connection_of t k d ≡ connection_of s k d
   found_besides k d e = r.found k d ∙ ap (λ b. cond b new (connection_of s k d)) (and_left (call == k) (device == d) e)
@@ -80,7 +94,8 @@ module _ (s t : Rows) (call device : ℕ) (new : Option ConnectionRecord) (ascen
   unfolding is_busy_at
   busy-here = both_ways _ _ forth back
     where
-      forth : (is_there_and is_busying new || is_in_use s device (Some call) Busying) ≡ true → list_any (λ (c : ConnectionRecord). c.device == device && is_busying c) t.connections ≡ true
+      forth : (is_there_and is_busying new || is_in_use s device (Some call) Busying) ≡ true
+          → list_any (λ (c : ConnectionRecord). c.device == device && is_busying c) t.connections ≡ true
       forth e = elim (or_cases (is_there_and is_busying new) (is_in_use s device (Some call) Busying) e) [
         | inl h ↦ (let c = used_some is_busying new h in there-any t is_busying call device c.0 (found_here ∙ c.1) c.2)
         | inr h ↦ (let c = any-there s (λ z. not (call == z.call) && is_busying z) device ascending h in
@@ -88,16 +103,19 @@ module _ (s t : Rows) (call device : ℕ) (new : Option ConnectionRecord) (ascen
             there-any t is_busying c.0.call device c.0 (found_besides c.0.call device (not-true (call == c.0.call) parts.0) ∙ c.1) parts.1)
       ]
 
-      back : list_any (λ (c : ConnectionRecord). c.device == device && is_busying c) t.connections ≡ true → (is_there_and is_busying new || is_in_use s device (Some call) Busying) ≡ true
+      back : list_any (λ (c : ConnectionRecord). c.device == device && is_busying c) t.connections ≡ true
+          → (is_there_and is_busying new || is_in_use s device (Some call) Busying) ≡ true
       back e = let c = any-there t is_busying device r.ascending e in by c.0 c.1 c.2 (call == c.0.call) refl
         where
-          by : (c : ConnectionRecord) → connection_of t c.call device ≡ Some c → is_busying c ≡ true → (b : Bool) → (call == c.call) ≡ b → (is_there_and is_busying new || is_in_use s device (Some call) Busying) ≡ true
+          by : (c : ConnectionRecord) → connection_of t c.call device ≡ Some c → is_busying c ≡ true → (b : Bool) → (call == c.call) ≡ b
+              → (is_there_and is_busying new || is_in_use s device (Some call) Busying) ≡ true
           by c e u true h =
               let same : new ≡ Some c = sym found_here ∙ ap (λ k. connection_of t k device) (eqb-true call c.call h) ∙ e in
               or_left (is_there_and is_busying new) (is_in_use s device (Some call) Busying) (ap (is_there_and is_busying) same ∙ u)
           by c e u false h =
               or_right (is_there_and is_busying new) (is_in_use s device (Some call) Busying)
-              (there-any s (λ z. not (call == z.call) && is_busying z) c.call device c (sym (found_besides c.call device h) ∙ e) (and_from (not (call == c.call)) (is_busying c) (ap not h) u))
+              (there-any s (λ z. not (call == z.call) && is_busying z) c.call device c (sym (found_besides c.call device h) ∙ e)
+              (and_from (not (call == c.call)) (is_busying c) (ap not h) u))
 
   -- no other station changes
   pub busy-there : (d : ℕ) → (device == d) ≡ false → is_busy_at t d ≡ is_busy_at s d
@@ -122,13 +140,16 @@ alike false true e = absurd (cc (e))
 alike false false e = refl
 
 -- a connection that keeps the station as busy as it was changes nobody's readiness
-module _ (s t : Rows) (call device : ℕ) (new : Option ConnectionRecord) (ascending : IsAscending connection_order s.connections) (at : IsAt call device new) (r : Replaces s t call device new)
+module _ (s t : Rows) (call device : ℕ) (new : Option ConnectionRecord) (ascending : IsAscending connection_order s.connections) (at : IsAt call device new)
+    (r : Replaces s t call device new)
     (same : differ (is_there_and is_busying (connection_of s call device)) (is_there_and is_busying new) ≡ false) where
   busy-still : is_busy_at t device ≡ is_busy_at s device
   busy-still =
       sym (busy-here s t call device new ascending at r)
-      ∙ ap (λ b. b || is_in_use s device (Some call) Busying) (sym (alike (is_there_and is_busying (connection_of s call device)) (is_there_and is_busying new) same))
-      ∙ busy-here s s call device (connection_of s call device) ascending (found_at_key s call device (connection_of s call device) refl) (Replaces-self s call device ascending)
+      ∙ ap (λ b. b || is_in_use s device (Some call) Busying)
+      (sym (alike (is_there_and is_busying (connection_of s call device)) (is_there_and is_busying new) same))
+      ∙ busy-here s s call device (connection_of s call device) ascending (found_at_key s call device (connection_of s call device) refl)
+      (Replaces-self s call device ascending)
 
   free-still : (o : Option ℕ) → is_free t o ≡ is_free s o
   free-still None = refl
@@ -145,11 +166,14 @@ module _ (s t : Rows) (call device : ℕ) (new : Option ConnectionRecord) (ascen
       by None = refl
       by (Some a) = ap (λ b. (a.stamp == p.0) && (is_one_of a.groups g && (is_ready a.state && b))) (free-still a.station)
 
-entry_waits : (call device : ℕ) (o : Option ConnectionRecord) → IsAt call device o → (g : ℕ) (p : ℕ × ℕ) → is_entry pair_cmp (queue_entry o) g p ≡ (waits_at p.0 o && (call == p.1 && device == g))
+entry_waits : (call device : ℕ) (o : Option ConnectionRecord) → IsAt call device o → (g : ℕ) (p : ℕ × ℕ)
+    → is_entry pair_cmp (queue_entry o) g p ≡ (waits_at p.0 o && (call == p.1 && device == g))
 entry_waits call device None at g p = refl
 entry_waits call device (Some c) at g p = by (is_queued c.state)
   where
-    by : (b : Bool) → is_entry pair_cmp (cond b (Some (c.device ∷ [], (unwrap_or c.place 0, c.call))) None) g p ≡ ((b && unwrap_or c.place 0 == p.0) && (call == p.1 && device == g))
+    by : (b : Bool)
+        → is_entry pair_cmp (cond b (Some (c.device ∷ [], (unwrap_or c.place 0, c.call))) None) g p
+        ≡ ((b && unwrap_or c.place 0 == p.0) && (call == p.1 && device == g))
     by false = refl
     by true =
         entry_test (unwrap_or c.place 0) c.call g (c.device ∷ []) p
@@ -173,7 +197,9 @@ unswapped false false x = refl
 
 pub waiting-swapped : (s t : Rows) (call device : ℕ) (new : Option ConnectionRecord) → IsAt call device new → Replaces s t call device new
     → (leaving : Option (List ℕ × (ℕ × ℕ))) → LeavesBut pair_cmp (queue_entry (connection_of s call device)) (queue_entry new) leaving
-    → (g : ℕ) (p : ℕ × ℕ) → waits_at p.0 (connection_of t p.1 g) ≡ (not (is_entry pair_cmp leaving g p) && (is_entry pair_cmp (queue_entry new) g p || waits_at p.0 (connection_of s p.1 g)))
+    → (g : ℕ) (p : ℕ × ℕ)
+    → waits_at p.0 (connection_of t p.1 g)
+    ≡ (not (is_entry pair_cmp leaving g p) && (is_entry pair_cmp (queue_entry new) g p || waits_at p.0 (connection_of s p.1 g)))
 waiting-swapped s t call device new at r leaving out g p =
     ap (waits_at p.0) (r.found p.1 g)
     ∙ by (call == p.1 && device == g) refl
@@ -182,19 +208,31 @@ waiting-swapped s t call device new at r leaving out g p =
     old : is_entry pair_cmp (queue_entry (connection_of s call device)) g p ≡ (waits_at p.0 (connection_of s call device) && (call == p.1 && device == g))
     old = entry_waits call device (connection_of s call device) (found_at_key s call device (connection_of s call device) refl) g p
 
-    table : (k : Bool) → (call == p.1 && device == g) ≡ k → (v : Bool) → waits_at p.0 (connection_of s call device) ≡ v → (w : Bool) → waits_at p.0 new ≡ w → (x y : Bool) → x ≡ (not ((v && k) && not (w && k)) && ((w && k) || y))
-        → x ≡ (not (is_entry pair_cmp (queue_entry (connection_of s call device)) g p && not (is_entry pair_cmp (queue_entry new) g p)) && (is_entry pair_cmp (queue_entry new) g p || y))
+    table : (k : Bool) → (call == p.1 && device == g) ≡ k → (v : Bool) → waits_at p.0 (connection_of s call device) ≡ v → (w : Bool) → waits_at p.0 new ≡ w
+        → (x y : Bool) → x ≡ (not ((v && k) && not (w && k)) && ((w && k) || y))
+        → x
+        ≡ (not (is_entry pair_cmp (queue_entry (connection_of s call device)) g p && not (is_entry pair_cmp (queue_entry new) g p))
+        && (is_entry pair_cmp (queue_entry new) g p || y))
     table k hk v hv w hw x y h = rw (old, entry_waits call device new at g p, hk, hv, hw) h
 
-    by : (k : Bool) → (call == p.1 && device == g) ≡ k → waits_at p.0 (cond k new (connection_of s p.1 g)) ≡ (not (is_entry pair_cmp (queue_entry (connection_of s call device)) g p && not (is_entry pair_cmp (queue_entry new) g p)) && (is_entry pair_cmp (queue_entry new) g p || waits_at p.0 (connection_of s p.1 g)))
+    by : (k : Bool) → (call == p.1 && device == g) ≡ k
+        → waits_at p.0 (cond k new (connection_of s p.1 g))
+        ≡ (not (is_entry pair_cmp (queue_entry (connection_of s call device)) g p && not (is_entry pair_cmp (queue_entry new) g p))
+        && (is_entry pair_cmp (queue_entry new) g p || waits_at p.0 (connection_of s p.1 g)))
     by true h =
         let parts = and_parts (call == p.1) (device == g) h in
-        let same : connection_of s call device ≡ connection_of s p.1 g = ap (λ k. connection_of s k device) (eqb-true call p.1 parts.0) ∙ ap (connection_of s p.1) (eqb-true device g parts.1) in
-        table true h (waits_at p.0 (connection_of s p.1 g)) (ap (waits_at p.0) same) (waits_at p.0 new) refl (waits_at p.0 new) (waits_at p.0 (connection_of s p.1 g)) (swapped (waits_at p.0 (connection_of s p.1 g)) (waits_at p.0 new))
-    by false h = table false h (waits_at p.0 (connection_of s call device)) refl (waits_at p.0 new) refl (waits_at p.0 (connection_of s p.1 g)) (waits_at p.0 (connection_of s p.1 g)) (unswapped (waits_at p.0 (connection_of s call device)) (waits_at p.0 new) (waits_at p.0 (connection_of s p.1 g)))
+        let same : connection_of s call device ≡ connection_of s p.1 g =
+        ap (λ k. connection_of s k device) (eqb-true call p.1 parts.0) ∙ ap (connection_of s p.1) (eqb-true device g parts.1) in
+        table true h (waits_at p.0 (connection_of s p.1 g)) (ap (waits_at p.0) same) (waits_at p.0 new) refl (waits_at p.0 new)
+        (waits_at p.0 (connection_of s p.1 g)) (swapped (waits_at p.0 (connection_of s p.1 g)) (waits_at p.0 new))
+    by false h =
+        table false h (waits_at p.0 (connection_of s call device)) refl (waits_at p.0 new) refl (waits_at p.0 (connection_of s p.1 g))
+        (waits_at p.0 (connection_of s p.1 g))
+        (unswapped (waits_at p.0 (connection_of s call device)) (waits_at p.0 new) (waits_at p.0 (connection_of s p.1 g)))
 
 -- an agent's entry, by its parts
-pub entry_able : (a : AgentRecord) (g : ℕ) (p : ℕ × ℕ) → is_entry pair_cmp (ready_entry (Some a)) g p ≡ ((a.agent == p.1) && ((a.stamp == p.0) && (is_one_of a.groups g && is_ready a.state)))
+pub entry_able : (a : AgentRecord) (g : ℕ) (p : ℕ × ℕ)
+    → is_entry pair_cmp (ready_entry (Some a)) g p ≡ ((a.agent == p.1) && ((a.stamp == p.0) && (is_one_of a.groups g && is_ready a.state)))
 entry_able a g p = by (is_ready a.state)
   where
     none : (x y z : Bool) → false ≡ (x && (y && (z && false)))
@@ -213,7 +251,8 @@ entry_able a g p = by (is_ready a.state)
     all false false true = refl
     all false false false = refl
 
-    by : (b : Bool) → is_entry pair_cmp (cond b (Some (a.groups, (a.stamp, a.agent))) None) g p ≡ ((a.agent == p.1) && ((a.stamp == p.0) && (is_one_of a.groups g && b)))
+    by : (b : Bool)
+        → is_entry pair_cmp (cond b (Some (a.groups, (a.stamp, a.agent))) None) g p ≡ ((a.agent == p.1) && ((a.stamp == p.0) && (is_one_of a.groups g && b)))
     by false = none (a.agent == p.1) (a.stamp == p.0) (is_one_of a.groups g)
     by true = entry_test a.stamp a.agent g a.groups p ∙ all (a.agent == p.1) (a.stamp == p.0) (is_one_of a.groups g)
 
@@ -236,15 +275,18 @@ becomes_free true true false d = refl
 becomes_free true false c d = refl
 becomes_free false b c d = refl
 
-pub able-swapped : (s t : Rows) (call device : ℕ) (new : Option ConnectionRecord) (seats : SeatMap) → IsAscending connection_order s.connections → IsAscending agent_order s.agents → Seats s seats → IsAt call device new → Replaces s t call device new
+pub able-swapped : (s t : Rows) (call device : ℕ) (new : Option ConnectionRecord) (seats : SeatMap) → IsAscending connection_order s.connections
+    → IsAscending agent_order s.agents → Seats s seats → IsAt call device new → Replaces s t call device new
     → (busy : Bool) → busy ≡ is_busy_at t device
     → (g : ℕ) (p : ℕ × ℕ) → is_able_since t g p.0 (agent_of t p.1)
-    ≡ (not (is_entry pair_cmp (cond busy (ready_entry (agent_at s device)) None) g p) && (is_entry pair_cmp (cond busy None (ready_entry (agent_at s device))) g p || is_able_since s g p.0 (agent_of s p.1)))
+    ≡ (not (is_entry pair_cmp (cond busy (ready_entry (agent_at s device)) None) g p)
+    && (is_entry pair_cmp (cond busy None (ready_entry (agent_at s device))) g p || is_able_since s g p.0 (agent_of s p.1)))
 able-swapped s t call device new seats ascending agents listed at r busy is g p =
     ap (is_able_since t g p.0) (r.agents p.1) ∙ by (agent_of s p.1) refl
   where
     -- who isn't at the station stays
-    apart : (o : Option AgentRecord) → agent_of s p.1 ≡ o → ((b : AgentRecord) → o ≡ Some b → b.station ≡ Some device → ⊥) → is_entry pair_cmp (ready_entry (agent_at s device)) g p ≡ false
+    apart : (o : Option AgentRecord) → agent_of s p.1 ≡ o → ((b : AgentRecord) → o ≡ Some b → b.station ≡ Some device → ⊥)
+        → is_entry pair_cmp (ready_entry (agent_at s device)) g p ≡ false
     apart o e none = seat (agent_at s device) refl
       where
         seat : (q : Option AgentRecord) → agent_at s device ≡ q → is_entry pair_cmp (ready_entry q) g p ≡ false
@@ -252,7 +294,10 @@ able-swapped s t call device new seats ascending agents listed at r busy is g p 
         seat (Some b) f = entry_other b g p (false_from_ne_true (b.agent == p.1) (λ h.
             none b (sym e ∙ ap (agent_of s) (sym (eqb-true b.agent p.1 h)) ∙ agent_there s agents device b f) (agent_seat s device b f).1))
 
-    kept : (x : Bool) → is_entry pair_cmp (ready_entry (agent_at s device)) g p ≡ false → x ≡ (not (is_entry pair_cmp (cond busy (ready_entry (agent_at s device)) None) g p) && (is_entry pair_cmp (cond busy None (ready_entry (agent_at s device))) g p || x))
+    kept : (x : Bool) → is_entry pair_cmp (ready_entry (agent_at s device)) g p ≡ false
+        → x
+        ≡ (not (is_entry pair_cmp (cond busy (ready_entry (agent_at s device)) None) g p)
+        && (is_entry pair_cmp (cond busy None (ready_entry (agent_at s device))) g p || x))
     kept x h = still _ _ x (side busy) (other busy)
       where
         side : (b : Bool) → is_entry pair_cmp (cond b None (ready_entry (agent_at s device))) g p ≡ false
@@ -263,44 +308,60 @@ able-swapped s t call device new seats ascending agents listed at r busy is g p 
         other true = h
         other false = refl
 
-    here : (a : AgentRecord) → a.agent ≡ p.1 → agent_at s device ≡ Some a → (x : Bool) → (b : Bool) → ((a.stamp == p.0) && (is_one_of a.groups g && (is_ready a.state && not b)))
-        ≡ (not (is_entry pair_cmp (cond b (ready_entry (agent_at s device)) None) g p) && (is_entry pair_cmp (cond b None (ready_entry (agent_at s device))) g p || ((a.stamp == p.0) && (is_one_of a.groups g && (is_ready a.state && x)))))
+    here : (a : AgentRecord) → a.agent ≡ p.1 → agent_at s device ≡ Some a → (x : Bool) → (b : Bool)
+        → ((a.stamp == p.0) && (is_one_of a.groups g && (is_ready a.state && not b)))
+        ≡ (not (is_entry pair_cmp (cond b (ready_entry (agent_at s device)) None) g p)
+        && (is_entry pair_cmp (cond b None (ready_entry (agent_at s device))) g p || ((a.stamp == p.0) && (is_one_of a.groups g && (is_ready a.state && x)))))
     here a n f x true =
         let seat : is_entry pair_cmp (ready_entry (agent_at s device)) g p ≡ ((a.stamp == p.0) && (is_one_of a.groups g && is_ready a.state)) =
-        ap (λ o. is_entry pair_cmp (ready_entry o) g p) f ∙ entry_able a g p ∙ ap (λ b. b && ((a.stamp == p.0) && (is_one_of a.groups g && is_ready a.state))) (eq-eqb a.agent p.1 n) in
-        becomes_busy (a.stamp == p.0) (is_one_of a.groups g) (is_ready a.state) x ∙ ap (λ b. not b && (false || ((a.stamp == p.0) && (is_one_of a.groups g && (is_ready a.state && x))))) (sym seat)
+        ap (λ o. is_entry pair_cmp (ready_entry o) g p) f ∙ entry_able a g p
+        ∙ ap (λ b. b && ((a.stamp == p.0) && (is_one_of a.groups g && is_ready a.state))) (eq-eqb a.agent p.1 n) in
+        becomes_busy (a.stamp == p.0) (is_one_of a.groups g) (is_ready a.state) x
+        ∙ ap (λ b. not b && (false || ((a.stamp == p.0) && (is_one_of a.groups g && (is_ready a.state && x))))) (sym seat)
     here a n f x false =
         let seat : is_entry pair_cmp (ready_entry (agent_at s device)) g p ≡ ((a.stamp == p.0) && (is_one_of a.groups g && is_ready a.state)) =
-        ap (λ o. is_entry pair_cmp (ready_entry o) g p) f ∙ entry_able a g p ∙ ap (λ b. b && ((a.stamp == p.0) && (is_one_of a.groups g && is_ready a.state))) (eq-eqb a.agent p.1 n) in
-        becomes_free (a.stamp == p.0) (is_one_of a.groups g) (is_ready a.state) x ∙ ap (λ b. true && (b || ((a.stamp == p.0) && (is_one_of a.groups g && (is_ready a.state && x))))) (sym seat)
+        ap (λ o. is_entry pair_cmp (ready_entry o) g p) f ∙ entry_able a g p
+        ∙ ap (λ b. b && ((a.stamp == p.0) && (is_one_of a.groups g && is_ready a.state))) (eq-eqb a.agent p.1 n) in
+        becomes_free (a.stamp == p.0) (is_one_of a.groups g) (is_ready a.state) x
+        ∙ ap (λ b. true && (b || ((a.stamp == p.0) && (is_one_of a.groups g && (is_ready a.state && x))))) (sym seat)
 
     by : (o : Option AgentRecord) → agent_of s p.1 ≡ o → is_able_since t g p.0 o
-        ≡ (not (is_entry pair_cmp (cond busy (ready_entry (agent_at s device)) None) g p) && (is_entry pair_cmp (cond busy None (ready_entry (agent_at s device))) g p || is_able_since s g p.0 o))
+        ≡ (not (is_entry pair_cmp (cond busy (ready_entry (agent_at s device)) None) g p)
+        && (is_entry pair_cmp (cond busy None (ready_entry (agent_at s device))) g p || is_able_since s g p.0 o))
     by None e = kept false (apart None e (λ b f h. cc (f)))
     by (Some a) e = station a.station refl
       where
         station : (o : Option ℕ) → a.station ≡ o → ((a.stamp == p.0) && (is_one_of a.groups g && (is_ready a.state && is_free t a.station)))
-            ≡ (not (is_entry pair_cmp (cond busy (ready_entry (agent_at s device)) None) g p) && (is_entry pair_cmp (cond busy None (ready_entry (agent_at s device))) g p || ((a.stamp == p.0) && (is_one_of a.groups g && (is_ready a.state && is_free s a.station)))))
+            ≡ (not (is_entry pair_cmp (cond busy (ready_entry (agent_at s device)) None) g p)
+            && (is_entry pair_cmp (cond busy None (ready_entry (agent_at s device))) g p
+            || ((a.stamp == p.0) && (is_one_of a.groups g && (is_ready a.state && is_free s a.station)))))
         station None f =
             ap (λ b. (a.stamp == p.0) && (is_one_of a.groups g && (is_ready a.state && b))) (ap (is_free t) f ∙ sym (ap (is_free s) f))
-            ∙ kept _ (apart (Some a) e (λ b h k. let same : a ≡ b = some_is a b h in let l : b.station ≡ None = ap (λ (z : AgentRecord). z.station) (sym same) ∙ f in cc (k, l)))
+            ∙ kept _ (apart (Some a) e
+            (λ b h k. let same : a ≡ b = some_is a b h in let l : b.station ≡ None = ap (λ (z : AgentRecord). z.station) (sym same) ∙ f in cc (k, l)))
         station (Some d) f = at_device (device == d) refl
           where
             at_device : (v : Bool) → (device == d) ≡ v → ((a.stamp == p.0) && (is_one_of a.groups g && (is_ready a.state && is_free t a.station)))
-                ≡ (not (is_entry pair_cmp (cond busy (ready_entry (agent_at s device)) None) g p) && (is_entry pair_cmp (cond busy None (ready_entry (agent_at s device))) g p || ((a.stamp == p.0) && (is_one_of a.groups g && (is_ready a.state && is_free s a.station)))))
+                ≡ (not (is_entry pair_cmp (cond busy (ready_entry (agent_at s device)) None) g p)
+                && (is_entry pair_cmp (cond busy None (ready_entry (agent_at s device))) g p
+                || ((a.stamp == p.0) && (is_one_of a.groups g && (is_ready a.state && is_free s a.station)))))
             at_device false h =
-                ap (λ b. (a.stamp == p.0) && (is_one_of a.groups g && (is_ready a.state && b))) (ap (is_free t) f ∙ ap not (busy-there s t call device new ascending at r d h) ∙ sym (ap (is_free s) f))
+                ap (λ b. (a.stamp == p.0) && (is_one_of a.groups g && (is_ready a.state && b)))
+                (ap (is_free t) f ∙ ap not (busy-there s t call device new ascending at r d h) ∙ sym (ap (is_free s) f))
                 ∙ kept _ (apart (Some a) e (λ b w k.
                 let same : a ≡ b = some_is a b w in
                 let l : d ≡ device = some_is d device (sym f ∙ ap (λ (z : AgentRecord). z.station) same ∙ k) in
                 let m = eq-eqb device d (sym l) in cc (h, m)))
             at_device true h =
                 let same : device ≡ d = eqb-true device d h in
-                ap (λ b. (a.stamp == p.0) && (is_one_of a.groups g && (is_ready a.state && b))) (ap (is_free t) f ∙ ap not (ap (is_busy_at t) (sym same) ∙ sym is))
+                ap (λ b. (a.stamp == p.0) && (is_one_of a.groups g && (is_ready a.state && b)))
+                (ap (is_free t) f ∙ ap not (ap (is_busy_at t) (sym same) ∙ sym is))
                 ∙ here a (agent_key s p.1 a e) (seated s seats agents listed p.1 device a e (f ∙ ap Some (sym same))) (is_free s a.station) busy
 
 -- an agent's record is put
-module _ (s : Rows) (item : AgentRecord) (after leaving : Option (List ℕ × (ℕ × ℕ))) (entered : after ≡ cond (is_free s item.station) (ready_entry (Some item)) None) (out : LeavesBut pair_cmp (ready_entry (agent_of s item.agent)) after leaving) where
+module _ (s : Rows) (item : AgentRecord) (after leaving : Option (List ℕ × (ℕ × ℕ)))
+    (entered : after ≡ cond (is_free s item.station) (ready_entry (Some item)) None)
+    (out : LeavesBut pair_cmp (ready_entry (agent_of s item.agent)) after leaving) where
   same_free : (o : Option ℕ) → is_free (with_agent s item) o ≡ is_free s o
   unfolding with_agent is_busy_at
   same_free None = refl
@@ -328,12 +389,15 @@ module _ (s : Rows) (item : AgentRecord) (after leaving : Option (List ℕ × (�
       all true false z w = refl
       all false y z w = refl
 
-      by : (b : Bool) → is_entry pair_cmp (cond b (ready_entry (Some item)) None) g p ≡ ((item.agent == p.1) && ((item.stamp == p.0) && (is_one_of item.groups g && (is_ready item.state && b))))
+      by : (b : Bool)
+          → is_entry pair_cmp (cond b (ready_entry (Some item)) None) g p
+          ≡ ((item.agent == p.1) && ((item.stamp == p.0) && (is_one_of item.groups g && (is_ready item.state && b))))
       by true = entry_able item g p ∙ all (item.agent == p.1) (item.stamp == p.0) (is_one_of item.groups g) (is_ready item.state)
       by false = none (item.agent == p.1) (item.stamp == p.0) (is_one_of item.groups g) (is_ready item.state)
 
   -- who was able had an entry before
-  entry_of_able : (g : ℕ) (p : ℕ × ℕ) → (o : Option AgentRecord) → agent_of s p.1 ≡ o → is_able_since s g p.0 o ≡ true → is_entry pair_cmp (ready_entry o) g p ≡ true
+  entry_of_able : (g : ℕ) (p : ℕ × ℕ) → (o : Option AgentRecord) → agent_of s p.1 ≡ o → is_able_since s g p.0 o ≡ true
+      → is_entry pair_cmp (ready_entry o) g p ≡ true
   entry_of_able g p None e h = h
   entry_of_able g p (Some a) e h =
       let one = and_parts (a.stamp == p.0) (is_one_of a.groups g && (is_ready a.state && is_free s a.station)) h in
@@ -342,7 +406,8 @@ module _ (s : Rows) (item : AgentRecord) (after leaving : Option (List ℕ × (�
       entry_able a g p ∙ and_from (a.agent == p.1) ((a.stamp == p.0) && (is_one_of a.groups g && is_ready a.state)) (eq-eqb a.agent p.1 (agent_key s p.1 a e))
       (and_from (a.stamp == p.0) (is_one_of a.groups g && is_ready a.state) one.0 (and_from (is_one_of a.groups g) (is_ready a.state) two.0 three.0))
 
-  other_entry : (g : ℕ) (p : ℕ × ℕ) → (item.agent == p.1) ≡ false → (o : Option AgentRecord) → agent_of s item.agent ≡ o → is_entry pair_cmp (ready_entry o) g p ≡ false
+  other_entry : (g : ℕ) (p : ℕ × ℕ) → (item.agent == p.1) ≡ false → (o : Option AgentRecord) → agent_of s item.agent ≡ o
+      → is_entry pair_cmp (ready_entry o) g p ≡ false
   other_entry g p h None e = refl
   other_entry g p h (Some a) e = entry_other a g p (ap (λ n. n == p.1) (agent_key s item.agent a e) ∙ h)
 
@@ -357,7 +422,9 @@ module _ (s : Rows) (item : AgentRecord) (after leaving : Option (List ℕ × (�
   put_there : (x e b : Bool) → e ≡ false → b ≡ false → x ≡ (not (b && not e) && (e || x))
   put_there x e b h k = rw (h, k) refl
 
-  pub agent-swapped : (g : ℕ) (p : ℕ × ℕ) → is_able_since (with_agent s item) g p.0 (agent_of (with_agent s item) p.1) ≡ (not (is_entry pair_cmp leaving g p) && (is_entry pair_cmp after g p || is_able_since s g p.0 (agent_of s p.1)))
+  pub agent-swapped : (g : ℕ) (p : ℕ × ℕ)
+      → is_able_since (with_agent s item) g p.0 (agent_of (with_agent s item) p.1)
+      ≡ (not (is_entry pair_cmp leaving g p) && (is_entry pair_cmp after g p || is_able_since s g p.0 (agent_of s p.1)))
   agent-swapped g p =
       same_able g p.0 (agent_of (with_agent s item) p.1)
       ∙ ap (is_able_since s g p.0) (agent_put s item p.1)
@@ -365,11 +432,13 @@ module _ (s : Rows) (item : AgentRecord) (after leaving : Option (List ℕ × (�
       ∙ ap (λ b. not b && (is_entry pair_cmp after g p || is_able_since s g p.0 (agent_of s p.1))) (sym (out g p))
     where
       by : (k : Bool) → (item.agent == p.1) ≡ k → is_able_since s g p.0 (cond k (Some item) (agent_of s p.1))
-          ≡ (not (is_entry pair_cmp (ready_entry (agent_of s item.agent)) g p && not (is_entry pair_cmp after g p)) && (is_entry pair_cmp after g p || is_able_since s g p.0 (agent_of s p.1)))
+          ≡ (not (is_entry pair_cmp (ready_entry (agent_of s item.agent)) g p && not (is_entry pair_cmp after g p))
+          && (is_entry pair_cmp after g p || is_able_since s g p.0 (agent_of s p.1)))
       by true h =
           let same : agent_of s item.agent ≡ agent_of s p.1 = ap (agent_of s) (eqb-true item.agent p.1 h) in
           let enter : is_entry pair_cmp after g p ≡ is_able_since s g p.0 (Some item) = enters g p ∙ ap (λ b. b && is_able_since s g p.0 (Some item)) h in
-          sym enter ∙ put_here (is_entry pair_cmp after g p) (is_able_since s g p.0 (agent_of s p.1)) (is_entry pair_cmp (ready_entry (agent_of s item.agent)) g p)
+          sym enter
+          ∙ put_here (is_entry pair_cmp after g p) (is_able_since s g p.0 (agent_of s p.1)) (is_entry pair_cmp (ready_entry (agent_of s item.agent)) g p)
           (λ v. ap (λ o. is_entry pair_cmp (ready_entry o) g p) same ∙ entry_of_able g p (agent_of s p.1) refl v)
       by false h =
           put_there (is_able_since s g p.0 (agent_of s p.1)) (is_entry pair_cmp after g p) (is_entry pair_cmp (ready_entry (agent_of s item.agent)) g p)
@@ -386,27 +455,37 @@ none_leaves None true = refl
 none_leaves None false = refl
 none_leaves (Some k) b = refl
 
--- the swap of a connection, by its parts
-pub connection-swap : (s : Rows) (seats : SeatMap) (call device : ℕ) (old new : Option ConnectionRecord) (swap : Swap) (before seat : Option (List ℕ × (ℕ × ℕ))) (busy : Bool)
+-- the swap of a connection is made of these parts
+pub record IsMadeOf (s : Rows) (call device : ℕ) (old new : Option ConnectionRecord) (swap : Swap) : Type 0 where
+  pub before : Option (List ℕ × (ℕ × ℕ))
+  pub seat : Option (List ℕ × (ℕ × ℕ))
+  pub busy : Bool
+  pub before_is : before ≡ queue_entry old
+  pub after_is : swap.entering.queue ≡ queue_entry new
+  pub goes : LeavesBut pair_cmp before swap.entering.queue swap.leaving.queue
+  pub seat_is : seat ≡ swapped_seat s device old new
+  pub busy_is : busy ≡ (is_some seat && (is_there_and is_busying new || is_in_use s device (Some call) Busying))
+  pub enters : swap.entering.ready ≡ cond busy None seat
+  pub leaves : swap.leaving.ready ≡ cond busy seat None
+
+pub connection-swap : (s : Rows) (seats : SeatMap) (call device : ℕ) (old new : Option ConnectionRecord) (swap : Swap)
     → IsAscending connection_order s.connections → IsAscending agent_order s.agents → Seats s seats → IsAt call device new → old ≡ connection_of s call device
-    → before ≡ queue_entry old → swap.entering.queue ≡ queue_entry new → LeavesBut pair_cmp before swap.entering.queue swap.leaving.queue
-    → seat ≡ cond (differ (is_there_and is_busying old) (is_there_and is_busying new)) (ready_entry (agent_at s device)) None
-    → busy ≡ (is_some seat && (is_there_and is_busying new || is_in_use s device (Some call) Busying))
-    → swap.entering.ready ≡ cond busy None seat → swap.leaving.ready ≡ cond busy seat None → SwapsTo s (with_or_without s call device new) swap
-connection-swap s seats call device old new swap before seat busy ascending agents listed at found b after out f u e l =
+    → IsMadeOf s call device old new swap → SwapsTo s (with_or_without s call device new) swap
+connection-swap s seats call device old new swap ascending agents listed at found m =
+    let seat = m.seat in
     let t : Rows = with_or_without s call device new in
     let r = Replaces-either s call device new ascending at in
     let leaves : LeavesBut pair_cmp (queue_entry (connection_of s call device)) (queue_entry new) swap.leaving.queue =
-    λ g p. out g p
-    ∙ ap (λ o. is_entry pair_cmp o g p && not (is_entry pair_cmp swap.entering.queue g p)) (b ∙ ap queue_entry found)
-    ∙ ap (λ o. is_entry pair_cmp (queue_entry (connection_of s call device)) g p && not (is_entry pair_cmp o g p)) after in
+    λ g p. m.goes g p
+    ∙ ap (λ o. is_entry pair_cmp o g p && not (is_entry pair_cmp swap.entering.queue g p)) (m.before_is ∙ ap queue_entry found)
+    ∙ ap (λ o. is_entry pair_cmp (queue_entry (connection_of s call device)) g p && not (is_entry pair_cmp o g p)) m.after_is in
     let now : Bool = is_there_and is_busying new || is_in_use s device (Some call) Busying in
-    let enters : swap.entering.ready ≡ cond now None seat = e ∙ ap (λ b. cond b None seat) u ∙ none_enters seat now in
-    let exits : swap.leaving.ready ≡ cond now seat None = l ∙ ap (λ b. cond b seat None) u ∙ none_leaves seat now in
+    let enters : swap.entering.ready ≡ cond now None seat = m.enters ∙ ap (λ b. cond b None seat) m.busy_is ∙ none_enters seat now in
+    let exits : swap.leaving.ready ≡ cond now seat None = m.leaves ∙ ap (λ b. cond b seat None) m.busy_is ∙ none_leaves seat now in
     record {
       waiting = λ g p. waiting-swapped s t call device new at r swap.leaving.queue leaves g p
-          ∙ ap (λ o. not (is_entry pair_cmp swap.leaving.queue g p) && (is_entry pair_cmp o g p || waits_at p.0 (connection_of s p.1 g))) (sym after);
-      able = λ g p. by (differ (is_there_and is_busying old) (is_there_and is_busying new)) refl f g p
+          ∙ ap (λ o. not (is_entry pair_cmp swap.leaving.queue g p) && (is_entry pair_cmp o g p || waits_at p.0 (connection_of s p.1 g))) (sym m.after_is);
+      able = λ g p. by (differ (is_there_and is_busying old) (is_there_and is_busying new)) refl m.seat_is g p
           ∙ ap (λ o. not (is_entry pair_cmp o g p) && (is_entry pair_cmp (cond now None seat) g p || is_able_since s g p.0 (agent_of s p.1))) (sym exits)
           ∙ ap (λ o. not (is_entry pair_cmp swap.leaving.ready g p) && (is_entry pair_cmp o g p || is_able_since s g p.0 (agent_of s p.1))) (sym enters);
     }
@@ -422,26 +501,32 @@ connection-swap s seats call device old new swap before seat busy ascending agen
     nobody true g p x = refl
     nobody false g p x = refl
 
-    by : (d : Bool) → differ (is_there_and is_busying old) (is_there_and is_busying new) ≡ d → seat ≡ cond d (ready_entry (agent_at s device)) None → (g : ℕ) (p : ℕ × ℕ) → is_able_since t g p.0 (agent_of t p.1)
-        ≡ (not (is_entry pair_cmp (cond now seat None) g p) && (is_entry pair_cmp (cond now None seat) g p || is_able_since s g p.0 (agent_of s p.1)))
+    by : (d : Bool) → differ (is_there_and is_busying old) (is_there_and is_busying new) ≡ d → m.seat ≡ cond d (ready_entry (agent_at s device)) None
+        → (g : ℕ) (p : ℕ × ℕ) → is_able_since t g p.0 (agent_of t p.1)
+        ≡ (not (is_entry pair_cmp (cond now m.seat None) g p) && (is_entry pair_cmp (cond now None m.seat) g p || is_able_since s g p.0 (agent_of s p.1)))
     by true d k g p =
         let r = Replaces-either s call device new ascending at in
         able-swapped s t call device new seats ascending agents listed at r now (busy-here s t call device new ascending at r) g p
         ∙ ap (λ o. not (is_entry pair_cmp (cond now o None) g p) && (is_entry pair_cmp (cond now None o) g p || is_able_since s g p.0 (agent_of s p.1))) (sym k)
     by false d k g p =
-        able-still s t call device new ascending at (Replaces-either s call device new ascending at) (ap (λ o. differ (is_there_and is_busying o) (is_there_and is_busying new)) (sym found) ∙ d) g p
+        able-still s t call device new ascending at (Replaces-either s call device new ascending at)
+        (ap (λ o. differ (is_there_and is_busying o) (is_there_and is_busying new)) (sym found) ∙ d) g p
         ∙ nobody now g p (is_able_since s g p.0 (agent_of s p.1))
         ∙ ap (λ o. not (is_entry pair_cmp (cond now o None) g p) && (is_entry pair_cmp (cond now None o) g p || is_able_since s g p.0 (agent_of s p.1))) (sym k)
 
 -- the swap of an agent, by its parts
-pub agent-swap : (s : Rows) (item : AgentRecord) (swap : Swap) (before entry : Option (List ℕ × (ℕ × ℕ))) (free : Bool) → swap.entering.queue ≡ None → swap.leaving.queue ≡ None
-    → before ≡ ready_entry (agent_of s item.agent) → entry ≡ ready_entry (Some item) → free ≡ (is_some entry && is_free s item.station) → swap.entering.ready ≡ cond free entry None → LeavesBut pair_cmp before swap.entering.ready swap.leaving.ready
+pub agent-swap : (s : Rows) (item : AgentRecord) (swap : Swap) (before entry : Option (List ℕ × (ℕ × ℕ))) (free : Bool) → swap.entering.queue ≡ None
+    → swap.leaving.queue ≡ None
+    → before ≡ ready_entry (agent_of s item.agent) → entry ≡ ready_entry (Some item) → free ≡ (is_some entry && is_free s item.station)
+    → swap.entering.ready ≡ cond free entry None → LeavesBut pair_cmp before swap.entering.ready swap.leaving.ready
     → SwapsTo s (with_agent s item) swap
 unfolding with_agent connection_of
 agent-swap s item swap before entry free a b o e f h out = record {
   waiting = λ g p. ap (λ v. not v && waits_at p.0 (connection_of s p.1 g)) (sym (ap (λ u. is_entry pair_cmp u g p) b))
       ∙ ap (λ v. not (is_entry pair_cmp swap.leaving.queue g p) && (v || waits_at p.0 (connection_of s p.1 g))) (sym (ap (λ u. is_entry pair_cmp u g p) a));
-  able = agent-swapped s item swap.entering.ready swap.leaving.ready (h ∙ ap (λ v. cond v entry None) f ∙ none_leaves entry (is_free s item.station) ∙ ap (λ u. cond (is_free s item.station) u None) e)
+  able =
+      agent-swapped s item swap.entering.ready swap.leaving.ready
+      (h ∙ ap (λ v. cond v entry None) f ∙ none_leaves entry (is_free s item.station) ∙ ap (λ u. cond (is_free s item.station) u None) e)
       (λ g p. out g p ∙ ap (λ u. is_entry pair_cmp u g p && not (is_entry pair_cmp swap.entering.ready g p)) o);
 }
 
@@ -450,7 +535,8 @@ any_filtered : (p : ℕ → Bool) (gs : List ℕ) (g : ℕ) → is_one_of (filte
 any_filtered p [] g = refl
 any_filtered p (x ∷ gs) g = by (p x) refl (x == g) refl (any_filtered p gs g)
   where
-    by : (b : Bool) → p x ≡ b → (c : Bool) → (x == g) ≡ c → is_one_of (filter p gs) g ≡ (is_one_of gs g && p g) → is_one_of (cond b (x ∷ filter p gs) (filter p gs)) g ≡ ((c || is_one_of gs g) && p g)
+    by : (b : Bool) → p x ≡ b → (c : Bool) → (x == g) ≡ c → is_one_of (filter p gs) g ≡ (is_one_of gs g && p g)
+        → is_one_of (cond b (x ∷ filter p gs) (filter p gs)) g ≡ ((c || is_one_of gs g) && p g)
     by true e true f more = rw f (sym (ap p (sym (eqb-true x g f)) ∙ e))
     by true e false f more = rw f more
     by false e true f more =

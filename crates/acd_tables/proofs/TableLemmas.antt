@@ -24,7 +24,8 @@ either_none : {X : Type 0} (o : Option X) → either o None ≡ o
 either_none (Some x) = refl
 either_none None = refl
 
-module _ {K R : Type 0} (cmp : K → K → Ordering) (eq : K → K → Bool) (key : R → K) (total : IsTotalOrder cmp) (exact : CmpEqualImpliesEq cmp) (same : (x y : K) → eq x y ≡ is_eq (cmp x y)) where
+module _ {K R : Type 0} (cmp : K → K → Ordering) (eq : K → K → Bool) (key : R → K) (total : IsTotalOrder cmp) (exact : CmpEqualImpliesEq cmp)
+    (same : (x y : K) → eq x y ≡ is_eq (cmp x y)) where
   abbrev order : R → R → Ordering
   order x y = cmp (key x) (key y)
 
@@ -90,7 +91,9 @@ module _ {K R : Type 0} (cmp : K → K → Ordering) (eq : K → K → Bool) (ke
       ∙ ap (either (lookup (eq k) es)) (found_put by_key held e.1 k ∙ ap (λ j. cond (eq k j) (Some e.1) (find_by (λ x. cmp k (key x)) held)) h.0)
       ∙ by (eq k e.0) refl
     where
-      by : (b : Bool) → eq k e.0 ≡ b → either (lookup (eq k) es) (cond b (Some e.1) (find_by (λ x. cmp k (key x)) held)) ≡ either (cond b (Some e.1) (lookup (eq k) es)) (find_by (λ x. cmp k (key x)) held)
+      by : (b : Bool) → eq k e.0 ≡ b
+          → either (lookup (eq k) es) (cond b (Some e.1) (find_by (λ x. cmp k (key x)) held))
+          ≡ either (cond b (Some e.1) (lookup (eq k) es)) (find_by (λ x. cmp k (key x)) held)
       by true p = ap (λ o. either o (Some e.1)) (not_twice k e es d.0 p)
       by false p = refl
 
@@ -100,10 +103,12 @@ module _ {K R : Type 0} (cmp : K → K → Ordering) (eq : K → K → Bool) (ke
 
   ascending-placed : (rs held : List R) → IsAscending order held → IsAscending order (placed cmp key held rs)
   ascending-placed [] held h = h
-  ascending-placed (r ∷ rs) held h = ascending-placed rs (put_by (λ x. cmp (key r) (key x)) held r) (ascending-put (λ x y. cmp (key x) (key y)) (on_total key total) r held h)
+  ascending-placed (r ∷ rs) held h =
+      ascending-placed rs (put_by (λ x. cmp (key r) (key x)) held r) (ascending-put (λ x y. cmp (key x) (key y)) (on_total key total) r held h)
 
   -- ascending lists in which the same is found at each key are equal
-  same_list : (xs ys : List R) → IsAscending order xs → IsAscending order ys → ((k : K) → find_by (λ x. cmp k (key x)) xs ≡ find_by (λ x. cmp k (key x)) ys) → xs ≡ ys
+  same_list : (xs ys : List R) → IsAscending order xs → IsAscending order ys → ((k : K) → find_by (λ x. cmp k (key x)) xs ≡ find_by (λ x. cmp k (key x)) ys)
+      → xs ≡ ys
   same_list xs ys h i f = ascending-same (λ x y. cmp (key x) (key y)) (on_total key total) xs ys h i
       (λ z a. found_among by_key ys (key z) z (sym (f (key z)) ∙ found_itself by_key xs h z a))
       (λ z a. found_among by_key xs (key z) z (f (key z) ∙ found_itself by_key ys i z a))
@@ -142,16 +147,20 @@ module _ {K R : Type 0} (cmp : K → K → Ordering) (eq : K → K → Bool) (ke
           (ascending-remove (λ x y. cmp (key x) (key y)) (λ x. cmp gone (key x)) (placed cmp key [] (values_of es)) (ascending-placed (values_of es) [] tt))
           (λ k. found-entry k new keyed-remove ∙ f k
           ∙ ap (λ o. cond (eq gone k) None o) (sym (found-entry k es h))
-          ∙ sym (found_left by_key (placed cmp key [] (values_of es)) (ascending-placed (values_of es) [] tt) gone k (eq gone k) (λ y p. ap (eq gone) (sym (is_key k (key y) p)))))
+          ∙ sym (found_left by_key (placed cmp key [] (values_of es)) (ascending-placed (values_of es) [] tt) gone k (eq gone k)
+          (λ y p. ap (eq gone) (sym (is_key k (key y) p)))))
 
   -- ---- how many there are
 
   length-placed : (es : List (K × R)) (held : List R) → AllByRecursion (λ e. key e.1 ≡ e.0) es → IsDistinct eq (keys_of es)
-      → ((k : K) → is_some (lookup (eq k) es) ≡ true → find_by (λ x. cmp k (key x)) held ≡ None) → length (placed cmp key held (values_of es)) ≡ length held + length es
+      → ((k : K) → is_some (lookup (eq k) es) ≡ true → find_by (λ x. cmp k (key x)) held ≡ None)
+      → length (placed cmp key held (values_of es)) ≡ length held + length es
   unfolding IsDistinct
   length-placed [] held h d n = omega arith
   length-placed (e ∷ es) held h d n =
-      let more = length-placed es (put_by (λ x. cmp (key e.1) (key x)) held e.1) h.1 d.1 (λ k p. found_put by_key held e.1 k ∙ ap (λ j. cond (eq k j) (Some e.1) (find_by (λ x. cmp k (key x)) held)) h.0 ∙ by k p (eq k e.0) refl) in
+      let more =
+      length-placed es (put_by (λ x. cmp (key e.1) (key x)) held e.1) h.1 d.1
+      (λ k p. found_put by_key held e.1 k ∙ ap (λ j. cond (eq k j) (Some e.1) (find_by (λ x. cmp k (key x)) held)) h.0 ∙ by k p (eq k e.0) refl) in
       let one = counted_new by_key held (λ _. true) e.1 new in
       let a = count_all (put_by (λ x. cmp (key e.1) (key x)) held e.1) in
       let b = count_all held in
@@ -190,7 +199,9 @@ module _ {K R : Type 0} (cmp : K → K → Ordering) (eq : K → K → Bool) (ke
       by false p f = ap (λ b. cond b (Some e.1) (lookup (eq (key r)) es)) p ∙ f
 
   pub among-forth : (r : R) (es : List (K × R)) → IsKeyed eq key es → Among r (placed cmp key [] (values_of es)) → Among r (values_of es)
-  among-forth r es h a = found-value (key r) r es (sym (found-entry (key r) es h) ∙ found_itself by_key (placed cmp key [] (values_of es)) (ascending-placed (values_of es) [] tt) r a)
+  among-forth r es h a =
+      found-value (key r) r es
+      (sym (found-entry (key r) es h) ∙ found_itself by_key (placed cmp key [] (values_of es)) (ascending-placed (values_of es) [] tt) r a)
 
   pub among-back : (r : R) (es : List (K × R)) → IsKeyed eq key es → Among r (values_of es) → Among r (placed cmp key [] (values_of es))
   among-back r es h a = found_among by_key (placed cmp key [] (values_of es)) (key r) r (found-entry (key r) es h ∙ value-found r es h a)

@@ -23,7 +23,8 @@ five a b c d e = record { entered = a; answered = b; abandoned = c; moved = d; w
 
 same_five : (a b c d e v w x y z : ℕ) → a ≡ v → b ≡ w → c ≡ x → d ≡ y → e ≡ z → five a b c d e ≡ five v w x y z
 same_five a b c d e v w x y z p q r s t =
-    ap (λ (n : ℕ). five n b c d e) p ∙ ap (λ (n : ℕ). five v n c d e) q ∙ ap (λ (n : ℕ). five v w n d e) r ∙ ap (λ (n : ℕ). five v w x n e) s ∙ ap (λ (n : ℕ). five v w x y n) t
+    ap (λ (n : ℕ). five n b c d e) p ∙ ap (λ (n : ℕ). five v n c d e) q ∙ ap (λ (n : ℕ). five v w n d e) r ∙ ap (λ (n : ℕ). five v w x n e) s
+    ∙ ap (λ (n : ℕ). five v w x y n) t
 
 pub figures_joined : (g : ℕ) (es fs : List Event) → figures_of g (es ++ fs) ≡ sum_of_figures (figures_of g es) (figures_of g fs)
 unfolding figures_of
@@ -76,13 +77,21 @@ pub quiet : (g : ℕ) (r : Report) → has (group_counted r) g ≡ false → Qui
 quiet g (Queued call group cause) e = record { entry = rw e refl; answer = refl; abandonment = refl; moving_away = refl; waited = refl }
 quiet g (Established call station (Some w)) e = record { entry = refl; answer = e; abandonment = refl; moving_away = refl; waited = rw e refl }
 quiet g (CallCleared call group) e = record { entry = refl; answer = refl; abandonment = e; moving_away = refl; waited = refl }
-quiet g (Diverted call device to cause group) e = record { entry = refl; answer = refl; abandonment = refl; moving_away = and_right (is_deflected cause) (has group g) e; waited = refl }
+quiet g (Diverted call device to cause group) e = record {
+  entry = refl;
+  answer = refl;
+  abandonment = refl;
+  moving_away = and_right (is_deflected cause) (has group g) e;
+  waited = refl;
+}
 quiet g _ e = record { entry = refl; answer = refl; abandonment = refl; moving_away = refl; waited = refl }
 
-count_skipped : (p : Report → Bool) (e : Event) (es : List Event) → p e.report ≡ false → count (λ (x : Event). p x.report) (e ∷ es) ≡ count (λ (x : Event). p x.report) es
+count_skipped : (p : Report → Bool) (e : Event) (es : List Event) → p e.report ≡ false
+    → count (λ (x : Event). p x.report) (e ∷ es) ≡ count (λ (x : Event). p x.report) es
 count_skipped p e es q = rw q (omega arith)
 
-total_skipped : (f : Report → ℕ) (e : Event) (es : List Event) → f e.report ≡ 0 → total (λ (x : Event). f x.report) (e ∷ es) ≡ total (λ (x : Event). f x.report) es
+total_skipped : (f : Report → ℕ) (e : Event) (es : List Event) → f e.report ≡ 0
+    → total (λ (x : Event). f x.report) (e ∷ es) ≡ total (λ (x : Event). f x.report) es
 total_skipped f e es q = rw q (omega arith)
 
 pub figures_skipped : (g : ℕ) (e : Event) (es : List Event) → Quiet g e.report → figures_of g (e ∷ es) ≡ figures_of g es
@@ -97,4 +106,6 @@ figures_skipped g e es q = same_five _ _ _ _ _ _ _ _ _ _
 -- events are numbered on
 pub numbered-append : (n : ℕ) (es fs : List Event) → numbered n (es ++ fs) ≡ numbered n es ++ numbered (n + length es) fs
 numbered-append n [] fs = ap (λ k. numbered k fs) (omega arith)
-numbered-append n (e ∷ es) fs = ap (λ (rest : List Event). record e { number = n + 1 } ∷ rest) (numbered-append (n + 1) es fs ∙ ap (λ k. numbered (n + 1) es ++ numbered k fs) (omega arith))
+numbered-append n (e ∷ es) fs =
+    ap (λ (rest : List Event). record e { number = n + 1 } ∷ rest)
+    (numbered-append (n + 1) es fs ∙ ap (λ k. numbered (n + 1) es ++ numbered k fs) (omega arith))

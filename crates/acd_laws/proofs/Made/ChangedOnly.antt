@@ -32,7 +32,8 @@ no_offer_renamed s a name there none =
     let b : AgentRecord = record a { name = name } in
     no_offer (with_agent s b) (λ g i. elim (none g i) [
       | inl nobody ↦ inl nobody
-      | inr nobody ↦ inr (filter_put (is_eligible s g.device) (at_agent b.agent) b s.agents nobody (none_filtered (is_eligible s g.device) s.agents nobody a there))
+      | inr nobody ↦ inr
+          (filter_put (is_eligible s g.device) (at_agent b.agent) b s.agents nobody (none_filtered (is_eligible s g.device) s.agents nobody a there))
     ])
 
 pub changes_change_only : ChangesChangeOnly
@@ -43,11 +44,15 @@ changes_change_only s moment h =
       group = λ device name ring wrap g found.
           let put : GroupRecord = record g { name = name; ring = ring; wrap = wrap } in
           let served : change_group s device name ring wrap ≡ gives Nothing (silent (PutGroup put) ∷ []) = rw found refl in
-          let q = quiet_step s moment (ChangeGroup device name ring wrap) (silent (PutGroup put) ∷ []) (ap moves_of served) refl (no_offer_regrouped s g put (group_among s device g found) refl none) in
+          let q =
+          quiet_step s moment (ChangeGroup device name ring wrap) (silent (PutGroup put) ∷ []) (ap moves_of served) refl
+          (no_offer_regrouped s g put (group_among s device g found) refl none) in
           record { outcome = ap outcome_of served; events = q.0; rows = q.1 };
       agent = λ agent name a found.
           let put : AgentRecord = record a { name = name } in
           let served : change_agent s agent name ≡ gives Nothing (silent (PutAgent put) ∷ []) = rw found refl in
-          let q = quiet_step s moment (ChangeAgent agent name) (silent (PutAgent put) ∷ []) (ap moves_of served) refl (no_offer_renamed s a name (agent_among s agent a found) none) in
+          let q =
+          quiet_step s moment (ChangeAgent agent name) (silent (PutAgent put) ∷ []) (ap moves_of served) refl
+          (no_offer_renamed s a name (agent_among s agent a found) none) in
           record { outcome = ap outcome_of served; events = q.0; rows = q.1 };
     }

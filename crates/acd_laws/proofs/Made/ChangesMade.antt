@@ -55,7 +55,13 @@ other_number a b e = false_from_ne_true (a == b) (λ q. cc (e, is_eq_of (nat_cmp
 still : (g : ℕ) (r : Report) → has (counted_group r) g ≡ false → Quiet g r
 still g (Queued call group cause) e =
     (elim (is_no_answer cause) as (λ b. is_no_answer cause ≡ b → has (cond b None (Some group)) g ≡ false → Quiet g (Queued call group cause)) [
-      | true ↦ λ q _. record { entry = and_right (group == g) (not (is_no_answer cause)) (ap not q); answer = refl; abandonment = refl; moving_away = refl; waited = refl }
+      | true ↦ λ q _. record {
+        entry = and_right (group == g) (not (is_no_answer cause)) (ap not q);
+        answer = refl;
+        abandonment = refl;
+        moving_away = refl;
+        waited = refl;
+      }
       | false ↦ λ _ h. quiet g (Queued call group cause) h
     ]) refl e
 still g (Diverted call device to cause group) e =
@@ -80,7 +86,8 @@ counting_more e es g =
 
 pub counting_both : (e : Event) (es : List Event) (gs : List GroupRecord) → map (counting es) (map (counting (e ∷ [])) gs) ≡ map (counting (e ∷ es)) gs
 counting_both e es [] = refl
-counting_both e es (g ∷ gs) = ap (λ h. h ∷ map (counting es) (map (counting (e ∷ [])) gs)) (counting_more e es g) ∙ ap (λ l. counting (e ∷ es) g ∷ l) (counting_both e es gs)
+counting_both e es (g ∷ gs) =
+    ap (λ h. h ∷ map (counting es) (map (counting (e ∷ [])) gs)) (counting_more e es g) ∙ ap (λ l. counting (e ∷ es) g ∷ l) (counting_both e es gs)
 
 -- an event's growth, and that of all events
 
@@ -100,7 +107,9 @@ found_grown s e d g a c f =
 
 missed_grown : (s : Rows) (e : Event) (d : ℕ) → counted_group e.report ≡ Some d → group_of s d ≡ None → s ≡ with_figures s (e ∷ [])
 unfolding group_of
-missed_grown s e d c f = none_grown s (e ∷ []) (λ g i. counts_nothing e g (rw c (eqb_swap d g.device ∙ find_none (by_group.has d) s.groups (sym (find_is by_group s.groups d) ∙ f) g i)))
+missed_grown s e d c f =
+    none_grown s (e ∷ [])
+    (λ g i. counts_nothing e g (rw c (eqb_swap d g.device ∙ find_none (by_group.has d) s.groups (sym (find_is by_group s.groups d) ∙ f) g i)))
 
 pub one_grown : (s : Rows) (e : Event) → IsAscending group_order s.groups → changed_by s (growth_by s e) ≡ with_figures s (e ∷ [])
 one_grown s e a =
@@ -128,7 +137,8 @@ pub all_grown : (es : List Event) (s : Rows) → IsAscending group_order s.group
 all_grown [] s a = sym (figures_none s)
 all_grown (e ∷ es) s a =
     let t : Rows = changed_by s (growth_by s e) in
-    changed_by_append s (growth_by s e) (growth t es) ∙ all_grown es t (ascending_grown s e a) ∙ ap (λ r. with_figures r es) (one_grown s e a) ∙ figures_more s e es
+    changed_by_append s (growth_by s e) (growth t es) ∙ all_grown es t (ascending_grown s e a) ∙ ap (λ r. with_figures r es) (one_grown s e a)
+    ∙ figures_more s e es
 
 -- moves keep the order of the groups
 
@@ -147,7 +157,8 @@ pub length-numbered : (n : ℕ) (es : List Event) → length (numbered n es) ≡
 length-numbered n [] = refl
 length-numbered n (e ∷ es) = ap suc (length-numbered (n + 1) es)
 
-changes_made : (s : Rows) (m : ℕ) (ms : List Move) → IsAscending group_order s.groups → changed_by s (step_changes_by s m ms) ≡ with_figures (moved s ms) (events_of m ms)
+changes_made : (s : Rows) (m : ℕ) (ms : List Move) → IsAscending group_order s.groups
+    → changed_by s (step_changes_by s m ms) ≡ with_figures (moved s ms) (events_of m ms)
 changes_made s m ms a =
     changed_by_append s (changes_of ms) (growth (moved s ms) (events_of m ms))
     ∙ ap (λ t. changed_by t (growth (moved s ms) (events_of m ms))) (moved_by_changes s ms)
@@ -158,7 +169,8 @@ unfolding step step_changes
 step_makes_its_changes s moment command h =
     let m : ℕ = executed_moment s moment in
     let ms : List Move = step_moves s m (serve s (next_turn s moment) command) in
-    ap (λ t. with_last t (next_stamp s) m (s.last_event + length (numbered s.last_event (events_of m ms)))) (changes_made s m ms (keeps_read s h).rules.orders.groups)
+    ap (λ t. with_last t (next_stamp s) m (s.last_event + length (numbered s.last_event (events_of m ms))))
+    (changes_made s m ms (keeps_read s h).rules.orders.groups)
     ∙ ap (λ n. with_last (with_figures (moved s ms) (events_of m ms)) (next_stamp s) m (s.last_event + n)) (length-numbered s.last_event (events_of m ms))
 
 -- a step that reports nothing, where no offer is left
@@ -172,7 +184,8 @@ unreported : (s : Rows) (k m : ℕ) (ms : List Move) → events_of m ms ≡ [] �
 unfolding with_last
 unreported s k m ms e = rw e (rw (figures_none (moved s ms), add-zero) refl)
 
-pub quiet_step : (s : Rows) (moment : ℕ) (command : Command) (ms : List Move) → moves_of (serve s (next_turn s moment) command) ≡ ms → events_of (executed_moment s moment) ms ≡ [] → offer_of (moved s ms) ≡ None
+pub quiet_step : (s : Rows) (moment : ℕ) (command : Command) (ms : List Move) → moves_of (serve s (next_turn s moment) command) ≡ ms
+    → events_of (executed_moment s moment) ms ≡ [] → offer_of (moved s ms) ≡ None
     → ((step s moment command).events ≡ []) × ((step s moment command).rows ≡ with_last (moved s ms) (next_stamp s) (executed_moment s moment) s.last_event)
 unfolding step
 quiet_step s moment command ms e none h =
@@ -189,7 +202,8 @@ refused_moves (Err x) r e = refl
 refused_moves (Ok done) r e = absurd cc
 
 -- for a state with no offer left
-pub refused : (s : Rows) (moment : ℕ) (command : Command) (r : Refusal) → offer_of s ≡ None → (step s moment command).outcome ≡ outcome.Refused r → ChangesNothing s moment command
+pub refused : (s : Rows) (moment : ℕ) (command : Command) (r : Refusal) → offer_of s ≡ None → (step s moment command).outcome ≡ outcome.Refused r
+    → ChangesNothing s moment command
 unfolding step
 refused s moment command r h e =
     let q = quiet_step s moment command [] (refused_moves (serve s (next_turn s moment) command) r e) refl h in record { events = q.0; rows = q.1 }

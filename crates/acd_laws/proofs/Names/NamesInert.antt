@@ -27,12 +27,15 @@ counted_unnamed s turn ms =
     let t : Rows = moved s ms in
     rw (unnamed_events turn.moment ms, unnamed_moved s ms) (ap (λ v. with_last v turn.stamp turn.moment (s.last_event + length es)) (unnamed_figures t es))
 
-step_by_unnamed : (s : Rows) (turn : Turn) (outcome : Outcome) (ms : List Move) → step_by (unnamed s) turn outcome (map unnamed_move ms) ≡ unnamed_step (step_by s turn outcome ms)
+step_by_unnamed : (s : Rows) (turn : Turn) (outcome : Outcome) (ms : List Move)
+    → step_by (unnamed s) turn outcome (map unnamed_move ms) ≡ unnamed_step (step_by s turn outcome ms)
 unfolding unnamed
 step_by_unnamed s turn outcome ms =
-    ap₂ (λ (t : Rows) (es : List Event). let one : Stepped = record { outcome = outcome; rows = t; events = numbered s.last_event es } in one) (counted_unnamed s turn ms) (unnamed_events turn.moment ms)
+    ap₂ (λ (t : Rows) (es : List Event). let one : Stepped = record { outcome = outcome; rows = t; events = numbered s.last_event es } in one)
+    (counted_unnamed s turn ms) (unnamed_events turn.moment ms)
 
-step_moves_unnamed : (s : Rows) (moment : Moment) (v w : Served) → moves_of v ≡ map unnamed_move (moves_of w) → step_moves (unnamed s) moment v ≡ map unnamed_move (step_moves s moment w)
+step_moves_unnamed : (s : Rows) (moment : Moment) (v w : Served) → moves_of v ≡ map unnamed_move (moves_of w)
+    → step_moves (unnamed s) moment v ≡ map unnamed_move (step_moves s moment w)
 step_moves_unnamed s moment v w e =
     let ms : List Move = moves_of w in
     rw (e, unnamed_moved s ms, unnamed_distribution (moved s ms) moment) (sym (map-append unnamed_move ms (distribution (moved s ms) moment)))
@@ -44,14 +47,16 @@ step_unnamed s moment c =
     let w : Served = serve s turn c in
     let v : Served = serve (unnamed s) turn (unnamed_command c) in
     let is : IsUnnamed v w = unnamed_serve s turn c in
-    ap₂ (step_by (unnamed s) turn) is.outcome (step_moves_unnamed s turn.moment v w is.moves) ∙ step_by_unnamed s turn (outcome_of w) (step_moves s turn.moment w)
+    ap₂ (step_by (unnamed s) turn) is.outcome (step_moves_unnamed s turn.moment v w is.moves)
+    ∙ step_by_unnamed s turn (outcome_of w) (step_moves s turn.moment w)
 
 run_unnamed : (s : Rows) (cs : List TimedCommand) → run (unnamed s) (map unnamed_timed cs) ≡ unnamed_run (run s cs)
 unfolding run
 run_unnamed s [] = refl
 run_unnamed s (c ∷ cs) =
     let one : Stepped = step s c.moment c.command in
-    ap (λ (z : Stepped). then_run z (run z.rows (map unnamed_timed cs))) (step_unnamed s c.moment c.command) ∙ ap (then_run (unnamed_step one)) (run_unnamed one.rows cs)
+    ap (λ (z : Stepped). then_run z (run z.rows (map unnamed_timed cs))) (step_unnamed s c.moment c.command)
+    ∙ ap (then_run (unnamed_step one)) (run_unnamed one.rows cs)
 
 pub names_are_inert : NamesAreInert
 names_are_inert s t xs ys rows commands =

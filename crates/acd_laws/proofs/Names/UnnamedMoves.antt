@@ -39,8 +39,10 @@ unnamed_move move = record move { change = unnamed_change move.change }
 
 unnamed_changed : (s : Rows) (c : Change) → changed (unnamed s) (unnamed_change c) ≡ unnamed (changed s c)
 unfolding unnamed with_group with_station with_agent with_call with_connection with_monitor without_call without_connection without_monitor
-unnamed_changed s (PutGroup g) = ap (λ l. let t : Rows = record (unnamed s) { groups = l } in t) (put_by-map unnamed_group (at_group g.device) (at_group g.device) (λ x. refl) g s.groups)
-unnamed_changed s (PutAgent a) = ap (λ l. let t : Rows = record (unnamed s) { agents = l } in t) (put_by-map unnamed_agent (at_agent a.agent) (at_agent a.agent) (λ x. refl) a s.agents)
+unnamed_changed s (PutGroup g) =
+    ap (λ l. let t : Rows = record (unnamed s) { groups = l } in t) (put_by-map unnamed_group (at_group g.device) (at_group g.device) (λ x. refl) g s.groups)
+unnamed_changed s (PutAgent a) =
+    ap (λ l. let t : Rows = record (unnamed s) { agents = l } in t) (put_by-map unnamed_agent (at_agent a.agent) (at_agent a.agent) (λ x. refl) a s.agents)
 unnamed_changed s _ = refl
 
 pub unnamed_moved : (s : Rows) (ms : List Move) → moved (unnamed s) (map unnamed_move ms) ≡ unnamed (moved s ms)
@@ -64,13 +66,16 @@ module _ (s : Rows) (turn : Turn) where
   unfolding unnamed arrive is_idle
   unnamed_arrive call to cause = rw (unnamed_is_group s to) (comes (destination_of s to))
     where
-      comes : (d : Destination) → reported (PutConnection (arriving d turn call to)) (arrival d call to cause) ≡ unnamed_move (reported (PutConnection (arriving d turn call to)) (arrival d call to cause))
+      comes : (d : Destination)
+          → reported (PutConnection (arriving d turn call to)) (arrival d call to cause)
+          ≡ unnamed_move (reported (PutConnection (arriving d turn call to)) (arrival d call to cause))
       comes Queue = refl
       comes Idle = refl
       comes Busy = refl
 
   -- the move of the agent at a station, where a test passes
-  of_agent_at : (move : Option AgentRecord → Move) → move None ≡ unnamed_move (move None) → ((a : AgentRecord) → move (Some (unnamed_agent a)) ≡ unnamed_move (move (Some a))) → (b : Bool) (d : Device)
+  of_agent_at : (move : Option AgentRecord → Move) → move None ≡ unnamed_move (move None)
+      → ((a : AgentRecord) → move (Some (unnamed_agent a)) ≡ unnamed_move (move (Some a))) → (b : Bool) (d : Device)
       → cond b (move (agent_at (unnamed s) d)) no_move ≡ unnamed_move (cond b (move (agent_at s d)) no_move)
   of_agent_at move none some true d = ap move (unnamed_agent_at s d) ∙ of-option_map unnamed_agent move (λ o. unnamed_move (move o)) none some (agent_at s d)
   of_agent_at move none some false d = refl
@@ -87,7 +92,8 @@ module _ (s : Rows) (turn : Turn) where
   unfolding occupy
   unnamed_occupy x = of_agent_at (λ o. busy_agent turn o x.device) refl (λ a. refl) (is_distributed x) x.device
 
-pub unnamed_go_from : (turn : Turn) (a : AgentRecord) (o : Option Device) (state : AgentState) → go_from turn (unnamed_agent a) o state ≡ unnamed_move (go_from turn a o state)
+pub unnamed_go_from : (turn : Turn) (a : AgentRecord) (o : Option Device) (state : AgentState)
+    → go_from turn (unnamed_agent a) o state ≡ unnamed_move (go_from turn a o state)
 unnamed_go_from turn a None state = refl
 unnamed_go_from turn a (Some station) state = refl
 
@@ -96,7 +102,8 @@ unnamed_go_from turn a (Some station) state = refl
 unnamed_offer_moves : (s : Rows) (moment : Moment) (o : Offer) → offer_moves (unnamed s) moment o ≡ map unnamed_move (offer_moves s moment o)
 unfolding unnamed offer_moves connection_of
 unnamed_offer_moves s moment o =
-    ap (offer_at moment (connection_of s o.call o.group)) (ap station_of_agent (unnamed_agent_of s o.agent) ∙ of-option_map unnamed_agent station_of_agent station_of_agent refl (λ _. refl) (agent_of s o.agent))
+    ap (offer_at moment (connection_of s o.call o.group))
+    (ap station_of_agent (unnamed_agent_of s o.agent) ∙ of-option_map unnamed_agent station_of_agent station_of_agent refl (λ _. refl) (agent_of s o.agent))
     ∙ rings (connection_of s o.call o.group) (station_of_agent (agent_of s o.agent))
   where
     rings : (x : Option ConnectionRecord) (d : Option Device) → offer_at moment x d ≡ map unnamed_move (offer_at moment x d)
@@ -122,32 +129,39 @@ unnamed_distribution s moment = unnamed_offers (length (queued_in_all s)) s mome
 
 -- a tick
 
-unnamed_overdue_offer : (s : Rows) (moment : Moment) (g : Option Device) (offered : Option Moment) → is_overdue_offer (unnamed s) moment g offered ≡ is_overdue_offer s moment g offered
+unnamed_overdue_offer : (s : Rows) (moment : Moment) (g : Option Device) (offered : Option Moment)
+    → is_overdue_offer (unnamed s) moment g offered ≡ is_overdue_offer s moment g offered
 unnamed_overdue_offer s moment (Some g) (Some offered) =
     ap (λ n. is_over n offered moment) (ap ring_of (unnamed_group_of s g) ∙ of-option_map unnamed_group ring_of ring_of refl (λ _. refl) (group_of s g))
 unnamed_overdue_offer s moment (Some g) None = refl
 unnamed_overdue_offer s moment None offered = refl
 
-unnamed_over_in : (s : Rows) (moment : Moment) (a : AgentRecord) (g : Option Device) → is_over_in (unnamed s) moment (unnamed_agent a) g ≡ is_over_in s moment a g
+unnamed_over_in : (s : Rows) (moment : Moment) (a : AgentRecord) (g : Option Device)
+    → is_over_in (unnamed s) moment (unnamed_agent a) g ≡ is_over_in s moment a g
 unnamed_over_in s moment a None = refl
-unnamed_over_in s moment a (Some g) = ap (λ n. is_over n a.since moment) (ap wrap_of (unnamed_group_of s g) ∙ of-option_map unnamed_group wrap_of wrap_of refl (λ _. refl) (group_of s g))
+unnamed_over_in s moment a (Some g) =
+    ap (λ n. is_over n a.since moment) (ap wrap_of (unnamed_group_of s g) ∙ of-option_map unnamed_group wrap_of wrap_of refl (λ _. refl) (group_of s g))
 
 unnamed_overdue_in : (s : Rows) (moment : Moment) → overdue_in (unnamed s) moment ≡ map (λ (x : ConnectionRecord). x) (overdue_in s moment)
 unfolding unnamed overdue_in is_overdue
 unnamed_overdue_in s moment =
     ap (filter (is_overdue (unnamed s) moment)) (sym (map-id s.connections))
-    ∙ filter-map (λ x. x) (is_overdue (unnamed s) moment) (is_overdue s moment) (λ x. ap (λ b. is_alerting x.state && b) (unnamed_overdue_offer s moment x.group x.offered)) s.connections
+    ∙ filter-map (λ x. x) (is_overdue (unnamed s) moment) (is_overdue s moment)
+    (λ x. ap (λ b. is_alerting x.state && b) (unnamed_overdue_offer s moment x.group x.offered)) s.connections
 
 unnamed_rested_in : (s : Rows) (moment : Moment) → rested_in (unnamed s) moment ≡ map unnamed_agent (rested_in s moment)
 unfolding unnamed rested_in is_rested
 unnamed_rested_in s moment =
-    filter-map unnamed_agent (is_rested (unnamed s) moment) (is_rested s moment) (λ a. ap (λ b. is_working_after_call a.state && b) (unnamed_over_in s moment a (least_group a.groups))) s.agents
+    filter-map unnamed_agent (is_rested (unnamed s) moment) (is_rested s moment)
+    (λ a. ap (λ b. is_working_after_call a.state && b) (unnamed_over_in s moment a (least_group a.groups))) s.agents
 
-unnamed_each : {T : Type 0} (f : T → T) (moves : Rows → T → List Move) → ((s : Rows) (x : T) → moves (unnamed s) (f x) ≡ map unnamed_move (moves s x)) → (s : Rows) (xs : List T)
+unnamed_each : {T : Type 0} (f : T → T) (moves : Rows → T → List Move) → ((s : Rows) (x : T) → moves (unnamed s) (f x) ≡ map unnamed_move (moves s x))
+    → (s : Rows) (xs : List T)
     → each moves (unnamed s) (map f xs) ≡ map unnamed_move (each moves s xs)
 unnamed_each f moves h s [] = refl
 unnamed_each f moves h s (x ∷ xs) =
-    rw (h s x, unnamed_moved s (moves s x), unnamed_each f moves h (moved s (moves s x)) xs) (sym (map-append unnamed_move (moves s x) (each moves (moved s (moves s x)) xs)))
+    rw (h s x, unnamed_moved s (moves s x), unnamed_each f moves h (moved s (moves s x)) xs)
+    (sym (map-append unnamed_move (moves s x) (each moves (moved s (moves s x)) xs)))
 
 pub unnamed_return_moves : (turn : Turn) (s : Rows) (x : ConnectionRecord) → return_moves (unnamed s) turn x ≡ map unnamed_move (return_moves s turn x)
 unnamed_return_moves turn s x = go x.group

@@ -58,13 +58,16 @@ unnamed_sooner : (o : Option GroupRecord) (g : GroupRecord) → sooner (option_m
 unnamed_sooner None g = refl
 unnamed_sooner (Some h) g = elim (precedes g h) as (λ b. cond b (unnamed_group g) (unnamed_group h) ≡ unnamed_group (cond b g h)) [ true ↦ refl | false ↦ refl ]
 
-unnamed_foremost : (o : Option GroupRecord) (gs : List GroupRecord) → foremost (option_map unnamed_group o) (map unnamed_group gs) ≡ option_map unnamed_group (foremost o gs)
+unnamed_foremost : (o : Option GroupRecord) (gs : List GroupRecord)
+    → foremost (option_map unnamed_group o) (map unnamed_group gs) ≡ option_map unnamed_group (foremost o gs)
 unnamed_foremost o [] = refl
 unnamed_foremost o (g ∷ gs) = ap (λ h. foremost (Some h) (map unnamed_group gs)) (unnamed_sooner o g) ∙ unnamed_foremost (Some (sooner o g)) gs
 
 pub unnamed_offer_of : (s : Rows) → offer_of (unnamed s) ≡ offer_of s
 unfolding unnamed offer_of
 unnamed_offer_of s =
-    ap (λ l. option_and_then (offer_in (unnamed s)) (foremost None l)) (filter-map unnamed_group (has_both (unnamed s)) (has_both s) (unnamed_has_both s) s.groups)
+    ap (λ l. option_and_then (offer_in (unnamed s)) (foremost None l))
+    (filter-map unnamed_group (has_both (unnamed s)) (has_both s) (unnamed_has_both s) s.groups)
     ∙ ap (option_and_then (offer_in (unnamed s))) (unnamed_foremost None (filter (has_both s) s.groups))
-    ∙ of-option_map unnamed_group (option_and_then (offer_in (unnamed s))) (option_and_then (offer_in s)) refl (unnamed_offer_in s) (foremost None (filter (has_both s) s.groups))
+    ∙ of-option_map unnamed_group (option_and_then (offer_in (unnamed s))) (option_and_then (offer_in s)) refl (unnamed_offer_in s)
+    (foremost None (filter (has_both s) s.groups))

@@ -37,7 +37,8 @@ test : {b c : Bool} (r : Refusal) {v w : Served} → b ≡ c → IsUnnamed v w �
 test {c = c} r e h = checked (refuse_if c r) (ap (λ b. refuse_if b r) e) h
 
 -- a record that is found, without its name
-found : {T : Type 0} (f : T → T) {o : Option T} (p : Option T) (r : Refusal) (v : T → Served) {w : T → Served} → o ≡ option_map f p → ((x : T) → IsUnnamed (v (f x)) (w x))
+found : {T : Type 0} (f : T → T) {o : Option T} (p : Option T) (r : Refusal) (v : T → Served) {w : T → Served} → o ≡ option_map f p
+    → ((x : T) → IsUnnamed (v (f x)) (w x))
     → IsUnnamed (ok_or o r >>= v) (ok_or p r >>= w)
 found f None r v e h = rw e (record { outcome = refl; moves = refl })
 found f (Some x) r v e h = rw e (h x)
@@ -56,9 +57,11 @@ given : {a : Answer} {ms ns : List Move} → ms ≡ map unnamed_move ns → IsUn
 given e = record { outcome = refl; moves = e }
 
 module _ (s : Rows) (turn : Turn) where
-  unnamed_add_group : (device : Device) (name : List ℕ) (ring wrap : Seconds) → IsUnnamed (add_group (unnamed s) device [] ring wrap) (add_group s device name ring wrap)
+  unnamed_add_group : (device : Device) (name : List ℕ) (ring wrap : Seconds)
+      → IsUnnamed (add_group (unnamed s) device [] ring wrap) (add_group s device name ring wrap)
   unfolding unnamed add_group
-  unnamed_add_group device name ring wrap = test _ (unnamed_is_used s device) (test _ (ap (nat_le s.limits.groups) (length-map s.groups unnamed_group)) (given refl))
+  unnamed_add_group device name ring wrap =
+      test _ (unnamed_is_used s device) (test _ (ap (nat_le s.limits.groups) (length-map s.groups unnamed_group)) (given refl))
 
   unnamed_add_station : (device : Device) → IsUnnamed (add_station (unnamed s) device) (add_station s device)
   unfolding unnamed add_station
@@ -71,17 +74,20 @@ module _ (s : Rows) (turn : Turn) where
   unnamed_arrive_call : (caller called : Device) → IsUnnamed (arrive_call (unnamed s) turn caller called) (arrive_call s turn caller called)
   unfolding unnamed arrive_call
   unnamed_arrive_call caller called =
-      test _ (unnamed_is_planned s caller) (test _ (ap not (unnamed_is_planned s called)) (test _ refl (given (rw (unnamed_arrive s turn (next_call s) called NewCall) refl))))
+      test _ (unnamed_is_planned s caller)
+      (test _ (ap not (unnamed_is_planned s called)) (test _ refl (given (rw (unnamed_arrive s turn (next_call s) called NewCall) refl))))
 
   unnamed_make_call : (device called : Device) → IsUnnamed (make_call (unnamed s) turn.moment device called) (make_call s turn.moment device called)
   unfolding unnamed make_call station_of is_live_at
   unnamed_make_call device called =
-      test _ (ap not (unnamed_is_planned s device)) (test _ refl (test _ (ap not (unnamed_is_planned s called)) (test _ refl (test _ refl (test _ refl (given refl))))))
+      test _ (ap not (unnamed_is_planned s device))
+      (test _ refl (test _ (ap not (unnamed_is_planned s called)) (test _ refl (test _ refl (test _ refl (given refl))))))
 
 module _ (s : Rows) (turn : Turn) (call : CallId) (device : Device) where
   -- of a connection of a live call
   party : (r q : Refusal) {v w : CallRecord → ConnectionRecord → Served} → ((c : CallRecord) (x : ConnectionRecord) → IsUnnamed (v c x) (w c x))
-      → IsUnnamed (ok_or (call_of (unnamed s) call) r >>= (λ c. ok_or (connection_of (unnamed s) call device) q >>= v c)) (ok_or (call_of s call) r >>= (λ c. ok_or (connection_of s call device) q >>= w c))
+      → IsUnnamed (ok_or (call_of (unnamed s) call) r >>= (λ c. ok_or (connection_of (unnamed s) call device) q >>= v c))
+      (ok_or (call_of s call) r >>= (λ c. ok_or (connection_of s call device) q >>= w c))
   unfolding unnamed call_of connection_of
   party r q h = known (call_of s call) r (λ c. known (connection_of s call device) q (λ x. h c x))
 
@@ -130,7 +136,8 @@ module _ (s : Rows) (turn : Turn) where
   unnamed_all_groups [] = refl
   unnamed_all_groups (g ∷ gs) = rw (unnamed_is_planned s g, unnamed_is_group s g, unnamed_all_groups gs) refl
 
-  unnamed_log_on : (agent : Agent) (device : Device) (groups : List Device) → IsUnnamed (log_on (unnamed s) turn agent device groups) (log_on s turn agent device groups)
+  unnamed_log_on : (agent : Agent) (device : Device) (groups : List Device)
+      → IsUnnamed (log_on (unnamed s) turn agent device groups) (log_on s turn agent device groups)
   unfolding unnamed log_on station_of
   unnamed_log_on agent device groups =
       found unnamed_agent (agent_of s agent) _ _ (unnamed_agent_of s agent) (λ a. test _ refl (test _ (ap not (unnamed_is_planned s device)) (test _ refl
@@ -139,13 +146,15 @@ module _ (s : Rows) (turn : Turn) where
   unnamed_go_or_wait : (a : AgentRecord) (wanted : Pending) → IsUnnamed (go_or_wait (unnamed s) turn (unnamed_agent a) wanted) (go_or_wait s turn a wanted)
   unfolding unnamed is_occupied
   unnamed_go_or_wait a wanted =
-      either (is_occupied s a) (given refl) (either (is_in a.state wanted) (given refl) (given (rw (unnamed_go_from turn a a.station (state_wanted wanted)) refl)))
+      either (is_occupied s a) (given refl)
+      (either (is_in a.state wanted) (given refl) (given (rw (unnamed_go_from turn a a.station (state_wanted wanted)) refl)))
 
   unnamed_change_state : (agent : Agent) (wanted : Pending) → IsUnnamed (change_state (unnamed s) turn agent wanted) (change_state s turn agent wanted)
   unfolding change_state
   unnamed_change_state agent wanted = found unnamed_agent (agent_of s agent) _ _ (unnamed_agent_of s agent) (λ a. test _ refl (unnamed_go_or_wait a wanted))
 
-  unnamed_set_agent_state : (agent : Agent) (requested : Requested) → IsUnnamed (set_agent_state (unnamed s) turn agent requested) (set_agent_state s turn agent requested)
+  unnamed_set_agent_state : (agent : Agent) (requested : Requested)
+      → IsUnnamed (set_agent_state (unnamed s) turn agent requested) (set_agent_state s turn agent requested)
   unnamed_set_agent_state agent (requested.LoggedOn device groups) = unnamed_log_on agent device groups
   unnamed_set_agent_state agent (requested.State wanted) = unnamed_change_state agent wanted
 
@@ -157,13 +166,17 @@ module _ (s : Rows) (turn : Turn) where
   unfolding unnamed monitor_stop monitor_of
   unnamed_monitor_stop monitor = known (monitor_of s monitor) _ (λ _. given refl)
 
-  unnamed_set_group_priority : (device : Device) (priority : Priority) → IsUnnamed (set_group_priority (unnamed s) device priority) (set_group_priority s device priority)
+  unnamed_set_group_priority : (device : Device) (priority : Priority)
+      → IsUnnamed (set_group_priority (unnamed s) device priority) (set_group_priority s device priority)
   unfolding set_group_priority
-  unnamed_set_group_priority device priority = test _ (ap not (unnamed_is_planned s device)) (found unnamed_group (group_of s device) _ _ (unnamed_group_of s device) (λ g. given refl))
+  unnamed_set_group_priority device priority =
+      test _ (ap not (unnamed_is_planned s device)) (found unnamed_group (group_of s device) _ _ (unnamed_group_of s device) (λ g. given refl))
 
-  unnamed_change_group : (device : Device) (name : List ℕ) (ring wrap : Seconds) → IsUnnamed (change_group (unnamed s) device [] ring wrap) (change_group s device name ring wrap)
+  unnamed_change_group : (device : Device) (name : List ℕ) (ring wrap : Seconds)
+      → IsUnnamed (change_group (unnamed s) device [] ring wrap) (change_group s device name ring wrap)
   unfolding change_group
-  unnamed_change_group device name ring wrap = test _ (ap not (unnamed_is_planned s device)) (found unnamed_group (group_of s device) _ _ (unnamed_group_of s device) (λ g. given refl))
+  unnamed_change_group device name ring wrap =
+      test _ (ap not (unnamed_is_planned s device)) (found unnamed_group (group_of s device) _ _ (unnamed_group_of s device) (λ g. given refl))
 
   unnamed_change_agent : (agent : Agent) (name : List ℕ) → IsUnnamed (change_agent (unnamed s) agent []) (change_agent s agent name)
   unfolding change_agent

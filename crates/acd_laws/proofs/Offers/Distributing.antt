@@ -82,14 +82,17 @@ offering s r o e =
             station = d.1.0;
             free = may.0.1;
             idle = d.1.1;
-            found = subst (λ c. connection_of s c o.group ≡ Some x) call (subst (λ g. connection_of s x.call g ≡ Some x) both.0 (connection_found s r.orders.connections x wx.0));
+            found =
+                subst (λ c. connection_of s c o.group ≡ Some x) call
+                (subst (λ g. connection_of s x.call g ≡ Some x) both.0 (connection_found s r.orders.connections x wx.0));
             agent_found = subst (λ n. agent_of s n ≡ Some a) agent (agent_found s r.orders.agents a ea.0);
           },
         ),
       ),
     )
 
-pub offer_moves_are : (s : Rows) (m : ℕ) (o : Offer) (x : ConnectionRecord) (a : AgentRecord) (d : ℕ) → Offering s o x a d → offer_moves s m o ≡ offer_at m (Some x) (Some d)
+pub offer_moves_are : (s : Rows) (m : ℕ) (o : Offer) (x : ConnectionRecord) (a : AgentRecord) (d : ℕ) → Offering s o x a d
+    → offer_moves s m o ≡ offer_at m (Some x) (Some d)
 unfolding offer_moves
 offer_moves_are s m o x a d h = rw (h.found, h.agent_found) (ap (λ v. offer_at m (Some x) v) h.station)
 
@@ -103,9 +106,15 @@ rules_offer s m o r e =
     subst (λ ms. Rules (moved s ms)) (sym (offer_moves_are s m o x a d h))
     (kept_offer s x a d m r (connection_there s r x h.there) h.queued h.known h.ready h.station h.free h.idle)
 
+abbrev pub Kept : (Rows → List Event → Type 0) → ℕ → Rows → List Event → List Move → Type 0
+Kept P m s es ms = P (moved s ms) (es ++ events_of m ms)
+
+abbrev pub OfferKeeps : (Rows → List Event → Type 0) → ℕ → Type 0
+OfferKeeps P m = (s : Rows) (es : List Event) (o : Offer) → Rules s → P s es → offer_of s ≡ Some o → Kept P m s es (offer_moves s m o)
+
 -- the moves of a distribution keep what each offer keeps
-pub offers_keep : (P : Rows → List Event → Type 0) (m : ℕ) → ((s : Rows) (es : List Event) (o : Offer) → Rules s → P s es → offer_of s ≡ Some o → P (moved s (offer_moves s m o)) (es ++ events_of m (offer_moves s m o)))
-    → (n : ℕ) (s : Rows) (es : List Event) → Rules s → P s es → P (moved s (offers n s m)) (es ++ events_of m (offers n s m))
+pub offers_keep : (P : Rows → List Event → Type 0) (m : ℕ) → OfferKeeps P m → (n : ℕ) (s : Rows) (es : List Event) → Rules s → P s es
+    → Kept P m s es (offers n s m)
 offers_keep P m f zero s es r h = subst (P s) (sym (append-nil es)) h
 offers_keep P m f (suc n) s es r h =
     (elim (offer_of s) as (λ p. offer_of s ≡ p → P (moved s (with_offer p [] (λ o. offer_moves s m o ++ offers n (moved s (offer_moves s m o)) m)))
@@ -119,8 +128,8 @@ offers_keep P m f (suc n) s es r h =
           (offers_keep P m f n (moved s one) (es ++ events_of m one) (rules_offer s m o r e) (f s es o r h e)))
     ]) refl
 
-pub distribution_keeps : (P : Rows → List Event → Type 0) (m : ℕ) → ((s : Rows) (es : List Event) (o : Offer) → Rules s → P s es → offer_of s ≡ Some o → P (moved s (offer_moves s m o)) (es ++ events_of m (offer_moves s m o)))
-    → (s : Rows) (es : List Event) → Rules s → P s es → P (moved s (distribution s m)) (es ++ events_of m (distribution s m))
+pub distribution_keeps : (P : Rows → List Event → Type 0) (m : ℕ) → OfferKeeps P m → (s : Rows) (es : List Event) → Rules s → P s es
+    → Kept P m s es (distribution s m)
 unfolding distribution
 distribution_keeps P m f s es r h = offers_keep P m f (length (queued_in_all s)) s es r h
 
@@ -132,7 +141,8 @@ rules_distribution s m r = distribution_keeps (λ t es. Rules t) m (λ t es o q 
 abbrev pub in_queue : ConnectionRecord → Bool
 in_queue x = is_queued x.state
 
-taken : (s : Rows) (x : ConnectionRecord) (a : AgentRecord) (d m : ℕ) → Rules s → Among x s.connections → is_queued x.state ≡ true → Among a s.agents → is_ready a.state ≡ true → a.station ≡ Some d → is_idle s d ≡ true
+taken : (s : Rows) (x : ConnectionRecord) (a : AgentRecord) (d m : ℕ) → Rules s → Among x s.connections → is_queued x.state ≡ true → Among a s.agents
+    → is_ready a.state ≡ true → a.station ≡ Some d → is_idle s d ≡ true
     → count in_queue (moved s (offer_at m (Some x) (Some d))).connections + 1 ≡ count in_queue s.connections
 unfolding with_connection without_connection
 taken s x a d m r there queued known ready station idle =
@@ -145,22 +155,27 @@ taken s x a d m r there queued known ready station idle =
     let f : one (is_queued x.state) ≡ 1 = ap one queued in
     omega (arith, e1, e2, f)
 
-pub fewer_queued : (s : Rows) (m : ℕ) (o : Offer) → Rules s → offer_of s ≡ Some o → count in_queue (moved s (offer_moves s m o)).connections + 1 ≡ count in_queue s.connections
+pub fewer_queued : (s : Rows) (m : ℕ) (o : Offer) → Rules s → offer_of s ≡ Some o
+    → count in_queue (moved s (offer_moves s m o)).connections + 1 ≡ count in_queue s.connections
 fewer_queued s m o r e =
     let f = offering s r o e in
     let x : ConnectionRecord = f.0 in
     let a : AgentRecord = f.1.0 in
     let d : ℕ = f.1.1.0 in
     let h : Offering s o x a d = f.1.1.1 in
-    subst (λ ms. count in_queue (moved s ms).connections + 1 ≡ count in_queue s.connections) (sym (offer_moves_are s m o x a d h)) (taken s x a d m r h.there h.queued h.known h.ready h.station h.idle)
+    subst (λ ms. count in_queue (moved s ms).connections + 1 ≡ count in_queue s.connections) (sym (offer_moves_are s m o x a d h))
+    (taken s x a d m r h.there h.queued h.known h.ready h.station h.idle)
 
 none_left : (n : ℕ) (s : Rows) (m : ℕ) → Rules s → count in_queue s.connections ≤ n → offer_of (moved s (offers n s m)) ≡ None
-none_left zero s m r l = none_from (offer_of s) (λ o e. let f = offering s r o e in let c = counted in_queue s.connections f.0 f.1.1.1.there f.1.1.1.queued in omega (arith, l, c))
+none_left zero s m r l =
+    none_from (offer_of s) (λ o e. let f = offering s r o e in let c = counted in_queue s.connections f.0 f.1.1.1.there f.1.1.1.queued in omega (arith, l, c))
 none_left (suc n) s m r l =
-    (elim (offer_of s) as (λ p. offer_of s ≡ p → offer_of (moved s (with_offer p [] (λ o. offer_moves s m o ++ offers n (moved s (offer_moves s m o)) m))) ≡ None) [
+    (elim (offer_of s) as (λ p. offer_of s ≡ p
+    → offer_of (moved s (with_offer p [] (λ o. offer_moves s m o ++ offers n (moved s (offer_moves s m o)) m))) ≡ None) [
       | None ↦ λ e. e
       | Some o ↦ λ e. let f = fewer_queued s m o r e in
-          ap offer_of (moved_append s (offer_moves s m o) (offers n (moved s (offer_moves s m o)) m)) ∙ none_left n (moved s (offer_moves s m o)) m (rules_offer s m o r e) (omega (arith, f, l))
+          ap offer_of (moved_append s (offer_moves s m o) (offers n (moved s (offer_moves s m o)) m))
+          ∙ none_left n (moved s (offer_moves s m o)) m (rules_offer s m o r e) (omega (arith, f, l))
     ]) refl
 
 pub no_offer_after : (s : Rows) (m : ℕ) → Rules s → offer_of (moved s (distribution s m)) ≡ None
@@ -168,14 +183,19 @@ unfolding distribution queued_in_all
 no_offer_after s m r = none_left (length (filter in_queue s.connections)) s m r (let n = count_length in_queue s.connections in omega (arith, n))
 
 -- after a distribution no group has both a waiting call and an eligible agent
-pub nothing_left : (s : Rows) (m : ℕ) (g : GroupRecord) → Rules s → Among g (moved s (distribution s m)).groups → HasNoOffer (moved s (distribution s m)) g.device
+pub nothing_left : (s : Rows) (m : ℕ) (g : GroupRecord) → Rules s → Among g (moved s (distribution s m)).groups
+    → HasNoOffer (moved s (distribution s m)) g.device
 nothing_left s m g r a = nothing_found (moved s (distribution s m)) g (no_offer_after s m r) a
 
 -- a distribution is the offers that are to be made, and no others
 
 -- with as many offers as calls are queued, or more
 made_is : (m n : ℕ) (s : Rows) → Rules s → count in_queue s.connections ≤ n → IsDistribution m s (offers n s m)
-made_is m zero s r l = ends s (λ g a. nothing_found s g (none_from (offer_of s) (λ o e. let f = offering s r o e in let c = counted in_queue s.connections f.0 f.1.1.1.there f.1.1.1.queued in omega (arith, l, c))) a)
+made_is m zero s r l =
+    ends s (λ g a. nothing_found s g
+    (none_from (offer_of s)
+    (λ o e. let f = offering s r o e in let c = counted in_queue s.connections f.0 f.1.1.1.there f.1.1.1.queued in omega (arith, l, c)))
+    a)
 made_is m (suc n) s r l =
     (elim (offer_of s) as (λ p. offer_of s ≡ p → IsDistribution m s (with_offer p [] (λ o. offer_moves s m o ++ offers n (moved s (offer_moves s m o)) m))) [
       | None ↦ λ e. ends s (λ g a. nothing_found s g e a)
@@ -205,25 +225,25 @@ finds_the_distribution s m ms r =
 
 -- moves in a row
 
-abbrev pub Kept : (Rows → List Event → Type 0) → ℕ → Rows → List Event → List Move → Type 0
-Kept P m s es ms = P (moved s ms) (es ++ events_of m ms)
-
 pub kept_nothing : (P : Rows → List Event → Type 0) (m : ℕ) (s : Rows) (es : List Event) → P s es → Kept P m s es []
 kept_nothing P m s es h = subst (P s) (sym (append-nil es)) h
 
-pub kept-append : (P : Rows → List Event → Type 0) (m : ℕ) (s : Rows) (es : List Event) (ms ns : List Move) → Kept P m (moved s ms) (es ++ events_of m ms) ns → Kept P m s es (ms ++ ns)
+pub kept-append : (P : Rows → List Event → Type 0) (m : ℕ) (s : Rows) (es : List Event) (ms ns : List Move) → Kept P m (moved s ms) (es ++ events_of m ms) ns
+    → Kept P m s es (ms ++ ns)
 kept-append P m s es ms ns h =
     subst (λ t. P t (es ++ events_of m (ms ++ ns))) (sym (moved_append s ms ns))
     (subst (P (moved (moved s ms) ns)) (append_assoc es (events_of m ms) (events_of m ns) ∙ ap (λ qs. es ++ qs) (sym (events_of_append m ms ns))) h)
 
 -- offers that go back, one after the other
 
-pub return_stays : (t : Rows) (turn : Turn) (g : ℕ) (x z : ConnectionRecord) → Among z t.connections → (z.call ≡ x.call → ⊥) → Among z (moved t (return_to t turn x (Some g))).connections
+pub return_stays : (t : Rows) (turn : Turn) (g : ℕ) (x z : ConnectionRecord) → Among z t.connections → (z.call ≡ x.call → ⊥)
+    → Among z (moved t (return_to t turn x (Some g))).connections
 unfolding with_connection without_connection
 return_stays t turn g x z a ne =
     subst (Among z) (sym (agent_connections turn _ _ (released_by t turn x NoAnswer)))
     (among-put_other (at_connection x.call g) (queueing x.call g x.place x.queued) (remove_by (at_connection x.call x.device) t.connections) z
-    (among-remove_other (at_connection x.call x.device) t.connections z a (connection_key x.call x.device z ∙ false_from_ne_true (is_of x.call x.device z) (λ e. ne (is_of_true x.call x.device z e).0)))
+    (among-remove_other (at_connection x.call x.device) t.connections z a
+    (connection_key x.call x.device z ∙ false_from_ne_true (is_of x.call x.device z) (λ e. ne (is_of_true x.call x.device z e).0)))
     (λ e. ne (sym (order_equal (queueing x.call g x.place x.queued) z e).0)))
 
 opens : (st : ConnectionState) → is_alerting st ≡ true → is_open st ≡ true
@@ -231,20 +251,27 @@ opens S.Alerting e = refl
 opens _ e = absurd (cc (e))
 
 -- two alerting connections are of two calls
-pub other_call : (t : Rows) (x z : ConnectionRecord) → Rules t → Among x t.connections → Among z t.connections → is_alerting x.state ≡ true → is_alerting z.state ≡ true → connection_order x z ≡ Less → z.call ≡ x.call → ⊥
+pub other_call : (t : Rows) (x z : ConnectionRecord) → Rules t → Among x t.connections → Among z t.connections → is_alerting x.state ≡ true
+    → is_alerting z.state ≡ true → connection_order x z ≡ Less → z.call ≡ x.call → ⊥
 other_call t x z r a b ax az l e =
-    let two = two_counted (open_of x.call) t.connections x z a b (and_from (is_open x.state) (x.call == x.call) (opens x.state ax) (eqb_self x.call)) (and_from (is_open z.state) (z.call == x.call) (opens z.state az) (eq-eqb z.call x.call e))
+    let two =
+    two_counted (open_of x.call) t.connections x z a b (and_from (is_open x.state) (x.call == x.call) (opens x.state ax) (eqb_self x.call))
+    (and_from (is_open z.state) (z.call == x.call) (opens z.state az) (eq-eqb z.call x.call e))
     (λ q. cc (l, order_same x z (ap (λ (w : ConnectionRecord). w.call) q) (ap (λ (w : ConnectionRecord). w.device) q))) in
     let o = r.one_open x.call in absurd (omega (arith, two, o))
 
 -- a return of a call keeps this
 abbrev pub ReturnKeeps : (Rows → List Event → Type 0) → Turn → Type 0
-ReturnKeeps P turn = (t : Rows) (es : List Event) (x : ConnectionRecord) (g : ℕ) → Rules t → P t es → connection_of t x.call x.device ≡ Some x → is_alerting x.state ≡ true → x.group ≡ Some g
+ReturnKeeps P turn =
+    (t : Rows) (es : List Event) (x : ConnectionRecord) (g : ℕ) → Rules t → P t es → connection_of t x.call x.device ≡ Some x → is_alerting x.state ≡ true
+    → x.group ≡ Some g
     → Kept P turn.moment t es (return_to t turn x (Some g))
 
 -- an end of after-call work keeps this
 abbrev pub RestKeeps : (Rows → List Event → Type 0) → Turn → Type 0
-RestKeeps P turn = (t : Rows) (es : List Event) (a : AgentRecord) → Rules t → P t es → agent_of t a.agent ≡ Some a → is_working_after_call a.state ≡ true → Kept P turn.moment t es (rest_moves turn a)
+RestKeeps P turn =
+    (t : Rows) (es : List Event) (a : AgentRecord) → Rules t → P t es → agent_of t a.agent ≡ Some a → is_working_after_call a.state ≡ true
+    → Kept P turn.moment t es (rest_moves turn a)
 
 -- a connection that is to go back
 pub record Back (t : Rows) (z : ConnectionRecord) : Type 0 where
@@ -256,7 +283,8 @@ grouped_offer : (s : Rows) (m : ℕ) (g o : Option ℕ) → is_overdue_offer s m
 grouped_offer s m None o e = absurd (cc (e))
 grouped_offer s m (Some g) o e = refl
 
-returns_keep : (P : Rows → List Event → Type 0) (turn : Turn) → ReturnKeeps P turn → (t : Rows) (es : List Event) (xs : List ConnectionRecord) → IsAscending connection_order xs → ((z : ConnectionRecord) → Among z xs → Back t z) → Rules t → P t es
+returns_keep : (P : Rows → List Event → Type 0) (turn : Turn) → ReturnKeeps P turn → (t : Rows) (es : List Event) (xs : List ConnectionRecord)
+    → IsAscending connection_order xs → ((z : ConnectionRecord) → Among z xs → Back t z) → Rules t → P t es
     → Rules (moved t (each (λ t x. return_moves t turn x) t xs)) × Kept P turn.moment t es (each (λ t x. return_moves t turn x) t xs)
 returns_keep P turn f t es [] so b r h = (r, kept_nothing P turn.moment t es h)
 returns_keep P turn f t es (x ∷ xs) so b r h =
@@ -270,7 +298,10 @@ returns_keep P turn f t es (x ∷ xs) so b r h =
     let h1 : Kept P turn.moment t es one = subst (Kept P turn.moment t es) same (f t es x g.0 r h found bx.alerting g.1) in
     let ih = returns_keep P turn f (moved t one) (es ++ events_of turn.moment one) xs so.1
     (λ z a. let bz = b z (inr a) in record {
-      there = subst (λ ms. Among z (moved t ms).connections) same (return_stays t turn g.0 x z bz.there (other_call t x z r bx.there bz.there bx.alerting bz.alerting (after_among connection_order x xs z so.0 a)));
+      there =
+          subst (λ ms. Among z (moved t ms).connections) same
+          (return_stays t turn g.0 x z bz.there
+          (other_call t x z r bx.there bz.there bx.alerting bz.alerting (after_among connection_order x xs z so.0 a)));
       alerting = bz.alerting;
       grouped = bz.grouped;
     }) r1 h1 in
@@ -278,7 +309,8 @@ returns_keep P turn f t es (x ∷ xs) so b r h =
 
 -- ends of after-call work, one after the other
 
-rests_keep : (P : Rows → List Event → Type 0) (turn : Turn) → RestKeeps P turn → (t : Rows) (es : List Event) (xs : List AgentRecord) → IsAscending agent_order xs → ((a : AgentRecord) → Among a xs → (agent_of t a.agent ≡ Some a) × (is_working_after_call a.state ≡ true)) → Rules t → P t es
+rests_keep : (P : Rows → List Event → Type 0) (turn : Turn) → RestKeeps P turn → (t : Rows) (es : List Event) (xs : List AgentRecord)
+    → IsAscending agent_order xs → ((a : AgentRecord) → Among a xs → (agent_of t a.agent ≡ Some a) × (is_working_after_call a.state ≡ true)) → Rules t → P t es
     → Rules (moved t (each (λ t a. rest_moves turn a) t xs)) × Kept P turn.moment t es (each (λ t a. rest_moves turn a) t xs)
 rests_keep P turn f t es [] so b r h = (r, kept_nothing P turn.moment t es h)
 rests_keep P turn f t es (a ∷ xs) so b r h =
@@ -288,8 +320,13 @@ rests_keep P turn f t es (a ∷ xs) so b r h =
     let r1 : Rules (moved t one) = kept_rest_moves t turn a r ba.0 ba.1 in
     let h1 : Kept P turn.moment t es one = f t es a r h ba.0 ba.1 in
     let ih = rests_keep P turn f (moved t one) (es ++ events_of turn.moment one) xs so.1
-    (λ c i. let bc = b c (inr i) in
-    (agent_others turn c.agent t _ (goes_from (λ d. (d.agent == c.agent) ≡ false) turn a a.station A.Ready (false_from_ne_true (a.agent == c.agent) (λ q. cc (after_among agent_order a xs c so.0 i, cmp_self a.agent c.agent (eqb-true a.agent c.agent q))))) ∙ bc.0, bc.1)) r1 h1 in
+    (λ c i. let bc = b c (inr i) in (
+      agent_others turn c.agent t _ (goes_from (λ d. (d.agent == c.agent) ≡ false) turn a a.station A.Ready
+          (false_from_ne_true (a.agent == c.agent) (λ q. cc (after_among agent_order a xs c so.0 i, cmp_self a.agent c.agent (eqb-true a.agent c.agent q)))))
+          ∙ bc.0,
+      bc.1,
+    ))
+    r1 h1 in
     (subst Rules (sym (moved_append t one rest)) ih.0, kept-append P turn.moment t es one rest ih.1)
 
 pub overdue_back : (s : Rows) (m : ℕ) (z : ConnectionRecord) → Among z (overdue_in s m) → Back s z
@@ -313,15 +350,18 @@ rested_ascend : (s : Rows) (m : ℕ) → Rules s → IsAscending agent_order (re
 unfolding rested_in
 rested_ascend s m r = ascending-filter agent_order (is_rested s m) s.agents r.orders.agents
 
-pub returned : (P : Rows → List Event → Type 0) (turn : Turn) → ReturnKeeps P turn → (s : Rows) (es : List Event) → Rules s → P s es → Rules (moved s (returns s turn)) × Kept P turn.moment s es (returns s turn)
+pub returned : (P : Rows → List Event → Type 0) (turn : Turn) → ReturnKeeps P turn → (s : Rows) (es : List Event) → Rules s → P s es
+    → Rules (moved s (returns s turn)) × Kept P turn.moment s es (returns s turn)
 unfolding returns
 returned P turn f s es r h = returns_keep P turn f s es (overdue_in s turn.moment) (overdue_ascend s turn.moment r) (overdue_back s turn.moment) r h
 
-rested : (P : Rows → List Event → Type 0) (turn : Turn) → RestKeeps P turn → (s : Rows) (es : List Event) → Rules s → P s es → Rules (moved s (rests s turn)) × Kept P turn.moment s es (rests s turn)
+rested : (P : Rows → List Event → Type 0) (turn : Turn) → RestKeeps P turn → (s : Rows) (es : List Event) → Rules s → P s es
+    → Rules (moved s (rests s turn)) × Kept P turn.moment s es (rests s turn)
 unfolding rests
 rested P turn f s es r h = rests_keep P turn f s es (rested_in s turn.moment) (rested_ascend s turn.moment r) (λ a i. rested_works s turn.moment a r i) r h
 
-pub tick_keeps : (P : Rows → List Event → Type 0) (turn : Turn) → ReturnKeeps P turn → RestKeeps P turn → (s : Rows) (es : List Event) → Rules s → P s es → Rules (moved s (tick s turn)) × Kept P turn.moment s es (tick s turn)
+pub tick_keeps : (P : Rows → List Event → Type 0) (turn : Turn) → ReturnKeeps P turn → RestKeeps P turn → (s : Rows) (es : List Event) → Rules s → P s es
+    → Rules (moved s (tick s turn)) × Kept P turn.moment s es (tick s turn)
 unfolding tick
 tick_keeps P turn f g s es r h =
     let t : Rows = moved s (returns s turn) in

@@ -55,7 +55,9 @@ found_is s o e = by (foremost None (filter (has_both s) s.groups)) refl e
       call = least_is _ w q;
       stamp = r.0;
       agent = least_is _ r p;
-      first = λ k a before. no_offer_there s k (false_from_ne_true (has_both s k) (λ both. let n = f.first k (among-filter (has_both s) s.groups k a both) in cc (n, before)));
+      first =
+          λ k a before. no_offer_there s k
+          (false_from_ne_true (has_both s k) (λ both. let n = f.first k (among-filter (has_both s) s.groups k a both) in cc (n, before)));
     })
 
     by : (f : Option GroupRecord) → foremost None (filter (has_both s) s.groups) ≡ f → option_and_then (offer_in s) f ≡ Some o → IsOffer s o
@@ -95,7 +97,8 @@ is_found s o asc h = by (foremost None (filter (has_both s) s.groups)) refl
     eligible = subst (λ d. first_eligible s d ≡ Some (h.stamp, o.agent)) (sym h.named) (least_found _ (h.stamp, o.agent) h.agent)
 
     offered : offer_in s h.group ≡ Some o
-    offered = ap₂ (offer_by h.group.device) waiting eligible ∙ ap (λ (d : ℕ). let p : Offer = record { group = d; call = o.call; agent = o.agent } in Some p) h.named
+    offered =
+        ap₂ (offer_by h.group.device) waiting eligible ∙ ap (λ (d : ℕ). let p : Offer = record { group = d; call = o.call; agent = o.agent } in Some p) h.named
 
     listed : Among h.group (filter (has_both s) s.groups)
     listed = among-filter (has_both s) s.groups h.group h.planned (ap₂ (λ (w r : Option (ℕ × ℕ)). is_some w && is_some r) waiting eligible)
@@ -105,7 +108,8 @@ is_found s o asc h = by (foremost None (filter (has_both s) s.groups)) refl
     by (Some g) e =
         let f = foremost_is (filter (has_both s) s.groups) g e in
         let there = filter_among (has_both s) s.groups g f.there in
-        let not_before : precedes g h.group ≡ false = false_from_ne_true _ (λ before. let n = not_both s g (h.first g there.0 before) in let y = there.1 in cc (n, y)) in
+        let not_before : precedes g h.group ≡ false =
+        false_from_ne_true _ (λ before. let n = not_both s g (h.first g there.0 before) in let y = there.1 in cc (n, y)) in
         let same : g ≡ h.group = same_group g h.group s.groups asc there.0 h.planned (same_device g h.group not_before (f.first h.group listed)) in
         ap (offer_in s) same ∙ offered
 
@@ -115,14 +119,17 @@ finds_the_offer s o asc = (found_is s o, is_found s o asc)
 -- where no offer is found, no group has one
 pub nothing_found : (s : Rows) (g : GroupRecord) → offer_of s ≡ None → Among g s.groups → HasNoOffer s g.device
 unfolding offer_of
-nothing_found s g e a = no_offer_there s g (false_from_ne_true (has_both s g) (λ both. by (foremost None (filter (has_both s) s.groups)) refl (among-filter (has_both s) s.groups g a both) e))
+nothing_found s g e a =
+    no_offer_there s g
+    (false_from_ne_true (has_both s g) (λ both. by (foremost None (filter (has_both s) s.groups)) refl (among-filter (has_both s) s.groups g a both) e))
   where
     has_offer : (k : GroupRecord) (w r : Option (ℕ × ℕ)) → (is_some w && is_some r) ≡ true → offer_by k.device w r ≡ None → ⊥
     has_offer k None r b e = absurd (cc (b))
     has_offer k (Some w) None b e = absurd (cc (b))
     has_offer k (Some w) (Some r) b e = absurd (cc (e))
 
-    by : (f : Option GroupRecord) → foremost None (filter (has_both s) s.groups) ≡ f → Among g (filter (has_both s) s.groups) → option_and_then (offer_in s) f ≡ None → ⊥
+    by : (f : Option GroupRecord) → foremost None (filter (has_both s) s.groups) ≡ f → Among g (filter (has_both s) s.groups)
+        → option_and_then (offer_in s) f ≡ None → ⊥
     by None q listed e = subst (λ l. Among g l) (none_foremost (filter (has_both s) s.groups) q) listed
     by (Some k) q listed e =
         let f = foremost_is (filter (has_both s) s.groups) k q in

@@ -29,7 +29,10 @@ attended s x r i e =
       at_station = subst (IsPlannedStation s) h.1.station h.1.seat.0;
       agent = h.0;
       there = h.1.at_station;
-      logged_on = elim (alerting_or_answered s x (every_among (ConnectionRule s) s.connections x r.connections i) e) [ inl w ↦ ap is_null (ready w) | inr w ↦ ap is_null (busy w) ];
+      logged_on = elim (alerting_or_answered s x (every_among (ConnectionRule s) s.connections x r.connections i) e) [
+        | inl w ↦ ap is_null (ready w)
+        | inr w ↦ ap is_null (busy w)
+      ];
       ready = ready;
       busy = busy;
     }
@@ -63,4 +66,5 @@ pub step_keeps_one_offer : (s : Rows) (moment : ℕ) (command : Command) → Rul
 step_keeps_one_offer s moment command r = rules_give_one_offer _ (rules_step s moment command r)
 
 pub run_has_one_offer : RunHasOneOffer
-run_has_one_offer limits commands = rules_give_one_offer _ (kept_by_run (λ s events. Rules s) (λ s events moment command r. rules_step s moment command r) limits (rules_first limits) commands)
+run_has_one_offer limits commands =
+    rules_give_one_offer _ (kept_by_run (λ s events. Rules s) (λ s events moment command r. rules_step s moment command r) limits (rules_first limits) commands)

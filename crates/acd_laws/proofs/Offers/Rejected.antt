@@ -37,20 +37,26 @@ not_rested s m a e = by (least_group a.groups)
   where
     by : (o : Option ℕ) → (is_working_after_call a.state && is_over_in s m a o) ≡ false
     by None = and_right (is_working_after_call a.state) false refl
-    by (Some g) = and_right (is_working_after_call a.state) (is_over (wrap_of (group_of s g)) a.since m) (ap (λ since. is_over (wrap_of (group_of s g)) since m) e ∙ just_begun (wrap_of (group_of s g)) m)
+    by (Some g) =
+        and_right (is_working_after_call a.state) (is_over (wrap_of (group_of s g)) a.since m)
+        (ap (λ since. is_over (wrap_of (group_of s g)) since m) e ∙ just_begun (wrap_of (group_of s g)) m)
 
 -- nor by what becomes of an agent
-none_rested : (s : Rows) (turn : Turn) (y : Move) → AgentMove (λ a. Among a s.agents) turn y → rested_in s turn.moment ≡ [] → rested_in (changed s y.change) turn.moment ≡ []
+none_rested : (s : Rows) (turn : Turn) (y : Move) → AgentMove (λ a. Among a s.agents) turn y → rested_in s turn.moment ≡ []
+    → rested_in (changed s y.change) turn.moment ≡ []
 unfolding rested_in is_rested with_agent group_of
 none_rested s turn _ stays e = e
 none_rested s turn _ (remains a name pending there) e =
-    filter_put (is_rested s turn.moment) (at_agent a.agent) (record a { name = name; pending = pending }) s.agents e (none_filtered (is_rested s turn.moment) s.agents e a there)
+    filter_put (is_rested s turn.moment) (at_agent a.agent) (record a { name = name; pending = pending }) s.agents e
+    (none_filtered (is_rested s turn.moment) s.agents e a there)
 none_rested s turn _ (reports a b d there h) e = filter_put (is_rested s turn.moment) (at_agent b.agent) b s.agents e (not_rested s turn.moment b h.since)
 
-still_none_rested : (s : Rows) (turn : Turn) (x : ConnectionRecord) (o : Option ℕ) → rested_in s turn.moment ≡ [] → rested_in (moved s (return_to s turn x o)) turn.moment ≡ []
+still_none_rested : (s : Rows) (turn : Turn) (x : ConnectionRecord) (o : Option ℕ) → rested_in s turn.moment ≡ []
+    → rested_in (moved s (return_to s turn x o)) turn.moment ≡ []
 unfolding rested_in is_rested with_connection without_connection group_of
 still_none_rested s turn x None e = e
-still_none_rested s turn x (Some g) e = none_rested _ turn _ (releases (λ a. Among a s.agents) s turn x NoAnswer (λ a found. (agent_seat s x.device a found).0)) e
+still_none_rested s turn x (Some g) e =
+    none_rested _ turn _ (releases (λ a. Among a s.agents) s turn x NoAnswer (λ a found. (agent_seat s x.device a found).0)) e
 
 -- a tick that has one call to return
 ticks : (s : Rows) (turn : Turn) (x : ConnectionRecord) → overdue_in s turn.moment ≡ x ∷ [] → rested_in s turn.moment ≡ [] → tick s turn ≡ return_moves s turn x

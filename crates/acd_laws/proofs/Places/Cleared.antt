@@ -59,7 +59,8 @@ unfolding cleared_by
 cleared_event n m None es = omega arith
 cleared_event n m (Some r) es = refl
 
-cleared_after : (s : Rows) (m : ℕ) (ms : List Move) → AllCounted s ms → (n : ℕ) → 0 < n → clearings (moved s ms) n ≡ clearings s n + cleared_by n (events_of m ms)
+cleared_after : (s : Rows) (m : ℕ) (ms : List Move) → AllCounted s ms → (n : ℕ) → 0 < n
+    → clearings (moved s ms) n ≡ clearings s n + cleared_by n (events_of m ms)
 unfolding cleared_by
 cleared_after s m [] h n p = omega arith
 cleared_after s m (x ∷ ms) h n p =
@@ -68,7 +69,8 @@ cleared_after s m (x ∷ ms) h n p =
     let c = cleared_event n m x.report (events_of m ms) in
     omega (arith, a, b, c)
 
-pub clearings_moved : (m : ℕ) (s : Rows) (events : List Event) (ms : List Move) → AllCounted s ms → KeepsClearings s events → KeepsClearings (moved s ms) (events ++ events_of m ms)
+pub clearings_moved : (m : ℕ) (s : Rows) (events : List Event) (ms : List Move) → AllCounted s ms → KeepsClearings s events
+    → KeepsClearings (moved s ms) (events ++ events_of m ms)
 unfolding cleared_by
 clearings_moved m s events ms h k n p =
     let a = k n p in
@@ -110,10 +112,14 @@ named_event last m (Some r) es h g = (h, g)
 
 named_after : (s : Rows) (m : ℕ) (ms : List Move) → AllCounted s ms → Every (Named (moved s ms).last_call) (events_of m ms)
 named_after s m [] h = tt
-named_after s m (x ∷ ms) h = named_event _ m x.report (events_of m ms) (later_in _ _ x.report (grown (changed s x.change) ms h.1) h.0.named) (named_after (changed s x.change) m ms h.1)
+named_after s m (x ∷ ms) h =
+    named_event _ m x.report (events_of m ms) (later_in _ _ x.report (grown (changed s x.change) ms h.1) h.0.named) (named_after (changed s x.change) m ms h.1)
 
-pub names_moved : (m : ℕ) (s : Rows) (events : List Event) (ms : List Move) → AllCounted s ms → NamesNoLaterCall s events → NamesNoLaterCall (moved s ms) (events ++ events_of m ms)
-names_moved m s events ms h k = every-append (Named (moved s ms).last_call) events (events_of m ms) (every_later s.last_call (moved s ms).last_call (grown s ms h) events k) (named_after s m ms h)
+pub names_moved : (m : ℕ) (s : Rows) (events : List Event) (ms : List Move) → AllCounted s ms → NamesNoLaterCall s events
+    → NamesNoLaterCall (moved s ms) (events ++ events_of m ms)
+names_moved m s events ms h k =
+    every-append (Named (moved s ms).last_call) events (events_of m ms) (every_later s.last_call (moved s ms).last_call (grown s ms h) events k)
+    (named_after s m ms h)
 
 named_numbered : (last k : ℕ) (es : List Event) → Every (Named last) es → Every (Named last) (numbered k es)
 named_numbered last k [] h = tt
@@ -183,7 +189,8 @@ pub plain_nothing : {last : ℕ} → Plain last no_move
 plain_nothing = record { leaves = tt; cleared = λ n. refl; named = tt }
 
 -- a report that isn't of a clearing
-pub plain_reported : {last : ℕ} {c : Change} {r : Report} → LeavesCalls c → ((n : ℕ) → clears n r ≡ false) → IsUpTo last (columns_of r).call → Plain last (reported c r)
+pub plain_reported : {last : ℕ} {c : Change} {r : Report} → LeavesCalls c → ((n : ℕ) → clears n r ≡ false) → IsUpTo last (columns_of r).call
+    → Plain last (reported c r)
 plain_reported h f l = record { leaves = h; cleared = λ n. ap one (f n); named = l }
 
 plain_arrival : {s : Rows} {last : ℕ} {turn : Turn} {call to : ℕ} {why : Cause} {x : Move} → Arrival s turn call to why x → call ≤ last → Plain last x
@@ -217,10 +224,13 @@ none_if : (b : Bool) → one (b && false) ≡ 0
 none_if true = refl
 none_if false = refl
 
-begun : (s : Rows) (c : CallRecord) → Rules s → c.call ≡ s.last_call + 1 → (n : ℕ) (l : ℕ) → l ≡ max s.last_call (s.last_call + 1) → one (nat_le n l && is_none (call_of (with_call s c) n)) ≡ clearings s n
+begun : (s : Rows) (c : CallRecord) → Rules s → c.call ≡ s.last_call + 1 → (n : ℕ) (l : ℕ) → l ≡ max s.last_call (s.last_call + 1)
+    → one (nat_le n l && is_none (call_of (with_call s c) n)) ≡ clearings s n
 begun s c r e n l w =
-    ap (λ v. one (nat_le n v && is_none (call_of (with_call s c) n))) w ∙ ap (λ (o : Option CallRecord). one (nat_le n (max s.last_call (s.last_call + 1)) && is_none o)) (call_put s c n) ∙
-    (elim (c.call == n) as (λ b. (c.call == n) ≡ b → one (nat_le n (max s.last_call (s.last_call + 1)) && is_none (cond b (Some c) (call_of s n))) ≡ clearings s n) [
+    ap (λ v. one (nat_le n v && is_none (call_of (with_call s c) n))) w
+    ∙ ap (λ (o : Option CallRecord). one (nat_le n (max s.last_call (s.last_call + 1)) && is_none o)) (call_put s c n) ∙
+    (elim (c.call == n) as (λ b. (c.call == n) ≡ b
+    → one (nat_le n (max s.last_call (s.last_call + 1)) && is_none (cond b (Some c) (call_of s n))) ≡ clearings s n) [
       | true ↦ λ q.
           let same : n ≡ s.last_call + 1 = sym (eqb-true c.call n q) ∙ e in
           let above : nat_le n s.last_call ≡ false = lt-leb n s.last_call (omega (arith, same)) in
@@ -256,7 +266,8 @@ ended s c k asc live le n =
       | false ↦ λ q. omega arith
     ]) refl
 
-pub counted_end : (s : Rows) (c : ℕ) (g : Option ℕ) (k : CallRecord) → IsAscending call_order s.calls → call_of s c ≡ Some k → c ≤ s.last_call → Counted s (end_call c g)
+pub counted_end : (s : Rows) (c : ℕ) (g : Option ℕ) (k : CallRecord) → IsAscending call_order s.calls → call_of s c ≡ Some k → c ≤ s.last_call
+    → Counted s (end_call c g)
 unfolding without_call
 counted_end s c g k asc live le =
     record { cleared = λ n p. ended s c k asc live le n; named = le; grows = omega arith }
@@ -296,22 +307,26 @@ counted_clearing s turn p r =
     let le = party_up_to s p r in
     let two : List Move = clear x ∷ clear_other o ∷ [] in
     let last : List Move = release s turn x (ending_of x) ∷ release_other s turn o ∷ [] in
-    let plain_two : Every (Plain s.last_call) two = (plain_clear x le, (plain_clear_other o (λ y e. let same = (other_device s x y e).0 in omega (arith, same, le)), tt)) in
+    let plain_two : Every (Plain s.last_call) two =
+    (plain_clear x le, (plain_clear_other o (λ y e. let same = (other_device s x y e).0 in omega (arith, same, le)), tt)) in
     let t : Rows = moved s two in
     let same : SameCalls s t = plain_calls s.last_call s two plain_two in
     counted-append s two (end_call x.call (cleared_group x o) ∷ last) (counted_plain s two plain_two) (
-      counted_end t x.call (cleared_group x o) p.about (subst (IsAscending call_order) (sym same.0) r.orders.calls) (same_call s t same x.call ∙ p.live) (let e = same.1 in omega (arith, e, le)),
+      counted_end t x.call (cleared_group x o) p.about (subst (IsAscending call_order) (sym same.0) r.orders.calls) (same_call s t same x.call ∙ p.live)
+          (let e = same.1 in omega (arith, e, le)),
       counted_plain (changed t (RemoveCall x.call)) last (plain_agent (released_by s turn x (ending_of x)), (plain_release_other s turn o, tt)),
     )
 
 -- each deed and each round
 
 -- a new call, whose number the state before allows, and moves that speak of it
-counted_new : (s : Rows) (c : CallRecord) (ms : List Move) → Rules s → c.call ≡ s.last_call + 1 → ((l : ℕ) → c.call ≤ l → Every (Plain l) ms) → AllCounted s (begin c ∷ ms)
+counted_new : (s : Rows) (c : CallRecord) (ms : List Move) → Rules s → c.call ≡ s.last_call + 1 → ((l : ℕ) → c.call ≤ l → Every (Plain l) ms)
+    → AllCounted s (begin c ∷ ms)
 counted_new s c ms r n h = (counted_begin s c r n, counted_plain (with_call s c) ms (h (with_call s c).last_call (let e = last_begun s c in omega (arith, e))))
 
 pub counted_round : (s : Rows) (turn : Turn) (ms : List Move) → Round s turn ms → Rules s → AllCounted s ms
-counted_round s turn ms (offers o x a d h) r = let le = up_to s r x h.there in counted_plain s ms (plain_reported tt (λ _. refl) le, (plain_reported tt (λ _. refl) le, tt))
+counted_round s turn ms (offers o x a d h) r =
+    let le = up_to s r x h.there in counted_plain s ms (plain_reported tt (λ _. refl) le, (plain_reported tt (λ _. refl) le, tt))
 counted_round s turn ms (returns x g there _ _) r =
     let le = up_to s r x (connection_among s x.call x.device x there) in
     counted_plain s ms (plain_reported tt (λ _. refl) le, (plain_reported tt (λ _. refl) le, (plain_agent (released_by s turn x NoAnswer), tt)))
@@ -325,17 +340,22 @@ counted_deed s turn ms (adds_agent _ _ _ _) r = counted_plain s ms (plain_silent
 counted_deed s turn ms (watches _ _ _) r = counted_plain s ms (plain_silent tt, tt)
 counted_deed s turn ms (unwatches _) r = counted_plain s ms (plain_silent tt, tt)
 counted_deed s turn _ (arrives caller called _ _ _) r =
-    counted_new s (new_call s turn.moment caller called) (connect_caller (next_call s) caller ∷ arrive s turn (next_call s) called NewCall ∷ []) r refl (λ l up. (plain_silent tt, (plain_arrive s turn _ _ _ up, tt)))
-counted_deed s turn _ (makes device called _ _ _ _ _ _) r = counted_new s (new_call s turn.moment device called) (initiate (next_call s) device ∷ []) r refl (λ l up. (plain_reported tt (λ _. refl) up, tt))
-counted_deed s turn ms (goes_out p _) r = counted_plain s ms (plain_reported tt (λ _. refl) (party_up_to s p r), (plain_arrive s turn _ _ _ (party_up_to s p r), tt))
+    counted_new s (new_call s turn.moment caller called) (connect_caller (next_call s) caller ∷ arrive s turn (next_call s) called NewCall ∷ []) r refl
+    (λ l up. (plain_silent tt, (plain_arrive s turn _ _ _ up, tt)))
+counted_deed s turn _ (makes device called _ _ _ _ _ _) r =
+    counted_new s (new_call s turn.moment device called) (initiate (next_call s) device ∷ []) r refl (λ l up. (plain_reported tt (λ _. refl) up, tt))
+counted_deed s turn ms (goes_out p _) r =
+    counted_plain s ms (plain_reported tt (λ _. refl) (party_up_to s p r), (plain_arrive s turn _ _ _ (party_up_to s p r), tt))
 counted_deed s turn ms (answers p _) r = counted_plain s ms (plain_reported tt (λ _. refl) (party_up_to s p r), (plain_agent (occupied_by s turn p.x), tt))
 counted_deed s turn ms (holds p _ _) r = counted_plain s ms (plain_reported tt (λ _. refl) (party_up_to s p r), tt)
 counted_deed s turn ms (retrieves p _ _) r = counted_plain s ms (plain_reported tt (λ _. refl) (party_up_to s p r), tt)
 counted_deed s turn _ (clears_call p) r = counted_clearing s turn p r
 counted_deed s turn ms (deflects p to _ _) r =
-    let le = party_up_to s p r in counted_plain s ms (plain_reported tt (λ _. refl) le, (plain_arrive s turn _ _ _ le, (plain_agent (released_by s turn p.x (ending_of p.x)), tt)))
+    let le = party_up_to s p r in
+    counted_plain s ms (plain_reported tt (λ _. refl) le, (plain_arrive s turn _ _ _ le, (plain_agent (released_by s turn p.x (ending_of p.x)), tt)))
 counted_deed s turn ms (transfers p to _ _ _) r =
-    let le = party_up_to s p r in counted_plain s ms (plain_reported tt (λ _. refl) le, (plain_arrive s turn _ _ _ le, (plain_agent (released_by s turn p.x (ending_of p.x)), tt)))
+    let le = party_up_to s p r in
+    counted_plain s ms (plain_reported tt (λ _. refl) le, (plain_arrive s turn _ _ _ le, (plain_agent (released_by s turn p.x (ending_of p.x)), tt)))
 counted_deed s turn ms (logs_on _ _ _ _ _ _ _ _) r = counted_plain s ms (plain_reported tt (λ _. refl) tt, tt)
 counted_deed s turn ms (rejects p g alerting group) r = counted_round s turn ms (returns p.x g p.found alerting group) r
 counted_deed s turn ms (renames _ _ _) r = counted_plain s ms (plain_silent tt, tt)

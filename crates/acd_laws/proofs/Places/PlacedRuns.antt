@@ -31,7 +31,8 @@ queued_or_alerting c x = go x.state (x.call == c)
     go _ false = omega arith
 
 -- a connection that isn't queued is at a station or at the caller
-at_device : (s : Rows) (x : ConnectionRecord) (k : CallRecord) (st : ConnectionState) → StandsAt s x st → is_queued st ≡ false → call_of s x.call ≡ Some k → (x.device ≡ k.caller) ⊎ (is_station s x.device ≡ true)
+at_device : (s : Rows) (x : ConnectionRecord) (k : CallRecord) (st : ConnectionState) → StandsAt s x st → is_queued st ≡ false → call_of s x.call ≡ Some k
+    → (x.device ≡ k.caller) ⊎ (is_station s x.device ≡ true)
 at_device s x k S.Queued h e q = absurd (cc (e))
 at_device s x k S.Initiated h e q = inr h.0
 at_device s x k S.Connected (inl h) e q = inr h
@@ -43,7 +44,8 @@ at_queue s x S.Queued h e = h
 at_queue s x _ h e = absurd (cc (e))
 
 -- a live call waits in one queue, or is at devices
-placed_live : (s : Rows) (events : List Event) (c : ℕ) (k : CallRecord) → Rules s → call_of s c ≡ Some k → cleared_by c events ≡ 0 → IsWaiting s events c ⊎ IsAtDevices s events c
+placed_live : (s : Rows) (events : List Event) (c : ℕ) (k : CallRecord) → Rules s → call_of s c ≡ Some k → cleared_by c events ≡ 0
+    → IsWaiting s events c ⊎ IsAtDevices s events c
 placed_live s events c k r live never =
     let open_le = r.one_open c in
     let both = both_fewer (is_queued_of c) (is_alerting_of c) (open_of c) (queued_or_alerting c) s.connections in
@@ -70,14 +72,16 @@ placed_live s events c k r live never =
         at_devices = λ x a q.
             let same : x.call ≡ c = eqb-true x.call c q in
             at_device s x k x.state (rule x a).2
-            (false_from_ne_true (is_queued x.state) (λ e. let n = counted (is_queued_of c) s.connections x a (and_from (x.call == c) (is_queued x.state) q e) in omega (arith, n, z)))
+            (false_from_ne_true (is_queued x.state)
+            (λ e. let n = counted (is_queued_of c) s.connections x a (and_from (x.call == c) (is_queued x.state) q e) in omega (arith, n, z)))
             (ap (call_of s) same ∙ live);
       })
     ]
 
 pub placed_from : (s : Rows) (events : List Event) → Rules s → KeepsClearings s events → IsPlaced s events
 placed_from s events r h c pos le =
-    (elim (call_of s c) as (λ o. call_of s c ≡ o → cleared_by c events ≡ one (nat_le c s.last_call && is_none o) → IsCleared s events c ⊎ IsWaiting s events c ⊎ IsAtDevices s events c) [
+    (elim (call_of s c) as (λ o. call_of s c ≡ o → cleared_by c events ≡ one (nat_le c s.last_call && is_none o)
+    → IsCleared s events c ⊎ IsWaiting s events c ⊎ IsAtDevices s events c) [
       | None ↦ λ e q. inl (record { ended = e; once = q ∙ rw (le-leb c s.last_call le) refl })
       | Some k ↦ λ e q. inr (placed_live s events c k r e (q ∙ none_if (nat_le c s.last_call)))
     ]) refl (h c pos)
@@ -88,13 +92,16 @@ placed_from s events r h c pos le =
 
 -- the three ways exclude one another
 pub places_exclude : PlacesExclude
-places_exclude s events c = (λ a b. cc (a.ended, b.there), λ a b. cc (a.ended, b.there), λ a b. let e = a.once in let z = b.none_queued in absurd (omega (arith, e, z)))
+places_exclude s events c =
+    (λ a b. cc (a.ended, b.there), λ a b. cc (a.ended, b.there), λ a b. let e = a.once in let z = b.none_queued in absurd (omega (arith, e, z)))
 
 -- a property that counted moves keep, deeds and rounds keep, and so a step's moves
-moves_keep : (P : Rows → List Event → Type 0) (turn : Turn) → ((s : Rows) (es : List Event) (ms : List Move) → AllCounted s ms → P s es → Kept P turn.moment s es ms)
+moves_keep : (P : Rows → List Event → Type 0) (turn : Turn)
+    → ((s : Rows) (es : List Event) (ms : List Move) → AllCounted s ms → P s es → Kept P turn.moment s es ms)
     → (s : Rows) (es : List Event) (c : Command) → Rules s → P s es → Kept P turn.moment s es (step_moves s turn.moment (serve s turn c))
 moves_keep P turn f s es c r h =
-    by_deeds P turn c (λ _ v fs ms d rv p. f v fs ms (counted_deed v turn ms d rv) p) (λ v fs ms d rv p. f v fs ms (counted_regroups v c ms d) p) (λ v fs ms d rv p. f v fs ms (counted_round v turn ms d rv) p) s es r h
+    by_deeds P turn c (λ _ v fs ms d rv p. f v fs ms (counted_deed v turn ms d rv) p) (λ v fs ms d rv p. f v fs ms (counted_regroups v c ms d) p)
+    (λ v fs ms d rv p. f v fs ms (counted_round v turn ms d rv) p) s es r h
 
 -- the end of a step sets figures and counters: calls stay
 calls_ended : (t : Rows) (es : List Event) (k m n : ℕ) → SameCalls t (ended t es k m n)
@@ -124,7 +131,8 @@ step_keeps_clearings s events moment command r h n p =
     let kept : KeepsClearings t (events ++ es) = moves_keep KeepsClearings turn (clearings_moved turn.moment) s events command r h in
     clearings_numbered t events es s.last_event kept n p ∙ sym (same_clearings t (ended t es turn.stamp turn.moment (s.last_event + length es)) same n)
 
-pub step_places : (s : Rows) (events : List Event) (moment : ℕ) (command : Command) → Rules s → KeepsClearings s events → IsPlaced (step s moment command).rows (events ++ (step s moment command).events)
+pub step_places : (s : Rows) (events : List Event) (moment : ℕ) (command : Command) → Rules s → KeepsClearings s events
+    → IsPlaced (step s moment command).rows (events ++ (step s moment command).events)
 step_places s events moment command r h = placed_from _ _ (rules_step s moment command r) (step_keeps_clearings s events moment command r h)
 
 -- runs
@@ -141,7 +149,8 @@ none_cleared limits n p = sym (ap (λ b. one (b && true)) (lt-leb n 0 p))
 history_first : (limits : Limits) → History (empty_rows limits) []
 history_first limits = record { rules = rules_first limits; names = tt; cleared = none_cleared limits }
 
-history_step : (s : Rows) (events : List Event) (moment : ℕ) (command : Command) → History s events → History (step s moment command).rows (events ++ (step s moment command).events)
+history_step : (s : Rows) (events : List Event) (moment : ℕ) (command : Command) → History s events
+    → History (step s moment command).rows (events ++ (step s moment command).events)
 history_step s events moment command h = record {
   rules = rules_step s moment command h.rules;
   names = step_names_no_later_call s events moment command h.rules h.names;

@@ -52,7 +52,8 @@ pub record Behaves (s : Rows) (k m : ℕ) (ms : List Move) : Type 0 where
 -- a silent move of the plan or of a monitor
 
 -- a planned group's record is put in the place of the one before
-length-put_group : (s : Rows) (g : GroupRecord) → IsAscending group_order s.groups → is_group s g.device ≡ true → length (put_by (at_group g.device) s.groups g) ≡ length s.groups
+length-put_group : (s : Rows) (g : GroupRecord) → IsAscending group_order s.groups → is_group s g.device ≡ true
+    → length (put_by (at_group g.device) s.groups g) ≡ length s.groups
 unfolding group_of
 length-put_group s g asc planned =
     let z = some_from (group_of s g.device) planned in
@@ -67,7 +68,8 @@ silently : (s : Rows) (k m : ℕ) (c : Change) → Fit k m c → LeavesConnectio
 silently s k m c f l h = record { comes = false; steps = neat (neat_silent c f l) done; few = omega arith; settled = h }
 
 -- more is planned
-monitored_more : (s t : Rows) → ((d : ℕ) → is_planned s d ≡ true → is_planned t d ≡ true) → t.last_monitor ≡ s.last_monitor → t.last_event ≡ s.last_event → t.monitors ≡ s.monitors → Monitored s → Monitored t
+monitored_more : (s t : Rows) → ((d : ℕ) → is_planned s d ≡ true → is_planned t d ≡ true) → t.last_monitor ≡ s.last_monitor → t.last_event ≡ s.last_event
+    → t.monitors ≡ s.monitors → Monitored s → Monitored t
 monitored_more s t f a b e h = subst (λ ws. Every (MonitorRule t) ws) (sym e) (every_from (MonitorRule t) s.monitors (λ w i.
     let q = every_among (MonitorRule s) s.monitors w h i in let x = q.1 in let y = q.2 in (f w.device q.0, omega (arith, x, a), omega (arith, y, b))))
 
@@ -92,7 +94,14 @@ put_new s g z new (inr a) = inl a
 behaves_group : (s : Rows) (k m : ℕ) (g : GroupRecord) → nat_le s.limits.groups (length s.groups) ≡ false → IsNew s g → Behaves s k m (silent (PutGroup g) ∷ [])
 unfolding with_group
 behaves_group s k m g room new =
-    let sizes : Sizes s → Sizes (with_group s g) = λ h. record { limits = h.limits; groups = room_for (at_group g.device) g s.groups s.limits.groups room; stations = h.stations; agents = h.agents; calls = h.calls; monitors = h.monitors } in
+    let sizes : Sizes s → Sizes (with_group s g) = λ h. record {
+      limits = h.limits;
+      groups = room_for (at_group g.device) g s.groups s.limits.groups room;
+      stations = h.stations;
+      agents = h.agents;
+      calls = h.calls;
+      monitors = h.monitors;
+    } in
     silently s k m (PutGroup g) tt tt (record {
       sizes = sizes;
       monitors = monitored_more s (with_group s g) (planned_group s g) refl refl refl;
@@ -104,11 +113,13 @@ behaves_group s k m g room new =
     })
 
 -- a planned group gets another record
-behaves_regrouped : (s : Rows) (k m : ℕ) (g : GroupRecord) → IsAscending group_order s.groups → IsRegrouped s g → is_group s g.device ≡ true → Behaves s k m (silent (PutGroup g) ∷ [])
+behaves_regrouped : (s : Rows) (k m : ℕ) (g : GroupRecord) → IsAscending group_order s.groups → IsRegrouped s g → is_group s g.device ≡ true
+    → Behaves s k m (silent (PutGroup g) ∷ [])
 unfolding with_group
 behaves_regrouped s k m g asc regrouped planned =
     let same : length (put_by (at_group g.device) s.groups g) ≡ length s.groups = length-put_group s g asc planned in
-    let sizes : Sizes s → Sizes (with_group s g) = λ h. let n = h.groups in record { limits = h.limits; groups = omega (arith, n, same); stations = h.stations; agents = h.agents; calls = h.calls; monitors = h.monitors } in
+    let sizes : Sizes s → Sizes (with_group s g) = λ h. let n = h.groups in
+    record { limits = h.limits; groups = omega (arith, n, same); stations = h.stations; agents = h.agents; calls = h.calls; monitors = h.monitors } in
     silently s k m (PutGroup g) tt tt (record {
       sizes = sizes;
       monitors = monitored_more s (with_group s g) (planned_group s g) refl refl refl;
@@ -122,28 +133,76 @@ behaves_regrouped s k m g asc regrouped planned =
 behaves_station : (s : Rows) (k m : ℕ) (g : StationRecord) → nat_le s.limits.stations (length s.stations) ≡ false → Behaves s k m (silent (PutStation g) ∷ [])
 unfolding with_station
 behaves_station s k m g room =
-    let sizes : Sizes s → Sizes (with_station s g) = λ h. record { limits = h.limits; groups = h.groups; stations = room_for (at_station g.device) g s.stations s.limits.stations room; agents = h.agents; calls = h.calls; monitors = h.monitors } in
+    let sizes : Sizes s → Sizes (with_station s g) = λ h. record {
+      limits = h.limits;
+      groups = h.groups;
+      stations = room_for (at_station g.device) g s.stations s.limits.stations room;
+      agents = h.agents;
+      calls = h.calls;
+      monitors = h.monitors;
+    } in
     let monitors = monitored_more s (with_station s g) (planned_station s g) refl refl refl in
-    silently s k m (PutStation g) tt tt (record { sizes = sizes; monitors = monitors; groups = λ z a. inl a; limits = refl; last_call = omega arith; last_monitor = omega arith; last_event = refl })
+    silently s k m (PutStation g) tt tt (record {
+      sizes = sizes;
+      monitors = monitors;
+      groups = λ z a. inl a;
+      limits = refl;
+      last_call = omega arith;
+      last_monitor = omega arith;
+      last_event = refl;
+    })
 
-behaves_agent : (s : Rows) (k m : ℕ) (g : AgentRecord) → nat_le s.limits.agents (length s.agents) ≡ false → AgentTimed k m g → Behaves s k m (silent (PutAgent g) ∷ [])
+behaves_agent : (s : Rows) (k m : ℕ) (g : AgentRecord) → nat_le s.limits.agents (length s.agents) ≡ false → AgentTimed k m g
+    → Behaves s k m (silent (PutAgent g) ∷ [])
 unfolding with_agent group_of station_of
 behaves_agent s k m g room t =
-    let sizes : Sizes s → Sizes (with_agent s g) = λ h. record { limits = h.limits; groups = h.groups; stations = h.stations; agents = room_for (at_agent g.agent) g s.agents s.limits.agents room; calls = h.calls; monitors = h.monitors } in
+    let sizes : Sizes s → Sizes (with_agent s g) = λ h. record {
+      limits = h.limits;
+      groups = h.groups;
+      stations = h.stations;
+      agents = room_for (at_agent g.agent) g s.agents s.limits.agents room;
+      calls = h.calls;
+      monitors = h.monitors;
+    } in
     let monitors = monitored_more s (with_agent s g) (λ d e. e) refl refl refl in
-    silently s k m (PutAgent g) t tt (record { sizes = sizes; monitors = monitors; groups = λ z a. inl a; limits = refl; last_call = omega arith; last_monitor = omega arith; last_event = refl })
+    silently s k m (PutAgent g) t tt (record {
+      sizes = sizes;
+      monitors = monitors;
+      groups = λ z a. inl a;
+      limits = refl;
+      last_call = omega arith;
+      last_monitor = omega arith;
+      last_event = refl;
+    })
 
 monitored_put : (s : Rows) (w : MonitorRecord) → is_planned s w.device ≡ true → w.after_event ≡ s.last_event → Monitored s → Monitored (with_monitor s w)
 unfolding with_monitor group_of station_of
 monitored_put s w p e h = every-put (at_monitor w.monitor) (MonitorRule (with_monitor s w)) w (p, omega arith, omega (arith, e)) s.monitors
-    (every_from (MonitorRule (with_monitor s w)) s.monitors (λ z i. let q = every_among (MonitorRule s) s.monitors z h i in let x = q.1 in (q.0, omega (arith, x), q.2)))
+    (every_from (MonitorRule (with_monitor s w)) s.monitors
+    (λ z i. let q = every_among (MonitorRule s) s.monitors z h i in let x = q.1 in (q.0, omega (arith, x), q.2)))
 
-behaves_monitor : (s : Rows) (k m : ℕ) (w : MonitorRecord) → nat_le s.limits.monitors (length s.monitors) ≡ false → is_planned s w.device ≡ true → w.after_event ≡ s.last_event → w.monitor ≡ s.last_monitor + 1
+behaves_monitor : (s : Rows) (k m : ℕ) (w : MonitorRecord) → nat_le s.limits.monitors (length s.monitors) ≡ false → is_planned s w.device ≡ true
+    → w.after_event ≡ s.last_event → w.monitor ≡ s.last_monitor + 1
     → Behaves s k m (silent (PutMonitor w) ∷ [])
 unfolding with_monitor
 behaves_monitor s k m w room p e n =
-    let sizes : Sizes s → Sizes (with_monitor s w) = λ h. record { limits = h.limits; groups = h.groups; stations = h.stations; agents = h.agents; calls = h.calls; monitors = room_for (at_monitor w.monitor) w s.monitors s.limits.monitors room } in
-    silently s k m (PutMonitor w) tt tt (record { sizes = sizes; monitors = monitored_put s w p e; groups = λ z a. inl a; limits = refl; last_call = omega arith; last_monitor = omega (arith, n); last_event = refl })
+    let sizes : Sizes s → Sizes (with_monitor s w) = λ h. record {
+      limits = h.limits;
+      groups = h.groups;
+      stations = h.stations;
+      agents = h.agents;
+      calls = h.calls;
+      monitors = room_for (at_monitor w.monitor) w s.monitors s.limits.monitors room;
+    } in
+    silently s k m (PutMonitor w) tt tt (record {
+      sizes = sizes;
+      monitors = monitored_put s w p e;
+      groups = λ z a. inl a;
+      limits = refl;
+      last_call = omega arith;
+      last_monitor = omega (arith, n);
+      last_event = refl;
+    })
 
 -- calls
 
@@ -152,12 +211,20 @@ unfolding with_call
 ascending_called s c h = h
 
 -- a new call, and moves that put connections
-settled_call : (s : Rows) (c : CallRecord) (ms : List Move) → nat_le s.limits.calls (length s.calls) ≡ false → c.call ≡ s.last_call + 1 → Steadied (with_call s c) (moved (with_call s c) ms) → Settled s (silent (PutCall c) ∷ ms)
+settled_call : (s : Rows) (c : CallRecord) (ms : List Move) → nat_le s.limits.calls (length s.calls) ≡ false → c.call ≡ s.last_call + 1
+    → Steadied (with_call s c) (moved (with_call s c) ms) → Settled s (silent (PutCall c) ∷ ms)
 unfolding with_call group_of station_of
 settled_call s c ms room n f =
     let t : Rows = moved (with_call s c) ms in
     let a = f.last_call in let b = f.last_monitor in
-    let sizes : Sizes s → Sizes (with_call s c) = λ h. record { limits = h.limits; groups = h.groups; stations = h.stations; agents = h.agents; calls = room_for (at_call c.call) c s.calls s.limits.calls room; monitors = h.monitors } in
+    let sizes : Sizes s → Sizes (with_call s c) = λ h. record {
+      limits = h.limits;
+      groups = h.groups;
+      stations = h.stations;
+      agents = h.agents;
+      calls = room_for (at_call c.call) c s.calls s.limits.calls room;
+      monitors = h.monitors;
+    } in
     record {
       sizes = λ h. sizes_steadied (with_call s c) t f (sizes h);
       monitors = λ h. monitored_steadied (with_call s c) t f (monitored_more s (with_call s c) (λ d e. e) refl refl refl h);
@@ -178,7 +245,8 @@ steady_clears : (s : Rows) (o : Option ConnectionRecord) → Steady (knows s) (c
 steady_clears s None = tt
 steady_clears s (Some y) = tt
 
-releases_other : (s : Rows) (turn : Turn) (o : Option ConnectionRecord) → IsAscending agent_order s.agents → AgentMove (Recorded s) turn (release_other s turn o)
+releases_other : (s : Rows) (turn : Turn) (o : Option ConnectionRecord) → IsAscending agent_order s.agents
+    → AgentMove (Recorded s) turn (release_other s turn o)
 releases_other s turn None h = stays
 releases_other s turn (Some y) h = releases_here s turn y (ending_of y) h
 
@@ -204,10 +272,13 @@ agent_behaves s k m x b h = steadily b (neat (neat_agent s b.stamp b.timed h) do
 pub behaves_deed : (s : Rows) (k m : ℕ) (ms : List Move) → Deed s (turn_at m k) ms → Before s k m → Behaves s k m ms
 behaves_deed s k m _ nothing b = steadily b done (omega arith) tt
 behaves_deed s k m _ (adds_group device name ring wrap free room) b =
-    behaves_group s k m (new_group device name ring wrap) room (refl, (or_parts (is_group s device) (is_station s device) (or_parts (is_planned s device) (is_calling s device) free).0).0, refl)
+    behaves_group s k m (new_group device name ring wrap) room
+    (refl, (or_parts (is_group s device) (is_station s device) (or_parts (is_planned s device) (is_calling s device) free).0).0, refl)
 behaves_deed s k m _ (adds_station device _ room) b = behaves_station s k m (record { device = device }) room
-behaves_deed s k m _ (adds_agent agent name _ room) b = behaves_agent s k m (new_agent (turn_at m k) agent name) room (record { above = b.stamp; stamp = omega arith; since = omega arith })
-behaves_deed s k m _ (watches device planned room) b = behaves_monitor s k m (record { monitor = next_monitor s; device = device; after_event = s.last_event }) room planned refl refl
+behaves_deed s k m _ (adds_agent agent name _ room) b =
+    behaves_agent s k m (new_agent (turn_at m k) agent name) room (record { above = b.stamp; stamp = omega arith; since = omega arith })
+behaves_deed s k m _ (watches device planned room) b =
+    behaves_monitor s k m (record { monitor = next_monitor s; device = device; after_event = s.last_event }) room planned refl refl
 behaves_deed s k m _ (unwatches monitor) b = steadily b (neat (neat_silent (RemoveMonitor monitor) tt tt) done) (omega arith) (tt, tt)
 behaves_deed s k m _ (arrives caller called _ _ room) b =
     let n : ℕ = next_call s in
@@ -216,9 +287,14 @@ behaves_deed s k m _ (arrives caller called _ _ room) b =
     let rest : List Move = connect_caller n caller ∷ arrive s (turn_at m k) n called NewCall ∷ [] in
     record {
       comes = true;
-      steps = neat (neat_silent (PutCall c) (omega arith) tt) (neat (neat_put (plain n caller S.Connected) None (timed_plain k m n caller S.Connected) refl tt (λ g. refl)) (comes (comes_to s k m n called NewCall b.stamp) done));
+      steps =
+          neat (neat_silent (PutCall c) (omega arith) tt)
+          (neat (neat_put (plain n caller S.Connected) None (timed_plain k m n caller S.Connected) refl tt (λ g. refl))
+          (comes (comes_to s k m n called NewCall b.stamp) done));
       few = omega arith;
-      settled = settled_call s c rest room refl (steadied u rest (ascending_called s c b.rules.orders.agents) (tt, (steady_arrive s u (turn_at m k) n called NewCall, tt)));
+      settled =
+          settled_call s c rest room refl
+          (steadied u rest (ascending_called s c b.rules.orders.agents) (tt, (steady_arrive s u (turn_at m k) n called NewCall, tt)));
     }
 behaves_deed s k m _ (makes device called _ _ _ _ _ room) b =
     let n : ℕ = next_call s in
@@ -226,34 +302,51 @@ behaves_deed s k m _ (makes device called _ _ _ _ _ room) b =
     let rest : List Move = initiate n device ∷ [] in
     record {
       comes = false;
-      steps = neat (neat_silent (PutCall c) (omega arith) tt) (neat (neat_put (plain n device S.Initiated) (Some (report.ServiceInitiated n device)) (timed_plain k m n device S.Initiated) refl tt (λ g. refl)) done);
+      steps =
+          neat (neat_silent (PutCall c) (omega arith) tt)
+          (neat (neat_put (plain n device S.Initiated) (Some (report.ServiceInitiated n device)) (timed_plain k m n device S.Initiated) refl tt (λ g. refl))
+          done);
       few = omega arith;
       settled = settled_call s c rest room refl (steadied (with_call s c) rest (ascending_called s c b.rules.orders.agents) (tt, tt));
     }
 behaves_deed s k m _ (goes_out p _) b = steadily b
-    (neat (neat_turned s p.x S.Connected (report.Originated p.x.call p.x.device p.about.called) b.timed b.rules.orders.connections p.found tt (λ g. refl)) (comes (comes_to s k m p.x.call p.about.called NewCall b.stamp) done))
+    (neat (neat_turned s p.x S.Connected (report.Originated p.x.call p.x.device p.about.called) b.timed b.rules.orders.connections p.found tt (λ g. refl))
+    (comes (comes_to s k m p.x.call p.about.called NewCall b.stamp) done))
     (omega arith) (tt, (steady_arrive s s (turn_at m k) p.x.call p.about.called NewCall, tt))
 behaves_deed s k m _ (answers p _) b =
     let h = occupies_here s (turn_at m k) p.x b.rules.orders.agents in
     let e : Report = report.Established p.x.call p.x.device (waited_by m p.x.queued p.x.group) in
     let t : ConnectionTimed k m (talking p.x) = record { place = tt; queued = tt; offered = tt; order = tt } in steadily b
-    (neat (neat_put (talking p.x) (Some e) t refl (waits_answer m p.x.call p.x.device p.x.queued p.x.group) (λ g. refl)) (neat (neat_agent s b.stamp b.timed h) done)) (omega arith) (tt, (steady_agent s h, tt))
-behaves_deed s k m _ (holds p _ _) b = steadily b (neat (neat_turned s p.x S.Hold (report.Held p.x.call p.x.device) b.timed b.rules.orders.connections p.found tt (λ g. refl)) done) (omega arith) (tt, tt)
-behaves_deed s k m _ (retrieves p _ _) b = steadily b (neat (neat_turned s p.x S.Connected (report.Retrieved p.x.call p.x.device) b.timed b.rules.orders.connections p.found tt (λ g. refl)) done) (omega arith) (tt, tt)
+    (neat (neat_put (talking p.x) (Some e) t refl (waits_answer m p.x.call p.x.device p.x.queued p.x.group) (λ g. refl))
+    (neat (neat_agent s b.stamp b.timed h) done))
+    (omega arith) (tt, (steady_agent s h, tt))
+behaves_deed s k m _ (holds p _ _) b =
+    steadily b (neat (neat_turned s p.x S.Hold (report.Held p.x.call p.x.device) b.timed b.rules.orders.connections p.found tt (λ g. refl)) done) (omega arith)
+    (tt, tt)
+behaves_deed s k m _ (retrieves p _ _) b =
+    steadily b (neat (neat_turned s p.x S.Connected (report.Retrieved p.x.call p.x.device) b.timed b.rules.orders.connections p.found tt (λ g. refl)) done)
+    (omega arith) (tt, tt)
 behaves_deed s k m _ (clears p) b =
     let x : ConnectionRecord = p.x in
     let o : Option ConnectionRecord = other_of s x in
     let h = releases_here s (turn_at m k) x (ending_of x) b.rules.orders.agents in
     let g = releases_other s (turn_at m k) o b.rules.orders.agents in steadily b
-    (neat (neat_remove x.call x.device (report.ConnectionCleared x.call x.device) tt (λ g. refl)) (neat (clears_other o) (neat (neat_quiet (RemoveCall x.call) (Some (report.CallCleared x.call (cleared_group x o))) tt tt tt (λ g. refl))
+    (neat (neat_remove x.call x.device (report.ConnectionCleared x.call x.device) tt (λ g. refl))
+    (neat (clears_other o) (neat (neat_quiet (RemoveCall x.call) (Some (report.CallCleared x.call (cleared_group x o))) tt tt tt (λ g. refl))
     (neat (neat_agent s b.stamp b.timed h) (neat (neat_agent s b.stamp b.timed g) done)))))
     (omega arith) (tt, (steady_clears s o, (tt, (steady_agent s h, (steady_agent s g, tt)))))
 behaves_deed s k m _ (deflects p to _ _) b = given s k m to p.x (report.Diverted p.x.call p.x.device to Deflected p.x.group) Deflected b tt (λ g. refl)
 behaves_deed s k m _ (transfers p to _ _ _) b = given s k m to p.x (report.Transferred p.x.call p.x.device to) Transferred b tt (λ g. refl)
 behaves_deed s k m _ (logs_on a device groups found _ _ _ _) b =
     let c : AgentRecord = record a { state = A.NotReady; pending = None; station = Some device; groups = groups; stamp = k; since = m } in
-    steadily b (neat (neat_quiet (PutAgent c) (Some (report.AgentLoggedOn a.agent device (only_group groups))) (record { above = b.stamp; stamp = omega arith; since = omega arith }) tt tt (λ g. refl)) done) (omega arith) (ap is_some found, tt)
-behaves_deed s k m _ (rejects p g alerting group) b = let f = round_steps s k m _ b.stamp (returns p.x g p.found alerting group) b.rules b.timed in steadily b f.0 (omega arith) f.1
+    steadily b
+    (neat
+    (neat_quiet (PutAgent c) (Some (report.AgentLoggedOn a.agent device (only_group groups)))
+    (record { above = b.stamp; stamp = omega arith; since = omega arith }) tt tt (λ g. refl))
+    done)
+    (omega arith) (ap is_some found, tt)
+behaves_deed s k m _ (rejects p g alerting group) b =
+    let f = round_steps s k m _ b.stamp (returns p.x g p.found alerting group) b.rules b.timed in steadily b f.0 (omega arith) f.1
 behaves_deed s k m _ (renames a name found) b = agent_behaves s k m _ b (remains a name a.pending found)
 behaves_deed s k m _ (waits a wanted found _ _) b = agent_behaves s k m _ b (remains a a.name (Some wanted) found)
 behaves_deed s k m _ (goes a wanted found _ _) b = agent_behaves s k m _ b (goes_from (Recorded s) (turn_at m k) a a.station (state_wanted wanted) found)
@@ -262,7 +355,13 @@ behaves_regroups : (s : Rows) (k m : ℕ) (c : Command) (ms : List Move) → Reg
 behaves_regroups s k m c _ (refuses device it none) b = steadily b done (omega arith) tt
 behaves_regroups s k m c _ (puts device g it found) b =
     behaves_regrouped s k m (group_given c g) b.rules.orders.groups
-    (record { was = g; there = group_among s device g found; device = given_device c g; figures = given_figures c g; in_range = given_priority c g }) (given_planned s c device g found)
+    (record {
+      was = g;
+      there = group_among s device g found;
+      device = given_device c g;
+      figures = given_figures c g;
+      in_range = given_priority c g;
+    }) (given_planned s c device g found)
 
 -- this holds after moves of a step, with their events
 pub record After (s : Rows) (k m most : ℕ) (t : Rows) (es : List Event) : Type 0 where
@@ -300,7 +399,8 @@ after_service s k m ms b h = record {
     at_most false n = omega arith
 
 -- rounds after moves
-after_rounds : (s : Rows) (k m most more : ℕ) (t u : Rows) (es fs : List Event) → After s k m most t es → Within t k m u fs → length fs ≤ more → After s k m (most + more) u (es ++ fs)
+after_rounds : (s : Rows) (k m most more : ℕ) (t u : Rows) (es fs : List Event) → After s k m most t es → Within t k m u fs → length fs ≤ more
+    → After s k m (most + more) u (es ++ fs)
 after_rounds s k m most more t u es fs a w l = record {
   timed = w.timed;
   places = λ p. (let x = a.places p in let y = w.places p in omega (arith, x, y));
@@ -321,7 +421,20 @@ after_rounds s k m most more t u es fs a w l = record {
     length-joined (x ∷ xs) ys = (let ih = length-joined xs ys in omega (arith, ih))
 
 after_nothing : (s : Rows) (k m : ℕ) → Before s k m → After s k m 0 s []
-after_nothing s k m b = record { timed = b.timed; places = λ p. omega arith; sizes = b.sizes; monitors = b.monitors; groups = λ g i. inl i; limits = refl; last_call = omega arith; last_monitor = omega arith; last_event = refl; entries = λ g. omega arith; waits = tt; few = omega arith }
+after_nothing s k m b = record {
+  timed = b.timed;
+  places = λ p. omega arith;
+  sizes = b.sizes;
+  monitors = b.monitors;
+  groups = λ g i. inl i;
+  limits = refl;
+  last_call = omega arith;
+  last_monitor = omega arith;
+  last_event = refl;
+  entries = λ g. omega arith;
+  waits = tt;
+  few = omega arith;
+}
 
 after_tick : (s : Rows) (k m : ℕ) → Before s k m → After s k m 13000 (moved s (tick s (turn_at m k))) (events_of m (tick s (turn_at m k)))
 after_tick s k m b =
@@ -332,9 +445,11 @@ after_tick s k m b =
     let e = returns_agents s k m b.stamp b.rules b.timed in
     let f = greatest s b.sizes.limits in
     let x = b.sizes.calls in let y = b.sizes.agents in let fc = f.calls in let fa = f.agents in
-    after_rounds s k m 0 13000 s (moved s (tick s (turn_at m k))) [] (events_of m (tick s (turn_at m k))) (after_nothing s k m b) w (omega (arith, a, c, d, e, x, y, fc, fa))
+    after_rounds s k m 0 13000 s (moved s (tick s (turn_at m k))) [] (events_of m (tick s (turn_at m k))) (after_nothing s k m b) w
+    (omega (arith, a, c, d, e, x, y, fc, fa))
 
-after_serve : (s : Rows) (k m : ℕ) (c : Command) → Before s k m → After s k m 13000 (moved s (moves_of (serve s (turn_at m k) c))) (events_of m (moves_of (serve s (turn_at m k) c)))
+after_serve : (s : Rows) (k m : ℕ) (c : Command) → Before s k m
+    → After s k m 13000 (moved s (moves_of (serve s (turn_at m k) c))) (events_of m (moves_of (serve s (turn_at m k) c)))
 after_serve s k m c b = elim (deed_of_serve s (turn_at m k) c) [
   | inl w ↦ elim w.1 [
     | inl d ↦ after_service s k m _ b (behaves_deed s k m _ d b)
@@ -359,4 +474,5 @@ after_moves s k m c b =
     let g = greatest t a.sizes.limits in
     let x = a.sizes.calls in let gc = g.calls in
     subst (λ u. After s k m 21000 u (events_of m (ms ++ ns))) (sym (moved_append s ms ns))
-    (subst (After s k m 21000 (moved t ns)) (sym (events_of_append m ms ns)) (after_rounds s k m 13000 8000 t (moved t ns) (events_of m ms) (events_of m ns) a w (omega (arith, e, f, d, x, gc))))
+    (subst (After s k m 21000 (moved t ns)) (sym (events_of_append m ms ns))
+    (after_rounds s k m 13000 8000 t (moved t ns) (events_of m ms) (events_of m ns) a w (omega (arith, e, f, d, x, gc))))

@@ -27,14 +27,17 @@ use Rattle.acd_laws.specs.OfferLaws.{KeepsWithin}
 -- the columns of a connection
 
 bare_decided : (x : ConnectionRecord) → Decides (is_bare x) (Bare x)
-bare_decided x = like (absent x.place and absent x.queued and absent x.offered) (λ p. record { place = p.0.0; queued = p.0.1; offered = p.1 }) (λ h. ((h.place, h.queued), h.offered))
+bare_decided x =
+    like (absent x.place and absent x.queued and absent x.offered) (λ p. record { place = p.0.0; queued = p.0.1; offered = p.1 })
+    (λ h. ((h.place, h.queued), h.offered))
 
 placed_decided : (x : ConnectionRecord) → Decides (is_placed x) ((is_some x.place ≡ true) × (is_some x.queued ≡ true))
 placed_decided x = holds (is_some x.place) and holds (is_some x.queued)
 
 alerting_decided : (x : ConnectionRecord) (o : Option ℕ) → Decides (if is_some o then is_placed x && is_some x.offered else is_bare x) (AlertingColumns x o)
 alerting_decided x None = bare_decided x
-alerting_decided x (Some g) = like (placed_decided x and holds (is_some x.offered)) (λ p. record { place = p.0.0; queued = p.0.1; offered = p.1 }) (λ h. ((h.place, h.queued), h.offered))
+alerting_decided x (Some g) =
+    like (placed_decided x and holds (is_some x.offered)) (λ p. record { place = p.0.0; queued = p.0.1; offered = p.1 }) (λ h. ((h.place, h.queued), h.offered))
 
 without_group_decided : (x : ConnectionRecord) → Decides (is_none x.group && is_bare x) (Bare x × (x.group ≡ None))
 without_group_decided x = like (absent x.group and bare_decided x) (λ p. (p.1, p.0)) (λ h. (h.1, h.0))
@@ -70,8 +73,11 @@ ConnectionsKept s = (x : ConnectionRecord) → Among x s.connections → Connect
 connections_decided : (s : Rows) → Decides (keeps_connection s) (ConnectionsKept s)
 unfolding keeps_connection
 connections_decided s = each (λ (x : ConnectionRecord). like
-    (holds (is_some (call_of s x.call)) and (caller_decided (call_of s x.call) x.device or holds (is_planned s x.device)) and columns_decided x x.state and group_decided s x.group and holds (may_stand s x.state x))
-    (λ p. record { live = p.0.0.0.0; party = p.0.0.0.1; columns = p.0.0.1; group = p.0.1; stands = p.1 }) (λ h. ((((h.live, h.party), h.columns), h.group), h.stands))) s.connections
+    (holds (is_some (call_of s x.call)) and (caller_decided (call_of s x.call) x.device or holds (is_planned s x.device)) and columns_decided x x.state
+    and group_decided s x.group and holds (may_stand s x.state x))
+    (λ p. record { live = p.0.0.0.0; party = p.0.0.0.1; columns = p.0.0.1; group = p.0.1; stands = p.1 })
+    (λ h. ((((h.live, h.party), h.columns), h.group), h.stands)))
+    s.connections
 
 -- parties: one, initiated at the caller, or two
 
@@ -86,8 +92,11 @@ PartiesKept s = (c : CallRecord) → Among c s.calls → BeingMade s c ⊎ TwoPa
 
 parties_decided : (s : Rows) → Decides (keeps_parties s) (PartiesKept s)
 unfolding keeps_parties
-parties_decided s = each (λ (c : CallRecord). (equals (count (parties_of c.call) s.connections) 1 and equals (count (initiated_at c.call c.caller) s.connections) 1)
-    or (equals (count (parties_of c.call) s.connections) 2 and equals (count (initiated_of c.call) s.connections) 0 and within (count (open_of c.call) s.connections) 1)) s.calls
+parties_decided s =
+    each (λ (c : CallRecord). (equals (count (parties_of c.call) s.connections) 1 and equals (count (initiated_at c.call c.caller) s.connections) 1)
+    or (equals (count (parties_of c.call) s.connections) 2 and equals (count (initiated_of c.call) s.connections) 0
+    and within (count (open_of c.call) s.connections) 1))
+    s.calls
 
 -- live
 
@@ -97,7 +106,10 @@ OneLive s d = (count (live_at d) s.connections ≤ 1) × ((count (alerting_at d)
 live_decided : (s : Rows) → Decides (keeps_live s) ((d : ℕ) → is_station s d ≡ true → OneLive s d)
 unfolding keeps_live
 live_decided s = like
-    (each (λ (t : StationRecord). within (count (live_at t.device) s.connections) 1 and (equals (count (alerting_at t.device) s.connections) 0 or equals (count (hold_at t.device) s.connections) 0)) s.stations)
+    (each
+    (λ (t : StationRecord). within (count (live_at t.device) s.connections) 1
+    and (equals (count (alerting_at t.device) s.connections) 0 or equals (count (hold_at t.device) s.connections) 0))
+    s.stations)
     (λ f d h. let t = station_there s d h in subst (OneLive s) (eqb-true t.0.device d t.1.1) (f t.0 t.1.0))
     (λ h t i. h t.device (is_station_any s t.device ∙ any_some (λ (x : StationRecord). x.device == t.device) s.stations t i (eqb_self t.device)))
 
@@ -120,7 +132,9 @@ talking_decided s a = like (any (λ (x : ConnectionRecord). has a.station x.devi
     (λ f. let h = (parts f.0).0 f.1.1 in record { connection = f.0; there = f.1.0; station = h.0.0; distributed = h.0.1; answered = h.1 })
     (λ h. (h.connection, (h.there, (parts h.connection).1 ((h.station, h.distributed), h.answered))))
   where
-    parts : (x : ConnectionRecord) → Decides (has a.station x.device && is_distributed x && is_answered x.state) (((a.station ≡ Some x.device) × (is_distributed x ≡ true)) × (is_answered x.state ≡ true))
+    parts : (x : ConnectionRecord)
+        → Decides (has a.station x.device && is_distributed x && is_answered x.state)
+        (((a.station ≡ Some x.device) × (is_distributed x ≡ true)) × (is_answered x.state ≡ true))
     parts x = is_number a.station x.device and holds (is_distributed x) and holds (is_answered x.state)
 
 abbrev Occupied : Rows → AgentRecord → Type 0
@@ -129,24 +143,30 @@ Occupied s a = (x : ConnectionRecord) × (Among x s.connections × ((a.station �
 occupied_decided : (s : Rows) (a : AgentRecord) → Decides (is_occupied s a) (Occupied s a)
 unfolding is_occupied
 occupied_decided s a = like (any (λ (x : ConnectionRecord). has a.station x.device && is_distributed x) s.connections)
-    (λ f. (f.0, (f.1.0, (is_number a.station f.0.device and holds (is_distributed f.0)).0 f.1.1))) (λ h. (h.0, (h.1.0, (is_number a.station h.0.device and holds (is_distributed h.0)).1 h.1.1)))
+    (λ f. (f.0, (f.1.0, (is_number a.station f.0.device and holds (is_distributed f.0)).0 f.1.1)))
+    (λ h. (h.0, (h.1.0, (is_number a.station h.0.device and holds (is_distributed h.0)).1 h.1.1)))
 
 record OccupiedKept (s : Rows) : Type 0 where
-  attended : (x : ConnectionRecord) → Among x s.connections → is_distributed x ≡ true → (count (is_distributed_at x.device) s.connections ≤ 1) × ((a : AgentRecord) × ((agent_at s x.device ≡ Some a) × Attended s x a))
+  attended : (x : ConnectionRecord) → Among x s.connections → is_distributed x ≡ true
+      → (count (is_distributed_at x.device) s.connections ≤ 1) × ((a : AgentRecord) × ((agent_at s x.device ≡ Some a) × Attended s x a))
   talking : (a : AgentRecord) → Among a s.agents → is_busy a.state ≡ true → IsTalking s a
   pending : (a : AgentRecord) → Among a s.agents → is_some a.pending ≡ true → Occupied s a
 
 keeps_occupied_decided : (s : Rows) → Decides (keeps_occupied s) (OccupiedKept s)
 unfolding keeps_occupied
 keeps_occupied_decided s = like
-    (each (λ (x : ConnectionRecord). when (is_distributed x) (within (count (is_distributed_at x.device) s.connections) 1 and attends_decided s x (agent_at s x.device))) s.connections
+    (each
+    (λ (x : ConnectionRecord). when (is_distributed x)
+    (within (count (is_distributed_at x.device) s.connections) 1 and attends_decided s x (agent_at s x.device)))
+    s.connections
     and each (λ (a : AgentRecord). when (is_busy a.state) (talking_decided s a) and pending_when a.pending (occupied_decided s a)) s.agents)
     (λ p. record { attended = p.0; talking = λ a i. (p.1 a i).0; pending = λ a i. (p.1 a i).1 }) (λ h. (h.attended, λ a i. (h.talking a i, h.pending a i)))
 
 -- from the tests to the facts
 
 -- an initiated connection is at the caller of its call
-initiated_caller : (s : Rows) → ConnectionsKept s → PartiesKept s → (x : ConnectionRecord) → Among x s.connections → x.state ≡ S.Initiated → IsCaller (call_of s x.call) x.device
+initiated_caller : (s : Rows) → ConnectionsKept s → PartiesKept s → (x : ConnectionRecord) → Among x s.connections → x.state ≡ S.Initiated
+    → IsCaller (call_of s x.call) x.device
 initiated_caller s connections parties x i st =
     let c = some_from (call_of s x.call) (connections x i).live in
     let mine : (x.call == c.0.call) ≡ true = eq-eqb x.call c.0.call (sym (call_key s x.call c.0 c.1)) in
@@ -157,13 +177,17 @@ initiated_caller s connections parties x i st =
           (elim (x.device == c.0.caller) as (λ b. (x.device == c.0.caller) ≡ b → c.0.caller ≡ x.device) [
             | true ↦ λ w. sym (eqb-true x.device c.0.caller w)
             | false ↦ λ w.
-                let two = two_counted (parties_of c.0.call) s.connections x f.0 i f.1.0 mine q.0.1 (λ s. cc (w, eq-eqb x.device c.0.caller (ap (λ (z : ConnectionRecord). z.device) s ∙ q.1))) in
+                let two =
+                two_counted (parties_of c.0.call) s.connections x f.0 i f.1.0 mine q.0.1
+                (λ s. cc (w, eq-eqb x.device c.0.caller (ap (λ (z : ConnectionRecord). z.device) s ∙ q.1))) in
                 let one = h.0 in absurd (omega (arith, two, one))
           ]) refl)
-      | inr h ↦ (let k = counted (initiated_of c.0.call) s.connections x i (and_from _ _ (ap is_initiated st) mine) in let z = h.0.1 in absurd (omega (arith, k, z)))
+      | inr h ↦ (let k = counted (initiated_of c.0.call) s.connections x i (and_from _ _ (ap is_initiated st) mine) in let z = h.0.1 in
+          absurd (omega (arith, k, z)))
     ])
 
-stands_read : (s : Rows) (x : ConnectionRecord) (st : ConnectionState) → (st ≡ S.Initiated → IsCaller (call_of s x.call) x.device) → IsCaller (call_of s x.call) x.device ⊎ (is_planned s x.device ≡ true) → may_stand s st x ≡ true → StandsAt s x st
+stands_read : (s : Rows) (x : ConnectionRecord) (st : ConnectionState) → (st ≡ S.Initiated → IsCaller (call_of s x.call) x.device)
+    → IsCaller (call_of s x.call) x.device ⊎ (is_planned s x.device ≡ true) → may_stand s st x ≡ true → StandsAt s x st
 stands_read s x S.Initiated i party e = (e, i refl)
 stands_read s x S.Connected i party e = elim ((holds (is_station s x.device) or fails (is_planned s x.device) and absent x.group).0 e) [
   | inl at ↦ inl at
@@ -178,8 +202,12 @@ abbrev Parties : Rows → ℕ → ℕ → Type 0
 Parties s n parties = (count (parties_of n) s.connections + count (initiated_of n) s.connections ≡ parties) × (count (open_of n) s.connections ≤ 1)
 
 -- initiated and open connections are of the call
-few : (s : Rows) (n : ℕ) → (count (initiated_of n) s.connections ≤ count (parties_of n) s.connections) × (count (open_of n) s.connections ≤ count (parties_of n) s.connections)
-few s n = (fewer (initiated_of n) (parties_of n) (λ z h. (and_parts (is_initiated z.state) (z.call == n) h).1) s.connections, fewer (open_of n) (parties_of n) (λ z h. (and_parts (is_open z.state) (z.call == n) h).1) s.connections)
+few : (s : Rows) (n : ℕ)
+    → (count (initiated_of n) s.connections ≤ count (parties_of n) s.connections) × (count (open_of n) s.connections ≤ count (parties_of n) s.connections)
+few s n = (
+  fewer (initiated_of n) (parties_of n) (λ z h. (and_parts (is_initiated z.state) (z.call == n) h).1) s.connections,
+  fewer (open_of n) (parties_of n) (λ z h. (and_parts (is_open z.state) (z.call == n) h).1) s.connections,
+)
 
 call_parties : (s : Rows) (c : CallRecord) → BeingMade s c ⊎ TwoParties s c → Parties s c.call 2
 call_parties s c (inl h) =
@@ -215,7 +243,8 @@ attended_read s t d x i h =
 
 one_offer_read : (s : Rows) → OccupiedKept s → (d : ℕ) → count (is_distributed_at d) s.connections ≤ 1
 one_offer_read s t = at_most is_distributed_at s.connections (λ d x i e.
-    let h = and_parts (is_distributed x) (x.device == d) e in subst (λ v. count (is_distributed_at v) s.connections ≤ 1) (eqb-true x.device d h.1) (t.attended x i h.0).0)
+    let h = and_parts (is_distributed x) (x.device == d) e in
+    subst (λ v. count (is_distributed_at v) s.connections ≤ 1) (eqb-true x.device d h.1) (t.attended x i h.0).0)
 
 ready_read : (s : Rows) → OccupiedKept s → (d : ℕ) → count (ringing_at d) s.connections ≤ count (ready_at d) s.agents
 ready_read s t d = elim (zero_or (count (ringing_at d) s.connections)) [
@@ -242,7 +271,8 @@ busy_read s t agents d =
     let h = and_parts (is_busy f.0.state) (has f.0.station d) f.1.1 in
     let k = t.talking f.0 f.1.0 h.0 in
     counted (talking_at d) s.connections k.connection k.there
-    (and_from _ _ (and_from _ _ k.answered (and_parts (is_some k.connection.group) (not (is_queued k.connection.state)) k.distributed).0) (at_device f.0 k.connection d h.1 k.station)) in
+    (and_from _ _ (and_from _ _ k.answered (and_parts (is_some k.connection.group) (not (is_queued k.connection.state)) k.distributed).0)
+    (at_device f.0 k.connection d h.1 k.station)) in
     elim (zero_or (count (talking_at d) s.connections)) [
       | inl z ↦ elim (zero_or (count (busy_at d) s.agents)) [ inl y ↦ z ∙ sym y | inr l ↦ (let w = back l in absurd (omega (arith, w, z))) ]
       | inr l ↦ (let f = one_that (talking_at d) s.connections l in
@@ -261,7 +291,8 @@ pending_read s t agents d = elim (zero_or (count (pending_at d) s.agents)) [
       let u = agents.one d in omega (arith, o, b, u))
 ]
 
-pub rules_read : (s : Rows) → Orders s → ((d : ℕ) → is_group s d ≡ true → is_station s d ≡ false) → AgentsKept s → Every (CallRule s) s.calls → keeps_connection s ≡ true → keeps_parties s ≡ true → keeps_live s ≡ true → keeps_occupied s ≡ true → Rules s
+pub rules_read : (s : Rows) → Orders s → ((d : ℕ) → is_group s d ≡ true → is_station s d ≡ false) → AgentsKept s → Every (CallRule s) s.calls
+    → keeps_connection s ≡ true → keeps_parties s ≡ true → keeps_live s ≡ true → keeps_occupied s ≡ true → Rules s
 rules_read s orders kinds agents calls connection parties live occupied =
     let connections = (connections_decided s).0 connection in
     let made = (parties_decided s).0 parties in
@@ -272,7 +303,9 @@ rules_read s orders kinds agents calls connection parties live occupied =
       kinds = kinds;
       agents = agents.rule;
       calls = calls;
-      connections = every_from (ConnectionRule s) s.connections (λ x i. let h = connections x i in (h.columns, h.group, stands_read s x x.state (initiated_caller s connections made x i) h.party h.stands));
+      connections =
+          every_from (ConnectionRule s) s.connections
+          (λ x i. let h = connections x i in (h.columns, h.group, stands_read s x x.state (initiated_caller s connections made x i) h.party h.stands));
       parties = λ n. (parties_read s connections made n).0;
       one_open = λ n. (parties_read s connections made n).1;
       one_live = λ d h. (lives d h).0;
@@ -288,7 +321,8 @@ rules_read s orders kinds agents calls connection parties live occupied =
 -- from the facts to the tests
 
 -- a connection at a device that isn't planned was never distributed
-never_distributed : (s : Rows) (x : ConnectionRecord) → Rules s → Among x s.connections → is_planned s x.device ≡ false → x.state ≡ S.Connected → is_none x.group ≡ true
+never_distributed : (s : Rows) (x : ConnectionRecord) → Rules s → Among x s.connections → is_planned s x.device ≡ false → x.state ≡ S.Connected
+    → is_none x.group ≡ true
 never_distributed s x r i outside st = (elim x.group as (λ o. x.group ≡ o → is_none o ≡ true) [
   | None ↦ λ _. refl
   | Some g ↦ λ e.
@@ -297,7 +331,8 @@ never_distributed s x r i outside st = (elim x.group as (λ o. x.group ≡ o →
       absurd (cc (or_right (is_group s x.device) (is_station s x.device) seat, outside))
 ]) refl
 
-stands_written : (s : Rows) (x : ConnectionRecord) (st : ConnectionState) → (is_planned s x.device ≡ false → st ≡ S.Connected → is_none x.group ≡ true) → StandsAt s x st
+stands_written : (s : Rows) (x : ConnectionRecord) (st : ConnectionState) → (is_planned s x.device ≡ false → st ≡ S.Connected → is_none x.group ≡ true)
+    → StandsAt s x st
     → (IsCaller (call_of s x.call) x.device ⊎ (is_planned s x.device ≡ true)) × (may_stand s st x ≡ true)
 stands_written s x S.Queued n h = (inr (or_left (is_group s x.device) (is_station s x.device) h), h)
 stands_written s x S.Initiated n h = (inr (or_right (is_group s x.device) (is_station s x.device) h.0), h.0)
@@ -334,13 +369,15 @@ parties_written s r = (parties_decided s).1 (λ c i.
           (omega (arith, p, live, l, f), omega (arith, p, live, f, k, m)))
     ])
   where
-    caller_at : (y : ConnectionRecord) (c : CallRecord) → Among y s.connections → y.call ≡ c.call → y.state ≡ S.Initiated → call_of s c.call ≡ Some c → IsCaller (Some c) y.device
+    caller_at : (y : ConnectionRecord) (c : CallRecord) → Among y s.connections → y.call ≡ c.call → y.state ≡ S.Initiated → call_of s c.call ≡ Some c
+        → IsCaller (Some c) y.device
     caller_at y c i e st there =
         let h = subst (StandsAt s y) st (every_among (ConnectionRule s) s.connections y r.connections i).2 in
         subst (λ o. IsCaller o y.device) (ap (call_of s) e ∙ there) h.1
 
 pub live_written : (s : Rows) → Rules s → keeps_live s ≡ true
-live_written s r = (live_decided s).1 (λ d at. (r.one_live d at, elim (zero_or (count (alerting_at d) s.connections)) [ inl z ↦ inl z | inr k ↦ inr (r.no_hold d at k) ]))
+live_written s r =
+    (live_decided s).1 (λ d at. (r.one_live d at, elim (zero_or (count (alerting_at d) s.connections)) [ inl z ↦ inl z | inr k ↦ inr (r.no_hold d at k) ]))
 
 -- an agent that waits for a state isn't in null, so that it has a station
 seated : (s : Rows) (a : AgentRecord) (st : AgentState) → SeatedAs s a st → is_some a.pending ≡ true → (d : ℕ) × (a.station ≡ Some d)
@@ -360,7 +397,16 @@ occupied_written s r =
     (keeps_occupied_decided s).1 record {
       attended = λ x i e. let a = o.attended x i e in (
         r.one_offer x.device,
-        (a.agent, (a.there, elim (alerting_or_answered s x (every_among (ConnectionRule s) s.connections x r.connections i) e) [ inl w ↦ inl (w, ap is_ready (a.ready w)) | inr w ↦ inr (w, ap is_busy (a.busy w)) ])),
+        (
+          a.agent,
+          (
+            a.there,
+            elim (alerting_or_answered s x (every_among (ConnectionRule s) s.connections x r.connections i) e) [
+              | inl w ↦ inl (w, ap is_ready (a.ready w))
+              | inr w ↦ inr (w, ap is_busy (a.busy w))
+            ],
+          ),
+        ),
       );
       talking = λ a i e. o.no_other a i (busy_is a.state e);
       pending = λ a i e.
@@ -420,7 +466,9 @@ broken_none s t =
 -- the rules that hold within a step too, and all
 
 pub within_read : (s : Rows) → KeepsWithin s → Rules s
-within_read s w = rules_read s ((orders_decided s).0 w.order) ((kinds_decided s).0 w.device) ((agents_decided s).0 w.agent) ((calls_decided s).0 w.call) w.connection w.parties w.live w.occupied
+within_read s w =
+    rules_read s ((orders_decided s).0 w.order) ((kinds_decided s).0 w.device) ((agents_decided s).0 w.agent) ((calls_decided s).0 w.call) w.connection
+    w.parties w.live w.occupied
 
 pub within_written : (s : Rows) → Rules s → KeepsWithin s
 within_written s r = record {
@@ -464,7 +512,13 @@ requests_read s e = ((limits_decided s).0 (tests s e).limits).last_stamp
 pub keeps_written : (s : Rows) → KeepsRules s → s.last_stamp ≤ s.limits.requests → BreaksNoRule s
 keeps_written s h l = broken_none s (record {
   within = within_written s h.rules;
-  limits = (limits_decided s).1 (record { sizes = h.sizes; last_stamp = l; last_call = h.last_call; last_monitor = h.last_monitor; priorities = λ g i. every_among (λ (x : GroupRecord). x.priority ≤ greatest_priority) s.groups g h.priorities i });
+  limits = (limits_decided s).1 (record {
+    sizes = h.sizes;
+    last_stamp = l;
+    last_call = h.last_call;
+    last_monitor = h.last_monitor;
+    priorities = λ g i. every_among (λ (x : GroupRecord). x.priority ≤ greatest_priority) s.groups g h.priorities i;
+  });
   counters = (counters_decided s h.balance).1 (record { timed = h.timed; places = h.places; figures = h.figures; last_event = h.last_event });
   offer = (offers_decided s).1 h.offers;
   monitor = (monitors_decided s).1 h.monitors;

@@ -15,7 +15,8 @@ use Rattle.acd_model.specs.Run.{TimedCommand, run}
 abbrev pub ended : Rows → List Event → ℕ → ℕ → ℕ → Rows
 ended t es k m n = with_last (with_figures t es) k m n
 
-after_counting : (es : List Event) (g : GroupRecord) (gs : List GroupRecord) → AllAfter group_order g gs → AllAfter group_order (counting es g) (map (counting es) gs)
+after_counting : (es : List Event) (g : GroupRecord) (gs : List GroupRecord) → AllAfter group_order g gs
+    → AllAfter group_order (counting es g) (map (counting es) gs)
 after_counting es g [] h = tt
 after_counting es g (x ∷ xs) h = (h.0, after_counting es g xs h.1)
 
@@ -39,7 +40,8 @@ same_station : (s t : Rows) → ((d : ℕ) → is_station t d ≡ is_station s d
 same_station s t g None h = h
 same_station s t g (Some d) h = g d ∙ h
 
-same_seat : (s t : Rows) → ((d : ℕ) → is_group t d ≡ is_group s d) → ((d : ℕ) → is_station t d ≡ is_station s d) → (a : AgentRecord) (st : AgentState) → SeatedAs s a st → SeatedAs t a st
+same_seat : (s t : Rows) → ((d : ℕ) → is_group t d ≡ is_group s d) → ((d : ℕ) → is_station t d ≡ is_station s d) → (a : AgentRecord) (st : AgentState)
+    → SeatedAs s a st → SeatedAs t a st
 same_seat s t g f a A.Null h = h
 same_seat s t g f a _ h = (same_station s t f a.station h.0, same_groups s t g a.groups h.1)
 
@@ -52,11 +54,21 @@ rules_ended t es k m n r =
     let p : (d : ℕ) → is_planned u d ≡ is_planned t d = planned_ended t es k m n in
     let c : (j : ℕ) → call_of u j ≡ call_of t j = λ j. refl in
     record {
-      orders = record { groups = ascending_counting es t.groups r.orders.groups; stations = r.orders.stations; agents = r.orders.agents; calls = r.orders.calls; connections = r.orders.connections; monitors = r.orders.monitors };
+      orders = record {
+        groups = ascending_counting es t.groups r.orders.groups;
+        stations = r.orders.stations;
+        agents = r.orders.agents;
+        calls = r.orders.calls;
+        connections = r.orders.connections;
+        monitors = r.orders.monitors;
+      };
       kinds = λ d h. f d ∙ r.kinds d (sym (g d) ∙ h);
       agents = every_from (AgentRule u) t.agents (λ a i. same_seat t u g f a a.state (every_among (AgentRule t) t.agents a r.agents i));
       calls = every_from (CallRule u) t.calls (λ x i. let h = every_among (CallRule t) t.calls x r.calls i in (h.0, p x.called ∙ h.1, h.2, g x.caller ∙ h.3));
-      connections = every_from (ConnectionRule u) t.connections (λ x i. rule_same t u g f x (λ h. subst (λ o. IsCaller o x.device) (sym (c x.call)) h) (every_among (ConnectionRule t) t.connections x r.connections i));
+      connections =
+          every_from (ConnectionRule u) t.connections
+          (λ x i. rule_same t u g f x (λ h. subst (λ o. IsCaller o x.device) (sym (c x.call)) h)
+          (every_among (ConnectionRule t) t.connections x r.connections i));
       parties = λ j. r.parties j ∙ ap (λ o. two_if (is_some o)) (sym (c j));
       one_open = r.one_open;
       one_live = λ d h. r.one_live d (sym (f d) ∙ h);
@@ -75,20 +87,26 @@ rules_step s moment c r = rules_ended _ _ (next_stamp s) _ _ (rules_moves s (nex
 
 -- a fact of a state and of all events up to it, which a step keeps
 abbrev pub KeptByStep : (Rows → List Event → Type 0) → Type 0
-KeptByStep P = (s : Rows) (events : List Event) (moment : ℕ) (command : Command) → P s events → P (step s moment command).rows (events ++ (step s moment command).events)
+KeptByStep P =
+    (s : Rows) (events : List Event) (moment : ℕ) (command : Command) → P s events → P (step s moment command).rows (events ++ (step s moment command).events)
 
 -- and one that a step keeps where the rules hold
 abbrev pub KeptByRules : (Rows → List Event → Type 0) → Type 0
-KeptByRules P = (s : Rows) (events : List Event) (moment : ℕ) (command : Command) → Rules s → P s events → P (step s moment command).rows (events ++ (step s moment command).events)
+KeptByRules P =
+    (s : Rows) (events : List Event) (moment : ℕ) (command : Command) → Rules s → P s events
+    → P (step s moment command).rows (events ++ (step s moment command).events)
 
-kept_on : (P : Rows → List Event → Type 0) → KeptByStep P → (commands : List TimedCommand) (s : Rows) (events : List Event) → P s events → P (run s commands).rows (events ++ (run s commands).events)
+kept_on : (P : Rows → List Event → Type 0) → KeptByStep P → (commands : List TimedCommand) (s : Rows) (events : List Event) → P s events
+    → P (run s commands).rows (events ++ (run s commands).events)
 unfolding run
 kept_on P f [] s events h = subst (P s) (sym (append-nil events)) h
 kept_on P f (q ∷ more) s events h =
     let one = step s q.moment q.command in
-    subst (P (run one.rows more).rows) (append_assoc events one.events (run one.rows more).events) (kept_on P f more one.rows (events ++ one.events) (f s events q.moment q.command h))
+    subst (P (run one.rows more).rows) (append_assoc events one.events (run one.rows more).events)
+    (kept_on P f more one.rows (events ++ one.events) (f s events q.moment q.command h))
 
-pub kept_by_run : (P : Rows → List Event → Type 0) → KeptByStep P → (limits : Limits) → P (empty_rows limits) [] → (commands : List TimedCommand) → P (run (empty_rows limits) commands).rows (run (empty_rows limits) commands).events
+pub kept_by_run : (P : Rows → List Event → Type 0) → KeptByStep P → (limits : Limits) → P (empty_rows limits) [] → (commands : List TimedCommand)
+    → P (run (empty_rows limits) commands).rows (run (empty_rows limits) commands).events
 kept_by_run P f limits h commands = kept_on P f commands (empty_rows limits) [] h
 
 -- the empty state keeps the rules

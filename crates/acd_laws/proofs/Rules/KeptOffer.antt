@@ -17,14 +17,16 @@ use Rattle.acd_lemmas.proofs.States.{queued_is, ready_is}
 -- a distributed connection rings or is talked on, or neither
 pub ringing_is : (d : ℕ) (x : ConnectionRecord) → ringing_at d x ≡ true → is_distributed_at d x ≡ true
 ringing_is d x e =
-    (elim x.state as (λ st. ((is_alerting st && is_some x.group) && (x.device == d)) ≡ true → ((is_some x.group && not (is_queued st)) && (x.device == d)) ≡ true) [
+    (elim x.state as (λ st. ((is_alerting st && is_some x.group) && (x.device == d)) ≡ true
+    → ((is_some x.group && not (is_queued st)) && (x.device == d)) ≡ true) [
       | S.Alerting ↦ λ q. let h = and_parts (is_some x.group) (x.device == d) q in and_from _ _ (and_from _ _ h.0 refl) h.1
       | _ ↦ λ q. absurd (cc (q))
     ]) e
 
 pub talking_is : (d : ℕ) (x : ConnectionRecord) → talking_at d x ≡ true → is_distributed_at d x ≡ true
 talking_is d x e =
-    (elim x.state as (λ st. ((is_answered st && is_some x.group) && (x.device == d)) ≡ true → ((is_some x.group && not (is_queued st)) && (x.device == d)) ≡ true) [
+    (elim x.state as (λ st. ((is_answered st && is_some x.group) && (x.device == d)) ≡ true
+    → ((is_some x.group && not (is_queued st)) && (x.device == d)) ≡ true) [
       | S.Connected ↦ λ q. let h = and_parts (is_some x.group) (x.device == d) q in and_from _ _ (and_from _ _ h.0 refl) h.1
       | S.Hold ↦ λ q. let h = and_parts (is_some x.group) (x.device == d) q in and_from _ _ (and_from _ _ h.0 refl) h.1
       | _ ↦ λ q. absurd (cc (q))
@@ -44,7 +46,8 @@ open_when_idle s z a e =
     busy : ((z.device == z.device) && (is_live z.state || is_hold z.state)) ≡ true → ⊥
     busy h = cc (any_some (λ x. x.device == z.device && (is_live x.state || is_hold x.state)) s.connections z a h, not-true _ e)
 
-offered_rule : (s : Rows) (x : ConnectionRecord) (d m : ℕ) → ConnectionRule s x → is_queued x.state ≡ true → IsTrue (is_station s d) → ConnectionRule s (ringing m x d)
+offered_rule : (s : Rows) (x : ConnectionRecord) (d m : ℕ) → ConnectionRule s x → is_queued x.state ≡ true → IsTrue (is_station s d)
+    → ConnectionRule s (ringing m x d)
 offered_rule s x d m h q t =
     let c : InQueue x = subst (HasColumns x) (queued_is x.state q) h.0 in
     (subst (AlertingColumns (ringing m x d)) (sym c.group) (record { place = c.place; queued = c.queued; offered = refl }), h.1, t)
@@ -55,16 +58,19 @@ unfolding is_occupied
 unoccupied s a d e free =
     let z = none_counted (λ w. has a.station w.device && is_distributed w) s.connections free in
     let l = fewer (is_distributed_at d) (λ w. has a.station w.device && is_distributed w)
-    (λ w h. let k = and_parts (is_distributed w) (w.device == d) h in and_from _ _ (rw e (eq-eqb d w.device (sym (eqb-true w.device d k.1)))) k.0) s.connections in
+    (λ w h. let k = and_parts (is_distributed w) (w.device == d) h in and_from _ _ (rw e (eq-eqb d w.device (sym (eqb-true w.device d k.1)))) k.0)
+    s.connections in
     omega (arith, z, l)
 
 pub offer_station : (s : Rows) (a : AgentRecord) (d : ℕ) → Rules s → Among a s.agents → is_ready a.state ≡ true → a.station ≡ Some d → IsTrue (is_station s d)
 offer_station s a d r among ready station =
-    let seat : IsPlannedStation s a.station × ArePlannedGroups s a.groups = subst (SeatedAs s a) (ready_is a.state ready) (every_among (AgentRule s) s.agents a r.agents among) in
+    let seat : IsPlannedStation s a.station × ArePlannedGroups s a.groups =
+    subst (SeatedAs s a) (ready_is a.state ready) (every_among (AgentRule s) s.agents a r.agents among) in
     subst (IsPlannedStation s) station seat.0
 
 -- the call has no connection yet at the station to which it is offered
-pub offer_new : (s : Rows) (x : ConnectionRecord) (d : ℕ) → Rules s → connection_of s x.call x.device ≡ Some x → is_queued x.state ≡ true → IsTrue (is_station s d) → is_idle s d ≡ true → connection_of s x.call d ≡ None
+pub offer_new : (s : Rows) (x : ConnectionRecord) (d : ℕ) → Rules s → connection_of s x.call x.device ≡ Some x → is_queued x.state ≡ true
+    → IsTrue (is_station s d) → is_idle s d ≡ true → connection_of s x.call d ≡ None
 offer_new s x d r ex q at_d idle =
     let xs : x.state ≡ S.Queued = queued_is x.state q in
     let at_x : IsTrue (is_group s x.device) = subst (StandsAt s x) xs (connection_rule s r x.call x.device x ex).2 in
@@ -79,7 +85,8 @@ offer_new s x d r ex q at_d idle =
 
 -- a queued call is offered to a ready and unoccupied agent at an idle station
 pub kept_offer : (s : Rows) (x : ConnectionRecord) (a : AgentRecord) (d m : ℕ) → Rules s → connection_of s x.call x.device ≡ Some x → is_queued x.state ≡ true
-    → Among a s.agents → is_ready a.state ≡ true → a.station ≡ Some d → is_occupied s a ≡ false → is_idle s d ≡ true → Rules (moved s (offer_at m (Some x) (Some d)))
+    → Among a s.agents → is_ready a.state ≡ true → a.station ≡ Some d → is_occupied s a ≡ false → is_idle s d ≡ true
+    → Rules (moved s (offer_at m (Some x) (Some d)))
 unfolding with_connection without_connection call_of connection_of group_of station_of
 kept_offer s x a d m r ex q among ready station free idle =
     let y : ConnectionRecord = ringing m x d in
@@ -96,27 +103,39 @@ kept_offer s x a d m r ex q among ready station free idle =
     let nobody = idle_counts s d idle in
     with_connections (λ _. false) s t.connections r (record {
       sorted = ascending-put connection_order connections_total y u.connections (ascending-remove connection_order _ s.connections r.orders.connections);
-      rules = every-put (connection_order y) (ConnectionRule s) y (offered_rule s x d m rule q at_d) u.connections (every-remove _ (ConnectionRule s) s.connections r.connections);
-      parties = λ n. let e1 = counts (parties_of n) in let e2 = counts (initiated_of n) in let p = r.parties n in let i : one (initiated_of n x) ≡ 0 = rw xs refl in omega (arith, e1, e2, p, i);
-      one_open = λ n. let e = counts (open_of n) in let o = r.one_open n in let f : one (open_of n x) ≡ one (x.call == n) = rw xs refl in omega (arith, e, o, f);
-      one_live = λ e h. let c = counts (live_at e) in let f : one (live_at e x) ≡ 0 = rw xs refl in let o = most_one live_at s.connections d e nobody.0 (r.one_live e h) in omega (arith, c, f, o);
-      no_hold = λ e h l. let c = counts (alerting_at e) in let ch = counts (hold_at e) in let f : one (alerting_at e x) ≡ 0 = rw xs refl in let fh : one (hold_at e x) ≡ 0 = rw xs refl in
+      rules =
+          every-put (connection_order y) (ConnectionRule s) y (offered_rule s x d m rule q at_d) u.connections
+          (every-remove _ (ConnectionRule s) s.connections r.connections);
+      parties = λ n. let e1 = counts (parties_of n) in let e2 = counts (initiated_of n) in let p = r.parties n in
+          let i : one (initiated_of n x) ≡ 0 = rw xs refl in omega (arith, e1, e2, p, i);
+      one_open = λ n. let e = counts (open_of n) in let o = r.one_open n in let f : one (open_of n x) ≡ one (x.call == n) = rw xs refl in
+          omega (arith, e, o, f);
+      one_live = λ e h. let c = counts (live_at e) in let f : one (live_at e x) ≡ 0 = rw xs refl in
+          let o = most_one live_at s.connections d e nobody.0 (r.one_live e h) in omega (arith, c, f, o);
+      no_hold = λ e h l. let c = counts (alerting_at e) in let ch = counts (hold_at e) in let f : one (alerting_at e x) ≡ 0 = rw xs refl in
+          let fh : one (hold_at e x) ≡ 0 = rw xs refl in
           (elim (d == e) as (λ b. (d == e) ≡ b → count (hold_at e) t.connections ≡ 0) [
-            | true ↦ λ v. let z : count (hold_at e) s.connections ≡ 0 = subst (λ w. count (hold_at w) s.connections ≡ 0) (eqb-true d e v) nobody.2 in omega (arith, ch, fh, z)
+            | true ↦ λ v. let z : count (hold_at e) s.connections ≡ 0 = subst (λ w. count (hold_at w) s.connections ≡ 0) (eqb-true d e v) nobody.2 in
+                omega (arith, ch, fh, z)
             | false ↦ λ v. let g : one (alerting_at e y) ≡ 0 = ap one v in let o = r.no_hold e h (omega (arith, c, f, g, l)) in omega (arith, ch, fh, o)
           ]) refl;
-      one_offer = λ e. let c = counts (is_distributed_at e) in let f : one (is_distributed_at e x) ≡ 0 = ap one (and_left (is_distributed x) (x.device == e) (rw xs (and_right (is_some x.group) false refl))) in
-          let g : one (is_distributed_at e y) ≤ one (d == e) = one_and (is_distributed y) (d == e) in let o = most_one is_distributed_at s.connections d e zero (r.one_offer e) in omega (arith, c, f, g, o);
+      one_offer = λ e. let c = counts (is_distributed_at e) in
+          let f : one (is_distributed_at e x) ≡ 0 = ap one (and_left (is_distributed x) (x.device == e) (rw xs (and_right (is_some x.group) false refl))) in
+          let g : one (is_distributed_at e y) ≤ one (d == e) = one_and (is_distributed y) (d == e) in
+          let o = most_one is_distributed_at s.connections d e zero (r.one_offer e) in omega (arith, c, f, g, o);
       ready = λ e _. let c = counts (ringing_at e) in let o = r.ready e refl in let f : one (ringing_at e x) ≡ 0 = rw xs refl in
           (elim (d == e) as (λ b. (d == e) ≡ b → count (ringing_at e) t.connections ≤ count (ready_at e) s.agents) [
-            | true ↦ λ v. let z : count (is_distributed_at e) s.connections ≡ 0 = subst (λ w. count (is_distributed_at w) s.connections ≡ 0) (eqb-true d e v) zero in
+            | true ↦ λ v. let z : count (is_distributed_at e) s.connections
+                ≡ 0 = subst (λ w. count (is_distributed_at w) s.connections ≡ 0) (eqb-true d e v) zero in
                 let l = fewer (ringing_at e) (is_distributed_at e) (ringing_is e) s.connections in
                 let g = one_le (ringing_at e y) in
                 let w = counted (ready_at e) s.agents a among (and_from _ _ ready (rw station v)) in omega (arith, c, f, g, z, l, w)
             | false ↦ λ v. let g : one (ringing_at e y) ≡ 0 = ap one (and_right (is_some x.group) (d == e) v) in omega (arith, c, f, g, o)
           ]) refl;
       busy = λ e _. let c = counts (talking_at e) in let b = r.busy e refl in let f : one (talking_at e x) ≡ 0 = rw xs refl in omega (arith, c, b, f);
-      pending = λ e _. let c = counts (is_distributed_at e) in let o = r.pending e refl in let f : one (is_distributed_at e x) ≡ 0 = ap one (and_left (is_distributed x) (x.device == e) (rw xs (and_right (is_some x.group) false refl))) in omega (arith, c, o, f);
+      pending = λ e _. let c = counts (is_distributed_at e) in let o = r.pending e refl in
+          let f : one (is_distributed_at e x) ≡ 0 = ap one (and_left (is_distributed x) (x.device == e) (rw xs (and_right (is_some x.group) false refl))) in
+          omega (arith, c, o, f);
       free = λ e v. absurd (cc (v));
     })
   where

@@ -31,7 +31,8 @@ record HasCall (cs : List CallRecord) (x : ConnectionRecord) : Type 0 where
   there : Among call cs
   same : call.call ≡ x.call
 
-two_each : (cs : List CallRecord) (xs : List ConnectionRecord) → ((x : ConnectionRecord) → Among x xs → HasCall cs x) → ((c : CallRecord) → Among c cs → count (parties_of c.call) xs ≤ 2) → length xs ≤ 2 * length cs
+two_each : (cs : List CallRecord) (xs : List ConnectionRecord) → ((x : ConnectionRecord) → Among x xs → HasCall cs x)
+    → ((c : CallRecord) → Among c cs → count (parties_of c.call) xs ≤ 2) → length xs ≤ 2 * length cs
 two_each [] [] h f = omega arith
 two_each [] (x ∷ xs) h f = absurd ((h x (inl refl)).there)
 two_each (c ∷ cs) xs h f =
@@ -50,7 +51,8 @@ two_each (c ∷ cs) xs h f =
 pub connections_length : (s : Rows) → Rules s → length s.connections ≤ 2 * length s.calls
 connections_length s r = two_each s.calls s.connections
     (λ x i. (elim (call_of s x.call) as (λ o. call_of s x.call ≡ o → HasCall s.calls x) [
-      | None ↦ λ e. (let z = none_of_call s r x.call e in let c = counted (parties_of x.call) s.connections x i (eqb_self x.call) in absurd (omega (arith, z, c)))
+      | None ↦ λ e.
+          (let z = none_of_call s r x.call e in let c = counted (parties_of x.call) s.connections x i (eqb_self x.call) in absurd (omega (arith, z, c)))
       | Some c ↦ λ e. record { call = c; there = call_among s x.call c e; same = call_key s x.call c e }
     ]) refl)
     (λ c i. (let p = r.parties c.call in let t = two_le (is_some (call_of s c.call)) in omega (arith, p, t)))
@@ -65,7 +67,10 @@ pub record Greatest (s : Rows) : Type 0 where
 pub greatest : (s : Rows) → limits_fit s.limits ≡ true → Greatest s
 unfolding limits_fit
 greatest s e =
-    let p = (within s.limits.requests 1000000000 and within s.limits.calls 2000 and within s.limits.groups 64 and within s.limits.stations 1000 and within s.limits.agents 1000 and within s.limits.monitors 256).0 e in
+    let p =
+    (within s.limits.requests 1000000000 and within s.limits.calls 2000 and within s.limits.groups 64 and within s.limits.stations 1000
+    and within s.limits.agents 1000 and within s.limits.monitors 256).0
+    e in
     record { calls = p.0.0.0.0.1; agents = p.0.1; requests = p.0.0.0.0.0 }
 
 -- the moves of a distribution and of tick
@@ -85,12 +90,15 @@ offers_length zero s m = omega arith
 offers_length (suc n) s m =
     elim (offer_of s) as (λ p. length (with_offer p [] (λ o. offer_moves s m o ++ offers n (moved s (offer_moves s m o)) m)) ≤ 2 * suc n) [
       | None ↦ omega arith
-      | Some o ↦ (let a = length-append (offer_moves s m o) (offers n (moved s (offer_moves s m o)) m) in let b = offer_length s m o in let c = offers_length n (moved s (offer_moves s m o)) m in omega (arith, a, b, c))
+      | Some o ↦ (let a = length-append (offer_moves s m o) (offers n (moved s (offer_moves s m o)) m) in let b = offer_length s m o in
+          let c = offers_length n (moved s (offer_moves s m o)) m in omega (arith, a, b, c))
     ]
 
 pub distribution_length : (s : Rows) (m : ℕ) → length (distribution s m) ≤ 2 * length s.connections
 unfolding distribution queued_in_all
-distribution_length s m = let a = offers_length (length (queued_in_all s)) s m in let b = filter_length (λ (c : ConnectionRecord). is_queued c.state) s.connections in omega (arith, a, b)
+distribution_length s m =
+    let a = offers_length (length (queued_in_all s)) s m in let b = filter_length (λ (c : ConnectionRecord). is_queued c.state) s.connections in
+    omega (arith, a, b)
 
 return_length : (s : Rows) (turn : Turn) (x : ConnectionRecord) (o : Option ℕ) → length (return_to s turn x o) ≤ 3
 return_length s turn x None = omega arith
@@ -100,7 +108,8 @@ each_returns : (turn : Turn) (t : Rows) (xs : List ConnectionRecord) → length 
 each_returns turn t [] = omega arith
 each_returns turn t (x ∷ xs) =
     let ms : List Move = return_moves t turn x in
-    let a = length-append ms (each (λ t x. return_moves t turn x) (moved t ms) xs) in let b = return_length t turn x x.group in let c = each_returns turn (moved t ms) xs in omega (arith, a, b, c)
+    let a = length-append ms (each (λ t x. return_moves t turn x) (moved t ms) xs) in let b = return_length t turn x x.group in
+    let c = each_returns turn (moved t ms) xs in omega (arith, a, b, c)
 
 each_rests : (turn : Turn) (t : Rows) (xs : List AgentRecord) → length (each (λ t a. rest_moves turn a) t xs) ≤ length xs
 each_rests turn t [] = omega arith
@@ -110,13 +119,17 @@ each_rests turn t (a ∷ xs) =
 
 returns_length : (s : Rows) (turn : Turn) → length (returns s turn) ≤ 3 * length s.connections
 unfolding returns overdue_in
-returns_length s turn = let a = each_returns turn s (filter (is_overdue s turn.moment) s.connections) in let b = filter_length (is_overdue s turn.moment) s.connections in omega (arith, a, b)
+returns_length s turn =
+    let a = each_returns turn s (filter (is_overdue s turn.moment) s.connections) in let b = filter_length (is_overdue s turn.moment) s.connections in
+    omega (arith, a, b)
 
 rests_length : (s : Rows) (turn : Turn) → length (rests s turn) ≤ length s.agents
 unfolding rests rested_in
-rests_length s turn = let a = each_rests turn s (filter (is_rested s turn.moment) s.agents) in let b = filter_length (is_rested s turn.moment) s.agents in omega (arith, a, b)
+rests_length s turn =
+    let a = each_rests turn s (filter (is_rested s turn.moment) s.agents) in let b = filter_length (is_rested s turn.moment) s.agents in omega (arith, a, b)
 
 pub tick_length : (s : Rows) (turn : Turn) → length (tick s turn) ≤ 3 * length s.connections + length (moved s (returns s turn)).agents
 unfolding tick
 tick_length s turn =
-    let a = length-append (returns s turn) (rests (moved s (returns s turn)) turn) in let b = returns_length s turn in let c = rests_length (moved s (returns s turn)) turn in omega (arith, a, b, c)
+    let a = length-append (returns s turn) (rests (moved s (returns s turn)) turn) in let b = returns_length s turn in
+    let c = rests_length (moved s (returns s turn)) turn in omega (arith, a, b, c)

@@ -53,7 +53,20 @@ pub record Steadied (s t : Rows) : Type 0 where
   pub last_event : t.last_event ≡ s.last_event
 
 pub unchanged : (s : Rows) → IsAscending agent_order s.agents → Steadied s s
-unchanged s h = record { limits = refl; groups = refl; stations = refl; agents = refl; ascending = h; known = λ n e. e; calls = omega arith; monitors = λ w a. a; running = omega arith; last_call = refl; last_monitor = refl; last_event = refl }
+unchanged s h = record {
+  limits = refl;
+  groups = refl;
+  stations = refl;
+  agents = refl;
+  ascending = h;
+  known = λ n e. e;
+  calls = omega arith;
+  monitors = λ w a. a;
+  running = omega arith;
+  last_call = refl;
+  last_monitor = refl;
+  last_event = refl;
+}
 
 pub steadied_then : (s t u : Rows) → Steadied s t → Steadied t u → Steadied s u
 steadied_then s t u f g = record {
@@ -73,11 +86,13 @@ steadied_then s t u f g = record {
 
 -- lengths
 
-length-put_agent : (s : Rows) (a : AgentRecord) → IsAscending agent_order s.agents → knows s a.agent ≡ true → length (put_by (agent_order a) s.agents a) ≡ length s.agents
+length-put_agent : (s : Rows) (a : AgentRecord) → IsAscending agent_order s.agents → knows s a.agent ≡ true
+    → length (put_by (agent_order a) s.agents a) ≡ length s.agents
 length-put_agent s a h e =
     let z = some_from (agent_of s a.agent) e in
     let c = count-put_old agent_order agents_total (λ (y : AgentRecord). y.agent == a.agent) (λ _. true) a
-    (λ y q. eq-eqb y.agent a.agent (sym (cmp_equal a.agent y.agent q))) (λ y q. cmp_self a.agent y.agent (sym (eqb-true y.agent a.agent q))) s.agents h z.0 (sym (agent_find s a.agent) ∙ z.1) in
+    (λ y q. eq-eqb y.agent a.agent (sym (cmp_equal a.agent y.agent q))) (λ y q. cmp_self a.agent y.agent (sym (eqb-true y.agent a.agent q))) s.agents h z.0
+    (sym (agent_find s a.agent) ∙ z.1) in
     let p = count_all (put_by (agent_order a) s.agents a) in let q = count_all s.agents in omega (arith, c, p, q)
 
 known_put : (s : Rows) (a : AgentRecord) (n : ℕ) → knows s n ≡ true → knows (with_agent s a) n ≡ true
@@ -90,11 +105,76 @@ known_put s a n e = ap is_some (agent_put s a n) ∙ either (a.agent == n) (agen
 steadied_change : (s : Rows) (c : Change) → IsAscending agent_order s.agents → Steady (knows s) c → Steadied s (changed s c)
 unfolding with_agent with_connection without_call without_connection without_monitor agent_of
 steadied_change s Nothing h st = unchanged s h
-steadied_change s (PutAgent a) h st = record { limits = refl; groups = refl; stations = refl; agents = length-put_agent s a h st; ascending = ascending-put agent_order agents_total a s.agents h; known = known_put s a; calls = omega arith; monitors = λ w a. a; running = omega arith; last_call = refl; last_monitor = refl; last_event = refl }
-steadied_change s (PutConnection x) h st = record { limits = refl; groups = refl; stations = refl; agents = refl; ascending = h; known = λ n e. e; calls = omega arith; monitors = λ w a. a; running = omega arith; last_call = refl; last_monitor = refl; last_event = refl }
-steadied_change s (RemoveCall c) h st = record { limits = refl; groups = refl; stations = refl; agents = refl; ascending = h; known = λ n e. e; calls = length-remove (at_call c) s.calls; monitors = λ w a. a; running = omega arith; last_call = refl; last_monitor = refl; last_event = refl }
-steadied_change s (RemoveConnection c d) h st = record { limits = refl; groups = refl; stations = refl; agents = refl; ascending = h; known = λ n e. e; calls = omega arith; monitors = λ w a. a; running = omega arith; last_call = refl; last_monitor = refl; last_event = refl }
-steadied_change s (RemoveMonitor n) h st = record { limits = refl; groups = refl; stations = refl; agents = refl; ascending = h; known = λ n e. e; calls = omega arith; monitors = λ w a. among-remove (at_monitor n) s.monitors w a; running = length-remove (at_monitor n) s.monitors; last_call = refl; last_monitor = refl; last_event = refl }
+steadied_change s (PutAgent a) h st = record {
+  limits = refl;
+  groups = refl;
+  stations = refl;
+  agents = length-put_agent s a h st;
+  ascending = ascending-put agent_order agents_total a s.agents h;
+  known = known_put s a;
+  calls = omega arith;
+  monitors = λ w a. a;
+  running = omega arith;
+  last_call = refl;
+  last_monitor = refl;
+  last_event = refl;
+}
+steadied_change s (PutConnection x) h st = record {
+  limits = refl;
+  groups = refl;
+  stations = refl;
+  agents = refl;
+  ascending = h;
+  known = λ n e. e;
+  calls = omega arith;
+  monitors = λ w a. a;
+  running = omega arith;
+  last_call = refl;
+  last_monitor = refl;
+  last_event = refl;
+}
+steadied_change s (RemoveCall c) h st = record {
+  limits = refl;
+  groups = refl;
+  stations = refl;
+  agents = refl;
+  ascending = h;
+  known = λ n e. e;
+  calls = length-remove (at_call c) s.calls;
+  monitors = λ w a. a;
+  running = omega arith;
+  last_call = refl;
+  last_monitor = refl;
+  last_event = refl;
+}
+steadied_change s (RemoveConnection c d) h st = record {
+  limits = refl;
+  groups = refl;
+  stations = refl;
+  agents = refl;
+  ascending = h;
+  known = λ n e. e;
+  calls = omega arith;
+  monitors = λ w a. a;
+  running = omega arith;
+  last_call = refl;
+  last_monitor = refl;
+  last_event = refl;
+}
+steadied_change s (RemoveMonitor n) h st = record {
+  limits = refl;
+  groups = refl;
+  stations = refl;
+  agents = refl;
+  ascending = h;
+  known = λ n e. e;
+  calls = omega arith;
+  monitors = λ w a. among-remove (at_monitor n) s.monitors w a;
+  running = length-remove (at_monitor n) s.monitors;
+  last_call = refl;
+  last_monitor = refl;
+  last_event = refl;
+}
 steadied_change s _ h st = absurd st
 
 steady_more : (p q : ℕ → Bool) (c : Change) → ((n : ℕ) → p n ≡ true → q n ≡ true) → Steady p c → Steady q c
@@ -108,7 +188,8 @@ steady_more p q _ f h = tt
 steadied_from : (s t : Rows) (ms : List Move) → Steadied s t → AllSteady s ms → Steadied s (moved t ms)
 steadied_from s t [] f h = f
 steadied_from s t (x ∷ xs) f h =
-    steadied_from s (changed t x.change) xs (steadied_then s t (changed t x.change) f (steadied_change t x.change f.ascending (steady_more (knows s) (knows t) x.change f.known h.0))) h.1
+    steadied_from s (changed t x.change) xs
+    (steadied_then s t (changed t x.change) f (steadied_change t x.change f.ascending (steady_more (knows s) (knows t) x.change f.known h.0))) h.1
 
 pub steadied : (s : Rows) (ms : List Move) → IsAscending agent_order s.agents → AllSteady s ms → Steadied s (moved s ms)
 steadied s ms h a = steadied_from s s ms (unchanged s h) a
@@ -214,17 +295,32 @@ pub data Steps (k m : ℕ) : Bool → Rows → List Move → Type 0 where
   done : {t : Rows} → Steps k m false t []
   neat : {e : Bool} {t : Rows} {x : Move} {ms : List Move} → Neat k m t x → Steps k m e (changed t x.change) ms → Steps k m e t (x ∷ ms)
   comes : {t : Rows} {x : Move} {ms : List Move} → Comes k m t x → Steps k m false (changed t x.change) ms → Steps k m true t (x ∷ ms)
-  carries : {e : Bool} {t : Rows} {x y : Move} {ms : List Move} → Carries k m t x y → Steps k m e (changed (changed t x.change) y.change) ms → Steps k m e t (x ∷ y ∷ ms)
+  carries : {e : Bool} {t : Rows} {x y : Move} {ms : List Move} → Carries k m t x y → Steps k m e (changed (changed t x.change) y.change) ms
+      → Steps k m e t (x ∷ y ∷ ms)
 
 -- records within bounds stay so, and within greater ones
 
 pub timed_change : (s : Rows) (k m : ℕ) (c : Change) → Timed k m s → Fit k m c → Timed k m (changed s c)
 unfolding with_group with_station with_agent with_call with_connection with_monitor without_call without_connection without_monitor
-timed_change s k m (PutAgent a) h f = record { agents = every-put (at_agent a.agent) (AgentTimed k m) a f s.agents h.agents; calls = h.calls; connections = h.connections }
-timed_change s k m (PutCall c) h f = record { agents = h.agents; calls = every-put (at_call c.call) (CallTimed m) c f s.calls h.calls; connections = h.connections }
-timed_change s k m (PutConnection x) h f = record { agents = h.agents; calls = h.calls; connections = every-put (at_connection x.call x.device) (ConnectionTimed k m) x f s.connections h.connections }
-timed_change s k m (RemoveCall c) h f = record { agents = h.agents; calls = every-remove (at_call c) (CallTimed m) s.calls h.calls; connections = h.connections }
-timed_change s k m (RemoveConnection c d) h f = record { agents = h.agents; calls = h.calls; connections = every-remove (at_connection c d) (ConnectionTimed k m) s.connections h.connections }
+timed_change s k m (PutAgent a) h f = record {
+  agents = every-put (at_agent a.agent) (AgentTimed k m) a f s.agents h.agents;
+  calls = h.calls;
+  connections = h.connections;
+}
+timed_change s k m (PutCall c) h f =
+    record { agents = h.agents; calls = every-put (at_call c.call) (CallTimed m) c f s.calls h.calls; connections = h.connections }
+timed_change s k m (PutConnection x) h f = record {
+  agents = h.agents;
+  calls = h.calls;
+  connections = every-put (at_connection x.call x.device) (ConnectionTimed k m) x f s.connections h.connections;
+}
+timed_change s k m (RemoveCall c) h f =
+    record { agents = h.agents; calls = every-remove (at_call c) (CallTimed m) s.calls h.calls; connections = h.connections }
+timed_change s k m (RemoveConnection c d) h f = record {
+  agents = h.agents;
+  calls = h.calls;
+  connections = every-remove (at_connection c d) (ConnectionTimed k m) s.connections h.connections;
+}
 timed_change s k m _ h f = record { agents = h.agents; calls = h.calls; connections = h.connections }
 
 every_more : {X : Type 0} (P Q : X → Type 0) (xs : List X) → ((x : X) → P x → Q x) → Every P xs → Every Q xs
@@ -241,10 +337,17 @@ moment_more m n (Some p) l h = omega (arith, l, h)
 
 pub timed_more : (k j m n : ℕ) (s : Rows) → k ≤ j → m ≤ n → Timed k m s → Timed j n s
 timed_more k j m n s l q h = record {
-  agents = every_more (AgentTimed k m) (AgentTimed j n) s.agents (λ a t. let x = t.stamp in let y = t.since in record { above = t.above; stamp = omega (arith, x, l); since = omega (arith, y, q) }) h.agents;
+  agents =
+      every_more (AgentTimed k m) (AgentTimed j n) s.agents
+      (λ a t. let x = t.stamp in let y = t.since in record { above = t.above; stamp = omega (arith, x, l); since = omega (arith, y, q) }) h.agents;
   calls = every_more (CallTimed m) (CallTimed n) s.calls (λ c t. omega (arith, t, q)) h.calls;
   connections = every_more (ConnectionTimed k m) (ConnectionTimed j n) s.connections
-      (λ x t. record { place = place_more k j x.place l t.place; queued = moment_more m n x.queued q t.queued; offered = moment_more m n x.offered q t.offered; order = t.order }) h.connections;
+      (λ x t. record {
+        place = place_more k j x.place l t.place;
+        queued = moment_more m n x.queued q t.queued;
+        offered = moment_more m n x.offered q t.offered;
+        order = t.order;
+      }) h.connections;
 }
 
 -- moves in a row keep this
@@ -253,7 +356,8 @@ pub steps_timed : {k m : ℕ} {e : Bool} {t : Rows} {ms : List Move} → Steps k
 steps_timed done h = h
 steps_timed {k} {m} (neat {t = t} {x = x} n more) h = steps_timed more (timed_change t k m x.change h n.fit)
 steps_timed {k} {m} (comes {t = t} {x = x} n more) h = steps_timed more (timed_change t k m x.change h n.fit)
-steps_timed {k} {m} (carries {t = t} {x = x} {y = y} n more) h = steps_timed more (timed_change (changed t x.change) k m y.change (timed_change t k m x.change h n.fit.0) n.fit.1)
+steps_timed {k} {m} (carries {t = t} {x = x} {y = y} n more) h =
+    steps_timed more (timed_change (changed t x.change) k m y.change (timed_change t k m x.change h n.fit.0) n.fit.1)
 
 entry_le : (g : ℕ) (o : Option Report) → entry_by g o ≤ 1
 entry_le g None = omega arith
@@ -265,7 +369,8 @@ steps_enter g (neat n more) = let a = n.entry g in let b = steps_enter g more in
 steps_enter g (comes {t = t} {x = x} n more) = let a = entry_le g x.report in let b = steps_enter g more in omega (arith, a, b)
 steps_enter g (carries n more) = let a = n.entry g in let b = steps_enter g more in omega (arith, a, b)
 
-pub steps_place : {k m : ℕ} {e : Bool} {t : Rows} {ms : List Move} (p : ℕ) → Steps k m e t ms → count (at_place p) (moved t ms).connections ≤ cond e (one (k == p)) 0 + count (at_place p) t.connections
+pub steps_place : {k m : ℕ} {e : Bool} {t : Rows} {ms : List Move} (p : ℕ) → Steps k m e t ms
+    → count (at_place p) (moved t ms).connections ≤ cond e (one (k == p)) 0 + count (at_place p) t.connections
 steps_place p done = omega arith
 steps_place p (neat n more) = let a = n.places p in let b = steps_place p more in omega (arith, a, b)
 steps_place p (comes n more) = let a = n.places p in let b = steps_place p more in omega (arith, a, b)
@@ -273,7 +378,8 @@ steps_place p (carries n more) = let a = n.places p in let b = steps_place p mor
 
 -- places
 
-pub places_put : (t : Rows) (x : ConnectionRecord) (p : ℕ) → count (at_place p) (with_connection t x).connections ≤ one (at_place p x) + count (at_place p) t.connections
+pub places_put : (t : Rows) (x : ConnectionRecord) (p : ℕ)
+    → count (at_place p) (with_connection t x).connections ≤ one (at_place p x) + count (at_place p) t.connections
 unfolding with_connection
 places_put t x p = count-put_most (at_connection x.call x.device) (at_place p) x t.connections
 
@@ -287,9 +393,17 @@ connection_timed s k m x h e = every_among (ConnectionTimed k m) s.connections x
 -- each move
 
 -- one that changes no connection
-pub neat_quiet : {k m : ℕ} {t : Rows} (c : Change) (o : Option Report) → Fit k m c → LeavesConnections c → WaitsUpTo m o → ((g : ℕ) → entry_by g o ≡ 0) → Neat k m t (record { change = c; report = o })
+pub neat_quiet : {k m : ℕ} {t : Rows} (c : Change) (o : Option Report) → Fit k m c → LeavesConnections c → WaitsUpTo m o → ((g : ℕ) → entry_by g o ≡ 0)
+    → Neat k m t (record { change = c; report = o })
 neat_quiet {k} {m} {t} c o f l w e =
-    record { fit = f; waits = w; entry = e; places = λ p. (let h : count (at_place p) (changed t c).connections ≡ count (at_place p) t.connections = ap (count (at_place p)) (left_connections t c l) in omega (arith, h)) }
+    record {
+      fit = f;
+      waits = w;
+      entry = e;
+      places =
+          λ p. (let h : count (at_place p) (changed t c).connections ≡ count (at_place p) t.connections = ap (count (at_place p)) (left_connections t c l) in
+          omega (arith, h));
+    }
 
 pub neat_silent : {k m : ℕ} {t : Rows} (c : Change) → Fit k m c → LeavesConnections c → Neat k m t (silent c)
 neat_silent c f l = neat_quiet c None f l tt (λ g. refl)
@@ -303,8 +417,12 @@ agent_timed s k m a h e = every_among (AgentTimed k m) s.agents a h.agents (agen
 
 pub neat_agent : {k m : ℕ} {t : Rows} {x : Move} (s : Rows) → 1 ≤ k → Timed k m s → AgentMove (Recorded s) (turn_at m k) x → Neat k m t x
 neat_agent s l h stays = neat_silent Nothing tt tt
-neat_agent {k} {m} s l h (remains a name pending e) = let w = agent_timed s k m a h e in neat_silent (PutAgent (record a { name = name; pending = pending })) (record { above = w.above; stamp = w.stamp; since = w.since }) tt
-neat_agent {k} {m} s l h (reports a b d e r) = let x : b.stamp ≡ k = r.stamp in let y : b.since ≡ m = r.since in neat_state b b.state b.agent d (record { above = omega (arith, x, l); stamp = omega (arith, x); since = omega (arith, y) })
+neat_agent {k} {m} s l h (remains a name pending e) =
+    let w = agent_timed s k m a h e in
+    neat_silent (PutAgent (record a { name = name; pending = pending })) (record { above = w.above; stamp = w.stamp; since = w.since }) tt
+neat_agent {k} {m} s l h (reports a b d e r) =
+    let x : b.stamp ≡ k = r.stamp in let y : b.since ≡ m = r.since in
+    neat_state b b.state b.agent d (record { above = omega (arith, x, l); stamp = omega (arith, x); since = omega (arith, y) })
 
 pub steady_agent : {turn : Turn} {x : Move} (s : Rows) → AgentMove (Recorded s) turn x → Steady (knows s) x.change
 steady_agent s stays = tt
@@ -312,28 +430,53 @@ steady_agent s (remains a name pending e) = ap is_some e
 steady_agent s (reports a b d e r) = ap is_some (ap (agent_of s) r.agent ∙ e)
 
 -- a connection ends
-pub neat_remove : {k m : ℕ} {t : Rows} (c d : ℕ) (r : Report) → WaitsUpTo m (Some r) → ((g : ℕ) → entry_by g (Some r) ≡ 0) → Neat k m t (reported (RemoveConnection c d) r)
+pub neat_remove : {k m : ℕ} {t : Rows} (c d : ℕ) (r : Report) → WaitsUpTo m (Some r) → ((g : ℕ) → entry_by g (Some r) ≡ 0)
+    → Neat k m t (reported (RemoveConnection c d) r)
 neat_remove {k} {m} {t} c d r w e = record { fit = tt; waits = w; entry = e; places = places_remove t c d }
 
 -- one is put without a place
-pub neat_put : {k m : ℕ} {t : Rows} (y : ConnectionRecord) (o : Option Report) → ConnectionTimed k m y → y.place ≡ None → WaitsUpTo m o → ((g : ℕ) → entry_by g o ≡ 0) → Neat k m t (record { change = PutConnection y; report = o })
-neat_put {k} {m} {t} y o h f w e = record { fit = h; waits = w; entry = e; places = λ p. (let a = places_put t y p in let b : one (at_place p y) ≡ 0 = rw f refl in omega (arith, a, b)) }
+pub neat_put : {k m : ℕ} {t : Rows} (y : ConnectionRecord) (o : Option Report) → ConnectionTimed k m y → y.place ≡ None → WaitsUpTo m o
+    → ((g : ℕ) → entry_by g o ≡ 0) → Neat k m t (record { change = PutConnection y; report = o })
+neat_put {k} {m} {t} y o h f w e = record {
+  fit = h;
+  waits = w;
+  entry = e;
+  places = λ p. (let a = places_put t y p in let b : one (at_place p y) ≡ 0 = rw f refl in omega (arith, a, b));
+}
 
 pub timed_plain : (k m c d : ℕ) (st : ConnectionState) → ConnectionTimed k m (plain c d st)
 timed_plain k m c d st = record { place = tt; queued = tt; offered = tt; order = tt }
 
 -- or in another state, with its place
-pub neat_turned : {k m : ℕ} (t : Rows) (x : ConnectionRecord) (st : ConnectionState) (r : Report) → Timed k m t → IsAscending connection_order t.connections → connection_of t x.call x.device ≡ Some x → WaitsUpTo m (Some r) → ((g : ℕ) → entry_by g (Some r) ≡ 0)
+pub neat_turned : {k m : ℕ} (t : Rows) (x : ConnectionRecord) (st : ConnectionState) (r : Report) → Timed k m t → IsAscending connection_order t.connections
+    → connection_of t x.call x.device ≡ Some x → WaitsUpTo m (Some r) → ((g : ℕ) → entry_by g (Some r) ≡ 0)
     → Neat k m t (reported (PutConnection (record x { state = st })) r)
 unfolding with_connection
 neat_turned {k} {m} t x st r h o ex w e =
     let v = connection_timed t k m x h ex in
-    record { fit = record { place = v.place; queued = v.queued; offered = v.offered; order = v.order }; waits = w; entry = e; places = λ p. (let c = count_old (at_place p) t (record x { state = st }) x o ex in omega (arith, c)) }
+    record {
+      fit = record { place = v.place; queued = v.queued; offered = v.offered; order = v.order };
+      waits = w;
+      entry = e;
+      places = λ p. (let c = count_old (at_place p) t (record x { state = st }) x o ex in omega (arith, c));
+    }
 
 comes_arrival : {s t : Rows} {k m c d : ℕ} {why : Cause} {x : Move} → 1 ≤ k → Arrival s (turn_at m k) c d why x → Comes k m t x
-comes_arrival {s} {t} {k} {m} {c} {d} l (queues _) = record { fit = record { place = (l, omega arith); queued = omega arith; offered = tt; order = tt }; waits = tt; places = places_put t (queueing c d (Some k) (Some m)) }
-comes_arrival {s} {t} {k} {m} {c} {d} l alerts = record { fit = timed_plain k m c d S.Alerting; waits = tt; places = λ p. (let a = places_put t (plain c d S.Alerting) p in omega (arith, a)) }
-comes_arrival {s} {t} {k} {m} {c} {d} l fails = record { fit = timed_plain k m c d S.Fail; waits = tt; places = λ p. (let a = places_put t (plain c d S.Fail) p in omega (arith, a)) }
+comes_arrival {s} {t} {k} {m} {c} {d} l (queues _) = record {
+  fit = record { place = (l, omega arith); queued = omega arith; offered = tt; order = tt };
+  waits = tt;
+  places = places_put t (queueing c d (Some k) (Some m));
+}
+comes_arrival {s} {t} {k} {m} {c} {d} l alerts = record {
+  fit = timed_plain k m c d S.Alerting;
+  waits = tt;
+  places = λ p. (let a = places_put t (plain c d S.Alerting) p in omega (arith, a));
+}
+comes_arrival {s} {t} {k} {m} {c} {d} l fails = record {
+  fit = timed_plain k m c d S.Fail;
+  waits = tt;
+  places = λ p. (let a = places_put t (plain c d S.Fail) p in omega (arith, a));
+}
 
 pub comes_to : {t : Rows} (s : Rows) (k m c d : ℕ) (why : Cause) → 1 ≤ k → Comes k m t (arrive s (turn_at m k) c d why)
 comes_to s k m c d why l = comes_arrival l (arrival_of s (turn_at m k) c d why)

@@ -46,7 +46,8 @@ no_place s m p t l = count_zero (at_place p) s.connections (λ x i. false_from_n
     let h = every_among (ConnectionTimed s.last_stamp m) s.connections x t.connections i in
     let b = place_known s.last_stamp p x.place e h.place in absurd (omega (arith, b, l))))
 
-places_after : (s t : Rows) (m k : ℕ) → k ≡ s.last_stamp + 1 → OnePlace s → Timed s.last_stamp m s → ((p : ℕ) → count (at_place p) t.connections ≤ one (k == p) + count (at_place p) s.connections) → OnePlace t
+places_after : (s t : Rows) (m k : ℕ) → k ≡ s.last_stamp + 1 → OnePlace s → Timed s.last_stamp m s
+    → ((p : ℕ) → count (at_place p) t.connections ≤ one (k == p) + count (at_place p) s.connections) → OnePlace t
 places_after s t m k e single t0 h p =
     let a = h p in
     (elim (k == p) as (λ b. (k == p) ≡ b → count (at_place p) t.connections ≤ one b + count (at_place p) s.connections → count (at_place p) t.connections ≤ 1) [
@@ -62,7 +63,8 @@ waited_one g m (report.Established call station (Some w)) h =
 waited_one g m (report.Established call station None) h = omega arith
 waited_one g m _ h = omega arith
 
-waited_fits : (g m : ℕ) (es : List Event) → AllWait m es → total (λ (e : Event). waited_there g e.report) es ≤ count (λ (e : Event). is_answer g e.report) es * m
+waited_fits : (g m : ℕ) (es : List Event) → AllWait m es
+    → total (λ (e : Event). waited_there g e.report) es ≤ count (λ (e : Event). is_answer g e.report) es * m
 waited_fits g m [] h = omega arith
 waited_fits g m (e ∷ es) h =
     let a = waited_one g m e.report h.0 in
@@ -70,7 +72,8 @@ waited_fits g m (e ∷ es) h =
     let c = add-mul (one (is_answer g e.report)) (count (λ (x : Event). is_answer g x.report) es) m in
     omega (arith, a, b, c)
 
-counted_up : (k m j n : ℕ) (g : GroupRecord) (es : List Event) → IsCountedUpTo j n g → k ≡ j + 1 → n ≤ m → (figures_of g.device es).entered ≤ 1 → (figures_of g.device es).waited ≤ (figures_of g.device es).answered * m
+counted_up : (k m j n : ℕ) (g : GroupRecord) (es : List Event) → IsCountedUpTo j n g → k ≡ j + 1 → n ≤ m → (figures_of g.device es).entered ≤ 1
+    → (figures_of g.device es).waited ≤ (figures_of g.device es).answered * m
     → IsCountedUpTo k m (counting es g)
 counted_up k m j n g es h e l a b =
     let c = h.0 in let d = h.1 in
@@ -86,7 +89,11 @@ none_held : (s : Rows) (d : ℕ) → Rules s → is_group s d ≡ false → hold
 none_held s d r e =
     let a = count_zero (waits_in d) s.connections (λ x i. false_from_ne_true (waits_in d x) (λ q.
     let h = and_parts (x.device == d) (is_queued x.state) q in
-    cc (e, subst (λ v. is_group s v ≡ true) (eqb-true x.device d h.0) (subst (StandsAt s x) (queued_is x.state h.1) (every_among (ConnectionRule s) s.connections x r.connections i).2)))) in
+    cc (
+      e,
+      subst (λ v. is_group s v ≡ true) (eqb-true x.device d h.0)
+          (subst (StandsAt s x) (queued_is x.state h.1) (every_among (ConnectionRule s) s.connections x r.connections i).2),
+    ))) in
     let b = count_zero (rings_from d) s.connections (λ x i. false_from_ne_true (rings_from d x) (λ q.
     let h = and_parts (has x.group d) (is_alerting x.state) q in
     cc (e, column x.group h.0 (every_among (ConnectionRule s) s.connections x r.connections i).1))) in
@@ -106,7 +113,11 @@ record WasKept (s : Rows) (g : GroupRecord) : Type 0 where
   in_range : g.priority ≤ greatest_priority
 
 kept_among : (s : Rows) (g : GroupRecord) → KeepsRules s → Among g s.groups → WasKept s g
-kept_among s g h i = record { counted = every_among (IsCountedUpTo s.last_stamp s.last_moment) s.groups g h.figures i; balanced = every_among (AddsUp s) s.groups g h.balance i; in_range = every_among (λ (x : GroupRecord). x.priority ≤ greatest_priority) s.groups g h.priorities i }
+kept_among s g h i = record {
+  counted = every_among (IsCountedUpTo s.last_stamp s.last_moment) s.groups g h.figures i;
+  balanced = every_among (AddsUp s) s.groups g h.balance i;
+  in_range = every_among (λ (x : GroupRecord). x.priority ≤ greatest_priority) s.groups g h.priorities i;
+}
 
 was_kept : (s : Rows) (g : GroupRecord) → KeepsRules s → IsGroupAfter s g → WasKept s g
 was_kept s g h (inl i) = kept_among s g h i
@@ -132,7 +143,8 @@ every-map P f (x ∷ xs) h = (h x (inl refl), every-map P f xs (λ z i. h z (inr
 
 keeps_ended : (s t : Rows) (es : List Event) (k m : ℕ) → KeepsRules s → k ≡ s.last_stamp + 1 → s.last_moment ≤ m → After s k m 21000 t es
     → ((g : ℕ) → holding t g + ((figures_of g es).answered + (figures_of g es).abandoned + (figures_of g es).moved) ≡ holding s g + (figures_of g es).entered)
-    → Rules (ended t es k m (s.last_event + length es)) → ((g : GroupRecord) → Among g (ended t es k m (s.last_event + length es)).groups → HasNoOffer (ended t es k m (s.last_event + length es)) g.device)
+    → Rules (ended t es k m (s.last_event + length es))
+    → ((g : GroupRecord) → Among g (ended t es k m (s.last_event + length es)).groups → HasNoOffer (ended t es k m (s.last_event + length es)) g.device)
     → KeepsRules (ended t es k m (s.last_event + length es))
 unfolding with_last with_figures figures_of
 keeps_ended s t es k m h e l a b rules offers =
@@ -143,7 +155,14 @@ keeps_ended s t es k m h e l a b rules offers =
     let size = length-map t.groups (counting es) in let groups = a.sizes.groups in
     record {
       rules = rules;
-      sizes = record { limits = a.sizes.limits; groups = omega (arith, size, groups); stations = a.sizes.stations; agents = a.sizes.agents; calls = a.sizes.calls; monitors = a.sizes.monitors };
+      sizes = record {
+        limits = a.sizes.limits;
+        groups = omega (arith, size, groups);
+        stations = a.sizes.stations;
+        agents = a.sizes.agents;
+        calls = a.sizes.calls;
+        monitors = a.sizes.monitors;
+      };
       last_call = omega (arith, calls, lc, e);
       last_monitor = omega (arith, monitors, lm, e);
       last_event = omega (arith, few, le, e);
@@ -153,19 +172,31 @@ keeps_ended s t es k m h e l a b rules offers =
           counted_up k m s.last_stamp s.last_moment g es (kept g i).counted e l (a.entries g.device) (waited_fits g.device m es a.waits));
       offers = offers;
       monitors = every_from (MonitorRule (ended t es k m n)) t.monitors (λ x i.
-          let q = every_among (MonitorRule t) t.monitors x a.monitors i in let u = q.2 in (planned_ended t es k m n x.device ∙ q.0, q.1, omega (arith, u, same)));
+          let q = every_among (MonitorRule t) t.monitors x a.monitors i in let u = q.2 in
+          (planned_ended t es k m n x.device ∙ q.0, q.1, omega (arith, u, same)));
       balance = every-map (AddsUp (ended t es k m n)) (counting es) t.groups (λ g i. let p = (kept g i).balanced in let c = b g.device in omega (arith, p, c));
       priorities = every-map (λ (g : GroupRecord). g.priority ≤ greatest_priority) (counting es) t.groups (λ g i. (kept g i).in_range);
     }
 
 -- the rows after a step: its stamp is the next, and the limits stay
-step_on : (s : Rows) (moment : ℕ) (c : Command) → KeepsRules s → KeepsRules (step s moment c).rows × ((step s moment c).rows.last_stamp ≡ s.last_stamp + 1) × ((step s moment c).rows.limits ≡ s.limits)
+step_on : (s : Rows) (moment : ℕ) (c : Command) → KeepsRules s
+    → KeepsRules (step s moment c).rows × ((step s moment c).rows.last_stamp ≡ s.last_stamp + 1) × ((step s moment c).rows.limits ≡ s.limits)
 unfolding step with_last with_figures
 step_on s moment c h =
     let turn : Turn = next_turn s moment in
-    let before : Before s turn.stamp turn.moment = record { rules = h.rules; timed = timed_more s.last_stamp turn.stamp s.last_moment turn.moment s (omega arith) (omega arith) h.timed; stamp = omega arith; sizes = h.sizes; monitors = h.monitors } in
-    let a = after_moves s turn.stamp turn.moment c before in
-    (keeps_ended s _ _ turn.stamp turn.moment h refl (omega arith) a (follows_step s turn s.last_stamp c h.rules (omega arith)).balances (rules_step s moment c h.rules) (step_leaves_no_offer s moment c h.rules), refl, a.limits)
+    let before : Before s turn.stamp turn.moment = record {
+      rules = h.rules;
+      timed = timed_more s.last_stamp turn.stamp s.last_moment turn.moment s (omega arith) (omega arith) h.timed;
+      stamp = omega arith;
+      sizes = h.sizes;
+      monitors = h.monitors;
+    } in
+    let a = after_moves s turn.stamp turn.moment c before in (
+      keeps_ended s _ _ turn.stamp turn.moment h refl (omega arith) a (follows_step s turn s.last_stamp c h.rules (omega arith)).balances
+          (rules_step s moment c h.rules) (step_leaves_no_offer s moment c h.rules),
+      refl,
+      a.limits,
+    )
 
 pub step_keeps_rules : StepKeepsRules
 step_keeps_rules s moment c e l =
@@ -200,7 +231,8 @@ run_on (q ∷ more) s e l =
     run_on more (step s q.moment q.command).rows (step_keeps_rules s q.moment q.command e (omega (arith, l))) (omega (arith, a, b, l))
 
 pub run_keeps_rules : RunKeepsRules
-run_keeps_rules limits commands e l = run_on commands (empty_rows limits) (keeps_written (empty_rows limits) (keeps_first limits e) (omega arith)) (omega (arith, l))
+run_keeps_rules limits commands e l =
+    run_on commands (empty_rows limits) (keeps_written (empty_rows limits) (keeps_first limits e) (omega arith)) (omega (arith, l))
 
 -- bounds
 
@@ -214,7 +246,8 @@ rules_bound s e =
       last_call = h.last_call;
       last_monitor = h.last_monitor;
       last_event = h.last_event;
-      figures = λ x i. let a = every_among (IsCountedUpTo s.last_stamp s.last_moment) s.groups x h.figures i in let b = every_among (AddsUp s) s.groups x h.balance i in
+      figures = λ x i. let a = every_among (IsCountedUpTo s.last_stamp s.last_moment) s.groups x h.figures i in
+          let b = every_among (AddsUp s) s.groups x h.balance i in
           record { entered = a.0; answered = omega (arith, b); abandoned = omega (arith, b); moved = omega (arith, b); waited = a.1 };
     }
 
@@ -225,7 +258,13 @@ rules_leave_room s g e l i =
     let r = b.requests in let t = b.last_stamp in
     let n = f.entered in let a = f.answered in let c = f.abandoned in let d = f.moved in let w = f.waited in
     let q = mul-le g.figures.answered s.last_moment 1000000000 (2 ^ 32) (omega (arith, n, a, r, t)) (omega (arith, l)) in
-    record { entered = omega (arith, n, r, t); answered = omega (arith, n, a, r, t); abandoned = omega (arith, n, c, r, t); moved = omega (arith, n, d, r, t); waited = omega (arith, w, q) }
+    record {
+      entered = omega (arith, n, r, t);
+      answered = omega (arith, n, a, r, t);
+      abandoned = omega (arith, n, c, r, t);
+      moved = omega (arith, n, d, r, t);
+      waited = omega (arith, w, q);
+    }
 
 -- all laws together
 

@@ -33,7 +33,8 @@ kept_deed s turn _ (adds_agent agent name new _) r = kept_new_agent s turn agent
 kept_deed s turn _ (watches device _ _) r = started s (record { monitor = next_monitor s; device = device; after_event = s.last_event }) r
 kept_deed s turn _ (unwatches monitor) r = stopped s monitor r
 kept_deed s turn _ (arrives caller called outside inside _) r =
-    begun s (new_call s turn.moment caller called) (arriving (destination_of s called) turn (next_call s) called) r refl outside inside (arrived s turn (next_call s) called inside)
+    begun s (new_call s turn.moment caller called) (arriving (destination_of s called) turn (next_call s) called) r refl outside inside
+    (arrived s turn (next_call s) called inside)
 kept_deed s turn _ (makes device called _ station inside differ free _) r = made s turn.moment device called r station inside differ free
 kept_deed s turn _ (goes_out p state) r =
     let to : ℕ = p.about.called in
@@ -46,10 +47,12 @@ kept_deed s turn _ (clears p) r = kept_clear s turn p.x (other_of s p.x) refl r 
 kept_deed s turn _ (deflects p to state free) r =
     let was = open_cases p.x.state state in
     let o = r.one_open p.x.call in let f : one (is_open p.x.state) ≡ 1 = ap one was.1 in
-    moved_on s turn p.x (arriving (destination_of s to) turn p.x.call to) to (ending_of p.x) r p.found (arrived s turn p.x.call to free.planned) free.apart was.0 (omega (arith, o, f))
+    moved_on s turn p.x (arriving (destination_of s to) turn p.x.call to) to (ending_of p.x) r p.found (arrived s turn p.x.call to free.planned) free.apart
+    was.0 (omega (arith, o, f))
     (ends_by s p.x (connection_rule s r p.x.call p.x.device p.x p.found))
 kept_deed s turn _ (transfers p to state other free) r =
-    moved_on s turn p.x (arriving (destination_of s to) turn p.x.call to) to (ending_of p.x) r p.found (arrived s turn p.x.call to free.planned) free.apart (ap is_initiated (connected_is p.x.state state))
+    moved_on s turn p.x (arriving (destination_of s to) turn p.x.call to) to (ending_of p.x) r p.found (arrived s turn p.x.call to free.planned) free.apart
+    (ap is_initiated (connected_is p.x.state state))
     (closed_call s p.x r (connection_among s p.x.call p.x.device p.x p.found) state other) (ends_by s p.x (connection_rule s r p.x.call p.x.device p.x p.found))
 kept_deed s turn _ (logs_on a device groups found null station free planned) r = kept_log_on s a device groups turn r found null station planned free
 kept_deed s turn _ (rejects p g alerting group) r = kept_return_to s turn g p.x r p.found alerting group
@@ -83,21 +86,28 @@ DeedLeads P Q turn c = regroups c ≡ None → (s : Rows) (es : List Event) (ms 
 abbrev pub RegroupLeads : (Rows → List Event → Type 0) → (Rows → List Event → Type 0) → ℕ → Command → Type 0
 RegroupLeads P Q m c = (s : Rows) (es : List Event) (ms : List Move) → Regroups s c ms → Rules s → P s es → Kept Q m s es ms
 
+-- a command that changes no planned group's record leads from what P says to what Q says
+abbrev pub PlanLeads : (Rows → List Event → Type 0) → (Rows → List Event → Type 0) → Command → Type 0
+PlanLeads P Q c = regroups c ≡ None → (s : Rows) (es : List Event) → P s es → Q s es
+
 abbrev pub RoundKeeps : (Rows → List Event → Type 0) → Turn → Type 0
 RoundKeeps P turn = (s : Rows) (es : List Event) (ms : List Move) → Round s turn ms → Rules s → P s es → Kept P turn.moment s es ms
 
-pub by_rounds : (P : Rows → List Event → Type 0) (turn : Turn) → RoundKeeps P turn → (s : Rows) (es : List Event) → Rules s → P s es → Kept P turn.moment s es (distribution s turn.moment)
+pub by_rounds : (P : Rows → List Event → Type 0) (turn : Turn) → RoundKeeps P turn → (s : Rows) (es : List Event) → Rules s → P s es
+    → Kept P turn.moment s es (distribution s turn.moment)
 by_rounds P turn f s es r h =
     distribution_keeps P turn.moment (λ t fs o rt p e. let w = offering t rt o e in let d = w.1.1 in
     subst (Kept P turn.moment t fs) (sym (offer_moves_are t turn.moment o w.0 w.1.0 d.0 d.1)) (f t fs _ (offers o w.0 w.1.0 d.0 d.1) rt p)) s es r h
 
-pub by_tick : (P : Rows → List Event → Type 0) (turn : Turn) → RoundKeeps P turn → (s : Rows) (es : List Event) → Rules s → P s es → Kept P turn.moment s es (tick s turn)
+pub by_tick : (P : Rows → List Event → Type 0) (turn : Turn) → RoundKeeps P turn → (s : Rows) (es : List Event) → Rules s → P s es
+    → Kept P turn.moment s es (tick s turn)
 by_tick P turn f s es r h =
-    (tick_keeps P turn (λ t fs x g rt p found alerting group. f t fs _ (returns x g found alerting group) rt p) (λ t fs a rt p found works. f t fs _ (rests a found works) rt p) s es r h).1
+    (tick_keeps P turn (λ t fs x g rt p found alerting group. f t fs _ (returns x g found alerting group) rt p)
+    (λ t fs a rt p found works. f t fs _ (rests a found works) rt p) s es r h).1
 
 -- the service leads from P to Q, and rounds keep Q
-pub by_parts : (P Q : Rows → List Event → Type 0) (turn : Turn) (c : Command) → DeedLeads P Q turn c → RegroupLeads P Q turn.moment c → (regroups c ≡ None → (s : Rows) (es : List Event) → P s es → Q s es) → RoundKeeps Q turn
-    → (s : Rows) (es : List Event) → Rules s → P s es → Kept Q turn.moment s es (step_moves s turn.moment (serve s turn c))
+pub by_parts : (P Q : Rows → List Event → Type 0) (turn : Turn) (c : Command) → DeedLeads P Q turn c → RegroupLeads P Q turn.moment c
+    → PlanLeads P Q c → RoundKeeps Q turn → (s : Rows) (es : List Event) → Rules s → P s es → Kept Q turn.moment s es (step_moves s turn.moment (serve s turn c))
 by_parts P Q turn c f regroup g rounds s es r h =
     let ms : List Move = moves_of (serve s turn c) in
     let t : Rows = moved s ms in

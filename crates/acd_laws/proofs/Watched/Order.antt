@@ -34,7 +34,8 @@ pub holding_old : (s : Rows) (x z : ConnectionRecord) (g : ℕ) → IsAscending 
 unfolding with_connection
 holding_old s x z g h e = let a = count_old (waits_in g) s x z h e in let b = count_old (rings_from g) s x z h e in omega (arith, a, b)
 
-pub holding_less : (s : Rows) (c d : ℕ) (z : ConnectionRecord) (g : ℕ) → connection_of s c d ≡ Some z → holding (without_connection s c d) g + held g z ≡ holding s g
+pub holding_less : (s : Rows) (c d : ℕ) (z : ConnectionRecord) (g : ℕ) → connection_of s c d ≡ Some z
+    → holding (without_connection s c d) g + held g z ≡ holding s g
 unfolding without_connection
 holding_less s c d z g e = let a = count_less (waits_in g) s c d z e in let b = count_less (rings_from g) s c d z e in omega (arith, a, b)
 
@@ -68,7 +69,8 @@ entered_in g events = count (λ (e : Event). is_entry g e.report) events
 
 abbrev gone_in : ℕ → List Event → ℕ
 gone_in g events =
-    count (λ (e : Event). is_answer g e.report) events + count (λ (e : Event). is_abandonment g e.report) events + count (λ (e : Event). is_moving_away g e.report) events
+    count (λ (e : Event). is_answer g e.report) events + count (λ (e : Event). is_abandonment g e.report) events
+    + count (λ (e : Event). is_moving_away g e.report) events
 
 entered_event : (g m : ℕ) (o : Option Report) (es : List Event) → entered_in g (with_event m o es) ≡ entry_by g o + entered_in g es
 entered_event g m None es = omega arith
@@ -116,7 +118,8 @@ pub record Ordered (b n : ℕ) (s : Rows) (events : List Event) : Type 0 where
 
 -- moves keep it, from one stamp to another
 abbrev pub OrderKept : ℕ → ℕ → ℕ → Rows → List Move → Type 0
-OrderKept m b c s ms = (events : List Event) (n : ℕ) → Ordered b n s events → Ordered c (n + length (events_of m ms)) (moved s ms) (events ++ numbered n (events_of m ms))
+OrderKept m b c s ms =
+    (events : List Event) (n : ℕ) → Ordered b n s events → Ordered c (n + length (events_of m ms)) (moved s ms) (events ++ numbered n (events_of m ms))
 
 pub last-append : (g c k : ℕ) (es fs : List Event) → last_entry g c k (es ++ fs) ≡ last_entry g c (last_entry g c k es) fs
 last-append g c k [] fs = refl
@@ -128,17 +131,20 @@ not_one : (b : Bool) → one b ≡ 0 → b ≡ false
 not_one true e = absurd (omega (arith, e))
 not_one false e = refl
 
-last_event : (g c k n m : ℕ) (o : Option Report) (es : List Event) → entry_by g o ≡ 0 → ((j : ℕ) → last_entry g c k (numbered j es) ≡ k) → last_entry g c k (numbered n (with_event m o es)) ≡ k
+last_event : (g c k n m : ℕ) (o : Option Report) (es : List Event) → entry_by g o ≡ 0 → ((j : ℕ) → last_entry g c k (numbered j es) ≡ k)
+    → last_entry g c k (numbered n (with_event m o es)) ≡ k
 last_event g c k n m None es z h = h n
 last_event g c k n m (Some r) es z h =
-    ap (λ b. last_entry g c (cond b (n + 1) k) (numbered (n + 1) es)) (and_left (is_entry g r) (has (columns_of r).call c) (not_one (is_entry g r) z)) ∙ h (n + 1)
+    ap (λ b. last_entry g c (cond b (n + 1) k) (numbered (n + 1) es)) (and_left (is_entry g r) (has (columns_of r).call c) (not_one (is_entry g r) z))
+    ∙ h (n + 1)
 
 no_entry : (g c k n m : ℕ) (ms : List Move) → entries g ms ≡ 0 → last_entry g c k (numbered n (events_of m ms)) ≡ k
 no_entry g c k n m [] z = refl
 no_entry g c k n m (x ∷ ms) z = last_event g c k n m x.report (events_of m ms) (omega (arith, z)) (λ j. no_entry g c k j m ms (omega (arith, z)))
 
 -- order stays where no call enters, and each that is held was held at its place
-pub stays : (m b : ℕ) (s : Rows) (ms : List Move) → ((g : ℕ) → entries g ms ≡ 0) → ((g c p : ℕ) → HasPlace (moved s ms) g c p → HasPlace s g c p) → OrderKept m b b s ms
+pub stays : (m b : ℕ) (s : Rows) (ms : List Move) → ((g : ℕ) → entries g ms ≡ 0) → ((g c p : ℕ) → HasPlace (moved s ms) g c p → HasPlace s g c p)
+    → OrderKept m b b s ms
 stays m b s ms z h events n o =
     let same : (g c : ℕ) → last_entry g c 0 (events ++ numbered n (events_of m ms)) ≡ last_entry g c 0 events =
     λ g c. last-append g c 0 events (numbered n (events_of m ms)) ∙ no_entry g c (last_entry g c 0 events) n m ms (z g) in
@@ -156,10 +162,15 @@ stays m b s ms z h events n o =
 pub order_later : (m b c : ℕ) (s : Rows) (ms : List Move) → b ≤ c → OrderKept m b b s ms → OrderKept m b c s ms
 order_later m b c s ms l f events n o =
     let w = f events n o in
-    record { in_order = w.in_order; entered = w.entered; up_to = record { entries = w.up_to.entries; places = λ g d p h. let e = w.up_to.places g d p h in omega (arith, e, l) } }
+    record {
+      in_order = w.in_order;
+      entered = w.entered;
+      up_to = record { entries = w.up_to.entries; places = λ g d p h. let e = w.up_to.places g d p h in omega (arith, e, l) };
+    }
 
 -- events in two parts, numbered on
-pub ordered_on : (c n : ℕ) (t : Rows) (events es fs : List Event) → Ordered c (n + length es + length fs) t ((events ++ numbered n es) ++ numbered (n + length es) fs)
+pub ordered_on : (c n : ℕ) (t : Rows) (events es fs : List Event)
+    → Ordered c (n + length es + length fs) t ((events ++ numbered n es) ++ numbered (n + length es) fs)
     → Ordered c (n + length (es ++ fs)) t (events ++ numbered n (es ++ fs))
 ordered_on c n t events es fs w =
     subst (λ (j : ℕ). Ordered c j t (events ++ numbered n (es ++ fs))) (let e = length-append es fs in omega (arith, e))
@@ -177,7 +188,13 @@ order-append m a b c s ms ns f g events n o =
 -- the calls held after a change of connections
 
 pub placed_within : (s t : Rows) (g c p : ℕ) → ((z : ConnectionRecord) → Among z t.connections → Among z s.connections) → HasPlace t g c p → HasPlace s g c p
-placed_within s t g c p f h = record { connection = h.connection; there = f h.connection h.there; of_group = h.of_group; of_call = h.of_call; at_place = h.at_place }
+placed_within s t g c p f h = record {
+  connection = h.connection;
+  there = f h.connection h.there;
+  of_group = h.of_group;
+  of_call = h.of_call;
+  at_place = h.at_place;
+}
 
 -- one that is put is not held, or was held at its place under its call
 pub placed_put : (s t : Rows) (l : List ConnectionRecord) (y : ConnectionRecord) (g c p : ℕ) → ((z : ConnectionRecord) → Among z l → Among z s.connections)
@@ -187,7 +204,13 @@ placed_put s t l y g c p within was same h =
     elim (among_put (connection_order y) y l h.connection (subst (Among h.connection) same h.there)) [
       | inr a ↦ record { connection = h.connection; there = within h.connection a; of_group = h.of_group; of_call = h.of_call; at_place = h.at_place }
       | inl e ↦ (let w = was (subst (λ z. waits_or_rings g z ≡ true) e h.of_group) in
-          record { connection = w.0; there = w.1; of_group = w.2; of_call = w.3 ∙ sym (ap (λ (z : ConnectionRecord). z.call) e) ∙ h.of_call; at_place = w.4 ∙ sym (ap (λ (z : ConnectionRecord). z.place) e) ∙ h.at_place })
+          record {
+            connection = w.0;
+            there = w.1;
+            of_group = w.2;
+            of_call = w.3 ∙ sym (ap (λ (z : ConnectionRecord). z.call) e) ∙ h.of_call;
+            at_place = w.4 ∙ sym (ap (λ (z : ConnectionRecord). z.place) e) ∙ h.at_place;
+          })
     ]
 
 pub open_in_state : (g : ℕ) (z : ConnectionRecord) → waits_or_rings g z ≡ true → is_open z.state ≡ true
@@ -201,9 +224,12 @@ open_in_state g z h =
 
 -- an entry: the new place is the greatest, and the new event the last
 
+abbrev pub NoneOpen : Rows → ℕ → Type 0
+NoneOpen t call = (z : ConnectionRecord) → Among z t.connections → is_open z.state ≡ true → z.call ≡ call → ⊥
+
 -- y of the call is put where none of it is open, and r reports it
 pub record Enters (t : Rows) (y : ConnectionRecord) (r : Report) (call stamp : ℕ) : Type 0 where
-  pub new : (z : ConnectionRecord) → Among z t.connections → is_open z.state ≡ true → z.call ≡ call → ⊥
+  pub new : NoneOpen t call
   pub call_is : y.call ≡ call
   pub reported : (columns_of r).call ≡ Some call
   pub queue : (g : ℕ) → waits_or_rings g y ≡ true → (y.place ≡ Some stamp) × (is_entry g r ≡ true)
@@ -214,22 +240,32 @@ unfolding with_connection
 placed_after t y r call stamp n g c p h =
     elim (among_put (connection_order y) y t.connections h.connection h.there) [
       | inl e ↦ (let k = n.queue g (subst (λ z. waits_or_rings g z ≡ true) e h.of_group) in
-          inl (sym h.of_call ∙ ap (λ (z : ConnectionRecord). z.call) e ∙ n.call_is, some_is p stamp (sym h.at_place ∙ ap (λ (z : ConnectionRecord). z.place) e ∙ k.0), k.1))
+          inl (
+            sym h.of_call ∙ ap (λ (z : ConnectionRecord). z.call) e
+                ∙ n.call_is,
+            some_is p stamp (sym h.at_place ∙ ap (λ (z : ConnectionRecord). z.place) e ∙ k.0),
+            k.1,
+          ))
       | inr a ↦ inr (
         record { connection = h.connection; there = a; of_group = h.of_group; of_call = h.of_call; at_place = h.at_place },
         λ q. n.new h.connection a (open_in_state g h.connection h.of_group) (h.of_call ∙ q),
       )
     ]
 
-entry_one : (g c n m : ℕ) (events : List Event) (r : Report) → last_entry g c 0 (events ++ numbered n (event_at m r ∷ [])) ≡ cond (is_entry g r && has (columns_of r).call c) (n + 1) (last_entry g c 0 events)
+entry_one : (g c n m : ℕ) (events : List Event) (r : Report)
+    → last_entry g c 0 (events ++ numbered n (event_at m r ∷ [])) ≡ cond (is_entry g r && has (columns_of r).call c) (n + 1) (last_entry g c 0 events)
 entry_one g c n m events r = last-append g c 0 events (numbered n (event_at m r ∷ []))
 
-pub comes : (m b k : ℕ) (t : Rows) (y : ConnectionRecord) (r : Report) (call : ℕ) → b < k → Enters t y r call k → (events : List Event) (n : ℕ) → Ordered b n t events
+pub comes : (m b k : ℕ) (t : Rows) (y : ConnectionRecord) (r : Report) (call : ℕ) → b < k → Enters t y r call k → (events : List Event) (n : ℕ)
+    → Ordered b n t events
     → Ordered k (n + 1) (with_connection t y) (events ++ numbered n (event_at m r ∷ []))
 comes m b k t y r call lt w events n o =
-    let other : (g v : ℕ) → (v ≡ call → ⊥) → last_entry g v 0 (events ++ numbered n (event_at m r ∷ [])) ≡ last_entry g v 0 events = λ g v ne. entry_one g v n m events r ∙
-    ap (λ x. cond x (n + 1) (last_entry g v 0 events)) (and_right (is_entry g r) (has (columns_of r).call v) (rw w.reported (false_from_ne_true (call == v) (λ q. ne (sym (eqb-true call v q)))))) in
-    let same : (g v : ℕ) → (v ≡ call) → is_entry g r ≡ true → last_entry g v 0 (events ++ numbered n (event_at m r ∷ [])) ≡ n + 1 = λ g v e f. entry_one g v n m events r ∙
+    let other : (g v : ℕ) → (v ≡ call → ⊥) → last_entry g v 0 (events ++ numbered n (event_at m r ∷ [])) ≡ last_entry g v 0 events =
+    λ g v ne. entry_one g v n m events r ∙
+    ap (λ x. cond x (n + 1) (last_entry g v 0 events))
+    (and_right (is_entry g r) (has (columns_of r).call v) (rw w.reported (false_from_ne_true (call == v) (λ q. ne (sym (eqb-true call v q)))))) in
+    let same : (g v : ℕ) → (v ≡ call) → is_entry g r ≡ true → last_entry g v 0 (events ++ numbered n (event_at m r ∷ [])) ≡ n + 1 =
+    λ g v e f. entry_one g v n m events r ∙
     ap (λ x. cond x (n + 1) (last_entry g v 0 events)) (and_from (is_entry g r) (has (columns_of r).call v) f (rw w.reported (eq-eqb call v (sym e)))) in
     record {
       in_order = λ g c d p q a e.
@@ -237,11 +273,13 @@ comes m b k t y r call lt w events n o =
             | inl x ↦ elim (placed_after t y r call k w g d q e) [
               | inl z ↦ (let xp = x.1 in let zp = z.1 in let s1 = same g c x.0 x.2 in let s2 = same g d z.0 z.2 in
                   (λ l. absurd (omega (arith, l, xp, zp)), λ l. absurd (omega (arith, l, s1, s2))))
-              | inr z ↦ (let xp = x.1 in let zb = o.up_to.places g d q z.0 in let s1 = same g c x.0 x.2 in let u = o.up_to.entries g d in let v = other g d z.1 in
+              | inr
+                  z ↦ (let xp = x.1 in let zb = o.up_to.places g d q z.0 in let s1 = same g c x.0 x.2 in let u = o.up_to.entries g d in let v = other g d z.1 in
                   (λ l. absurd (omega (arith, l, xp, zb, lt)), λ l. absurd (omega (arith, l, s1, u, v))))
             ]
             | inr x ↦ elim (placed_after t y r call k w g d q e) [
-              | inl z ↦ (let zp = z.1 in let xb = o.up_to.places g c p x.0 in let u = o.up_to.entries g c in let v = other g c x.1 in let s1 = same g d z.0 z.2 in
+              | inl
+                  z ↦ (let zp = z.1 in let xb = o.up_to.places g c p x.0 in let u = o.up_to.entries g c in let v = other g c x.1 in let s1 = same g d z.0 z.2 in
                   (λ l. omega (arith, u, v, s1), λ l. omega (arith, zp, xb, lt)))
               | inr z ↦ (let old = o.in_order g c d p q x.0 z.0 in let v = other g c x.1 in let s1 = other g d z.1 in
                   (λ l. let u = old.0 l in omega (arith, u, v, s1), λ l. old.1 (omega (arith, l, v, s1))))
@@ -253,7 +291,9 @@ comes m b k t y r call lt w events n o =
       ];
       up_to = record {
         entries = λ g c. let e = entry_one g c n m events r in let u = o.up_to.entries g c in
-            let f : cond (is_entry g r && has (columns_of r).call c) (n + 1) (last_entry g c 0 events) ≤ n + 1 = upper (is_entry g r && has (columns_of r).call c) n (last_entry g c 0 events) u in omega (arith, e, f);
+            let f : cond (is_entry g r && has (columns_of r).call c) (n + 1) (last_entry g c 0 events) ≤ n + 1 =
+            upper (is_entry g r && has (columns_of r).call c) n (last_entry g c 0 events) u in
+            omega (arith, e, f);
         places = λ g c p h. elim (placed_after t y r call k w g c p h) [
           | inl x ↦ (let e = x.1 in omega (arith, e))
           | inr x ↦ (let e = o.up_to.places g c p x.0 in omega (arith, e, lt))

@@ -63,17 +63,20 @@ pub after-numbered : {T : Type 0} (f : T → Columns → T) (x : T) (n : ℕ) (e
 after-numbered f x n [] = refl
 after-numbered f x n (e ∷ es) = after-numbered f (f x (columns_of e.report)) (n + 1) es
 
-after_event : {T : Type 0} (f : T → Columns → T) (x : T) (m : ℕ) (o : Option Report) (es : List Event) → known_after f x (with_event m o es) ≡ known_after f (heard f x o) es
+after_event : {T : Type 0} (f : T → Columns → T) (x : T) (m : ℕ) (o : Option Report) (es : List Event)
+    → known_after f x (with_event m o es) ≡ known_after f (heard f x o) es
 after_event f x m None es = refl
 after_event f x m (Some r) es = refl
 
-pub shown_after : (s : Rows) (m : ℕ) (ms : List Move) → AllTruthful s ms → (c d : ℕ) → shown (moved s ms) c d ≡ known_after (connection_reported c d) (shown s c d) (events_of m ms)
+pub shown_after : (s : Rows) (m : ℕ) (ms : List Move) → AllTruthful s ms → (c d : ℕ)
+    → shown (moved s ms) c d ≡ known_after (connection_reported c d) (shown s c d) (events_of m ms)
 shown_after s m [] h c d = refl
 shown_after s m (x ∷ ms) h c d =
     shown_after (changed s x.change) m ms h.1 c d ∙ ap (λ v. known_after (connection_reported c d) v (events_of m ms)) (h.0.connections c d)
     ∙ sym (after_event (connection_reported c d) (shown s c d) m x.report (events_of m ms))
 
-pub seat_after : (s : Rows) (m : ℕ) (ms : List Move) → AllTruthful s ms → (n : ℕ) → seat (moved s ms) n ≡ known_after (seat_reported n) (seat s n) (events_of m ms)
+pub seat_after : (s : Rows) (m : ℕ) (ms : List Move) → AllTruthful s ms → (n : ℕ)
+    → seat (moved s ms) n ≡ known_after (seat_reported n) (seat s n) (events_of m ms)
 seat_after s m [] h n = refl
 seat_after s m (x ∷ ms) h n =
     seat_after (changed s x.change) m ms h.1 n ∙ ap (λ v. known_after (seat_reported n) v (events_of m ms)) (h.0.agents n)
@@ -88,7 +91,8 @@ left_seat : (s : Rows) (c : Change) (n : ℕ) → LeavesAgents c → seat (chang
 left_seat s c n h = ap seat_of (left_agent s c n h)
 
 left_shown : (s : Rows) (c : Change) (a d : ℕ) → LeavesPlan c → LeavesConnections c → shown (changed s c) a d ≡ shown s a d
-left_shown s c a d h g = ap (λ b. cond b (state_at (changed s c) a d) None) (left_plan s c d h) ∙ ap (λ o. cond (is_planned s d) (state_of o) None) (left_connection s c a d g)
+left_shown s c a d h g =
+    ap (λ b. cond b (state_at (changed s c) a d) None) (left_plan s c d h) ∙ ap (λ o. cond (is_planned s d) (state_of o) None) (left_connection s c a d g)
 
 both_none : (b : Bool) → cond {A = Option ConnectionState} b None None ≡ None
 both_none true = refl
@@ -97,7 +101,8 @@ both_none false = refl
 named_as : (r : Report) (a b c d : ℕ) → (columns_of r).call ≡ Some a → (columns_of r).device ≡ Some b → names c d (columns_of r) ≡ (a == c && b == d)
 named_as r a b c d e f = rw (e, f) refl
 
-shown_put : (s : Rows) (x : ConnectionRecord) (c d : ℕ) → shown (with_connection s x) c d ≡ cond (is_planned s d) (state_of (cond (is_of c d x) (Some x) (connection_of s c d))) None
+shown_put : (s : Rows) (x : ConnectionRecord) (c d : ℕ)
+    → shown (with_connection s x) c d ≡ cond (is_planned s d) (state_of (cond (is_of c d x) (Some x) (connection_of s c d))) None
 unfolding with_connection group_of station_of
 shown_put s x c d = ap (λ v. cond (is_planned s d) (state_of v) None) (at_put s x c d)
 
@@ -105,11 +110,13 @@ seat_unreported : (s : Rows) (r : Report) (n : ℕ) → (columns_of r).agent ≡
 seat_unreported s r n e = rw e refl
 
 -- a connection is put with a report of its state
-pub truthful_put : (s : Rows) (x : ConnectionRecord) (r : Report) → (columns_of r).call ≡ Some x.call → (columns_of r).device ≡ Some x.device → (columns_of r).agent ≡ None
+pub truthful_put : (s : Rows) (x : ConnectionRecord) (r : Report) → (columns_of r).call ≡ Some x.call → (columns_of r).device ≡ Some x.device
+    → (columns_of r).agent ≡ None
     → state_by (columns_of r).kind ≡ Some x.state → is_planned s x.device ≡ true → Truthful s (reported (PutConnection x) r)
 truthful_put s x r e f a k p = record {
   connections = λ c d. shown_put s x c d ∙
-      (elim (is_of c d x) as (λ b. is_of c d x ≡ b → cond (is_planned s d) (state_of (cond b (Some x) (connection_of s c d))) None ≡ cond b (state_by (columns_of r).kind) (shown s c d)) [
+      (elim (is_of c d x) as (λ b. is_of c d x ≡ b
+      → cond (is_planned s d) (state_of (cond b (Some x) (connection_of s c d))) None ≡ cond b (state_by (columns_of r).kind) (shown s c d)) [
         | true ↦ λ q. rw (← (is_of_true c d x q).1, p) (sym k)
         | false ↦ λ q. refl
       ]) refl
@@ -128,16 +135,19 @@ truthful_outside s x p = record {
   agents = λ n. left_seat s (PutConnection x) n tt;
 }
 
-shown_remove : (s : Rows) (a b c d : ℕ) → IsAscending connection_order s.connections → shown (without_connection s a b) c d ≡ cond (is_planned s d) (state_of (cond (a == c && b == d) None (connection_of s c d))) None
+shown_remove : (s : Rows) (a b c d : ℕ) → IsAscending connection_order s.connections
+    → shown (without_connection s a b) c d ≡ cond (is_planned s d) (state_of (cond (a == c && b == d) None (connection_of s c d))) None
 unfolding without_connection group_of station_of
 shown_remove s a b c d h = ap (λ v. cond (is_planned s d) (state_of v) None) (at_remove s a b c d h)
 
 -- a connection ends
-pub truthful_remove : (s : Rows) (a b : ℕ) (r : Report) → IsAscending connection_order s.connections → (columns_of r).call ≡ Some a → (columns_of r).device ≡ Some b → (columns_of r).agent ≡ None
+pub truthful_remove : (s : Rows) (a b : ℕ) (r : Report) → IsAscending connection_order s.connections → (columns_of r).call ≡ Some a
+    → (columns_of r).device ≡ Some b → (columns_of r).agent ≡ None
     → state_by (columns_of r).kind ≡ None → Truthful s (reported (RemoveConnection a b) r)
 truthful_remove s a b r h e f n k = record {
   connections = λ c d. shown_remove s a b c d h ∙
-      (elim (a == c && b == d) as (λ v. cond (is_planned s d) (state_of (cond v None (connection_of s c d))) None ≡ cond v (state_by (columns_of r).kind) (shown s c d)) [
+      (elim (a == c && b == d) as (λ v. cond (is_planned s d) (state_of (cond v None (connection_of s c d))) None
+      ≡ cond v (state_by (columns_of r).kind) (shown s c d)) [
         | true ↦ both_none (is_planned s d) ∙ sym k
         | false ↦ refl
       ])
@@ -151,7 +161,9 @@ truthful_unseen s c h g k = record { connections = λ a d. left_shown s c a d h 
 
 pub truthful_end : (s : Rows) (call : ℕ) (g : Option ℕ) → Truthful s (reported (RemoveCall call) (CallCleared call g))
 truthful_end s call g = record {
-  connections = λ c d. left_shown s (RemoveCall call) c d tt tt ∙ ap (λ b. cond b (state_by (columns_of (CallCleared call g)).kind) (shown s c d)) (sym (and_right (call == c) false refl));
+  connections =
+      λ c d. left_shown s (RemoveCall call) c d tt tt
+      ∙ ap (λ b. cond b (state_by (columns_of (CallCleared call g)).kind) (shown s c d)) (sym (and_right (call == c) false refl));
   agents = λ n. left_seat s (RemoveCall call) n tt;
 }
 
@@ -177,7 +189,8 @@ truthful_put_group s g planned = record {
   agents = λ n. left_seat s (PutGroup g) n tt;
 }
 
-shown_station : (s : Rows) (t : StationRecord) (c d : ℕ) → shown (with_station s t) c d ≡ cond (is_group s d || is_station (with_station s t) d) (state_at s c d) None
+shown_station : (s : Rows) (t : StationRecord) (c d : ℕ)
+    → shown (with_station s t) c d ≡ cond (is_group s d || is_station (with_station s t) d) (state_at s c d) None
 unfolding with_station group_of connection_of
 shown_station s t c d = refl
 
@@ -202,7 +215,8 @@ pub truthful_agent : (s : Rows) (a : AgentRecord) (r : Report) → (columns_of r
 truthful_agent s a r e f q = record {
   connections = λ c d. left_shown s (PutAgent a) c d tt tt ∙ shown_unreported s r c d f;
   agents = λ n. ap seat_of (agent_put s a n) ∙
-      (elim (a.agent == n) as (λ b. (a.agent == n) ≡ b → seat_of (cond b (Some a) (agent_of s n)) ≡ cond b (seat_by (columns_of r).kind (columns_of r).device (seat s n)) (seat s n)) [
+      (elim (a.agent == n) as (λ b. (a.agent == n) ≡ b
+      → seat_of (cond b (Some a) (agent_of s n)) ≡ cond b (seat_by (columns_of r).kind (columns_of r).device (seat s n)) (seat s n)) [
         | true ↦ λ w. rw (← eqb-true a.agent n w) q
         | false ↦ λ w. refl
       ]) refl

@@ -9,7 +9,7 @@ use Rattle.acd_model.specs.Watched.{seat_of, waits_or_rings}
 use Rattle.acd_model.specs.declared.moves.Change.TheVariants.{Nothing, PutAgent, PutConnection, RemoveConnection}
 use Rattle.acd_laws.proofs.MoveKinds.{LeavesConnections, left_connections, LeavesAgents, AgentMove, stays as nothing, remains, reports, Recorded, Arrival, queues, alerts, fails}
 use Rattle.acd_laws.proofs.Watched.Reported.{Truthful, AllTruthful, truthful-append, truthful_unseen, truthful_agent, truthful_silent_agent, truthful_put}
-use Rattle.acd_laws.proofs.Watched.Order.{Balances, balances-append, holding, entry_by, gone_by, held, holding_new, holding_old, holding_less, OrderKept, stays, order-append, order_later, placed_within, placed_put, comes}
+use Rattle.acd_laws.proofs.Watched.Order.{Balances, balances-append, holding, entry_by, gone_by, held, holding_new, holding_old, holding_less, OrderKept, stays, order-append, order_later, placed_within, placed_put, comes, NoneOpen}
 use Rattle.std.specs.Prelude.{◌==◌}
 use Rattle.std.proofs.lemmas.Bool.{and_right, or_left, or_right}
 use Rattle.acd_terms.specs.declared.event.Report.TheVariants as report
@@ -53,8 +53,11 @@ sound_unheard m b s x t u =
     let same : (changed s x.change).connections ≡ s.connections = left_connections s x.change u.leaves in
     record {
       truthful = (t, tt);
-      balances = λ g. let e = u.entry g in let f = u.gone g in let h : holding (changed s x.change) g ≡ holding s g = held_same (changed s x.change) s g same in omega (arith, e, f, h);
-      order = stays m b s (x ∷ []) (λ g. let e = u.entry g in omega (arith, e)) (λ g c p h. placed_within s (changed s x.change) g c p (λ z a. subst (Among z) same a) h);
+      balances = λ g. let e = u.entry g in let f = u.gone g in let h : holding (changed s x.change) g ≡ holding s g = held_same (changed s x.change) s g same in
+          omega (arith, e, f, h);
+      order =
+          stays m b s (x ∷ []) (λ g. let e = u.entry g in omega (arith, e))
+          (λ g c p h. placed_within s (changed s x.change) g c p (λ z a. subst (Among z) same a) h);
     }
   where
     held_same : (t v : Rows) (g : ℕ) → t.connections ≡ v.connections → holding t g ≡ holding v g
@@ -86,8 +89,10 @@ sound_agent {turn} {b} {t} (reports a c d e h) =
     let w = state_reported c.state c.agent d in
     let was : agent_of t c.agent ≡ Some a = ap (agent_of t) h.agent ∙ e in
     let seated : seat_of (Some c) ≡ seat_by (columns_of r).kind (columns_of r).device (seat_of (agent_of t c.agent)) =
-    ap (λ (o : Option ℕ). let v : Seat = record { state = c.state; station = o } in v) h.station ∙ w.seat (seat_of (Some a)) ∙ ap (λ o. seat_by (columns_of r).kind (columns_of r).device (seat_of o)) (sym was) in
-    sound_unheard turn.moment b t (reported (PutAgent c) r) (truthful_agent t c r w.agent w.call seated) (record { leaves = tt; entry = w.entry; gone = w.gone })
+    ap (λ (o : Option ℕ). let v : Seat = record { state = c.state; station = o } in v) h.station ∙ w.seat (seat_of (Some a))
+    ∙ ap (λ o. seat_by (columns_of r).kind (columns_of r).device (seat_of o)) (sym was) in
+    sound_unheard turn.moment b t (reported (PutAgent c) r) (truthful_agent t c r w.agent w.call seated)
+    (record { leaves = tt; entry = w.entry; gone = w.gone })
 
 -- the change of a connection, with a report or none
 abbrev pub put : ConnectionRecord → Option Report → Move
@@ -142,15 +147,19 @@ held_is g x h = go x.state h
     shut : one ((x.device == g) && false) + one (has x.group g && false) ≡ 0
     shut = rw (and_right (x.device == g) false refl, and_right (has x.group g) false refl) refl
 
-    go : (st : ConnectionState) → HasColumns x st → one ((x.device == g) && is_queued st) + one (has x.group g && is_alerting st) ≡ one (has (cond (is_queued st || is_alerting st) x.group None) g)
-    go S.Queued c = rw (and_yes (x.device == g), and_right (has x.group g) false refl) (let e : one (x.device == g) ≡ one (has x.group g) = ap (λ o. one (has o g)) (sym c.group) in omega (arith, e))
+    go : (st : ConnectionState) → HasColumns x st
+        → one ((x.device == g) && is_queued st) + one (has x.group g && is_alerting st) ≡ one (has (cond (is_queued st || is_alerting st) x.group None) g)
+    go S.Queued c =
+        rw (and_yes (x.device == g), and_right (has x.group g) false refl)
+        (let e : one (x.device == g) ≡ one (has x.group g) = ap (λ o. one (has o g)) (sym c.group) in omega (arith, e))
     go S.Alerting c = rw (and_yes (has x.group g), and_right (x.device == g) false refl) (omega arith)
     go _ c = shut
 
 pub waits_or_rings_is : (g : ℕ) (x : ConnectionRecord) → HasColumns x x.state → waits_or_rings g x ≡ has (waiting_group x) g
 waits_or_rings_is g x h = go x.state h
   where
-    go : (st : ConnectionState) → HasColumns x st → ((is_queued st && (x.device == g)) || (is_alerting st && has x.group g)) ≡ has (cond (is_queued st || is_alerting st) x.group None) g
+    go : (st : ConnectionState) → HasColumns x st
+        → ((is_queued st && (x.device == g)) || (is_alerting st && has x.group g)) ≡ has (cond (is_queued st || is_alerting st) x.group None) g
     go S.Queued c = or_no (x.device == g) ∙ ap (λ o. has o g) (sym c.group)
     go S.Alerting c = refl
     go _ c = refl
@@ -193,16 +202,22 @@ pub sound_put_new : (m b : ℕ) (s : Rows) (y : ConnectionRecord) (o : Option Re
 sound_put_new m b s y o t none free entry gone = record {
   truthful = (t, tt);
   balances = λ g. let h = holding_new s y g none in let e = free.held g in let f = entry g in let k = gone g in omega (arith, h, e, f, k);
-  order = stays m b s (put y o ∷ []) (λ g. let f = entry g in omega (arith, f)) (λ g c p h. placed_put s (with_connection s y) s.connections y g c p (λ z a. a) (λ q. absurd (cc (q, free.waits_nowhere g))) (connections_put s y) h);
+  order =
+      stays m b s (put y o ∷ []) (λ g. let f = entry g in omega (arith, f))
+      (λ g c p h. placed_put s (with_connection s y) s.connections y g c p (λ z a. a) (λ q. absurd (cc (q, free.waits_nowhere g))) (connections_put s y) h);
 }
 
 -- or in place of another, which its group lets go by the report
-pub sound_put_old : (m b : ℕ) (s : Rows) (x y : ConnectionRecord) (o : Option Report) → Truthful s (put y o) → IsAscending connection_order s.connections → connection_of s y.call y.device ≡ Some x
+pub sound_put_old : (m b : ℕ) (s : Rows) (x y : ConnectionRecord) (o : Option Report) → Truthful s (put y o) → IsAscending connection_order s.connections
+    → connection_of s y.call y.device ≡ Some x
     → is_open y.state ≡ false → ((g : ℕ) → entry_by g o ≡ 0) → ((g : ℕ) → gone_by g o ≡ held g x) → Sound m b b s (put y o ∷ [])
 sound_put_old m b s x y o t asc there shut entry gone = record {
   truthful = (t, tt);
   balances = λ g. let h = holding_old s y x g asc there in let e = held_shut g y shut in let f = entry g in let k = gone g in omega (arith, h, e, f, k);
-  order = stays m b s (put y o ∷ []) (λ g. let f = entry g in omega (arith, f)) (λ g c p h. placed_put s (with_connection s y) s.connections y g c p (λ z a. a) (λ q. absurd (cc (q, waits_nowhere g y shut))) (connections_put s y) h);
+  order =
+      stays m b s (put y o ∷ []) (λ g. let f = entry g in omega (arith, f))
+      (λ g c p h. placed_put s (with_connection s y) s.connections y g c p (λ z a. a) (λ q. absurd (cc (q, waits_nowhere g y shut))) (connections_put s y)
+      h);
 }
 
 -- a connection ends, which its group lets go by the report
@@ -211,15 +226,20 @@ pub sound_remove : (m b : ℕ) (s : Rows) (x : ConnectionRecord) (o : Option Rep
 sound_remove m b s x o t there entry gone = record {
   truthful = (t, tt);
   balances = λ g. let h = holding_less s x.call x.device x g there in let f = entry g in let k = gone g in omega (arith, h, f, k);
-  order = stays m b s (remove x o ∷ []) (λ g. let f = entry g in omega (arith, f)) (λ g c p h. placed_within s (without_connection s x.call x.device) g c p (removed_within s x.call x.device) h);
+  order =
+      stays m b s (remove x o ∷ []) (λ g. let f = entry g in omega (arith, f))
+      (λ g c p h. placed_within s (without_connection s x.call x.device) g c p (removed_within s x.call x.device) h);
 }
 
 -- where the one open connection of a call is removed, none is left
-pub open_gone : (s : Rows) (call : ℕ) (x : ConnectionRecord) → connection_of s x.call x.device ≡ Some x → x.call ≡ call → count (open_of call) s.connections ≤ one (is_open x.state)
-    → (z : ConnectionRecord) → Among z (without_connection s x.call x.device).connections → is_open z.state ≡ true → z.call ≡ call → ⊥
+pub open_gone : (s : Rows) (call : ℕ) (x : ConnectionRecord) → connection_of s x.call x.device ≡ Some x → x.call ≡ call
+    → count (open_of call) s.connections ≤ one (is_open x.state)
+    → NoneOpen (without_connection s x.call x.device) call
 open_gone s call x there xc most z a e q =
     let c = count_less (open_of call) s x.call x.device x there in
-    let k = counted (open_of call) (remove_by (at_connection x.call x.device) s.connections) z (subst (Among z) (connections_less s x.call x.device) a) (both (is_open z.state) (z.call == call) e (eq-eqb z.call call q)) in
+    let k =
+    counted (open_of call) (remove_by (at_connection x.call x.device) s.connections) z (subst (Among z) (connections_less s x.call x.device) a)
+    (both (is_open z.state) (z.call == call) e (eq-eqb z.call call q)) in
     let f : one (open_of call x) ≡ one (is_open x.state) = ap one (first (is_open x.state) (x.call == call) (eq-eqb x.call call xc)) in
     omega (arith, c, k, most, f)
   where
@@ -239,8 +259,9 @@ planned_group s d h = or_left (is_group s d) (is_station s d) h
 -- a call comes to a device
 
 -- where none of the call is open, it comes to the device with the stamp as its place
-pub sound_arrival : (turn : Turn) (b : ℕ) (s t : Rows) (call to : ℕ) (why : Cause) (x : Move) → Arrival s turn call to why x → b < turn.stamp → is_planned t to ≡ true → is_no_answer why ≡ false → connection_of t call to ≡ None
-    → ((z : ConnectionRecord) → Among z t.connections → is_open z.state ≡ true → z.call ≡ call → ⊥) → Sound turn.moment b turn.stamp t (x ∷ [])
+pub sound_arrival : (turn : Turn) (b : ℕ) (s t : Rows) (call to : ℕ) (why : Cause) (x : Move) → Arrival s turn call to why x → b < turn.stamp
+    → is_planned t to ≡ true → is_no_answer why ≡ false → connection_of t call to ≡ None
+    → NoneOpen t call → Sound turn.moment b turn.stamp t (x ∷ [])
 sound_arrival turn b s t call to why x (queues _) l p usual none new =
     let y : ConnectionRecord = queueing call to (Some turn.stamp) (Some turn.moment) in
     let entry : (g : ℕ) → is_entry g (report.Queued call to why) ≡ (to == g) = λ g. ap (λ v. (to == g) && not v) usual ∙ and_yes (to == g) in
@@ -248,14 +269,21 @@ sound_arrival turn b s t call to why x (queues _) l p usual none new =
       truthful = (truthful_put t y (report.Queued call to why) refl refl refl refl p, tt);
       balances = λ g. let h = holding_new t y g none in let c : one (is_entry g (report.Queued call to why)) ≡ one (to == g) = ap one (entry g) in
           let a : held g y ≡ one (to == g) = rw (and_yes (to == g), and_right (to == g) false refl) (omega arith) in omega (arith, h, a, c);
-      order = comes turn.moment b turn.stamp t y (report.Queued call to why) call l (record { new = new; call_is = refl; reported = refl; queue = λ g h. (refl, entry g ∙ sym (or_no (to == g)) ∙ h) });
+      order = comes turn.moment b turn.stamp t y (report.Queued call to why) call l (record {
+        new = new;
+        call_is = refl;
+        reported = refl;
+        queue = λ g h. (refl, entry g ∙ sym (or_no (to == g)) ∙ h);
+      });
     }
 sound_arrival turn b s t call to why x alerts l p usual none new =
     let y : ConnectionRecord = plain call to S.Alerting in let r : Report = report.Delivered call to why None in
-    sound_later turn.moment b turn.stamp t (put y (Some r) ∷ []) (omega (arith, l)) (sound_put_new turn.moment b t y (Some r) (truthful_put t y r refl refl refl refl p) none (ungrouped call to S.Alerting refl) (λ g. refl) (λ g. refl))
+    sound_later turn.moment b turn.stamp t (put y (Some r) ∷ []) (omega (arith, l))
+    (sound_put_new turn.moment b t y (Some r) (truthful_put t y r refl refl refl refl p) none (ungrouped call to S.Alerting refl) (λ g. refl) (λ g. refl))
 sound_arrival turn b s t call to why x fails l p usual none new =
     let y : ConnectionRecord = plain call to S.Fail in let r : Report = report.Failed call to in
-    sound_later turn.moment b turn.stamp t (put y (Some r) ∷ []) (omega (arith, l)) (sound_put_new turn.moment b t y (Some r) (truthful_put t y r refl refl refl refl p) none (ungrouped call to S.Fail refl) (λ g. refl) (λ g. refl))
+    sound_later turn.moment b turn.stamp t (put y (Some r) ∷ []) (omega (arith, l))
+    (sound_put_new turn.moment b t y (Some r) (truthful_put t y r refl refl refl refl p) none (ungrouped call to S.Fail refl) (λ g. refl) (λ g. refl))
 
 pub arrive_leaves : (s : Rows) (turn : Turn) (call to : ℕ) (why : Cause) → LeavesAgents (arrive s turn call to why).change
 unfolding arrive

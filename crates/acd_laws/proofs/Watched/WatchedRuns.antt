@@ -33,10 +33,12 @@ use Rattle.acd_terms.specs.declared.command.Turn.{Turn}
 pub record Follows (s : Rows) (b c : ℕ) (t : Rows) (es : List Event) : Type 0 where
   pub connections : (call device : ℕ) → shown t call device ≡ known_after (connection_reported call device) (shown s call device) es
   pub agents : (agent : ℕ) → seat t agent ≡ known_after (seat_reported agent) (seat s agent) es
-  pub balances : (g : ℕ) → holding t g + ((figures_of g es).answered + (figures_of g es).abandoned + (figures_of g es).moved) ≡ holding s g + (figures_of g es).entered
+  pub balances : (g : ℕ)
+      → holding t g + ((figures_of g es).answered + (figures_of g es).abandoned + (figures_of g es).moved) ≡ holding s g + (figures_of g es).entered
   pub order : (events : List Event) (n : ℕ) → Ordered b n s events → Ordered c (n + length es) t (events ++ numbered n es)
 
-nothing_counted : (s : Rows) (g : ℕ) → holding s g + ((figures_of g []).answered + (figures_of g []).abandoned + (figures_of g []).moved) ≡ holding s g + (figures_of g []).entered
+nothing_counted : (s : Rows) (g : ℕ)
+    → holding s g + ((figures_of g []).answered + (figures_of g []).abandoned + (figures_of g []).moved) ≡ holding s g + (figures_of g []).entered
 unfolding figures_of
 nothing_counted s g = omega arith
 
@@ -49,9 +51,12 @@ follows_nothing s b = record {
 }
 
 -- sound moves lead on
-pub follows_moves : (s : Rows) (b c d m : ℕ) (t : Rows) (es : List Event) (ms : List Move) → Follows s b c t es → Sound m c d t ms → Follows s b d (moved t ms) (es ++ events_of m ms)
+pub follows_moves : (s : Rows) (b c d m : ℕ) (t : Rows) (es : List Event) (ms : List Move) → Follows s b c t es → Sound m c d t ms
+    → Follows s b d (moved t ms) (es ++ events_of m ms)
 follows_moves s b c d m t es ms f g = record {
-  connections = λ call device. shown_after t m ms g.truthful call device ∙ ap (λ v. known_after (connection_reported call device) v (events_of m ms)) (f.connections call device)
+  connections =
+      λ call device. shown_after t m ms g.truthful call device
+      ∙ ap (λ v. known_after (connection_reported call device) v (events_of m ms)) (f.connections call device)
       ∙ sym (after-append (connection_reported call device) (shown s call device) es (events_of m ms));
   agents = λ agent. seat_after t m ms g.truthful agent ∙ ap (λ v. known_after (seat_reported agent) v (events_of m ms)) (f.agents agent)
       ∙ sym (after-append (seat_reported agent) (seat s agent) es (events_of m ms));
@@ -59,10 +64,14 @@ follows_moves s b c d m t es ms f g = record {
       let a = f.balances x in
       let e = balanced_events t m ms g.balances x in
       let j : figures_of x (es ++ events_of m ms) ≡ _ = figures_joined x es (events_of m ms) in
-      let j1 : (figures_of x (es ++ events_of m ms)).entered ≡ (figures_of x es).entered + (figures_of x (events_of m ms)).entered = ap (λ (w : Figures). w.entered) j in
-      let j2 : (figures_of x (es ++ events_of m ms)).answered ≡ (figures_of x es).answered + (figures_of x (events_of m ms)).answered = ap (λ (w : Figures). w.answered) j in
-      let j3 : (figures_of x (es ++ events_of m ms)).abandoned ≡ (figures_of x es).abandoned + (figures_of x (events_of m ms)).abandoned = ap (λ (w : Figures). w.abandoned) j in
-      let j4 : (figures_of x (es ++ events_of m ms)).moved ≡ (figures_of x es).moved + (figures_of x (events_of m ms)).moved = ap (λ (w : Figures). w.moved) j in
+      let j1 : (figures_of x (es ++ events_of m ms)).entered ≡ (figures_of x es).entered + (figures_of x (events_of m ms)).entered =
+      ap (λ (w : Figures). w.entered) j in
+      let j2 : (figures_of x (es ++ events_of m ms)).answered ≡ (figures_of x es).answered + (figures_of x (events_of m ms)).answered =
+      ap (λ (w : Figures). w.answered) j in
+      let j3 : (figures_of x (es ++ events_of m ms)).abandoned ≡ (figures_of x es).abandoned + (figures_of x (events_of m ms)).abandoned =
+      ap (λ (w : Figures). w.abandoned) j in
+      let j4 : (figures_of x (es ++ events_of m ms)).moved ≡ (figures_of x es).moved + (figures_of x (events_of m ms)).moved =
+      ap (λ (w : Figures). w.moved) j in
       omega (arith, a, e, j1, j2, j3, j4);
   order = λ events n o. ordered_on d n (moved t ms) events es (events_of m ms) (g.order (events ++ numbered n es) (n + length es) (f.order events n o));
 }
@@ -72,14 +81,22 @@ follows_later s b c d t es l f = record {
   connections = f.connections;
   agents = f.agents;
   balances = f.balances;
-  order = λ events n o. let w = f.order events n o in record { in_order = w.in_order; entered = w.entered; up_to = record { entries = w.up_to.entries; places = λ g x p h. let e = w.up_to.places g x p h in omega (arith, e, l) } };
+  order = λ events n o. let w = f.order events n o in
+      record {
+        in_order = w.in_order;
+        entered = w.entered;
+        up_to = record { entries = w.up_to.entries; places = λ g x p h. let e = w.up_to.places g x p h in omega (arith, e, l) };
+      };
 }
 
 -- a step: the service leads from one stamp to the next, and rounds keep it
-pub follows_step : (s : Rows) (turn : Turn) (b : ℕ) (c : Command) → Rules s → b < turn.stamp → Follows s b turn.stamp (moved s (step_moves s turn.moment (serve s turn c))) (events_of turn.moment (step_moves s turn.moment (serve s turn c)))
+pub follows_step : (s : Rows) (turn : Turn) (b : ℕ) (c : Command) → Rules s → b < turn.stamp
+    → Follows s b turn.stamp (moved s (step_moves s turn.moment (serve s turn c))) (events_of turn.moment (step_moves s turn.moment (serve s turn c)))
 follows_step s turn b c r l =
-    by_parts (Follows s b b) (Follows s b turn.stamp) turn c (λ _ t es ms d rt f. follows_moves s b b turn.stamp turn.moment t es ms f (sound_deed t turn b ms d rt l))
-    (λ t es ms d rt f. follows_moves s b b turn.stamp turn.moment t es ms f (sound_regroups t turn b c ms d l)) (λ _ t es f. follows_later s b b turn.stamp t es (omega (arith, l)) f)
+    by_parts (Follows s b b) (Follows s b turn.stamp) turn c
+    (λ _ t es ms d rt f. follows_moves s b b turn.stamp turn.moment t es ms f (sound_deed t turn b ms d rt l))
+    (λ t es ms d rt f. follows_moves s b b turn.stamp turn.moment t es ms f (sound_regroups t turn b c ms d l))
+    (λ _ t es f. follows_later s b b turn.stamp t es (omega (arith, l)) f)
     (λ t es ms d rt f. follows_moves s b turn.stamp turn.stamp turn.moment t es ms f (sound_round t turn turn.stamp ms d rt)) s [] r (follows_nothing s b)
 
 -- an entry among events, whose number is the last one
@@ -90,7 +107,8 @@ EntryIn group call events last = (e : Event) × (Among e events) × (enters grou
 last_found : (g c known : ℕ) (es : List Event) → (last_entry g c known es ≡ known) ⊎ EntryIn g c es (last_entry g c known es)
 last_found g c known [] = inl refl
 last_found g c known (e ∷ es) =
-    (elim (enters g c e) as (λ b. enters g c e ≡ b → (last_entry g c (cond b e.number known) es ≡ known) ⊎ EntryIn g c (e ∷ es) (last_entry g c (cond b e.number known) es)) [
+    (elim (enters g c e) as (λ b. enters g c e ≡ b
+    → (last_entry g c (cond b e.number known) es ≡ known) ⊎ EntryIn g c (e ∷ es) (last_entry g c (cond b e.number known) es)) [
       | true ↦ λ q. elim (last_found g c e.number es) [
         | inl same ↦ inr (e, inl refl, q, sym same)
         | inr w ↦ inr (w.0, inr w.1, w.2, w.3)
@@ -114,7 +132,8 @@ pub alerting_place : (x : ConnectionRecord) (g : ℕ) (o : Option ℕ) → Alert
 alerting_place x g None h e = absurd (cc (e))
 alerting_place x g (Some n) h e = h.place
 
-pub place_in : (x : ConnectionRecord) (g : ℕ) (st : ConnectionState) → HasColumns x st → ((is_queued st && x.device == g) || (is_alerting st && has x.group g)) ≡ true → is_some x.place ≡ true
+pub place_in : (x : ConnectionRecord) (g : ℕ) (st : ConnectionState) → HasColumns x st
+    → ((is_queued st && x.device == g) || (is_alerting st && has x.group g)) ≡ true → is_some x.place ≡ true
 place_in x g S.Queued h e = h.place
 place_in x g S.Alerting h e = alerting_place x g x.group h e
 place_in x g _ h e = absurd (cc (e))
@@ -123,7 +142,8 @@ place_in x g _ h e = absurd (cc (e))
 pub entry_number : (g c : ℕ) (x : ConnectionRecord) (events : List Event) → x.call ≡ c → HasEntered events g x.call → 0 < last_entry g c 0 events
 entry_number g c x events e h = subst (λ v. 0 < last_entry g v 0 events) e (let n = h.numbered in let l = h.last in omega (arith, n, l))
 
-pub entered_by : (s : Rows) (events : List Event) (g : ℕ) (x : ConnectionRecord) → Rules s → HasEntries s events → Among x s.connections → waits_or_rings g x ≡ true → HasEntered events g x.call
+pub entered_by : (s : Rows) (events : List Event) (g : ℕ) (x : ConnectionRecord) → Rules s → HasEntries s events → Among x s.connections
+    → waits_or_rings g x ≡ true → HasEntered events g x.call
 entered_by s events g x r h a e =
     let rule = every_among (ConnectionRule s) s.connections x r.connections a in
     let place = some_from x.place (place_in x g x.state rule.0 e) in
@@ -131,15 +151,21 @@ entered_by s events g x r h a e =
 
 -- what a step reports
 
-reports_ended : (s t : Rows) (events es : List Event) (k m : ℕ) → Reports s events → Follows s s.last_stamp k t es → Reports (ended t es k m (s.last_event + length es)) (events ++ numbered s.last_event es)
+reports_ended : (s t : Rows) (events es : List Event) (k m : ℕ) → Reports s events → Follows s s.last_stamp k t es
+    → Reports (ended t es k m (s.last_event + length es)) (events ++ numbered s.last_event es)
 unfolding with_last with_figures connection_of agent_of
 reports_ended s t events es k m reports f =
     let n : ℕ = s.last_event + length es in
-    let w : Ordered k n t (events ++ numbered s.last_event es) = f.order events s.last_event (record { in_order = reports.queues; entered = reports.entries; up_to = reports.up_to }) in
-    let back : (g c p : ℕ) → HasPlace (ended t es k m n) g c p → HasPlace t g c p = λ g c p h. record { connection = h.connection; there = h.there; of_group = h.of_group; of_call = h.of_call; at_place = h.at_place } in
+    let w : Ordered k n t (events ++ numbered s.last_event es) =
+    f.order events s.last_event (record { in_order = reports.queues; entered = reports.entries; up_to = reports.up_to }) in
+    let back : (g c p : ℕ) → HasPlace (ended t es k m n) g c p → HasPlace t g c p =
+    λ g c p h. record { connection = h.connection; there = h.there; of_group = h.of_group; of_call = h.of_call; at_place = h.at_place } in
     record {
-      connections = λ call device. ap (λ b. cond b (state_at t call device) None) (planned_ended t es k m n device) ∙ f.connections call device ∙ ap (λ v. known_after (connection_reported call device) v es) (reports.connections call device)
-          ∙ sym (after-append (connection_reported call device) None events (numbered s.last_event es) ∙ after-numbered (connection_reported call device) _ s.last_event es);
+      connections =
+          λ call device. ap (λ b. cond b (state_at t call device) None) (planned_ended t es k m n device) ∙ f.connections call device
+          ∙ ap (λ v. known_after (connection_reported call device) v es) (reports.connections call device)
+          ∙ sym (after-append (connection_reported call device) None events (numbered s.last_event es)
+          ∙ after-numbered (connection_reported call device) _ s.last_event es);
       agents = λ agent. f.agents agent ∙ ap (λ v. known_after (seat_reported agent) v es) (reports.agents agent)
           ∙ sym (after-append (seat_reported agent) _ events (numbered s.last_event es) ∙ after-numbered (seat_reported agent) _ s.last_event es);
       entries = λ g c p h. w.entered g c p (back g c p h);
@@ -160,7 +186,8 @@ not_caller : (o : Option CallRecord) (d : ℕ) → is_caller o d ≡ false → I
 not_caller None d e i = i
 not_caller (Some c) d e i = cc (e, eq-eqb c.caller d i)
 
-not_standing : (s : Rows) (x : ConnectionRecord) (st : ConnectionState) → is_planned s x.device ≡ false → is_caller (call_of s x.call) x.device ≡ false → StandsAt s x st → ⊥
+not_standing : (s : Rows) (x : ConnectionRecord) (st : ConnectionState) → is_planned s x.device ≡ false → is_caller (call_of s x.call) x.device ≡ false
+    → StandsAt s x st → ⊥
 not_standing s x S.Queued p c h = cc (p, or_left (is_group s x.device) (is_station s x.device) h)
 not_standing s x S.Initiated p c h = cc (p, or_right (is_group s x.device) (is_station s x.device) h.0)
 not_standing s x S.Connected p c (inl h) = cc (p, or_right (is_group s x.device) (is_station s x.device) h)
@@ -171,11 +198,13 @@ not_standing s x _ p c h = cc (p, or_right (is_group s x.device) (is_station s x
 none_outside : (s : Rows) (c d : ℕ) → Rules s → is_planned s d ≡ false → is_caller (call_of s c) d ≡ false → connection_of s c d ≡ None
 none_outside s c d r p q = none_from (connection_of s c d) (λ x e.
     let k = found_key s c d x e in
-    not_standing s x x.state (ap (is_planned s) k.1 ∙ p) (ap (λ v. is_caller (call_of s v) x.device) k.0 ∙ ap (is_caller (call_of s c)) k.1 ∙ q) (connection_rule s r c d x e).2)
+    not_standing s x x.state (ap (is_planned s) k.1 ∙ p) (ap (λ v. is_caller (call_of s v) x.device) k.0 ∙ ap (is_caller (call_of s c)) k.1 ∙ q)
+    (connection_rule s r c d x e).2)
 
 -- a connection is shown by its state, and that of an external caller isn't
 
-shown_by : (s : Rows) (c d : ℕ) (b : Bool) → Rules s → is_planned s d ≡ b → (not b && is_caller (call_of s c) d) ≡ false → state_at s c d ≡ cond b (state_at s c d) None
+shown_by : (s : Rows) (c d : ℕ) (b : Bool) → Rules s → is_planned s d ≡ b → (not b && is_caller (call_of s c) d) ≡ false
+    → state_at s c d ≡ cond b (state_at s c d) None
 shown_by s c d true r p e = refl
 shown_by s c d false r p e = ap (option_map (λ (x : ConnectionRecord). x.state)) (none_outside s c d r p e)
 
@@ -202,10 +231,11 @@ no_more_by s events reports = record {
 
 reports_by : (s : Rows) (events : List Event) → Rules s → IsWatched s events → ReportsNoMore s events → Reports s events
 reports_by s events r w n = record {
-  connections = λ c d. (elim (is_external_caller s c d) as (λ b. is_external_caller s c d ≡ b → shown s c d ≡ known_after (connection_reported c d) None events) [
-    | true ↦ λ e. shown_outside s c d e ∙ sym (n.outside c d e)
-    | false ↦ λ e. sym (shown_inside s c d r e) ∙ w.connections c d e
-  ]) refl;
+  connections =
+      λ c d. (elim (is_external_caller s c d) as (λ b. is_external_caller s c d ≡ b → shown s c d ≡ known_after (connection_reported c d) None events) [
+        | true ↦ λ e. shown_outside s c d e ∙ sym (n.outside c d e)
+        | false ↦ λ e. sym (shown_inside s c d r e) ∙ w.connections c d e
+      ]) refl;
   agents = w.agents;
   entries = λ g c p h. entry_number g c h.connection events h.of_call (w.entries g h.connection h.there h.of_group);
   queues = w.queues;
@@ -213,7 +243,8 @@ reports_by s events r w n = record {
 }
 
 pub step_keeps_watched : (s : Rows) (events : List Event) (moment : ℕ) (command : Command) → Rules s → IsWatched s events → ReportsNoMore s events
-    → IsWatched (step s moment command).rows (events ++ (step s moment command).events) × ReportsNoMore (step s moment command).rows (events ++ (step s moment command).events)
+    → IsWatched (step s moment command).rows (events ++ (step s moment command).events)
+    × ReportsNoMore (step s moment command).rows (events ++ (step s moment command).events)
 step_keeps_watched s events moment command r w n =
     let reports = step_reports s events moment command r (reports_by s events r w n) in
     (watched_by _ _ (rules_step s moment command r) reports, no_more_by _ _ reports)
@@ -231,17 +262,23 @@ step_balances s events moment command r h g =
     let b = f.balances g in
     let c : holding (ended (moved s ms) es turn.stamp turn.moment (s.last_event + length es)) g ≡ holding (moved s ms) g = refl in
     let j = figures_joined g events (numbered s.last_event es) ∙ ap (λ v. sum_of_figures (figures_of g events) v) (figures_numbered g s.last_event es) in
-    let j1 : (figures_of g (events ++ numbered s.last_event es)).entered ≡ (figures_of g events).entered + (figures_of g es).entered = ap (λ (w : Figures). w.entered) j in
-    let j2 : (figures_of g (events ++ numbered s.last_event es)).answered ≡ (figures_of g events).answered + (figures_of g es).answered = ap (λ (w : Figures). w.answered) j in
-    let j3 : (figures_of g (events ++ numbered s.last_event es)).abandoned ≡ (figures_of g events).abandoned + (figures_of g es).abandoned = ap (λ (w : Figures). w.abandoned) j in
-    let j4 : (figures_of g (events ++ numbered s.last_event es)).moved ≡ (figures_of g events).moved + (figures_of g es).moved = ap (λ (w : Figures). w.moved) j in
+    let j1 : (figures_of g (events ++ numbered s.last_event es)).entered ≡ (figures_of g events).entered + (figures_of g es).entered =
+    ap (λ (w : Figures). w.entered) j in
+    let j2 : (figures_of g (events ++ numbered s.last_event es)).answered ≡ (figures_of g events).answered + (figures_of g es).answered =
+    ap (λ (w : Figures). w.answered) j in
+    let j3 : (figures_of g (events ++ numbered s.last_event es)).abandoned ≡ (figures_of g events).abandoned + (figures_of g es).abandoned =
+    ap (λ (w : Figures). w.abandoned) j in
+    let j4 : (figures_of g (events ++ numbered s.last_event es)).moved ≡ (figures_of g events).moved + (figures_of g es).moved =
+    ap (λ (w : Figures). w.moved) j in
     omega (arith, a, b, c, j1, j2, j3, j4)
 
 -- no offer
 
 no_offer_ended : (t : Rows) (es : List Event) (k m n : ℕ) → LeavesNoOffer t → LeavesNoOffer (ended t es k m n)
 unfolding with_last with_figures waiting_in eligible_in is_eligible is_occupied is_idle
-no_offer_ended t es k m n h g a = let w = mapped_among (counting es) t.groups g a in subst (λ d. HasNoOffer (ended t es k m n) d) (ap (λ (z : GroupRecord). z.device) (sym w.1.1)) (h w.0 w.1.0)
+no_offer_ended t es k m n h g a =
+    let w = mapped_among (counting es) t.groups g a in
+    subst (λ d. HasNoOffer (ended t es k m n) d) (ap (λ (z : GroupRecord). z.device) (sym w.1.1)) (h w.0 w.1.0)
 
 pub step_leaves_no_offer : (s : Rows) (moment : ℕ) (command : Command) → Rules s → LeavesNoOffer (step s moment command).rows
 unfolding step
@@ -250,7 +287,8 @@ step_leaves_no_offer s moment command r =
     let ms : List Move = moves_of (serve s turn command) in
     let all : List Move = step_moves s turn.moment (serve s turn command) in
     no_offer_ended (moved s all) (events_of turn.moment all) turn.stamp turn.moment (s.last_event + length (events_of turn.moment all))
-    (subst LeavesNoOffer (sym (moved_append s ms (distribution (moved s ms) turn.moment))) (λ g a. nothing_left (moved s ms) turn.moment g (rules_serve s turn command r) a))
+    (subst LeavesNoOffer (sym (moved_append s ms (distribution (moved s ms) turn.moment)))
+    (λ g a. nothing_left (moved s ms) turn.moment g (rules_serve s turn command r) a))
 
 -- runs
 
@@ -278,7 +316,8 @@ nothing_entered limits g = refl
 holds_first : (limits : Limits) → Holds (empty_rows limits) []
 holds_first limits = record { rules = rules_first limits; reports = nothing_reported limits; balanced = nothing_entered limits; no_offer = λ g a. absurd a }
 
-holds_step : (s : Rows) (events : List Event) (moment : ℕ) (command : Command) → Holds s events → Holds (step s moment command).rows (events ++ (step s moment command).events)
+holds_step : (s : Rows) (events : List Event) (moment : ℕ) (command : Command) → Holds s events
+    → Holds (step s moment command).rows (events ++ (step s moment command).events)
 holds_step s events moment command h = record {
   rules = rules_step s moment command h.rules;
   reports = step_reports s events moment command h.rules h.reports;

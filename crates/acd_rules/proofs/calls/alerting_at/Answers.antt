@@ -6,4 +6,5 @@ use Rattle.acd_rules.proofs.calls.alerting_at.Goals as goal
 
 pub returns : goal.returns
 returns c =
-    tallied (alerting_at c.args.device) (λ (x : ConnectionRecord). x.device == c.args.device) (λ x is. and_right _ _ is) _ _ _ c.alerting_among.ensures c.at_device.ensures
+    tallied (alerting_at c.args.device) (λ (x : ConnectionRecord). x.device == c.args.device) (λ x is. and_right _ _ is) _ _ _ c.alerting_among.ensures
+    c.at_device.ensures

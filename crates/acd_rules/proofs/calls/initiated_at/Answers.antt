@@ -6,4 +6,5 @@ use Rattle.acd_rules.proofs.calls.initiated_at.Goals as goal
 
 pub returns : goal.returns
 returns c =
-    tallied (initiated_at c.args.call c.args.device) (λ (x : ConnectionRecord). x.call == c.args.call) (λ x is. and_right _ _ (and_left _ _ is)) _ _ _ c.initiated_at_among.ensures c.of_call.ensures
+    tallied (initiated_at c.args.call c.args.device) (λ (x : ConnectionRecord). x.call == c.args.call) (λ x is. and_right _ _ (and_left _ _ is)) _ _ _
+    c.initiated_at_among.ensures c.of_call.ensures

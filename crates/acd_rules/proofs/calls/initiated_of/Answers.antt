@@ -6,4 +6,5 @@ use Rattle.acd_rules.proofs.calls.initiated_of.Goals as goal
 
 pub returns : goal.returns
 returns c =
-    tallied (initiated_of c.args.call) (λ (x : ConnectionRecord). x.call == c.args.call) (λ x is. and_right _ _ is) _ _ _ c.initiated_among.ensures c.of_call.ensures
+    tallied (initiated_of c.args.call) (λ (x : ConnectionRecord). x.call == c.args.call) (λ x is. and_right _ _ is) _ _ _ c.initiated_among.ensures
+    c.of_call.ensures

@@ -6,4 +6,5 @@ use Rattle.acd_rules.proofs.calls.live_at.Goals as goal
 
 pub returns : goal.returns
 returns c =
-    tallied (live_at c.args.device) (λ (x : ConnectionRecord). x.device == c.args.device) (λ x is. and_right _ _ is) _ _ _ c.live_among.ensures c.at_device.ensures
+    tallied (live_at c.args.device) (λ (x : ConnectionRecord). x.device == c.args.device) (λ x is. and_right _ _ is) _ _ _ c.live_among.ensures
+    c.at_device.ensures

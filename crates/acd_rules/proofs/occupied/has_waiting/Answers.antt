@@ -6,4 +6,5 @@ use Rattle.acd_rules.proofs.occupied.has_waiting.Goals as goal
 
 pub returns : goal.returns
 returns c =
-    asked (waits_in c.args.group) (λ (x : ConnectionRecord). x.device == c.args.group) (λ x is. and_left _ _ is) _ _ _ c.has_waiting_among.ensures c.at_device.ensures
+    asked (waits_in c.args.group) (λ (x : ConnectionRecord). x.device == c.args.group) (λ x is. and_left _ _ is) _ _ _ c.has_waiting_among.ensures
+    c.at_device.ensures

@@ -6,4 +6,5 @@ use Rattle.acd_rules.proofs.occupied.waiting_count.Goals as goal
 
 pub returns : goal.returns
 returns c =
-    tallied (waits_in c.args.group) (λ (x : ConnectionRecord). x.device == c.args.group) (λ x is. and_left _ _ is) _ _ _ c.waiting_among.ensures c.at_device.ensures
+    tallied (waits_in c.args.group) (λ (x : ConnectionRecord). x.device == c.args.group) (λ x is. and_left _ _ is) _ _ _ c.waiting_among.ensures
+    c.at_device.ensures

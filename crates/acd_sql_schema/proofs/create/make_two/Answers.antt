@@ -8,4 +8,6 @@ pub returns-in_err-make : goal.returns-in_err-make
 returns-in_err-make g c rows = halted (one {rows = rows} makes_agent_groups takes_agent_groups c.in_err-make.ensures) (search rules)
 
 pub returns : goal.returns
-returns g c rows = renamed two_made (followed (one {rows = rows} makes_agent_groups takes_agent_groups c.in_ok-make.ensures) (one makes_group_priority takes_group_priority c.make-2.ensures))
+returns g c rows =
+    renamed two_made (followed (one {rows = rows} makes_agent_groups takes_agent_groups c.in_ok-make.ensures)
+    (one makes_group_priority takes_group_priority c.make-2.ensures))

@@ -29,7 +29,8 @@ returns-clause-failed g c clean =
     let built : Builds made book_schema (no_rows 11) = (rw begin at c.in_ok-make_tables.ensures.made) early start in
     let works : Works begun mid = works_on begun made mid (rw begin at c.make_tables.ensures.works) c.insert_meta.ensures.works in
     subst (λ h. IfErr c.commit.result (FailsToSetUp old (state g.S.Store h) c.args.limits)) same
-    (commit_stops c.args.limits begun mid (state g.S.Store end) c.commit.result works middle c.commit.ensures.survives.counts (c.in_ok-insert_meta.ensures.start middle built).inside (c.commit.ensures.err late))
+    (commit_stops c.args.limits begun mid (state g.S.Store end) c.commit.result works middle c.commit.ensures.survives.counts
+    (c.in_ok-insert_meta.ensures.start middle built).inside (c.commit.ensures.err late))
 
 pub returns-in_err-make_tables-clause-failed : goal.returns-in_err-make_tables-clause-failed
 returns-in_err-make_tables-clause-failed g c clean =
@@ -66,7 +67,8 @@ returns-in_err-insert_meta-clause-failed g c clean =
     subst (λ h. IfErr c.from_residual-in_err-insert_meta.result (FailsToSetUp old (state g.S.Store h) c.args.limits)) same
     (subst (λ r. IfErr r (FailsToSetUp old (state g.S.Store end) c.args.limits)) (sym is)
     (still_failed c.args.limits begun mid (state g.S.Store end) c.in_err-insert_meta.field-0.0 c.drop-tx-in_err-insert_meta.ensures.survives.counts
-    (start_failed c.args.limits begun made mid c.in_err-insert_meta.field-0.0 (rw begin at c.make_tables.ensures.works) early c.insert_meta.ensures.works.survives.counts built (c.in_err-insert_meta.ensures.failed middle built.inside))))
+    (start_failed c.args.limits begun made mid c.in_err-insert_meta.field-0.0 (rw begin at c.make_tables.ensures.works) early
+    c.insert_meta.ensures.works.survives.counts built (c.in_err-insert_meta.ensures.failed middle built.inside))))
 
 pub returns-clause-made : goal.returns-clause-made
 returns-clause-made g c clean =

@@ -40,4 +40,5 @@ returns-in_err-make_version-clause-failed g c clean =
     let is : c.from_residual.result ≡ Err c.in_err-make_version.field-0.0 = search rules in
     subst (λ h. IfErr c.from_residual.result (FailsToMake old (state g.S.Store h))) same
     (subst (λ r. IfErr r (FailsToMake old (state g.S.Store end))) (sym is)
-    (make_still begun mid (state g.S.Store end) c.in_err-make_version.field-0.0 c.drop-tx.ensures.survives.counts ((rw begin at c.in_err-make_version.ensures.failed) early start)))
+    (make_still begun mid (state g.S.Store end) c.in_err-make_version.field-0.0 c.drop-tx.ensures.survives.counts
+    ((rw begin at c.in_err-make_version.ensures.failed) early start)))

@@ -12,7 +12,8 @@ use Rattle.acd_sql_schema.proofs.inspection.are_pages_good.Given as goal
 abbrev pub invariant-loop-page : goal.invariant-loop-page
 invariant-loop-page g l = record {
   fits : Fits l.number;
-  seen : (d : Database) → BeginsSchema nine d.schema → Sees {A = Unit {0}} d (state g.S.Store l.fn.conn) (state g.S.Store l.conn) (Ok tt) (Left l.log l.number d.trees);
+  seen : (d : Database) → BeginsSchema nine d.schema
+      → Sees {A = Unit {0}} d (state g.S.Store l.fn.conn) (state g.S.Store l.conn) (Ok tt) (Left l.log l.number d.trees);
   looked : HasLookCause {A = Unit {0}} (IsPaged l.log) (state g.S.Store l.fn.conn) (state g.S.Store l.conn) (Ok tt);
 }
 

@@ -5,4 +5,5 @@ use Rattle.acd_sql_schema.proofs.inspection.compared.Goals as goal
 
 pub returns-clause-like : goal.returns-clause-like
 returns-clause-like c =
-    c.compared_to_old.ensures.like (not_same version.Second c.args.schema.now c.schema.result.now c.is_same_schema.result (c.schema.ensures.value ∙ c.in_ok-book.ensures.made) c.is_same_schema.ensures.back c.if-is_same_schema.false)
+    c.compared_to_old.ensures.like (not_same version.Second c.args.schema.now c.schema.result.now c.is_same_schema.result
+    (c.schema.ensures.value ∙ c.in_ok-book.ensures.made) c.is_same_schema.ensures.back c.if-is_same_schema.false)

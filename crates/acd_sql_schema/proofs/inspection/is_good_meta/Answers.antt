@@ -9,14 +9,21 @@ use Rattle.acd_sql_statements.proofs.Lookings.{looks_done, looks_as, sees_as}
 use Rattle.acd_sql_schema.proofs.inspection.is_good_meta.Goals as goal
 
 pub returns-in_err-rows-clause-seen : goal.returns-in_err-rows-clause-seen
-returns-in_err-rows-clause-seen g c d is = sees_as d (state g.S.Store c.args.conn.now) (state g.S.Store c.meta_rows.new.conn) c.in_err-rows.field-0.0 c.from_residual.result (search rules) _ (λ good. FindsGood table.Meta d.trees good) (c.in_err-rows.ensures.seen d is)
+returns-in_err-rows-clause-seen g c d is =
+    sees_as d (state g.S.Store c.args.conn.now) (state g.S.Store c.meta_rows.new.conn) c.in_err-rows.field-0.0 c.from_residual.result (search rules) _
+    (λ good. FindsGood table.Meta d.trees good) (c.in_err-rows.ensures.seen d is)
 
 pub returns-clause-seen : goal.returns-clause-seen
 returns-clause-seen g c d is =
-    finds_good table.Meta d (state g.S.Store c.args.conn.now) (state g.S.Store c.meta_rows.new.conn) c.in_ok-rows.rows (Ok c.are_counters.result) (rw c.deref.ensures.value at c.are_counters.ensures) (c.in_ok-rows.ensures.seen d is)
+    finds_good table.Meta d (state g.S.Store c.args.conn.now) (state g.S.Store c.meta_rows.new.conn) c.in_ok-rows.rows (Ok c.are_counters.result)
+    (rw c.deref.ensures.value at c.are_counters.ensures) (c.in_ok-rows.ensures.seen d is)
 
 pub returns-in_err-rows-clause-looked : goal.returns-in_err-rows-clause-looked
-returns-in_err-rows-clause-looked g c = looks_as (HasGood (BeginsSchema nine) []) (HasGood (BeginsSchema nine) []) (λ d h. h) (state g.S.Store c.args.conn.now) (state g.S.Store c.meta_rows.new.conn) c.in_err-rows.field-0.0 c.from_residual.result (search rules) c.in_err-rows.ensures.looked
+returns-in_err-rows-clause-looked g c =
+    looks_as (HasGood (BeginsSchema nine) []) (HasGood (BeginsSchema nine) []) (λ d h. h) (state g.S.Store c.args.conn.now)
+    (state g.S.Store c.meta_rows.new.conn) c.in_err-rows.field-0.0 c.from_residual.result (search rules) c.in_err-rows.ensures.looked
 
 pub returns-clause-looked : goal.returns-clause-looked
-returns-clause-looked g c = looks_done (HasGood (BeginsSchema nine) []) (HasGood (BeginsSchema nine) []) (λ d h. h) (state g.S.Store c.args.conn.now) (state g.S.Store c.meta_rows.new.conn) c.in_ok-rows.rows c.are_counters.result c.in_ok-rows.ensures.looked
+returns-clause-looked g c =
+    looks_done (HasGood (BeginsSchema nine) []) (HasGood (BeginsSchema nine) []) (λ d h. h) (state g.S.Store c.args.conn.now)
+    (state g.S.Store c.meta_rows.new.conn) c.in_ok-rows.rows c.are_counters.result c.in_ok-rows.ensures.looked

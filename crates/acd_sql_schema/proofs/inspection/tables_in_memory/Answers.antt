@@ -13,4 +13,5 @@ pub returns-in_err-set_up_empty-in-Ok-clause-lacks : goal.returns-in_err-set_up_
 returns-in_err-set_up_empty-in-Ok-clause-lacks c =
     let is : c.from_residual.result ≡ Err c.in_err-set_up_empty-in-Ok.field-0.0 = search rules in
     subst (λ r. IfErr r IsMemory) (sym is)
-    (only_memory (state over_memory c.in-Ok.conn) (state over_memory c.set_up_empty.new.conn) c.in_err-set_up_empty-in-Ok.field-0.0 refl refl c.in-Ok.ensures.empty.0.is_open (c.in_err-set_up_empty-in-Ok.ensures.failed (memory_is_clean c.set_up_empty.new.conn)))
+    (only_memory (state over_memory c.in-Ok.conn) (state over_memory c.set_up_empty.new.conn) c.in_err-set_up_empty-in-Ok.field-0.0 refl refl
+    c.in-Ok.ensures.empty.0.is_open (c.in_err-set_up_empty-in-Ok.ensures.failed (memory_is_clean c.set_up_empty.new.conn)))

@@ -22,7 +22,8 @@ pub returns-clause-altered : goal.returns-clause-altered
 returns-clause-altered g c clean inside is =
     let mid = state g.S.Store c.make_two.new.tx.conn.now in
     let middle : HasCleanDisk mid = omega (arith, clean, c.set_second_version.ensures.works.survives.clean) in
-    altered_if (state g.S.Store c.args.tx.now.conn.now) mid (state g.S.Store c.set_second_version.new.tx.conn.now) c.set_second_version.result (λ rows. (c.in_ok-make_two.ensures rows).made middle) (c.set_second_version.ensures.version clean) inside is
+    altered_if (state g.S.Store c.args.tx.now.conn.now) mid (state g.S.Store c.set_second_version.new.tx.conn.now) c.set_second_version.result
+    (λ rows. (c.in_ok-make_two.ensures rows).made middle) (c.set_second_version.ensures.version clean) inside is
 
 pub returns-in_err-make_two-clause-failed : goal.returns-in_err-make_two-clause-failed
 returns-in_err-make_two-clause-failed g c clean inside is =
@@ -40,4 +41,5 @@ returns-clause-failed g c clean inside is =
     let middle : HasCleanDisk mid = omega (arith, clean, c.set_second_version.ensures.works.survives.clean) in
     let two = c.in_ok-make_two.ensures (rows_of old.now.trees) in
     let built = two.made middle (old_builds old inside is) in
-    version_refused_if old mid new c.set_second_version.result two.works middle c.set_second_version.ensures.works.survives.counts built (c.set_second_version.ensures.failed clean built.inside)
+    version_refused_if old mid new c.set_second_version.result two.works middle c.set_second_version.ensures.works.survives.counts built
+    (c.set_second_version.ensures.failed clean built.inside)

@@ -20,7 +20,8 @@ returns-clause-failed g c clean is =
     let altered : IsAltered begun mid = (rw begin at c.in_ok-alter.ensures.altered) middle refl is in
     let works : Works begun mid = rw begin at c.alter.ensures.works in
     subst (λ h. IfErr c.commit.result (FailsToMigrate old (state g.S.Store h))) same
-    (unmade_if begun (state g.S.Store end) c.commit.result (commit_fails begun mid (state g.S.Store end) c.commit.result works middle c.commit.ensures.survives.counts altered.inside (c.commit.ensures.err late)))
+    (unmade_if begun (state g.S.Store end) c.commit.result
+    (commit_fails begun mid (state g.S.Store end) c.commit.result works middle c.commit.ensures.survives.counts altered.inside (c.commit.ensures.err late)))
 
 pub returns-in_err-alter-clause-failed : goal.returns-in_err-alter-clause-failed
 returns-in_err-alter-clause-failed g c clean is =
@@ -35,4 +36,5 @@ returns-in_err-alter-clause-failed g c clean is =
     let gone : c.from_residual.result ≡ Err c.in_err-alter.field-0.0 = search rules in
     subst (λ h. IfErr c.from_residual.result (FailsToMigrate old (state g.S.Store h))) same
     (subst (λ r. IfErr r (FailsToMigrate old (state g.S.Store end))) (sym gone)
-    (still_unmade begun mid (state g.S.Store end) c.in_err-alter.field-0.0 c.drop-tx.ensures.survives.counts ((rw begin at c.in_err-alter.ensures.failed) early refl is)))
+    (still_unmade begun mid (state g.S.Store end) c.in_err-alter.field-0.0 c.drop-tx.ensures.survives.counts
+    ((rw begin at c.in_err-alter.ensures.failed) early refl is)))

@@ -17,10 +17,13 @@ pub returns-clause-looks : goal.returns-clause-looks
 returns-clause-looks g c = record {
   seen = λ d is.
       let whole = whole_begins d.schema is in
-      sees_all d (state g.S.Store c.args.conn.now) (state g.S.Store c.read.new.conn) c.read.result table.AgentGroups (nine ++ two) SELECT_STANDING_AGENT_GROUPS.now further_listing asks_further whole
+      sees_all d (state g.S.Store c.args.conn.now) (state g.S.Store c.read.new.conn) c.read.result table.AgentGroups (nine ++ two)
+      SELECT_STANDING_AGENT_GROUPS.now further_listing asks_further whole
       (c.read.ensures.seen d (plain_of (nine ++ two) SELECT_STANDING_AGENT_GROUPS.now further_listing d.schema whole));
 }
 
 pub returns-clause-looked : goal.returns-clause-looked
 returns-clause-looked g c =
-    looks_so (HasGood IsBookSchema []) (λ d. ¬ (RefusesToShow d SELECT_STANDING_AGENT_GROUPS.now [])) (λ d h. standing_further_over d (whole_begins d.schema h.0)) (state g.S.Store c.args.conn.now) (state g.S.Store c.read.new.conn) c.read.result c.read.ensures.looked
+    looks_so (HasGood IsBookSchema []) (λ d. ¬ (RefusesToShow d SELECT_STANDING_AGENT_GROUPS.now []))
+    (λ d h. standing_further_over d (whole_begins d.schema h.0)) (state g.S.Store c.args.conn.now) (state g.S.Store c.read.new.conn) c.read.result
+    c.read.ensures.looked

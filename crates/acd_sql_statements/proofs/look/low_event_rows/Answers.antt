@@ -13,9 +13,12 @@ use Rattle.acd_sql_statements.proofs.look.low_event_rows.Goals as goal
 
 pub returns-clause-looks : goal.returns-clause-looks
 returns-clause-looks g c = record {
-  seen = λ d is. sees_low d (state g.S.Store c.args.conn.now) (state g.S.Store c.read.new.conn) c.read.result is log.Events SELECT_LOW_EVENT.now low_events asks_low_events (c.read.ensures.seen d (plain_of nine SELECT_LOW_EVENT.now low_events d.schema is));
+  seen =
+      λ d is. sees_low d (state g.S.Store c.args.conn.now) (state g.S.Store c.read.new.conn) c.read.result is log.Events SELECT_LOW_EVENT.now low_events
+      asks_low_events (c.read.ensures.seen d (plain_of nine SELECT_LOW_EVENT.now low_events d.schema is));
 }
 
 pub returns-clause-looked : goal.returns-clause-looked
 returns-clause-looked g c =
-    looks_so (HasGood (BeginsSchema nine) []) (λ d. ¬ (RefusesToShow d SELECT_LOW_EVENT.now [])) (λ d h. low_events_over d h.0) (state g.S.Store c.args.conn.now) (state g.S.Store c.read.new.conn) c.read.result c.read.ensures.looked
+    looks_so (HasGood (BeginsSchema nine) []) (λ d. ¬ (RefusesToShow d SELECT_LOW_EVENT.now [])) (λ d h. low_events_over d h.0)
+    (state g.S.Store c.args.conn.now) (state g.S.Store c.read.new.conn) c.read.result c.read.ensures.looked

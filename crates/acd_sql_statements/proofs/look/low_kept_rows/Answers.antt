@@ -13,9 +13,12 @@ use Rattle.acd_sql_statements.proofs.look.low_kept_rows.Goals as goal
 
 pub returns-clause-looks : goal.returns-clause-looks
 returns-clause-looks g c = record {
-  seen = λ d is. sees_low d (state g.S.Store c.args.conn.now) (state g.S.Store c.read.new.conn) c.read.result is log.Kept SELECT_LOW_KEPT.now low_kept asks_low_kept (c.read.ensures.seen d (plain_of nine SELECT_LOW_KEPT.now low_kept d.schema is));
+  seen =
+      λ d is. sees_low d (state g.S.Store c.args.conn.now) (state g.S.Store c.read.new.conn) c.read.result is log.Kept SELECT_LOW_KEPT.now low_kept
+      asks_low_kept (c.read.ensures.seen d (plain_of nine SELECT_LOW_KEPT.now low_kept d.schema is));
 }
 
 pub returns-clause-looked : goal.returns-clause-looked
 returns-clause-looked g c =
-    looks_so (HasGood (BeginsSchema nine) []) (λ d. ¬ (RefusesToShow d SELECT_LOW_KEPT.now [])) (λ d h. low_kept_over d h.0) (state g.S.Store c.args.conn.now) (state g.S.Store c.read.new.conn) c.read.result c.read.ensures.looked
+    looks_so (HasGood (BeginsSchema nine) []) (λ d. ¬ (RefusesToShow d SELECT_LOW_KEPT.now [])) (λ d h. low_kept_over d h.0) (state g.S.Store c.args.conn.now)
+    (state g.S.Store c.read.new.conn) c.read.result c.read.ensures.looked

@@ -15,10 +15,12 @@ use Rattle.acd_sql_statements.proofs.look.unordered_connection_rows.Goals as goa
 pub returns-clause-looks : goal.returns-clause-looks
 returns-clause-looks g c = record {
   seen = λ d is.
-      sees_all d (state g.S.Store c.args.conn.now) (state g.S.Store c.read.new.conn) c.read.result table.Connections nine SELECT_STANDING_CONNECTIONS.now unordered_connections asks_unordered_connections is
+      sees_all d (state g.S.Store c.args.conn.now) (state g.S.Store c.read.new.conn) c.read.result table.Connections nine SELECT_STANDING_CONNECTIONS.now
+      unordered_connections asks_unordered_connections is
       (c.read.ensures.seen d (plain_of nine SELECT_STANDING_CONNECTIONS.now unordered_connections d.schema is));
 }
 
 pub returns-clause-looked : goal.returns-clause-looked
 returns-clause-looked g c =
-    looks_so (HasGood (BeginsSchema nine) []) (λ d. ¬ (RefusesToShow d SELECT_STANDING_CONNECTIONS.now [])) (λ d h. standing_connections_over d h.0) (state g.S.Store c.args.conn.now) (state g.S.Store c.read.new.conn) c.read.result c.read.ensures.looked
+    looks_so (HasGood (BeginsSchema nine) []) (λ d. ¬ (RefusesToShow d SELECT_STANDING_CONNECTIONS.now [])) (λ d h. standing_connections_over d h.0)
+    (state g.S.Store c.args.conn.now) (state g.S.Store c.read.new.conn) c.read.result c.read.ensures.looked

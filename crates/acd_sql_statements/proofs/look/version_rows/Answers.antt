@@ -11,9 +11,12 @@ use Rattle.acd_sql_statements.proofs.look.version_rows.Goals as goal
 
 pub returns-clause-looks : goal.returns-clause-looks
 returns-clause-looks g c = record {
-  seen = λ d begins. sees_version d (state g.S.Store c.args.conn.now) (state g.S.Store c.read.new.conn) c.read.result begins (c.read.ensures.seen d (version_plain d begins));
+  seen =
+      λ d begins. sees_version d (state g.S.Store c.args.conn.now) (state g.S.Store c.read.new.conn) c.read.result begins
+      (c.read.ensures.seen d (version_plain d begins));
 }
 
 pub returns-clause-looked : goal.returns-clause-looked
 returns-clause-looked g c =
-    looks_so (HasGood BeginsAsBook []) (λ d. ¬ (RefusesToShow d SELECT_VERSION.now [])) (λ d h. version_over d h.0) (state g.S.Store c.args.conn.now) (state g.S.Store c.read.new.conn) c.read.result c.read.ensures.looked
+    looks_so (HasGood BeginsAsBook []) (λ d. ¬ (RefusesToShow d SELECT_VERSION.now [])) (λ d h. version_over d h.0) (state g.S.Store c.args.conn.now)
+    (state g.S.Store c.read.new.conn) c.read.result c.read.ensures.looked

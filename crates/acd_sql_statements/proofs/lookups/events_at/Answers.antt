@@ -18,13 +18,17 @@ returns g c = record {
       (λ (x : Content). take c.args.limit (filter (is_at_after (Some c.args.device) c.args.number) x.events)) c.in_ok-rows.ensures.found
       (rw c.deref.ensures.value at c.records.ensures.records);
   cause =
-      cause_records event_in table.Events (λ row. refl) (state g.S.Store c.args.conn.now) (state g.S.Store c.event_page_at.new.conn) c.in_ok-rows.rows c.records.result (λ (x : Content). map event_values (take c.args.limit (filter (is_at_after (Some c.args.device) c.args.number) x.events)))
-      (λ x row. rows_has event_values (take c.args.limit (filter (is_at_after (Some c.args.device) c.args.number) x.events)) x.events row (page_has c.args.limit (is_at_after (Some c.args.device) c.args.number) x.events))
+      cause_records event_in table.Events (λ row. refl) (state g.S.Store c.args.conn.now) (state g.S.Store c.event_page_at.new.conn) c.in_ok-rows.rows
+      c.records.result (λ (x : Content). map event_values (take c.args.limit (filter (is_at_after (Some c.args.device) c.args.number) x.events)))
+      (λ x row. rows_has event_values (take c.args.limit (filter (is_at_after (Some c.args.device) c.args.number) x.events)) x.events row
+      (page_has c.args.limit (is_at_after (Some c.args.device) c.args.number) x.events))
       c.in_ok-rows.ensures.cause c.in_ok-rows.ensures.found (rw c.deref.ensures.value at c.records.ensures.bad);
 }
 
 pub returns-in_err-rows : goal.returns-in_err-rows
 returns-in_err-rows g c = record {
   found = finds_failed c.in_err-rows.ensures.found (search rules);
-  cause = cause_as (state g.S.Store c.args.conn.now) (state g.S.Store c.event_page_at.new.conn) c.in_err-rows.field-0.0 c.from_residual.result (search rules) c.in_err-rows.ensures.cause;
+  cause =
+      cause_as (state g.S.Store c.args.conn.now) (state g.S.Store c.event_page_at.new.conn) c.in_err-rows.field-0.0 c.from_residual.result (search rules)
+      c.in_err-rows.ensures.cause;
 }

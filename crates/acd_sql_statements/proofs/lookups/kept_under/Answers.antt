@@ -16,11 +16,15 @@ use Rattle.acd_sql_statements.proofs.lookups.kept_under.Goals as goal
 pub returns : goal.returns
 returns g c = record {
   found =
-      first_recorded kept_in kept_values IsReadable kept_exact (state g.S.Store c.args.conn.now) (state g.S.Store c.kept_row.new.conn) c.in_ok-rows.rows c.first.result (λ (x : Content). kept_of x.kept c.args.requester.now c.args.invoke)
-      (found_readable (state g.S.Store c.args.conn.now) (λ (k : Kept). is_key c.args.requester.now c.args.invoke k.request)) c.in_ok-rows.ensures.found (rw c.deref.ensures.value at c.first.ensures.found);
+      first_recorded kept_in kept_values IsReadable kept_exact (state g.S.Store c.args.conn.now) (state g.S.Store c.kept_row.new.conn) c.in_ok-rows.rows
+      c.first.result (λ (x : Content). kept_of x.kept c.args.requester.now c.args.invoke)
+      (found_readable (state g.S.Store c.args.conn.now) (λ (k : Kept). is_key c.args.requester.now c.args.invoke k.request)) c.in_ok-rows.ensures.found
+      (rw c.deref.ensures.value at c.first.ensures.found);
   cause =
-      cause_records kept_in table.Kept (λ row. refl) (state g.S.Store c.args.conn.now) (state g.S.Store c.kept_row.new.conn) c.in_ok-rows.rows c.first.result (λ (x : Content). map kept_values (option_to_list (kept_of x.kept c.args.requester.now c.args.invoke)))
-      (λ x row. rows_has kept_values (option_to_list (kept_of x.kept c.args.requester.now c.args.invoke)) x.kept row (found_has (λ (k : Kept). is_key c.args.requester.now c.args.invoke k.request) x.kept))
+      cause_records kept_in table.Kept (λ row. refl) (state g.S.Store c.args.conn.now) (state g.S.Store c.kept_row.new.conn) c.in_ok-rows.rows c.first.result
+      (λ (x : Content). map kept_values (option_to_list (kept_of x.kept c.args.requester.now c.args.invoke)))
+      (λ x row. rows_has kept_values (option_to_list (kept_of x.kept c.args.requester.now c.args.invoke)) x.kept row
+      (found_has (λ (k : Kept). is_key c.args.requester.now c.args.invoke k.request) x.kept))
       c.in_ok-rows.ensures.cause c.in_ok-rows.ensures.found (rw c.deref.ensures.value at c.first.ensures.bad);
 }
 
@@ -28,5 +32,6 @@ pub returns-in_err-rows : goal.returns-in_err-rows
 returns-in_err-rows g c = record {
   found = finds_failed c.in_err-rows.ensures.found (search rules);
   cause =
-      cause_as (state g.S.Store c.args.conn.now) (state g.S.Store c.kept_row.new.conn) c.in_err-rows.field-0.0 c.from_residual.result (search rules) c.in_err-rows.ensures.cause;
+      cause_as (state g.S.Store c.args.conn.now) (state g.S.Store c.kept_row.new.conn) c.in_err-rows.field-0.0 c.from_residual.result (search rules)
+      c.in_err-rows.ensures.cause;
 }

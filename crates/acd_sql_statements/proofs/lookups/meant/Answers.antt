@@ -6,5 +6,6 @@ pub returns-in-Some-clause-other : goal.returns-in-Some-clause-other
 returns-in-Some-clause-other c =
     inr (
       (λ fit. absurd (let apart = sym (c.fits.ensures.1 fit) ∙ c.if-not-fits.true in cc)),
-      first_fits c.args.rows.items c.in-Some.row.now c.number_of-fits.result (rw c.deref.ensures.value at c.in-Some.ensures.value) c.number_of-fits.ensures.value c.number_of-fits.ensures.fits,
+      first_fits c.args.rows.items c.in-Some.row.now c.number_of-fits.result (rw c.deref.ensures.value at c.in-Some.ensures.value)
+          c.number_of-fits.ensures.value c.number_of-fits.ensures.fits,
     )

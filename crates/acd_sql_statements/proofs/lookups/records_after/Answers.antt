@@ -16,11 +16,15 @@ use Rattle.acd_sql_statements.proofs.lookups.records_after.Goals as goal
 pub returns : goal.returns
 returns g c = record {
   found =
-      recorded_good kept_in kept_values IsReadable kept_exact (state g.S.Store c.args.conn.now) (state g.S.Store c.kept_page.new.conn) c.in_ok-rows.rows c.records.result (λ (x : Content). records_after x.kept c.args.stamp c.args.limit)
-      (page_readable (state g.S.Store c.args.conn.now) c.args.stamp c.args.limit) c.in_ok-rows.ensures.found (rw c.deref.ensures.value at c.records.ensures.records);
+      recorded_good kept_in kept_values IsReadable kept_exact (state g.S.Store c.args.conn.now) (state g.S.Store c.kept_page.new.conn) c.in_ok-rows.rows
+      c.records.result (λ (x : Content). records_after x.kept c.args.stamp c.args.limit)
+      (page_readable (state g.S.Store c.args.conn.now) c.args.stamp c.args.limit) c.in_ok-rows.ensures.found
+      (rw c.deref.ensures.value at c.records.ensures.records);
   cause =
-      cause_records kept_in table.Kept (λ row. refl) (state g.S.Store c.args.conn.now) (state g.S.Store c.kept_page.new.conn) c.in_ok-rows.rows c.records.result (λ (x : Content). map kept_values (records_after x.kept c.args.stamp c.args.limit))
-      (λ x row. rows_has kept_values (records_after x.kept c.args.stamp c.args.limit) x.kept row (page_has c.args.limit (λ (k : Kept). nat_lt c.args.stamp k.stamp) x.kept))
+      cause_records kept_in table.Kept (λ row. refl) (state g.S.Store c.args.conn.now) (state g.S.Store c.kept_page.new.conn) c.in_ok-rows.rows c.records.result
+      (λ (x : Content). map kept_values (records_after x.kept c.args.stamp c.args.limit))
+      (λ x row. rows_has kept_values (records_after x.kept c.args.stamp c.args.limit) x.kept row
+      (page_has c.args.limit (λ (k : Kept). nat_lt c.args.stamp k.stamp) x.kept))
       c.in_ok-rows.ensures.cause c.in_ok-rows.ensures.found (rw c.deref.ensures.value at c.records.ensures.bad);
 }
 
@@ -28,5 +32,6 @@ pub returns-in_err-rows : goal.returns-in_err-rows
 returns-in_err-rows g c = record {
   found = finds_failed c.in_err-rows.ensures.found (search rules);
   cause =
-      cause_as (state g.S.Store c.args.conn.now) (state g.S.Store c.kept_page.new.conn) c.in_err-rows.field-0.0 c.from_residual.result (search rules) c.in_err-rows.ensures.cause;
+      cause_as (state g.S.Store c.args.conn.now) (state g.S.Store c.kept_page.new.conn) c.in_err-rows.field-0.0 c.from_residual.result (search rules)
+      c.in_err-rows.ensures.cause;
 }

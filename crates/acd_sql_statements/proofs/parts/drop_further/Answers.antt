@@ -14,8 +14,10 @@ returns g c = record {
   put = λ clean.
       let old = state g.S.Store c.args.tx.now.conn.now in
       let new = state g.S.Store c.write.new.tx.conn.now in
-      changes_uncommitted DELETE_AGENT_GROUPS.now (id_value c.args.agent ∷ []) _ old new c.write.result (λ x count. drops_groups c.args.agent x old new count) (rw c.agent.ensures at (c.write.ensures.ran clean));
+      changes_uncommitted DELETE_AGENT_GROUPS.now (id_value c.args.agent ∷ []) _ old new c.write.result (λ x count. drops_groups c.args.agent x old new count)
+      (rw c.agent.ensures at (c.write.ensures.ran clean));
   failed =
-      by_one (state g.S.Store c.args.tx.now.conn.now) (state g.S.Store c.write.new.tx.conn.now) DELETE_AGENT_GROUPS.now (id_value c.args.agent ∷ []) c.write.result
+      by_one (state g.S.Store c.args.tx.now.conn.now) (state g.S.Store c.write.new.tx.conn.now) DELETE_AGENT_GROUPS.now (id_value c.args.agent ∷ [])
+      c.write.result
       (λ clean inside. rw c.agent.ensures at (c.write.ensures.failed clean inside));
 }

@@ -25,7 +25,8 @@ loop-group-preserved g c =
       works = works_on _ _ _ inv.works e.works;
       put = λ clean r d.
           let before : HasCleanDisk (state g.S.Store c.loop-group.tx.conn.now) = omega (arith, clean, e.works.survives.clean) in
-          subst (λ (ps : List (ℕ × ℕ)). HoldsUncommitted (state g.S.Store c.insert_further.new.tx.conn.now) (with_part table.AgentGroups ps r)) (sym (pairs_more c.args.agent c.loop-group.group-index c.args.groups.now _ _ r.further c.group-item.is c.loop-group-test.true))
+          subst (λ (ps : List (ℕ × ℕ)). HoldsUncommitted (state g.S.Store c.insert_further.new.tx.conn.now) (with_part table.AgentGroups ps r))
+          (sym (pairs_more c.args.agent c.loop-group.group-index c.args.groups.now _ _ r.further c.group-item.is c.loop-group-test.true))
           (c.in_ok-insert_further.ensures.put clean _ (inv.put before r d));
     }
 
@@ -34,7 +35,10 @@ returns g c = record {
   same = c.loop-group.invariant.same;
   works = c.loop-group.invariant.works;
   put = λ clean r d.
-      subst (λ (gs : List ℕ). HoldsUncommitted (state g.S.Store c.loop-group.tx.conn.now) (with_part table.AgentGroups (all_put (map (λ (k : ℕ). (c.args.agent, k)) gs) r.further) r)) (take_all c.loop-group.group-index c.args.groups.now c.loop-group-test.false)
+      subst
+      (λ (gs : List ℕ). HoldsUncommitted (state g.S.Store c.loop-group.tx.conn.now)
+      (with_part table.AgentGroups (all_put (map (λ (k : ℕ). (c.args.agent, k)) gs) r.further) r))
+      (take_all c.loop-group.group-index c.args.groups.now c.loop-group-test.false)
       (c.loop-group.invariant.put clean r d);
   failed = λ clean r d. tt;
 }
@@ -54,7 +58,13 @@ returns-in_err-insert_further g c = record {
       let one = RefusesOn INSERT_AGENT_GROUP.now (further_values (agent, c.group-item.result)) in
       let so_far : Relations → Relations = λ (r : Relations). with_part table.AgentGroups (all_put (map (λ (k : ℕ). (agent, k)) (take i gs)) r.further) r in
       by_more old new (λ limit r. one limit (so_far r)) (RefusesFurther agent gs) c.from_residual.result
-      (λ limit r h. (i, c.loop-group-test.true, subst (λ (k : ℕ). RefusesOn INSERT_AGENT_GROUP.now (further_values (agent, k)) limit (so_far r)) (c.group-item.is ∙ any_default gs i _ 0 c.loop-group-test.true) h))
+      (λ limit r h. (
+        i,
+        c.loop-group-test.true,
+        subst (λ (k : ℕ). RefusesOn INSERT_AGENT_GROUP.now (further_values (agent, k)) limit (so_far r))
+            (c.group-item.is ∙ any_default gs i _ 0 c.loop-group-test.true) h,
+      ))
       (by_same old new (λ limit r. one limit (so_far r)) c.in_err-insert_further.field-0.0 c.from_residual.result (search rules)
-      (by_later {A = Unit {0}} old mid new so_far one (Err c.in_err-insert_further.field-0.0) c.loop-group.invariant.works c.insert_further.ensures.works c.loop-group.invariant.put c.in_err-insert_further.ensures.failed));
+      (by_later {A = Unit {0}} old mid new so_far one (Err c.in_err-insert_further.field-0.0) c.loop-group.invariant.works c.insert_further.ensures.works
+      c.loop-group.invariant.put c.in_err-insert_further.ensures.failed));
 }

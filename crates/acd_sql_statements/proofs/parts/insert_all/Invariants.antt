@@ -12,5 +12,6 @@ invariant-loop-group g l = record {
   same : l.tx.conn.ghost_name ≡ l.fn.tx.conn.ghost_name;
   works : Works (state g.S.Store l.fn.tx.conn.now) (state g.S.Store l.tx.conn.now);
   put : HasCleanDisk (state g.S.Store l.tx.conn.now) → (r : Relations) → HoldsUncommitted (state g.S.Store l.fn.tx.conn.now) r
-      → HoldsUncommitted (state g.S.Store l.tx.conn.now) (with_part table.AgentGroups (all_put (map (λ (k : ℕ). (l.agent, k)) (take l.group-index l.groups)) r.further) r);
+      → HoldsUncommitted (state g.S.Store l.tx.conn.now)
+      (with_part table.AgentGroups (all_put (map (λ (k : ℕ). (l.agent, k)) (take l.group-index l.groups)) r.further) r);
 }

@@ -13,9 +13,11 @@ returns g c = record {
   put = λ clean.
       let old = state g.S.Store c.args.tx.now.conn.now in
       let new = state g.S.Store c.write.new.tx.conn.now in
-      changes_uncommitted INSERT_AGENT_GROUP.now (further_values (c.args.agent, c.args.group)) _ old new c.write.result (λ x count. inserts_group (c.args.agent, c.args.group) x old new count)
+      changes_uncommitted INSERT_AGENT_GROUP.now (further_values (c.args.agent, c.args.group)) _ old new c.write.result
+      (λ x count. inserts_group (c.args.agent, c.args.group) x old new count)
       (rw (c.agent.ensures, c.device.ensures) at (c.write.ensures.ran clean));
   failed =
-      by_one (state g.S.Store c.args.tx.now.conn.now) (state g.S.Store c.write.new.tx.conn.now) INSERT_AGENT_GROUP.now (further_values (c.args.agent, c.args.group)) c.write.result
+      by_one (state g.S.Store c.args.tx.now.conn.now) (state g.S.Store c.write.new.tx.conn.now) INSERT_AGENT_GROUP.now
+      (further_values (c.args.agent, c.args.group)) c.write.result
       (λ clean inside. rw (c.agent.ensures, c.device.ensures) at (c.write.ensures.failed clean inside));
 }

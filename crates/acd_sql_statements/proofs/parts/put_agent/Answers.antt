@@ -31,9 +31,14 @@ returns g c = record {
       let drop = c.in_ok-drop_further.ensures.put middle in
       leaves_on (state g.S.Store c.args.tx.now.conn.now) mid (state g.S.Store c.insert_all.new.tx.conn.now) c.insert_all.result
       (λ r. let s : Relations = with_put agents c.of.result r in with_part table.AgentGroups (filter (λ (p : ℕ × ℕ). not (p.0 == a.agent)) s.further) s)
-      (λ r. with_part table.AgentGroups (all_put (map (λ (k : ℕ). (a.agent, k)) c.further.result.now) r.further) r) (with_agent_parts a) (λ r d. drop (with_put agents c.of.result r) (put r d)) (c.insert_all.ensures.put clean)
+      (λ r. with_part table.AgentGroups (all_put (map (λ (k : ℕ). (a.agent, k)) c.further.result.now) r.further) r) (with_agent_parts a)
+      (λ r d. drop (with_put agents c.of.result r) (put r d)) (c.insert_all.ensures.put clean)
       (λ (r : Relations).
-      ap (λ (gs : List ℕ). let s : Relations = with_put agents c.of.result r in let t : Relations = with_part table.AgentGroups (filter (λ (p : ℕ × ℕ). not (p.0 == a.agent)) s.further) s in with_part table.AgentGroups (all_put (map (λ (k : ℕ). (a.agent, k)) gs) t.further) t) c.further.ensures
+      ap
+      (λ (gs : List ℕ). let s : Relations = with_put agents c.of.result r in
+      let t : Relations = with_part table.AgentGroups (filter (λ (p : ℕ × ℕ). not (p.0 == a.agent)) s.further) s in
+      with_part table.AgentGroups (all_put (map (λ (k : ℕ). (a.agent, k)) gs) t.further) t)
+      c.further.ensures
       ∙ ap (λ (x : AgentRow). let s : Relations = with_put agents x r in record s { further = (with_agent_parts a r).further }) c.of.ensures);
   failed =
       let old = state g.S.Store c.args.tx.now.conn.now in
@@ -44,10 +49,12 @@ returns g c = record {
       let some = RefusesFurther a.agent c.further.result.now in
       let made : Relations → Relations = λ (r : Relations). without_further a.agent (with_put agents c.of.result r) in
       by_more old new (λ limit r. some limit (made r)) (RefusesAgent a) c.insert_all.result
-      (λ limit r h. inr (inr (subst (λ (x : AgentRow). RefusesFurther a.agent (further_groups a.groups) limit (without_further a.agent (with_put agents x r))) c.of.ensures
+      (λ limit r h. inr
+      (inr (subst (λ (x : AgentRow). RefusesFurther a.agent (further_groups a.groups) limit (without_further a.agent (with_put agents x r))) c.of.ensures
       (subst (λ (gs : List ℕ). RefusesFurther a.agent gs limit (made r)) c.further.ensures h))))
       (by_later old mid new made some c.insert_all.result (works_on old first mid c.put.ensures.works c.drop_further.ensures.works) c.insert_all.ensures.works
-      (λ middle r d. let before : HasCleanDisk first = omega (arith, middle, c.drop_further.ensures.works.survives.clean) in c.in_ok-drop_further.ensures.put middle _ (c.in_ok-put.ensures.put before r d))
+      (λ middle r d. let before : HasCleanDisk first = omega (arith, middle, c.drop_further.ensures.works.survives.clean) in
+      c.in_ok-drop_further.ensures.put middle _ (c.in_ok-put.ensures.put before r d))
       c.insert_all.ensures.failed);
 }
 
@@ -61,7 +68,8 @@ returns-in_err-put g c = record {
       let mid = state g.S.Store c.put.new.tx.conn.now in
       by_more old mid (RefusesPut agents UPDATE_AGENT.now c.of.result) (RefusesAgent c.args.agent.now) c.from_residual.result
       (λ limit r h. inl (subst (λ (x : AgentRow). RefusesPut agents UPDATE_AGENT.now x limit r) c.of.ensures h))
-      (by_same old mid (RefusesPut agents UPDATE_AGENT.now c.of.result) c.in_err-put.field-0.0 c.from_residual.result (search rules) c.in_err-put.ensures.failed);
+      (by_same old mid (RefusesPut agents UPDATE_AGENT.now c.of.result) c.in_err-put.field-0.0 c.from_residual.result (search rules)
+      c.in_err-put.ensures.failed);
 }
 
 pub returns-in_err-drop_further : goal.returns-in_err-drop_further
@@ -79,5 +87,6 @@ returns-in_err-drop_further g c = record {
       by_more old new (λ limit r. one limit (put r)) (RefusesAgent a) c.from_residual-in_err-drop_further.result
       (λ limit r h. inr (inl (subst (λ (x : AgentRow). one limit (with_put agents x r)) c.of.ensures h)))
       (by_same old new (λ limit r. one limit (put r)) c.in_err-drop_further.field-0.0 c.from_residual-in_err-drop_further.result (search rules)
-      (by_later {A = Unit {0}} old mid new put one (Err c.in_err-drop_further.field-0.0) c.put.ensures.works c.drop_further.ensures.works c.in_ok-put.ensures.put c.in_err-drop_further.ensures.failed));
+      (by_later {A = Unit {0}} old mid new put one (Err c.in_err-drop_further.field-0.0) c.put.ensures.works c.drop_further.ensures.works
+      c.in_ok-put.ensures.put c.in_err-drop_further.ensures.failed));
 }

@@ -25,9 +25,14 @@ returns-then-eq g c = record {
   put = λ clean.
       let z = c.args.group.now in
       let none : (z.priority == 0) ≡ true = ap (λ n. z.priority == n) (sym c.lowest.ensures) ∙ sym c.eq.ensures ∙ c.if-eq.true in
-      leaves_as (state g.S.Store c.args.tx.now.conn.now) (state g.S.Store c.remove.new.tx.conn.now) c.remove.result (without group_priority c.number.result) (λ r. record r { priorities = with_priority_of z r.priorities }) (c.remove.ensures.put clean)
+      leaves_as (state g.S.Store c.args.tx.now.conn.now) (state g.S.Store c.remove.new.tx.conn.now) c.remove.result (without group_priority c.number.result)
+      (λ r. record r { priorities = with_priority_of z r.priorities }) (c.remove.ensures.put clean)
       (λ (r : Relations). ap (λ n. without group_priority n r) c.number.ensures.value
-      ∙ ap (λ b. record r { priorities = cond b (remove_by (λ (p : GroupPriority). nat_cmp z.device p.device) r.priorities) (put_by (λ (p : GroupPriority). nat_cmp z.device p.device) r.priorities (priority_part z)) }) (sym none));
+      ∙ ap (λ b. record r {
+        priorities =
+            cond b (remove_by (λ (p : GroupPriority). nat_cmp z.device p.device) r.priorities)
+            (put_by (λ (p : GroupPriority). nat_cmp z.device p.device) r.priorities (priority_part z));
+      }) (sym none));
   failed =
       let old = state g.S.Store c.args.tx.now.conn.now in
       let new = state g.S.Store c.remove.new.tx.conn.now in
@@ -43,12 +48,18 @@ returns-else-eq g c = record {
   put = λ clean.
       let z = c.args.group.now in
       let some : (z.priority == 0) ≡ false = ap (λ n. z.priority == n) (sym c.lowest.ensures) ∙ sym c.eq.ensures ∙ c.if-eq.false in
-      leaves_as (state g.S.Store c.args.tx.now.conn.now) (state g.S.Store c.put.new.tx.conn.now) c.put.result (with_put group_priority (priority_part z)) (λ r. record r { priorities = with_priority_of z r.priorities }) (c.put.ensures.put clean)
+      leaves_as (state g.S.Store c.args.tx.now.conn.now) (state g.S.Store c.put.new.tx.conn.now) c.put.result (with_put group_priority (priority_part z))
+      (λ r. record r { priorities = with_priority_of z r.priorities }) (c.put.ensures.put clean)
       (λ (r : Relations).
-      ap (λ b. record r { priorities = cond b (remove_by (λ (p : GroupPriority). nat_cmp z.device p.device) r.priorities) (put_by (λ (p : GroupPriority). nat_cmp z.device p.device) r.priorities (priority_part z)) }) (sym some));
+      ap (λ b. record r {
+        priorities =
+            cond b (remove_by (λ (p : GroupPriority). nat_cmp z.device p.device) r.priorities)
+            (put_by (λ (p : GroupPriority). nat_cmp z.device p.device) r.priorities (priority_part z));
+      }) (sym some));
   failed =
       let old = state g.S.Store c.args.tx.now.conn.now in
       let new = state g.S.Store c.put.new.tx.conn.now in
       let z = c.args.group.now in
-      by_more old new (RefusesPut group_priority UPDATE_GROUP_PRIORITY.now (priority_part z)) (RefusesPriority z) c.put.result (λ limit r h. inr h) c.put.ensures.failed;
+      by_more old new (RefusesPut group_priority UPDATE_GROUP_PRIORITY.now (priority_part z)) (RefusesPriority z) c.put.result (λ limit r h. inr h)
+      c.put.ensures.failed;
 }

@@ -7,9 +7,11 @@ pub returns-then-eq-clause-groups : goal.returns-then-eq-clause-groups
 returns-then-eq-clause-groups c = sym c.as_slice-2.ensures.value ∙ same_numbers _ _ (sym c.eq.ensures ∙ c.if-eq.true) ∙ c.as_slice-3.ensures.value
 
 pub returns-in_err-groups-clause-other : goal.returns-in_err-groups-clause-other
-returns-in_err-groups-clause-other c none = not_made c.args.list.now c.as_slice.result.now c.in_order.result c.in_err-groups.was c.in_order.ensures c.as_slice.ensures.value
+returns-in_err-groups-clause-other c none =
+    not_made c.args.list.now c.as_slice.result.now c.in_order.result c.in_err-groups.was c.in_order.ensures c.as_slice.ensures.value
 
 pub returns-else-eq-clause-other : goal.returns-else-eq-clause-other
 returns-else-eq-clause-other c none =
-    not_same c.args.list.now c.as_slice.result.now c.in_ok-groups.groups c.as_slice-2.result.now c.as_slice-3.result.now c.in_order.result c.eq.result c.in_ok-groups.was c.in_order.ensures c.as_slice.ensures.value
+    not_same c.args.list.now c.as_slice.result.now c.in_ok-groups.groups c.as_slice-2.result.now c.as_slice-3.result.now c.in_order.result c.eq.result
+    c.in_ok-groups.was c.in_order.ensures c.as_slice.ensures.value
     c.eq.ensures c.if-eq.false c.as_slice-2.ensures.value c.as_slice-3.ensures.value

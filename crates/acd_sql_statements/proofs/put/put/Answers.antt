@@ -14,7 +14,10 @@ returns-then-changed-gt0 g c = record {
   same = c.run.ensures.same;
   works = c.run.ensures.works;
   put = λ clean content uncommitted.
-      updated_in g.R.Stored.descr g.met.R.Stored.described (the_text g.R.Stored.descr.update) (the_said g.R.Stored.descr.update (Updates g.R.Stored.descr) c.requires.changes g.met.R.Stored.described.updates) c.args.item.now (g.met.R.Stored.reads c.args.item.now) content (state g.S.Store c.args.tx.now.conn.now) (state g.S.Store c.run.new.tx.conn.now) c.in_ok-changed.changed uncommitted
+      updated_in g.R.Stored.descr g.met.R.Stored.described (the_text g.R.Stored.descr.update)
+      (the_said g.R.Stored.descr.update (Updates g.R.Stored.descr) c.requires.changes g.met.R.Stored.described.updates) c.args.item.now
+      (g.met.R.Stored.reads c.args.item.now) content (state g.S.Store c.args.tx.now.conn.now) (state g.S.Store c.run.new.tx.conn.now)
+      c.in_ok-changed.changed uncommitted
       (rw (c.update_text.ensures) at (c.in_ok-changed.ensures.ran clean)) (λ none. omega (arith, none, c.if-changed-gt0.true));
   failed = λ clean r uncommitted. tt;
 }
@@ -29,7 +32,9 @@ returns g c = record {
       let new = state g.S.Store c.run-2.new.tx.conn.now in
       let middle : HasCleanDisk mid = omega (arith, clean, c.run-2.ensures.works.survives.clean) in
       let none : c.in_ok-changed.changed ≡ 0 = omega (arith, c.if-changed-gt0.false) in
-      put_in g.R.Stored.descr g.met.R.Stored.described (the_text g.R.Stored.descr.update) (the_said g.R.Stored.descr.update (Updates g.R.Stored.descr) c.requires.changes g.met.R.Stored.described.updates) c.args.item.now (g.met.R.Stored.reads c.args.item.now) content old mid new c.in_ok-changed.changed c.in_ok-run.field-0 uncommitted
+      put_in g.R.Stored.descr g.met.R.Stored.described (the_text g.R.Stored.descr.update)
+      (the_said g.R.Stored.descr.update (Updates g.R.Stored.descr) c.requires.changes g.met.R.Stored.described.updates) c.args.item.now
+      (g.met.R.Stored.reads c.args.item.now) content old mid new c.in_ok-changed.changed c.in_ok-run.field-0 uncommitted
       (rw (c.update_text.ensures) at (c.in_ok-changed.ensures.ran middle)) none (rw (c.texts.ensures.insert) at (c.in_ok-run.ensures.ran clean));
   failed = λ clean r uncommitted. tt;
 }
@@ -44,9 +49,11 @@ returns-in_err-changed g c = record {
       let mid = state g.S.Store c.run.new.tx.conn.now in
       let x = c.args.item.now in
       let values = g.R.Stored.descr.values x in
-      by_more old mid (RefusesOn (the_text g.R.Stored.descr.update) values) (RefusesPut g.R.Stored.descr (the_text g.R.Stored.descr.update) x) c.from_residual.result (λ limit r h. inl h)
+      by_more old mid (RefusesOn (the_text g.R.Stored.descr.update) values) (RefusesPut g.R.Stored.descr (the_text g.R.Stored.descr.update) x)
+      c.from_residual.result (λ limit r h. inl h)
       (by_same old mid (RefusesOn (the_text g.R.Stored.descr.update) values) c.in_err-changed.field-0.0 c.from_residual.result (search rules)
-      (λ clean r d. refused_on old mid (the_text g.R.Stored.descr.update) values c.in_err-changed.field-0.0 r d (rw (c.update_text.ensures) at (c.in_err-changed.ensures.failed clean d.inside))));
+      (λ clean r d. refused_on old mid (the_text g.R.Stored.descr.update) values c.in_err-changed.field-0.0 r d
+      (rw (c.update_text.ensures) at (c.in_err-changed.ensures.failed clean d.inside))));
 }
 
 pub returns-in_err-run : goal.returns-in_err-run
@@ -64,10 +71,15 @@ returns-in_err-run g c = record {
       by_known old new (HasNone d x) (RefusesOn d.insert (d.values x)) (RefusesPut d (the_text g.R.Stored.descr.update) x) c.from_residual-in_err-run.result
       (λ clean r uncommitted.
       let middle : HasCleanDisk mid = omega (arith, clean, c.run-2.ensures.works.survives.clean) in
-      none_in d g.met.R.Stored.described (the_text g.R.Stored.descr.update) (the_said g.R.Stored.descr.update (Updates g.R.Stored.descr) c.requires.changes g.met.R.Stored.described.updates) x r old mid c.in_ok-changed.changed uncommitted (rw (c.update_text.ensures) at (c.in_ok-changed.ensures.ran middle)) none)
+      none_in d g.met.R.Stored.described (the_text g.R.Stored.descr.update)
+      (the_said g.R.Stored.descr.update (Updates g.R.Stored.descr) c.requires.changes g.met.R.Stored.described.updates) x r old mid c.in_ok-changed.changed
+      uncommitted (rw (c.update_text.ensures) at (c.in_ok-changed.ensures.ran middle)) none)
       (λ limit r none h. inr (none, h))
       (by_same old new (RefusesOn d.insert (d.values x)) c.in_err-run.field-0.0 c.from_residual-in_err-run.result (search rules)
       (by_later {A = ℕ} old mid new (λ r. r) (RefusesOn d.insert (d.values x)) (Err c.in_err-run.field-0.0) c.run.ensures.works c.run-2.ensures.works
-      (λ middle r uncommitted. still_uncommitted d g.met.R.Stored.described (the_text g.R.Stored.descr.update) (the_said g.R.Stored.descr.update (Updates g.R.Stored.descr) c.requires.changes g.met.R.Stored.described.updates) x r old mid c.in_ok-changed.changed uncommitted (rw (c.update_text.ensures) at (c.in_ok-changed.ensures.ran middle)) none)
-      (λ clean r uncommitted. refused_on mid new d.insert (d.values x) c.in_err-run.field-0.0 r uncommitted (rw c.texts.ensures.insert at (c.in_err-run.ensures.failed clean uncommitted.inside)))));
+      (λ middle r uncommitted. still_uncommitted d g.met.R.Stored.described (the_text g.R.Stored.descr.update)
+      (the_said g.R.Stored.descr.update (Updates g.R.Stored.descr) c.requires.changes g.met.R.Stored.described.updates) x r old mid c.in_ok-changed.changed
+      uncommitted (rw (c.update_text.ensures) at (c.in_ok-changed.ensures.ran middle)) none)
+      (λ clean r uncommitted. refused_on mid new d.insert (d.values x) c.in_err-run.field-0.0 r uncommitted
+      (rw c.texts.ensures.insert at (c.in_err-run.ensures.failed clean uncommitted.inside)))));
 }

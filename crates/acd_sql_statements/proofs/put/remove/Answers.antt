@@ -15,9 +15,12 @@ returns g c = record {
   put = λ clean.
       let old = state g.S.Store c.args.tx.now.conn.now in
       let new = state g.S.Store c.write.new.tx.conn.now in
-      changes_uncommitted (the_text g.R.Stored.descr.delete) (id_value c.args.key ∷ []) _ old new c.write.result (λ x count. removed_in g.R.Stored.descr g.met.R.Stored.described (the_text g.R.Stored.descr.delete) (the_said g.R.Stored.descr.delete (Deletes g.R.Stored.descr) c.requires.removes g.met.R.Stored.described.deletes) c.args.key x old new count)
+      changes_uncommitted (the_text g.R.Stored.descr.delete) (id_value c.args.key ∷ []) _ old new c.write.result
+      (λ x count. removed_in g.R.Stored.descr g.met.R.Stored.described (the_text g.R.Stored.descr.delete)
+      (the_said g.R.Stored.descr.delete (Deletes g.R.Stored.descr) c.requires.removes g.met.R.Stored.described.deletes) c.args.key x old new count)
       (rw (c.integer.ensures, c.delete_text.ensures) at (c.write.ensures.ran clean));
   failed =
-      by_one (state g.S.Store c.args.tx.now.conn.now) (state g.S.Store c.write.new.tx.conn.now) (the_text g.R.Stored.descr.delete) (id_value c.args.key ∷ []) c.write.result
+      by_one (state g.S.Store c.args.tx.now.conn.now) (state g.S.Store c.write.new.tx.conn.now) (the_text g.R.Stored.descr.delete) (id_value c.args.key ∷ [])
+      c.write.result
       (λ clean inside. rw (c.integer.ensures, c.delete_text.ensures) at (c.write.ensures.failed clean inside));
 }

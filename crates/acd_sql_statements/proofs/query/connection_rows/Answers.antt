@@ -12,10 +12,13 @@ use Rattle.acd_sql_statements.proofs.query.connection_rows.Goals as goal
 pub returns-clause-found : goal.returns-clause-found
 returns-clause-found g c =
     let e = c.read.ensures in
-    finds _ _ (state g.S.Store c.args.conn.now) (state g.S.Store c.read.new.conn) c.read.result connections_plain _ e.up e.quiet e.stops e.shown (shows_connections _ _)
+    finds _ _ (state g.S.Store c.args.conn.now) (state g.S.Store c.read.new.conn) c.read.result connections_plain _ e.up e.quiet e.stops e.shown
+    (shows_connections _ _)
 
 pub returns-clause-seen : goal.returns-clause-seen
-returns-clause-seen g c d is = sees_all d (state g.S.Store c.args.conn.now) (state g.S.Store c.read.new.conn) c.read.result table.Connections nine SELECT_CONNECTIONS.now connections_listing asks_connections is (c.read.ensures.seen d (plain_of nine SELECT_CONNECTIONS.now connections_listing d.schema is))
+returns-clause-seen g c d is =
+    sees_all d (state g.S.Store c.args.conn.now) (state g.S.Store c.read.new.conn) c.read.result table.Connections nine SELECT_CONNECTIONS.now
+    connections_listing asks_connections is (c.read.ensures.seen d (plain_of nine SELECT_CONNECTIONS.now connections_listing d.schema is))
 
 pub returns-clause-cause : goal.returns-clause-cause
 returns-clause-cause g c = c.read.ensures.cause connections_answered

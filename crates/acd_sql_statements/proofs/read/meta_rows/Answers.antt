@@ -23,11 +23,13 @@ returns-clause-found g c =
     }
 
 pub returns-clause-seen : goal.returns-clause-seen
-returns-clause-seen g c d is = sees_meta d (state g.S.Store c.args.conn.now) (state g.S.Store c.read.new.conn) c.read.result is (c.read.ensures.seen d (meta_plain d.schema is))
+returns-clause-seen g c d is =
+    sees_meta d (state g.S.Store c.args.conn.now) (state g.S.Store c.read.new.conn) c.read.result is (c.read.ensures.seen d (meta_plain d.schema is))
 
 pub returns-clause-cause : goal.returns-clause-cause
 returns-clause-cause g c = c.read.ensures.cause counters_answered
 
 pub returns-clause-looked : goal.returns-clause-looked
 returns-clause-looked g c =
-    looks_so (HasGood (BeginsSchema nine) []) (λ d. ¬ (RefusesToShow d SELECT_META.now [])) (λ d h. counters_over d h.0) (state g.S.Store c.args.conn.now) (state g.S.Store c.read.new.conn) c.read.result c.read.ensures.looked
+    looks_so (HasGood (BeginsSchema nine) []) (λ d. ¬ (RefusesToShow d SELECT_META.now [])) (λ d h. counters_over d h.0) (state g.S.Store c.args.conn.now)
+    (state g.S.Store c.read.new.conn) c.read.result c.read.ensures.looked

@@ -18,17 +18,25 @@ pub returns-in_err-rows : goal.returns-in_err-rows
 returns-in_err-rows g c = record {
   found =
       let is : c.from_residual.result ≡ Err c.in_err-rows.field-0.0 = search rules in
-      subst (λ r. Finds (state g.S.Store c.args.conn.now) (state g.S.Store c.connection_rows.new.conn) r (λ (x : Content) (found : Vec ConnectionRecord Global). found.items ≡ x.rows.connections)) (sym is)
-      (found_none (state g.S.Store c.args.conn.now) (state g.S.Store c.connection_rows.new.conn) c.in_err-rows.field-0.0 _ (λ (x : Content) (found : Vec ConnectionRecord Global). found.items ≡ x.rows.connections) c.in_err-rows.ensures.found);
-  cause = cause_as (state g.S.Store c.args.conn.now) (state g.S.Store c.connection_rows.new.conn) c.in_err-rows.field-0.0 c.from_residual.result (search rules) c.in_err-rows.ensures.cause;
+      subst
+      (λ r. Finds (state g.S.Store c.args.conn.now) (state g.S.Store c.connection_rows.new.conn) r
+      (λ (x : Content) (found : Vec ConnectionRecord Global). found.items ≡ x.rows.connections))
+      (sym is)
+      (found_none (state g.S.Store c.args.conn.now) (state g.S.Store c.connection_rows.new.conn) c.in_err-rows.field-0.0 _
+      (λ (x : Content) (found : Vec ConnectionRecord Global). found.items ≡ x.rows.connections) c.in_err-rows.ensures.found);
+  cause =
+      cause_as (state g.S.Store c.args.conn.now) (state g.S.Store c.connection_rows.new.conn) c.in_err-rows.field-0.0 c.from_residual.result (search rules)
+      c.in_err-rows.ensures.cause;
 }
 
 pub returns : goal.returns
 returns g c = record {
   found =
-      recorded connection_in connection_values connection_exact (state g.S.Store c.args.conn.now) (state g.S.Store c.connection_rows.new.conn) c.in_ok-rows.rows c.records.result (λ (x : Content). x.rows.connections) c.in_ok-rows.ensures.found
+      recorded connection_in connection_values connection_exact (state g.S.Store c.args.conn.now) (state g.S.Store c.connection_rows.new.conn) c.in_ok-rows.rows
+      c.records.result (λ (x : Content). x.rows.connections) c.in_ok-rows.ensures.found
       (rw c.deref.ensures.value at c.records.ensures.records);
   cause =
-      cause_records connection_in table.Connections (λ row. refl) (state g.S.Store c.args.conn.now) (state g.S.Store c.connection_rows.new.conn) c.in_ok-rows.rows c.records.result (λ (x : Content). map connection_values x.rows.connections) (λ x row has. has)
+      cause_records connection_in table.Connections (λ row. refl) (state g.S.Store c.args.conn.now) (state g.S.Store c.connection_rows.new.conn)
+      c.in_ok-rows.rows c.records.result (λ (x : Content). map connection_values x.rows.connections) (λ x row has. has)
       c.in_ok-rows.ensures.cause c.in_ok-rows.ensures.found (rw c.deref.ensures.value at c.records.ensures.bad);
 }

@@ -14,9 +14,11 @@ returns g c = record {
   put = λ clean.
       let old = state g.S.Store c.args.tx.now.conn.now in
       let new = state g.S.Store c.write.new.tx.conn.now in
-      changes_uncommitted (text_up_to c.args.log) (id_value c.args.number ∷ []) (without_up_to c.args.log c.args.number) old new c.write.result (λ r count. removed_up_to c.args.log c.args.number r old new count)
+      changes_uncommitted (text_up_to c.args.log) (id_value c.args.number ∷ []) (without_up_to c.args.log c.args.number) old new c.write.result
+      (λ r count. removed_up_to c.args.log c.args.number r old new count)
       (rw (c.text_up_to.ensures, c.integer.ensures) at (c.write.ensures.ran clean));
   failed =
-      by_one (state g.S.Store c.args.tx.now.conn.now) (state g.S.Store c.write.new.tx.conn.now) (text_up_to c.args.log) (id_value c.args.number ∷ []) c.write.result
+      by_one (state g.S.Store c.args.tx.now.conn.now) (state g.S.Store c.write.new.tx.conn.now) (text_up_to c.args.log) (id_value c.args.number ∷ [])
+      c.write.result
       (λ clean inside. rw (c.text_up_to.ensures, c.integer.ensures) at (c.write.ensures.failed clean inside));
 }

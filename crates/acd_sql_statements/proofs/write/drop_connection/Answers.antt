@@ -14,9 +14,11 @@ returns g c = record {
   put = λ clean.
       let old = state g.S.Store c.args.tx.now.conn.now in
       let new = state g.S.Store c.write.new.tx.conn.now in
-      changes_uncommitted DELETE_CONNECTION.now (id_value c.args.call ∷ id_value c.args.device ∷ []) _ old new c.write.result (λ x count. drops_connection c.args.call c.args.device x old new count)
+      changes_uncommitted DELETE_CONNECTION.now (id_value c.args.call ∷ id_value c.args.device ∷ []) _ old new c.write.result
+      (λ x count. drops_connection c.args.call c.args.device x old new count)
       (rw (c.integer.ensures, c.device.ensures) at (c.write.ensures.ran clean));
   failed =
-      by_one (state g.S.Store c.args.tx.now.conn.now) (state g.S.Store c.write.new.tx.conn.now) DELETE_CONNECTION.now (id_value c.args.call ∷ id_value c.args.device ∷ []) c.write.result
+      by_one (state g.S.Store c.args.tx.now.conn.now) (state g.S.Store c.write.new.tx.conn.now) DELETE_CONNECTION.now
+      (id_value c.args.call ∷ id_value c.args.device ∷ []) c.write.result
       (λ clean inside. rw (c.integer.ensures, c.device.ensures) at (c.write.ensures.failed clean inside));
 }

@@ -14,9 +14,11 @@ returns g c = record {
       let old = state g.S.Store c.args.tx.now.conn.now in
       let new = state g.S.Store c.write.new.tx.conn.now in
       let connection = c.args.connection.now in
-      changes_uncommitted INSERT_CONNECTION.now (connection_values connection) _ old new c.write.result (λ x count. inserts_connection connection x old new count)
+      changes_uncommitted INSERT_CONNECTION.now (connection_values connection) _ old new c.write.result
+      (λ x count. inserts_connection connection x old new count)
       (rw c.connection_values.ensures at (c.write.ensures.ran clean));
   failed =
-      by_one (state g.S.Store c.args.tx.now.conn.now) (state g.S.Store c.write.new.tx.conn.now) INSERT_CONNECTION.now (connection_values c.args.connection.now) c.write.result
+      by_one (state g.S.Store c.args.tx.now.conn.now) (state g.S.Store c.write.new.tx.conn.now) INSERT_CONNECTION.now (connection_values c.args.connection.now)
+      c.write.result
       (λ clean inside. rw c.connection_values.ensures at (c.write.ensures.failed clean inside));
 }

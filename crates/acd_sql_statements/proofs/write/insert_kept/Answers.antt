@@ -16,9 +16,42 @@ returns g c = record {
       let old = state g.S.Store c.args.tx.now.conn.now in
       let new = state g.S.Store c.write.new.tx.conn.now in
       let item = c.args.kept.now in
-      changes_uncommitted INSERT_KEPT.now (kept_values item) _ old new c.write.result (λ x count. inserted_in kept kept_described item c.reads_back.ensures x old new count)
-      (rw (c.integer.ensures, c.text.ensures, c.as_bytes.ensures.value, c.small.ensures, c.number.ensures.value, c.small-2.ensures, c.text-2.ensures, c.as_bytes-2.ensures.value, c.small-3.ensures, c.from.ensures, c.text-3.ensures, c.as_bytes-3.ensures.value, c.as_str.ensures, c.requires.request) at (c.write.ensures.ran clean));
+      changes_uncommitted INSERT_KEPT.now (kept_values item) _ old new c.write.result
+      (λ x count. inserted_in kept kept_described item c.reads_back.ensures x old new count)
+      (rw (
+        c.integer.ensures,
+        c.text.ensures,
+        c.as_bytes.ensures.value,
+        c.small.ensures,
+        c.number.ensures.value,
+        c.small-2.ensures,
+        c.text-2.ensures,
+        c.as_bytes-2.ensures.value,
+        c.small-3.ensures,
+        c.from.ensures,
+        c.text-3.ensures,
+        c.as_bytes-3.ensures.value,
+        c.as_str.ensures,
+        c.requires.request,
+      )
+      at (c.write.ensures.ran clean));
   failed =
       by_one (state g.S.Store c.args.tx.now.conn.now) (state g.S.Store c.write.new.tx.conn.now) INSERT_KEPT.now (kept_values c.args.kept.now) c.write.result
-      (λ clean inside. rw (c.integer.ensures, c.text.ensures, c.as_bytes.ensures.value, c.small.ensures, c.number.ensures.value, c.small-2.ensures, c.text-2.ensures, c.as_bytes-2.ensures.value, c.small-3.ensures, c.from.ensures, c.text-3.ensures, c.as_bytes-3.ensures.value, c.as_str.ensures, c.requires.request) at (c.write.ensures.failed clean inside));
+      (λ clean inside. rw (
+        c.integer.ensures,
+        c.text.ensures,
+        c.as_bytes.ensures.value,
+        c.small.ensures,
+        c.number.ensures.value,
+        c.small-2.ensures,
+        c.text-2.ensures,
+        c.as_bytes-2.ensures.value,
+        c.small-3.ensures,
+        c.from.ensures,
+        c.text-3.ensures,
+        c.as_bytes-3.ensures.value,
+        c.as_str.ensures,
+        c.requires.request,
+      )
+      at (c.write.ensures.failed clean inside));
 }

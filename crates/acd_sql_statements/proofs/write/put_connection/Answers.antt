@@ -41,7 +41,8 @@ returns g c = record {
       let middle : HasCleanDisk mid = omega (arith, clean, c.insert_connection.ensures.works.survives.clean) in
       let none : c.in_ok-changed.changed ≡ 0 = omega (arith, c.if-changed-gt0.false) in
       let first = rw c.connection_values.ensures at (c.in_ok-changed.ensures.ran middle) in
-      after_none connection (λ (content : Relations). with_part table.Connections (put_by (at_connection connection.call connection.device) content.connections connection) content)
+      after_none connection (λ (content : Relations). with_part table.Connections
+      (put_by (at_connection connection.call connection.device) content.connections connection) content)
       old mid new c.in_ok-changed.changed c.insert_connection.result first none (c.insert_connection.ensures.put clean);
   failed =
       let old = state g.S.Store c.args.tx.now.conn.now in
@@ -54,7 +55,8 @@ returns g c = record {
       let middle : HasCleanDisk mid = omega (arith, clean, c.insert_connection.ensures.works.survives.clean) in
       none_connected x r old mid c.in_ok-changed.changed d (rw c.connection_values.ensures at (c.in_ok-changed.ensures.ran middle)) none)
       (λ limit r none h. inr (none, h))
-      (by_later old mid new (λ r. r) (RefusesOn INSERT_CONNECTION.now (connection_values x)) c.insert_connection.result c.changed_rows.ensures.works c.insert_connection.ensures.works
+      (by_later old mid new (λ r. r) (RefusesOn INSERT_CONNECTION.now (connection_values x)) c.insert_connection.result c.changed_rows.ensures.works
+      c.insert_connection.ensures.works
       (λ middle r d. still_connected x r old mid c.in_ok-changed.changed d (rw c.connection_values.ensures at (c.in_ok-changed.ensures.ran middle)) none)
       c.insert_connection.ensures.failed);
 }

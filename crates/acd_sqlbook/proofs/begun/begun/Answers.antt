@@ -7,17 +7,23 @@ use Rattle.acd_sqlbook.proofs.begun.begun.Goals as goal
 
 pub returns-in_err-rows-clause-found : goal.returns-in_err-rows-clause-found
 returns-in_err-rows-clause-found g c =
-    begins_never (state g.S.Store c.args.conn.now) (state g.S.Store c.rows.new.conn) c.in_err-rows.field-0.0 c.from_residual.result (search rules) c.in_err-rows.ensures.found
+    begins_never (state g.S.Store c.args.conn.now) (state g.S.Store c.rows.new.conn) c.in_err-rows.field-0.0 c.from_residual.result (search rules)
+    c.in_err-rows.ensures.found
 
 pub returns-clause-found : goal.returns-clause-found
 returns-clause-found g c =
     let index : Index = record { watched = c.of_monitors-watched.result; last = c.earliest-last.result } in
-    begins (state g.S.Store c.args.conn.now) (state g.S.Store c.rows.new.conn) (state g.S.Store c.index_to_the_end.new.conn) c.in_ok-rows.rows index c.index_to_the_end.result c.of_monitors-watched.ensures.lists c.in_ok-rows.ensures.found c.index_to_the_end.ensures.found
+    begins (state g.S.Store c.args.conn.now) (state g.S.Store c.rows.new.conn) (state g.S.Store c.index_to_the_end.new.conn) c.in_ok-rows.rows index
+    c.index_to_the_end.result c.of_monitors-watched.ensures.lists c.in_ok-rows.ensures.found c.index_to_the_end.ensures.found
 
 pub returns-in_err-rows-clause-cause : goal.returns-in_err-rows-clause-cause
-returns-in_err-rows-clause-cause g c = cause_as (state g.S.Store c.args.conn.now) (state g.S.Store c.rows.new.conn) c.in_err-rows.field-0.0 c.from_residual.result (search rules) c.in_err-rows.ensures.cause
+returns-in_err-rows-clause-cause g c =
+    cause_as (state g.S.Store c.args.conn.now) (state g.S.Store c.rows.new.conn) c.in_err-rows.field-0.0 c.from_residual.result (search rules)
+    c.in_err-rows.ensures.cause
 
 pub returns-clause-cause : goal.returns-clause-cause
 returns-clause-cause g c =
     let is_open = c.in_ok-rows.ensures.found.up in
-    cause_after (state g.S.Store c.args.conn.now) (state g.S.Store c.rows.new.conn) (state g.S.Store c.index_to_the_end.new.conn) c.in_ok-rows.rows c.index_to_the_end.result c.in_ok-rows.ensures.cause c.in_ok-rows.ensures.found.quiet is_open (c.index_to_the_end.ensures.found is_open).quiet.clean (c.index_to_the_end.ensures.cause is_open)
+    cause_after (state g.S.Store c.args.conn.now) (state g.S.Store c.rows.new.conn) (state g.S.Store c.index_to_the_end.new.conn) c.in_ok-rows.rows
+    c.index_to_the_end.result c.in_ok-rows.ensures.cause c.in_ok-rows.ensures.found.quiet is_open (c.index_to_the_end.ensures.found is_open).quiet.clean
+    (c.index_to_the_end.ensures.cause is_open)

@@ -9,6 +9,7 @@ use Rattle.acd_sqlbook.proofs.begun.index_to_the_end.Given as goal
 
 abbrev pub invariant-loop : goal.invariant-loop
 invariant-loop g l = record {
-  found : IsOpenIfClean (state g.S.Store l.fn.conn) → Finds {E = Error} (state g.S.Store l.fn.conn) (state g.S.Store l.conn) (Ok l.index) (HasPassed l.fn.begun);
+  found : IsOpenIfClean (state g.S.Store l.fn.conn)
+      → Finds {E = Error} (state g.S.Store l.fn.conn) (state g.S.Store l.conn) (Ok l.index) (HasPassed l.fn.begun);
   cause : IsOpenIfClean (state g.S.Store l.fn.conn) → HasReadCause (state g.S.Store l.fn.conn) (state g.S.Store l.conn) (Ok l.index);
 }

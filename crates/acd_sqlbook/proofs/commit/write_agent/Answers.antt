@@ -9,4 +9,5 @@ pub returns-clause-put : goal.returns-clause-put
 returns-clause-put g c clean =
     let old = state g.S.Store c.args.tx.now.conn.now in
     let agent = c.args.agent.now in
-    leaving old (state g.S.Store c.put_agent.new.tx.conn.now) c.put_agent.result (with_agent_parts agent) (λ x. applied x (PutAgent agent)) (agent_applied agent c.as_slice-ascending.ensures.ascending old) (c.put_agent.ensures.put clean)
+    leaving old (state g.S.Store c.put_agent.new.tx.conn.now) c.put_agent.result (with_agent_parts agent) (λ x. applied x (PutAgent agent))
+    (agent_applied agent c.as_slice-ascending.ensures.ascending old) (c.put_agent.ensures.put clean)

@@ -54,7 +54,8 @@ returns-in_err-write_events-clause-failed g c =
     let made = λ (x : Content). all_applied x changes in
     stops_more old two (λ x. StopsInEvents events (made x)) all c.from_residual-in_err-write_events.result (λ x h. inr (inl h))
     (stops_same old two (λ x. StopsInEvents events (made x)) c.in_err-write_events.field-0.0 c.from_residual-in_err-write_events.result (search rules)
-    (stops_later old one two made (StopsInEvents events) (Err c.in_err-write_events.field-0.0) c.write_changes.ensures.works c.write_events.ensures.works c.in_ok-write_changes.ensures.put c.in_err-write_events.ensures.failed))
+    (stops_later old one two made (StopsInEvents events) (Err c.in_err-write_events.field-0.0) c.write_changes.ensures.works c.write_events.ensures.works
+    c.in_ok-write_changes.ensures.put c.in_err-write_events.ensures.failed))
 
 pub returns-in_err-insert_kept-clause-failed : goal.returns-in_err-insert_kept-clause-failed
 returns-in_err-insert_kept-clause-failed g c =
@@ -71,9 +72,12 @@ returns-in_err-insert_kept-clause-failed g c =
     let free = c.write_events.ensures.works.survives.limit ∙ c.write_changes.ensures.works.survives.limit ∙ c.requires.free in
     stops_more old three (λ x. stop (made x)) all c.from_residual-in_err-insert_kept.result (λ x h. inr (inr (inl h)))
     (stops_same old three (λ x. stop (made x)) c.in_err-insert_kept.field-0.0 c.from_residual-in_err-insert_kept.result (search rules)
-    (stops_later old two three made stop (Err c.in_err-insert_kept.field-0.0) (works_on old one two c.write_changes.ensures.works c.write_events.ensures.works) c.insert_kept.ensures.works
-    (λ second x d. let first : HasCleanDisk one = omega (arith, second, c.write_events.ensures.works.survives.clean) in c.in_ok-write_events.ensures.put second _ (c.in_ok-write_changes.ensures.put first x d))
-    (stops_as two three free (RefusesOn INSERT_KEPT.now (kept_values kept)) stop (Err c.in_err-insert_kept.field-0.0) (λ x h. h) c.in_err-insert_kept.ensures.failed)))
+    (stops_later old two three made stop (Err c.in_err-insert_kept.field-0.0) (works_on old one two c.write_changes.ensures.works c.write_events.ensures.works)
+    c.insert_kept.ensures.works
+    (λ second x d. let first : HasCleanDisk one = omega (arith, second, c.write_events.ensures.works.survives.clean) in
+    c.in_ok-write_events.ensures.put second _ (c.in_ok-write_changes.ensures.put first x d))
+    (stops_as two three free (RefusesOn INSERT_KEPT.now (kept_values kept)) stop (Err c.in_err-insert_kept.field-0.0) (λ x h. h)
+    c.in_err-insert_kept.ensures.failed)))
 
 pub returns-in_err-set_meta-clause-failed : goal.returns-in_err-set_meta-clause-failed
 returns-in_err-set_meta-clause-failed g c =
@@ -88,13 +92,21 @@ returns-in_err-set_meta-clause-failed g c =
     let kept = c.args.kept.now in
     let made = λ (x : Content). with_kept (with_events (all_applied x changes) events) kept in
     let stop : Content → Type 0 = λ (x : Content). RefusesOn UPDATE_META.now (meta_shown c.args.meta.now) None (relations_of x) in
-    let free = c.insert_kept.ensures.works.survives.limit ∙ c.write_events.ensures.works.survives.limit ∙ c.write_changes.ensures.works.survives.limit ∙ c.requires.free in
+    let free =
+    c.insert_kept.ensures.works.survives.limit ∙ c.write_events.ensures.works.survives.limit ∙ c.write_changes.ensures.works.survives.limit
+    ∙ c.requires.free in
     stops_more old four (λ x. stop (made x)) all c.from_residual-in_err-set_meta.result (λ x h. inr (inr (inr h)))
     (stops_same old four (λ x. stop (made x)) c.in_err-set_meta.field-0.0 c.from_residual-in_err-set_meta.result (search rules)
-    (stops_later old three four made stop (Err c.in_err-set_meta.field-0.0) (works_on old two three (works_on old one two c.write_changes.ensures.works c.write_events.ensures.works) c.insert_kept.ensures.works) c.set_meta.ensures.works
+    (stops_later old three four made stop (Err c.in_err-set_meta.field-0.0)
+    (works_on old two three (works_on old one two c.write_changes.ensures.works c.write_events.ensures.works) c.insert_kept.ensures.works)
+    c.set_meta.ensures.works
     (λ third x d.
     let second : HasCleanDisk two = omega (arith, third, c.insert_kept.ensures.works.survives.clean) in
     let first : HasCleanDisk one = omega (arith, second, c.write_events.ensures.works.survives.clean) in
     let held = c.in_ok-write_events.ensures.put second _ (c.in_ok-write_changes.ensures.put first x d) in
-    record { relations = c.in_ok-insert_kept.ensures.put third _ held.relations; range = kept_in_range kept c.kept_is_good.ensures (with_events (all_applied x changes) events) held.range })
-    (stops_as three four free (RefusesOn UPDATE_META.now (meta_shown c.args.meta.now)) stop (Err c.in_err-set_meta.field-0.0) (λ x h. h) c.in_err-set_meta.ensures.failed)))
+    record {
+      relations = c.in_ok-insert_kept.ensures.put third _ held.relations;
+      range = kept_in_range kept c.kept_is_good.ensures (with_events (all_applied x changes) events) held.range;
+    })
+    (stops_as three four free (RefusesOn UPDATE_META.now (meta_shown c.args.meta.now)) stop (Err c.in_err-set_meta.field-0.0) (λ x h. h)
+    c.in_err-set_meta.ensures.failed)))

@@ -11,9 +11,11 @@ pub returns-clause-failed : goal.returns-clause-failed
 returns-clause-failed g c =
     let new = IsTrue c.args.is_new in
     let change = c.args.change.now in
-    stops_more (state g.S.Store c.args.tx.now.conn.now) (state g.S.Store c.make_change.new.tx.conn.now) (λ x. RefusesChange new change (relations_of x)) (StopsAtChange new change) c.make_change.result (λ x h. inr h) c.make_change.ensures.failed
+    stops_more (state g.S.Store c.args.tx.now.conn.now) (state g.S.Store c.make_change.new.tx.conn.now) (λ x. RefusesChange new change (relations_of x))
+    (StopsAtChange new change) c.make_change.result (λ x h. inr h) c.make_change.ensures.failed
 
 pub returns-clause-put : goal.returns-clause-put
 returns-clause-put g c clean =
     let change = c.args.change.now in
-    ranging (state g.S.Store c.args.tx.now.conn.now) (state g.S.Store c.make_change.new.tx.conn.now) c.make_change.result (λ x. applied x change) (applied_in_range change c.change_is_good.ensures) (c.make_change.ensures.put clean)
+    ranging (state g.S.Store c.args.tx.now.conn.now) (state g.S.Store c.make_change.new.tx.conn.now) c.make_change.result (λ x. applied x change)
+    (applied_in_range change c.change_is_good.ensures) (c.make_change.ensures.put clean)

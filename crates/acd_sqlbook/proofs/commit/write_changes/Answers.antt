@@ -24,7 +24,8 @@ loop-change-preserved g c =
       works = works_on _ _ _ inv.works e.works;
       put = λ clean x d.
           let before : HasCleanDisk (state g.S.Store c.loop-change.tx.conn.now) = omega (arith, e.works.survives.clean) in
-          next_applied _ _ c.in-Some.change.now c.loop-change.rest.now c.in-Some.remaining.now c.args.changes.now x c.in-Some.ensures.some.applying (c.in_ok-write_change.ensures.put clean) (inv.put before x d);
+          next_applied _ _ c.in-Some.change.now c.loop-change.rest.now c.in-Some.remaining.now c.args.changes.now x c.in-Some.ensures.some.applying
+          (c.in_ok-write_change.ensures.put clean) (inv.put before x d);
       stops = λ clean x d.
           let before : HasCleanDisk (state g.S.Store c.loop-change.tx.conn.now) = omega (arith, e.works.survives.clean) in
           let held = inv.stops before x d in
@@ -37,7 +38,9 @@ loop-change-preserved g c =
     }
 
 pub returns-clause-put : goal.returns-clause-put
-returns-clause-put g c clean x d = none_left (state g.S.Store c.loop-change.tx.conn.now) c.loop-change.rest.now c.args.changes.now x (c.next_written.ensures.none c.in_default.is) (c.loop-change.invariant.put clean x d)
+returns-clause-put g c clean x d =
+    none_left (state g.S.Store c.loop-change.tx.conn.now) c.loop-change.rest.now c.args.changes.now x (c.next_written.ensures.none c.in_default.is)
+    (c.loop-change.invariant.put clean x d)
 
 pub returns-in_err-write_change-clause-failed : goal.returns-in_err-write_change-clause-failed
 returns-in_err-write_change-clause-failed g c =
@@ -54,4 +57,6 @@ returns-in_err-write_change-clause-failed g c =
     let next = c.in-Some.ensures.some in
     stops_after all x (StopsAtChange (IsTrue c.is_new.result) c.in-Some.change.now) held.0 old mid new error inv.works c.write_change.ensures.works before
     (λ h. held.2 (subst (λ l. StopsInChanges (HasAbove c.args.last x) l held.0) (sym next.first)
-    (inl (stops_unseen c.args.last c.loop-change.rest.now c.in-Some.remaining.now c.args.changes.now c.in-Some.change.now x held.0 c.is_new.result c.is_new.ensures next held.3 h)))) (c.in_err-write_change.ensures.failed clean held.0 held.1))
+    (inl (stops_unseen c.args.last c.loop-change.rest.now c.in-Some.remaining.now c.args.changes.now c.in-Some.change.now x held.0 c.is_new.result
+    c.is_new.ensures next held.3 h))))
+    (c.in_err-write_change.ensures.failed clean held.0 held.1))

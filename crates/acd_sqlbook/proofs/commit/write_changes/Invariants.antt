@@ -13,9 +13,11 @@ abbrev pub invariant-loop-change : goal.invariant-loop-change
 invariant-loop-change g l = record {
   same : l.tx.conn.ghost_name ≡ l.fn.tx.conn.ghost_name;
   works : Works (state g.S.Store l.fn.tx.conn.now) (state g.S.Store l.tx.conn.now);
-  put : HasCleanDisk (state g.S.Store l.tx.conn.now) → (c : Content) → HoldsGood (state g.S.Store l.fn.tx.conn.now) c → (x : Content) × HoldsGood (state g.S.Store l.tx.conn.now) x × (all_applied x l.rest ≡ all_applied c l.changes);
+  put : HasCleanDisk (state g.S.Store l.tx.conn.now) → (c : Content) → HoldsGood (state g.S.Store l.fn.tx.conn.now) c
+      → (x : Content) × HoldsGood (state g.S.Store l.tx.conn.now) x × (all_applied x l.rest ≡ all_applied c l.changes);
   stops : HasCleanDisk (state g.S.Store l.tx.conn.now) → (c : Content) → HoldsGood (state g.S.Store l.fn.tx.conn.now) c
-      → (x : Content) × HoldsGood (state g.S.Store l.tx.conn.now) x × (StopsInChanges (HasAbove l.last c) (written l.rest) x → StopsInChanges (HasAbove l.last c) (written l.changes) c) × Unmet l.rest l.changes c x;
+      → (x : Content) × HoldsGood (state g.S.Store l.tx.conn.now) x
+      × (StopsInChanges (HasAbove l.last c) (written l.rest) x → StopsInChanges (HasAbove l.last c) (written l.changes) c) × Unmet l.rest l.changes c x;
 }
 
 abbrev pub decreases-loop-change : goal.decreases-loop-change

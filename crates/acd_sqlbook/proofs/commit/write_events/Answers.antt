@@ -33,7 +33,8 @@ loop-some-preserved g c =
 pub returns-clause-put : goal.returns-clause-put
 returns-clause-put g c clean x d =
     let held = c.loop-some.invariant.put clean x d in
-    subst (λ k. HoldsGood (state g.S.Store c.loop-some.tx.conn.now) k) (subst (λ l. with_events held.0 l ≡ with_events x c.args.events.now) (c.next_events.ensures.none c.in_default.is) held.2) held.1
+    subst (λ k. HoldsGood (state g.S.Store c.loop-some.tx.conn.now) k)
+    (subst (λ l. with_events held.0 l ≡ with_events x c.args.events.now) (c.next_events.ensures.none c.in_default.is) held.2) held.1
 
 pub returns-in_err-write_some-clause-failed : goal.returns-in_err-write_some-clause-failed
 returns-in_err-write_some-clause-failed g c =
@@ -48,4 +49,5 @@ returns-in_err-write_some-clause-failed g c =
     let before : HasCleanDisk mid = omega (arith, clean, c.write_some.ensures.works.survives.clean) in
     let held = inv.put before x d in
     stops_after all x (StopsAtEvents c.in-Some.some.now) held.0 old mid new error inv.works c.write_some.ensures.works before
-    (λ h. held.3 (next_stops StopsAtEvents c.loop-some.rest.now c.in-Some.some.now c.in-Some.remaining.now c.in-Some.ensures.some held.0 (inl h))) (c.in_err-write_some.ensures.failed clean held.0 held.1))
+    (λ h. held.3 (next_stops StopsAtEvents c.loop-some.rest.now c.in-Some.some.now c.in-Some.remaining.now c.in-Some.ensures.some held.0 (inl h)))
+    (c.in_err-write_some.ensures.failed clean held.0 held.1))

@@ -12,7 +12,8 @@ invariant-loop-some g l = record {
   same : l.tx.conn.ghost_name ≡ l.fn.tx.conn.ghost_name;
   works : Works (state g.S.Store l.fn.tx.conn.now) (state g.S.Store l.tx.conn.now);
   put : HasCleanDisk (state g.S.Store l.tx.conn.now) → (c : Content) → HoldsGood (state g.S.Store l.fn.tx.conn.now) c
-      → (x : Content) × HoldsGood (state g.S.Store l.tx.conn.now) x × (with_events x l.rest ≡ with_events c l.events) × (StopsInEvents l.rest x → StopsInEvents l.events c);
+      → (x : Content) × HoldsGood (state g.S.Store l.tx.conn.now) x × (with_events x l.rest ≡ with_events c l.events)
+      × (StopsInEvents l.rest x → StopsInEvents l.events c);
 }
 
 abbrev pub decreases-loop-some : goal.decreases-loop-some

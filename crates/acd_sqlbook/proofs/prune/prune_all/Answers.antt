@@ -26,7 +26,8 @@ returns-clause-done g c clean =
     let middle : HasCleanDisk mid = omega (arith, c.commit.ensures.survives.clean) in
     let made = pruned c.args.stamp c.args.number in
     let put : (x : Content) → HoldsContent old x → HoldsGood mid (made x) =
-    λ (x : Content) (h : HoldsContent old x). (rw begun at c.in_ok-remove_old.ensures.put) middle x (begins old (state g.S.Store (record c.args.conn.now { in_transaction = true })) x refl refl h) in
+    λ (x : Content) (h : HoldsContent old x). (rw begun at c.in_ok-remove_old.ensures.put) middle x
+    (begins old (state g.S.Store (record c.args.conn.now { in_transaction = true })) x refl refl h) in
     subst (λ h. OnOk c.commit.result ((x : Content) → HoldsContent old x → HoldsContent (state g.S.Store h) (made x))) same
     (made_whole old mid (state g.S.Store end) c.commit.result made put (c.commit.ensures.ok late))
 
@@ -42,7 +43,8 @@ returns-clause-undone g c clean =
     let keeps = (rw begun at c.remove_old.ensures.works).kept middle in
     let kept : KeepsCommit old mid = record { was_open = keeps.was_open; committed = keeps.committed } in
     let inside : (x : Content) → HoldsContent old x → mid.in_transaction ≡ true =
-    λ (x : Content) (h : HoldsContent old x). ((rw begun at c.in_ok-remove_old.ensures.put) middle x (begins old (state g.S.Store (record c.args.conn.now { in_transaction = true })) x refl refl h)).relations.inside in
+    λ (x : Content) (h : HoldsContent old x). ((rw begun at c.in_ok-remove_old.ensures.put) middle x
+    (begins old (state g.S.Store (record c.args.conn.now { in_transaction = true })) x refl refl h)).relations.inside in
     subst (λ h. OnErr c.commit.result ((x : Content) → HoldsContent old x → IsTrue (state g.S.Store h).is_open → HoldsContent (state g.S.Store h) x)) same
     (not_committed old mid (state g.S.Store end) c.commit.result kept inside (c.commit.ensures.err late))
 
@@ -60,7 +62,8 @@ returns-clause-stops g c clean =
     let put : (x : Content) → HoldsContent old x → HoldsGood mid (made x) =
     λ (x : Content) (h : HoldsContent old x). (rw begun at c.in_ok-remove_old.ensures.put) middle x (begins old begun-state x refl refl h) in
     subst (λ h. AddsStop old (state g.S.Store h) made) same
-    (adds_stop old begun-state mid (state g.S.Store end) made (λ db left. left) (rw begun at c.remove_old.ensures.works).survives c.commit.ensures.survives put middle late)
+    (adds_stop old begun-state mid (state g.S.Store end) made (λ db left. left) (rw begun at c.remove_old.ensures.works).survives c.commit.ensures.survives put
+    middle late)
 
 pub returns-in_err-remove_old-clause-failed : goal.returns-in_err-remove_old-clause-failed
 returns-in_err-remove_old-clause-failed g c clean x held =
@@ -93,4 +96,5 @@ returns-clause-failed g c clean x held =
     let stops : Content → Type 0 = λ (x : Content). RefusesPrune c.args.stamp c.args.number x in
     let uncommitted = (rw begin at c.in_ok-remove_old.ensures.put) middle x (begins old begun x refl refl held) in
     subst (λ h. IfErr c.commit.result (FailsToApply stops x old (state g.S.Store h))) same
-    (commit_stopped stops x begun mid (state g.S.Store end) c.commit.result works middle c.commit.ensures.survives.counts uncommitted.relations.inside (c.commit.ensures.err late))
+    (commit_stopped stops x begun mid (state g.S.Store end) c.commit.result works middle c.commit.ensures.survives.counts uncommitted.relations.inside
+    (c.commit.ensures.err late))

@@ -27,6 +27,8 @@ loop-round-preserved c =
     let some : offer_of c.loop-round.tables ≡ Some c.in-Some.offer = search rules in
     let one_less : most - c.loop-round.round ≡ suc (most - (c.loop-round.round + 1)) = omega arith in
     record {
-      left = offer_carried (most - c.loop-round.round) (most - (c.loop-round.round + 1)) c.in-Some.offer one_less some c.loop-round.invariant.left c.in_ok-make_offer.ensures;
+      left =
+          offer_carried (most - c.loop-round.round) (most - (c.loop-round.round + 1)) c.in-Some.offer one_less some c.loop-round.invariant.left
+          c.in_ok-make_offer.ensures;
       most_is = c.loop-round.invariant.most_is;
     }

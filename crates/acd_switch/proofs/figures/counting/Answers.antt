@@ -8,7 +8,8 @@ use Rattle.acd_switch.proofs.figures.counting.Goals as goal
 
 pub sum_of-figures-requires : goal.sum_of-figures-requires
 sum_of-figures-requires c =
-    subst (λ (f : Figures). AreFitting (sum_of_figures c.args.group.figures f)) (figures_of_one c.args.group.device c.args.event.now ∙ sym c.figures_by.ensures) c.requires
+    subst (λ (f : Figures). AreFitting (sum_of_figures c.args.group.figures f)) (figures_of_one c.args.group.device c.args.event.now ∙ sym c.figures_by.ensures)
+    c.requires
 
 pub returns : goal.returns
 returns c =

@@ -32,9 +32,12 @@ loop-event-preserved c =
     let order = c.loop-event.invariant.order in
     let grown : t ≡ changed_by s (growth_by s x) = c.in_ok-grow_by.ensures.rows in
     record {
-      rows = ap (λ (r : Rows). with_figures r rest) (grown ∙ one_grown s x order) ∙ figures_more s x rest ∙ ap (with_figures s) (sym parts) ∙ c.loop-event.invariant.rows;
+      rows =
+          ap (λ (r : Rows). with_figures r rest) (grown ∙ one_grown s x order) ∙ figures_more s x rest ∙ ap (with_figures s) (sym parts)
+          ∙ c.loop-event.invariant.rows;
       recorded = ap (λ l. l ++ growth t rest) c.in_ok-grow_by.ensures.changes ∙ append_assoc before (growth_by s x) (growth t rest)
-          ∙ ap (λ (r : Rows). before ++ (growth_by s x ++ growth r rest)) grown ∙ ap (λ (es : List Event). before ++ growth s es) (sym parts) ∙ c.loop-event.invariant.recorded;
+          ∙ ap (λ (r : Rows). before ++ (growth_by s x ++ growth r rest)) grown ∙ ap (λ (es : List Event). before ++ growth s es) (sym parts)
+          ∙ c.loop-event.invariant.recorded;
       order = subst (λ (r : Rows). IsAscending group_order r.groups) (sym grown) (ascending_grown s x order);
       room = others_fit s t x rest order grown (subst (λ (es : List Event). CountingFits s es) parts c.loop-event.invariant.room);
     }
@@ -42,4 +45,5 @@ loop-event-preserved c =
 pub returns-clause-rows : goal.returns-clause-rows
 returns-clause-rows c =
     let past : length c.args.events.now ≤ c.loop-event.event-index = omega arith in
-    sym (figures_none c.loop-event.tables) ∙ ap (with_figures c.loop-event.tables) (sym (drop_all c.loop-event.event-index c.args.events.now past)) ∙ c.loop-event.invariant.rows
+    sym (figures_none c.loop-event.tables) ∙ ap (with_figures c.loop-event.tables) (sym (drop_all c.loop-event.event-index c.args.events.now past))
+    ∙ c.loop-event.invariant.rows

@@ -7,5 +7,6 @@ use Rattle.acd_switch.proofs.tick.has_rested.Goals as goal
 
 pub loop-number-init : goal.loop-number-init
 loop-number-init c =
-    ap (list_any (λ (n : ℕ). passes (is_rested c.args.tables.now c.args.moment) (agent_of c.args.tables.now n))) c.into_iter-number-iterator.ensures.into_iter_gives
+    ap (list_any (λ (n : ℕ). passes (is_rested c.args.tables.now c.args.moment) (agent_of c.args.tables.now n)))
+    c.into_iter-number-iterator.ensures.into_iter_gives
     ∙ rested_given c.args.tables.now c.args.moment c.working_keys-number-items.result c.working_keys-number-items.ensures

@@ -6,4 +6,5 @@ use Rattle.acd_switch.proofs.TickLemmas.{passes}
 use Rattle.acd_switch.proofs.tick.has_rested.Given as goal
 
 abbrev pub invariant-loop-number : goal.invariant-loop-number
-invariant-loop-number l = list_any (λ n. passes (is_rested l.tables l.moment) (agent_of l.tables n)) l.number-iterator ≡ list_any (is_rested l.tables l.moment) l.tables.agents
+invariant-loop-number l =
+    list_any (λ n. passes (is_rested l.tables l.moment) (agent_of l.tables n)) l.number-iterator ≡ list_any (is_rested l.tables l.moment) l.tables.agents

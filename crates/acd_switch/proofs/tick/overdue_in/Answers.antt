@@ -12,5 +12,7 @@ returns-then-is_empty c =
 
 pub returns : goal.returns
 returns c =
-    let all = ap (filter (is_overdue c.args.tables.now c.args.moment)) (c.as_slice.ensures.value ∙ c.in_ok-ringing.ensures) ∙ overdue-ringing c.args.tables.now c.args.moment in
+    let all =
+    ap (filter (is_overdue c.args.tables.now c.args.moment)) (c.as_slice.ensures.value ∙ c.in_ok-ringing.ensures)
+    ∙ overdue-ringing c.args.tables.now c.args.moment in
     IfOk-weaker c.overdue_among.result _ _ (λ v h. h ∙ all) c.overdue_among.ensures

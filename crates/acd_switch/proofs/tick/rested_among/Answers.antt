@@ -16,6 +16,14 @@ loop-agent-preserved c =
     let l = c.loop-agent in
     let new = c.if-is_rested.rested.items in
     elim c.if-is_rested.branch [
-      | then-is_rested+in_ok-push w ↦ record { done = keeps_one (is_rested c.args.tables.now c.args.moment) l.rested.items items new l.agent-index c.loop-agent-test.true l.invariant.done _ _ c.agent-item.is w.if-is_rested.ensures (cc (w.in_ok-push.ensures.items)) }
-      | else-is_rested w ↦ record { done = leaves_one (is_rested c.args.tables.now c.args.moment) l.rested.items items new l.agent-index c.loop-agent-test.true l.invariant.done _ _ c.agent-item.is w.if-is_rested.ensures (cc) }
+      | then-is_rested+in_ok-push w ↦ record {
+        done =
+            keeps_one (is_rested c.args.tables.now c.args.moment) l.rested.items items new l.agent-index c.loop-agent-test.true l.invariant.done _ _
+            c.agent-item.is w.if-is_rested.ensures (cc (w.in_ok-push.ensures.items));
+      }
+      | else-is_rested w ↦ record {
+        done =
+            leaves_one (is_rested c.args.tables.now c.args.moment) l.rested.items items new l.agent-index c.loop-agent-test.true l.invariant.done _ _
+            c.agent-item.is w.if-is_rested.ensures (cc);
+      }
     ]

@@ -12,5 +12,7 @@ returns-then-is_empty c =
 
 pub returns : goal.returns
 returns c =
-    let all = ap (filter (is_rested c.args.tables.now c.args.moment)) (c.as_slice.ensures.value ∙ c.in_ok-working.ensures) ∙ rested-working c.args.tables.now c.args.moment in
+    let all =
+    ap (filter (is_rested c.args.tables.now c.args.moment)) (c.as_slice.ensures.value ∙ c.in_ok-working.ensures)
+    ∙ rested-working c.args.tables.now c.args.moment in
     IfOk-weaker c.rested_among.result _ _ (λ v h. h ∙ all) c.rested_among.ensures

@@ -11,7 +11,9 @@ loop-connection-preserved c =
     let x = c.connection-item.result in
     let parts : drop i items ≡ x ∷ drop (i + 1) items = grind (arith, common_steps) in
     record {
-      left = one_carried (λ t y. return_moves t c.args.at y) x (drop i items) (drop (i + 1) items) parts c.loop-connection.invariant.left c.in_ok-take_back.ensures;
+      left =
+          one_carried (λ t y. return_moves t c.args.at y) x (drop i items) (drop (i + 1) items) parts c.loop-connection.invariant.left
+          c.in_ok-take_back.ensures;
       all = c.loop-connection.invariant.all;
     }
 

@@ -22,9 +22,13 @@ returns-in-Ok-clause-indexed c =
     let lines = c.put_listed.new.lines in
     let ringing = c.put_listed.new.ringing in
     let made = c.in-Ok.ensures.ok in
-    rw made (IsIndexed-put s c.args.item.now c.args.indexes.now y c.settle.new.self lines ringing c.connection_swap-swap.result c.queued_after-queued.result c.requires c.in_ok-undo.ensures.ok
-    (subst (λ t. TakenOut t (record y { lines = lines; ringing = ringing }) c.settle.new.self c.connection_swap-swap.result.leaving) made c.settle.ensures.taken) c.connection_swap-swap.ensures
-    (subst (λ t. Lines t lines) made c.put_listed.ensures.listed) (subst (λ t. Ringing t ringing) made c.put_listed.ensures.index) c.queued_after-queued.ensures)
+    rw made (IsIndexed-put s c.args.item.now c.args.indexes.now y c.settle.new.self lines ringing c.connection_swap-swap.result c.queued_after-queued.result
+    c.requires c.in_ok-undo.ensures.ok
+    (subst (λ t. TakenOut t (record y { lines = lines; ringing = ringing }) c.settle.new.self c.connection_swap-swap.result.leaving) made
+    c.settle.ensures.taken)
+    c.connection_swap-swap.ensures
+    (subst (λ t. Lines t lines) made c.put_listed.ensures.listed, subst (λ t. Ringing t ringing) made c.put_listed.ensures.index)
+    c.queued_after-queued.ensures)
 
 pub returns-in-Err-clause-indexed : goal.returns-in-Err-clause-indexed
 returns-in-Err-clause-indexed c =
@@ -33,15 +37,17 @@ returns-in-Err-clause-indexed c =
     let lines = c.put_listed.new.lines in
     let ringing = c.put_listed.new.ringing in
     let same = c.in-Err.ensures.err in
-    rw same (IsIndexed-no_put s c.args.indexes.now y c.take_out.new.self lines ringing c.connection_swap-swap.result.entering c.in_ok-undo.undo c.requires c.in_ok-undo.ensures.ok c.in_ok-undo.ensures.undo
+    rw same (IsIndexed-no_put s c.args.indexes.now y c.take_out.new.self lines ringing c.connection_swap-swap.result.entering c.in_ok-undo.undo c.requires
+    c.in_ok-undo.ensures.ok c.in_ok-undo.ensures.undo
     (subst (λ t. TakenOut t (record y { lines = lines; ringing = ringing }) c.take_out.new.self c.in_ok-undo.undo) same c.take_out.ensures)
-    (subst (λ t. Lines t lines) same c.put_listed.ensures.listed) (subst (λ t. Ringing t ringing) same c.put_listed.ensures.index))
+    (subst (λ t. Lines t lines) same c.put_listed.ensures.listed, subst (λ t. Ringing t ringing) same c.put_listed.ensures.index))
 
 pub settle-requires : goal.settle-requires
 settle-requires c =
     let s = c.args.records.now in
     let y = c.enter.new.self in
-    rw c.in-Ok.ensures.ok (offers-of s (with_connection s c.args.item.now) y.queues y.ready y.offering (group_same s (with_connection s c.args.item.now) (groups_put s c.args.item.now)) c.in_ok-undo.ensures.ok.offers)
+    rw c.in-Ok.ensures.ok (offers-of s (with_connection s c.args.item.now) y.queues y.ready y.offering
+    (group_same s (with_connection s c.args.item.now) (groups_put s c.args.item.now)) c.in_ok-undo.ensures.ok.offers)
 
 pub take_out-requires : goal.take_out-requires
 take_out-requires c = subst (λ t. Offers t c.enter.new.self) (sym c.in-Err.ensures.err) c.in_ok-undo.ensures.ok.offers

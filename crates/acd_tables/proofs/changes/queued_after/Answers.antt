@@ -10,7 +10,8 @@ pub overflow_sub-result : goal.overflow_sub-result
 overflow_sub-result c =
     let s = c.args.records.now in
     let least = queued_least s c.args.call c.args.device c.requires.indexed.connections in
-    let old : c.one_queued-before.result ≡ one_queued (connection_of s c.args.call c.args.device) = c.one_queued-before.ensures ∙ ap one_queued c.requires.found in
+    let old : c.one_queued-before.result ≡ one_queued (connection_of s c.args.call c.args.device) =
+    c.one_queued-before.ensures ∙ ap one_queued c.requires.found in
     let now = c.requires.indexed.queued in
     omega (arith, least, old, now)
 
@@ -38,7 +39,8 @@ returns c =
     let s = c.args.records.now in
     let turned = queued-swapped s c.args.call c.args.device c.args.new.now c.requires.indexed.connections c.requires.at in
     let least = queued_least s c.args.call c.args.device c.requires.indexed.connections in
-    let old : c.one_queued-before.result ≡ one_queued (connection_of s c.args.call c.args.device) = c.one_queued-before.ensures ∙ ap one_queued c.requires.found in
+    let old : c.one_queued-before.result ≡ one_queued (connection_of s c.args.call c.args.device) =
+    c.one_queued-before.ensures ∙ ap one_queued c.requires.found in
     let new = c.one_queued-after.ensures in
     let now = c.requires.indexed.queued in
     omega (arith, turned, least, old, new, now)

@@ -13,4 +13,5 @@ pub returns-in_ok-new-in-Some-clause-undo : goal.returns-in_ok-new-in-Some-claus
 returns-in_ok-new-in-Some-clause-undo g c =
     let entry = ap (λ (gs : List ℕ). Some (gs, c.in-Some.member)) c.group.ensures in
     subst (Undoes g.E.Ord.cmp c.args.sets.now c.enter.new.sets) (sym (c.only.ensures ∙ ap (λ o. cond c.in_ok-new-in-Some.new o None) (c.in-Some.is ∙ entry)))
-    (undoes_one g.E.Ord.cmp c.args.sets.now c.enter.new.sets c.group.result c.in-Some.member c.in_ok-new-in-Some.new g.met.E.Ord.total c.in_ok-new-in-Some.ensures.added c.in_ok-new-in-Some.ensures.ok)
+    (undoes_one g.E.Ord.cmp c.args.sets.now c.enter.new.sets c.group.result c.in-Some.member c.in_ok-new-in-Some.new g.met.E.Ord.total
+    c.in_ok-new-in-Some.ensures.added c.in_ok-new-in-Some.ensures.ok)

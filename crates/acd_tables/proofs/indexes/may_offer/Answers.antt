@@ -1,4 +1,3 @@
-use Rattle.std.proofs.Common.{◌≡◌, Bool, true, false, not, refl}
 use Rattle.acd_tables.proofs.indexes.may_offer.Goals as goal
 use Rattle.std.proofs.lemmas.Bool.{not-false}
 

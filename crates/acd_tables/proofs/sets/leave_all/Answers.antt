@@ -9,4 +9,5 @@ loop-group-preserved g c =
     let i = c.loop-group.group-index in
     let more = take_more c.args.groups.now i c.group-item.result c.loop-group-test.true in
     let step = leaves_more g.E.Ord.cmp c.args.sets.now c.loop-group.sets c.leave.new.sets _ _ c.args.member c.loop-group.invariant c.leave.ensures in
-    subst (λ (l : List ℕ). Leaves g.E.Ord.cmp c.args.sets.now c.leave.new.sets (Some (l, c.args.member))) (sym (more ∙ ap (λ (v : ℕ). take i c.args.groups.now ++ v ∷ []) (sym c.group-item.is))) step
+    subst (λ (l : List ℕ). Leaves g.E.Ord.cmp c.args.sets.now c.leave.new.sets (Some (l, c.args.member)))
+    (sym (more ∙ ap (λ (v : ℕ). take i c.args.groups.now ++ v ∷ []) (sym c.group-item.is))) step

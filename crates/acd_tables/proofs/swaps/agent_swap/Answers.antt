@@ -12,4 +12,5 @@ returns c =
       leaving = record { queue = None; ready = c.leaving_but-leaving.result };
     })
     c.ready_entry-before.result c.able_entry-entry.result c.may_be_offered-free.result refl refl
-    (c.ready_entry-before.ensures ∙ ap ready_entry c.requires.found) c.able_entry-entry.ensures c.may_be_offered-free.ensures c.only-after.ensures c.leaving_but-leaving.ensures
+    (c.ready_entry-before.ensures ∙ ap ready_entry c.requires.found) c.able_entry-entry.ensures c.may_be_offered-free.ensures c.only-after.ensures
+    c.leaving_but-leaving.ensures

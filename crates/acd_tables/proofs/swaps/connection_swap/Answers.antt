@@ -9,5 +9,16 @@ returns c =
       entering = record { queue = c.queue_entry-after.result; ready = c.only_not.result };
       leaving = record { queue = c.leaving_alone-leaving.result; ready = c.only.result };
     })
-    c.queue_entry-before.result c.swapped_seat-seat.result c.is_kept-busy.result h.connections h.agents h.seats c.requires.at c.requires.found
-    c.queue_entry-before.ensures c.queue_entry-after.ensures c.leaving_alone-leaving.ensures c.swapped_seat-seat.ensures c.is_kept-busy.ensures c.only_not.ensures c.only.ensures
+    h.connections h.agents h.seats c.requires.at c.requires.found
+    (record {
+      before = c.queue_entry-before.result;
+      seat = c.swapped_seat-seat.result;
+      busy = c.is_kept-busy.result;
+      before_is = c.queue_entry-before.ensures;
+      after_is = c.queue_entry-after.ensures;
+      goes = c.leaving_alone-leaving.ensures;
+      seat_is = c.swapped_seat-seat.ensures;
+      busy_is = c.is_kept-busy.ensures;
+      enters = c.only_not.ensures;
+      leaves = c.only.ensures;
+    })

@@ -6,4 +6,5 @@ use Rattle.acd_tables.proofs.uses.is_in_use.Goals as goal
 pub returns : goal.returns
 returns c =
     c.any_call_uses.ensures
-    ∙ any-listed c.args.records.now (uses c.args.kind) c.args.device c.args.but c.lines_at.result c.requires.ascending (λ k e. c.lines_at.ensures.listed k (c.requires.listed (c.args.device, k) ∙ e))
+    ∙ any-listed c.args.records.now (uses c.args.kind) c.args.device c.args.but c.lines_at.result c.requires.ascending
+    (λ k e. c.lines_at.ensures.listed k (c.requires.listed (c.args.device, k) ∙ e))

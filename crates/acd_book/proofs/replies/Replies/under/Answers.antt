@@ -15,5 +15,7 @@ pub returns : goal.returns
 unfolding same_key
 returns c =
     let s = c.args.self.now in
-    let at = kept_at s.places s.records.items c.args.requester.now c.args.invoke c.in_ok-place.field-0.now s.placed (sym c.get.ensures.value ∙ ap option_copied c.in_ok-place.was) in
+    let at =
+    kept_at s.places s.records.items c.args.requester.now c.args.invoke c.in_ok-place.field-0.now s.placed
+    (sym c.get.ensures.value ∙ ap option_copied c.in_ok-place.was) in
     search (rules, at)

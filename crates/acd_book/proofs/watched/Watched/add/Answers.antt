@@ -16,7 +16,8 @@ returns-then-is_err-clause-lists c events h =
     let there = subst IsSome c.in-Some-get_mut.ensures.value refl in
     let written = w.3 there in
     let gone = c.remove.ensures.updates in
-    listed_but events (events ++ e ∷ []) c.args.self.now.lists.entries c.remove.new.self.entries c.in-Some.device None gone.1 (λ q other. gone.2 q other ∙ written.2 q other) tt
+    listed_but events (events ++ e ∷ []) c.args.self.now.lists.entries c.remove.new.self.entries c.in-Some.device None gone.1
+    (λ q other. gone.2 q other ∙ written.2 q other) tt
     (λ q l other listed. listed_elsewhere c.in-Some.device q l e events at other listed) h
 
 pub returns-else-is_err-clause-lists : goal.returns-else-is_err-clause-lists
@@ -28,7 +29,8 @@ returns-else-is_err-clause-lists c events h =
     let written = w.3 there in
     let here = subst (λ (o : Option Numbers). IfSome o (IsListed events c.in-Some.device)) (sym c.in-Some-get_mut.ensures.value) (h c.in-Some.device) in
     let added = was_ok c.add.result c.if-is_err.ensures.value c.add.ensures.added in
-    listed_but events (events ++ e ∷ []) c.args.self.now.lists.entries (c.get_mut.follows.lender c.add.new.self).entries c.in-Some.device (Some c.add.new.self) written.1 written.2
+    listed_but events (events ++ e ∷ []) c.args.self.now.lists.entries (c.get_mut.follows.lender c.add.new.self).entries c.in-Some.device (Some c.add.new.self)
+    written.1 written.2
     (listed_here c.in-Some.device c.in-Some-get_mut.list.now c.add.new.self e events at c.add.ensures.above added here)
     (λ q l other listed. listed_elsewhere c.in-Some.device q l e events at other listed) h
 
@@ -47,5 +49,6 @@ returns-else-is_err-clause-kept c =
     let new = record old { lists = c.get_mut.follows.lender c.add.new.self } in
     let written = (c.get_mut.follows.holds c.add.new.self).3 (subst IsSome c.in-Some-get_mut.ensures.value refl) in
     rest_kept old new refl (rest_counted c.in-Some.device old new
-    (inl (ap (option_map (λ (l : Numbers). l.monitors)) written.1 ∙ ap Some c.add.ensures.counts ∙ ap (option_map (λ (l : Numbers). l.monitors)) c.in-Some-get_mut.ensures.value))
+    (inl (ap (option_map (λ (l : Numbers). l.monitors)) written.1 ∙ ap Some c.add.ensures.counts
+    ∙ ap (option_map (λ (l : Numbers). l.monitors)) c.in-Some-get_mut.ensures.value))
     (λ q other. ap (option_map (λ (l : Numbers). l.monitors)) (written.2 q other)))

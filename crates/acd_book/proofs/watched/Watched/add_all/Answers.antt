@@ -20,4 +20,5 @@ loop-event-preserved c = record {
 
 pub returns-clause-lists : goal.returns-clause-lists
 returns-clause-lists c events h =
-    subst (λ (l : List Event). ListsEvents (events ++ l) c.loop-event.self) (take_all c.loop-event.event-index c.args.more.now c.loop-event-test.false) (c.loop-event.invariant.lists events h)
+    subst (λ (l : List Event). ListsEvents (events ++ l) c.loop-event.self) (take_all c.loop-event.event-index c.args.more.now c.loop-event-test.false)
+    (c.loop-event.invariant.lists events h)

@@ -16,9 +16,12 @@ loop-change-preserved c =
     record {
       lists = λ events low h. c.follow.ensures.lists events low (inv.lists events low h);
       kept = λ kept. c.follow.ensures.kept (inv.kept kept);
-      recorded = subst (λ (l : List Change). RecordsChanges l c.args.self.now c.follow.new.self) longer (recorded_on (take i changes) x c.args.self.now c.loop-change.self c.follow.new.self inv.recorded c.follow.ensures.recorded);
+      recorded =
+          subst (λ (l : List Change). RecordsChanges l c.args.self.now c.follow.new.self) longer
+          (recorded_on (take i changes) x c.args.self.now c.loop-change.self c.follow.new.self inv.recorded c.follow.ensures.recorded);
     }
 
 pub returns-clause-recorded : goal.returns-clause-recorded
 returns-clause-recorded c =
-    subst (λ (l : List Change). RecordsChanges l c.args.self.now c.loop-change.self) (take_all c.loop-change.change-index c.args.changes.now c.loop-change-test.false) c.loop-change.invariant.recorded
+    subst (λ (l : List Change). RecordsChanges l c.args.self.now c.loop-change.self)
+    (take_all c.loop-change.change-index c.args.changes.now c.loop-change-test.false) c.loop-change.invariant.recorded

@@ -22,7 +22,10 @@ pub returns-clause-lists : goal.returns-clause-lists
 returns-clause-lists c events low h =
     let same = c.get_mut.follows.holds-at-none in
     let new : IsListed events c.args.device c.new.result
-    = c.new.ensures.none ∙ sym (ap (map number_of) (subst (λ (n : ℕ). filter (is_at_after (Some c.args.device) n) events ≡ []) (sym c.new.ensures.above) (none_above c.args.device c.args.above events low))) in
+    =
+    c.new.ensures.none
+    ∙ sym (ap (map number_of) (subst (λ (n : ℕ). filter (is_at_after (Some c.args.device) n) events ≡ []) (sym c.new.ensures.above)
+    (none_above c.args.device c.args.above events low))) in
     elim (either c.insert.result c.insert.ensures.updates c.insert.ensures.err) [
       | inl u ↦ listed_but events events c.args.self.now.lists.entries c.insert.new.self.entries c.args.device (Some c.new.result) u.1
           (λ q other. u.2 q other ∙ ap (λ m. list_at q m.entries) same) new (λ q l other listed. listed) h
@@ -38,14 +41,17 @@ returns-in-Some-clause-counts c =
     let updates = w.3 (subst IsSome c.in-Some.ensures.value refl) in
     record {
       devices = refl;
-      one = more_is _ _ list.monitors c.saturating_add-list.result (sym (ap (option_map (λ (l : Numbers). l.monitors)) c.in-Some.ensures.value)) (ap (option_map (λ (l : Numbers). l.monitors)) updates.1) least most;
+      one =
+          more_is _ _ list.monitors c.saturating_add-list.result (sym (ap (option_map (λ (l : Numbers). l.monitors)) c.in-Some.ensures.value))
+          (ap (option_map (λ (l : Numbers). l.monitors)) updates.1) least most;
       others = λ d other. ap (option_map (λ (l : Numbers). l.monitors)) (updates.2 d other);
     }
 
 pub returns-clause-counts : goal.returns-clause-counts
 returns-clause-counts c =
     let same = c.get_mut.follows.holds-at-none in
-    let none : counted c.args.self.now c.args.device ≡ None = ap (option_map (λ (l : Numbers). l.monitors)) (sym c.get_mut.ensures.value ∙ ap option_copied_mut c.in_default.is) in
+    let none : counted c.args.self.now c.args.device ≡ None =
+    ap (option_map (λ (l : Numbers). l.monitors)) (sym c.get_mut.ensures.value ∙ ap option_copied_mut c.in_default.is) in
     elim (either c.insert.result c.insert.ensures.updates c.insert.ensures.err) [
       | inl u ↦ record {
         devices = refl;
@@ -54,7 +60,9 @@ returns-clause-counts c =
       }
       | inr e ↦ record {
         devices = refl;
-        one = first_is _ _ none (inl (ap (λ (es : List (ℕ × Numbers)). option_map (λ (l : Numbers). l.monitors) (list_at c.args.device es)) (e ∙ ap (λ m. m.entries) same) ∙ none));
+        one =
+            first_is _ _ none (inl
+            (ap (λ (es : List (ℕ × Numbers)). option_map (λ (l : Numbers). l.monitors) (list_at c.args.device es)) (e ∙ ap (λ m. m.entries) same) ∙ none));
         others = λ d other. ap (λ (es : List (ℕ × Numbers)). option_map (λ (l : Numbers). l.monitors) (list_at d es)) (e ∙ ap (λ m. m.entries) same);
       }
     ]

@@ -9,7 +9,8 @@ use Rattle.acd_book.proofs.watched.Watched.discount.Goals as goal
 pub returns-then-is_last-clause-lists : goal.returns-then-is_last-clause-lists
 returns-then-is_last-clause-lists c events h =
     let updates = c.remove.ensures.updates in
-    listed_but events events c.is_last.new.self.lists.entries c.remove.new.self.entries c.args.device None updates.1 updates.2 tt (λ q l other listed. listed) (c.is_last.ensures.lists events h)
+    listed_but events events c.is_last.new.self.lists.entries c.remove.new.self.entries c.args.device None updates.1 updates.2 tt (λ q l other listed. listed)
+    (c.is_last.ensures.lists events h)
 
 pub returns-then-is_last-clause-counts : goal.returns-then-is_last-clause-counts
 returns-then-is_last-clause-counts c =
@@ -18,7 +19,8 @@ returns-then-is_last-clause-counts c =
     record {
       devices = counts.devices;
       one = ap (option_map (λ (l : Numbers). l.monitors)) updates.1
-          ∙ sym (last_goes (counted c.args.self.now c.args.device) (counted c.is_last.new.self c.args.device) counts.one (sym c.is_last.ensures.last ∙ c.if-is_last.true));
+          ∙ sym (last_goes (counted c.args.self.now c.args.device) (counted c.is_last.new.self c.args.device) counts.one
+          (sym c.is_last.ensures.last ∙ c.if-is_last.true));
       others = λ d other. ap (option_map (λ (l : Numbers). l.monitors)) (updates.2 d other) ∙ counts.others d other;
     }
 
@@ -27,6 +29,8 @@ returns-else-is_last-clause-counts c =
     let counts = c.is_last.ensures.counts in
     record {
       devices = counts.devices;
-      one = other_stays (counted c.args.self.now c.args.device) (counted c.is_last.new.self c.args.device) counts.one (sym c.is_last.ensures.last ∙ c.if-is_last.false);
+      one =
+          other_stays (counted c.args.self.now c.args.device) (counted c.is_last.new.self c.args.device) counts.one
+          (sym c.is_last.ensures.last ∙ c.if-is_last.false);
       others = counts.others;
     }

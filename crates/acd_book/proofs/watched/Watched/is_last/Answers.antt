@@ -40,7 +40,9 @@ returns-in-None-clause-counts c =
     let none : counted c.args.self.now c.args.device ≡ None = sym (ap (option_map (λ (l : Numbers). l.monitors)) c.in-None.ensures.value) in
     record {
       devices = refl;
-      one = ap (λ m. option_map (λ (l : Numbers). l.monitors) (get_by (λ (k : ℕ). c.args.device == k) m)) same ∙ none ∙ sym (ap (option_map (λ (n : ℕ). n - 1)) none);
+      one =
+          ap (λ m. option_map (λ (l : Numbers). l.monitors) (get_by (λ (k : ℕ). c.args.device == k) m)) same ∙ none
+          ∙ sym (ap (option_map (λ (n : ℕ). n - 1)) none);
       others = λ d other. ap (λ m. option_map (λ (l : Numbers). l.monitors) (get_by (λ (k : ℕ). d == k) m)) same;
     }
 

@@ -16,9 +16,12 @@ loop-monitor-preserved c =
     record {
       lists = λ events low. c.start.ensures.lists events low (inv.lists events low);
       kept = c.start.ensures.kept inv.kept;
-      recorded = subst (λ (l : List MonitorRecord). RecordsThese l c.start.new.self) longer (started_on (take i monitors) x c.loop-monitor.watched c.start.new.self inv.recorded c.start.ensures.recorded);
+      recorded =
+          subst (λ (l : List MonitorRecord). RecordsThese l c.start.new.self) longer
+          (started_on (take i monitors) x c.loop-monitor.watched c.start.new.self inv.recorded c.start.ensures.recorded);
     }
 
 pub returns-clause-recorded : goal.returns-clause-recorded
 returns-clause-recorded c =
-    subst (λ (l : List MonitorRecord). RecordsThese l c.loop-monitor.watched) (take_all c.loop-monitor.monitor-index c.args.monitors.now c.loop-monitor-test.false) c.loop-monitor.invariant.recorded
+    subst (λ (l : List MonitorRecord). RecordsThese l c.loop-monitor.watched)
+    (take_all c.loop-monitor.monitor-index c.args.monitors.now c.loop-monitor-test.false) c.loop-monitor.invariant.recorded

@@ -7,7 +7,9 @@ pub returns-in-Some-clause-kept : goal.returns-in-Some-clause-kept
 returns-in-Some-clause-kept c kept =
     let old = c.args.self.now in
     let mid = record old { devices = c.remove.new.self } in
-    less_kept old mid c.discount.new.self refl kept c.in-Some.device (λ d. one_less c.args.monitor c.in-Some.device d old.devices c.remove.new.self c.in-Some.ensures.value c.remove.ensures.entries) c.discount.ensures.counts
+    less_kept old mid c.discount.new.self refl kept c.in-Some.device
+    (λ d. one_less c.args.monitor c.in-Some.device d old.devices c.remove.new.self c.in-Some.ensures.value c.remove.ensures.entries)
+    c.discount.ensures.counts
 
 pub returns-in-Some-clause-recorded : goal.returns-in-Some-clause-recorded
 returns-in-Some-clause-recorded c =

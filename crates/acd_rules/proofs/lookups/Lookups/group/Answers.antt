@@ -9,4 +9,5 @@ pub returns : goal.returns
 unfolding group_of
 returns c =
     c.find.ensures
-    ∙ found_of_part group_number c.args.device _ _ (looked_up _ _ group_number _ _ _ _ _ c.with.ensures c.number.ensures.value c.args.self.now.groups_are (λ a r f' k. search rules))
+    ∙ found_of_part group_number c.args.device _ _
+    (looked_up _ _ group_number _ _ _ _ _ c.with.ensures c.number.ensures.value c.args.self.now.groups_are (λ a r f' k. search rules))

@@ -14,7 +14,8 @@ pub returns-in-Err-clause-caused : goal.returns-in-Err-clause-caused
 returns-in-Err-clause-caused g c clean store =
     let bare = state g.S.Store (record c.args.conn { step_limit = None }) in
     create_unlimited c.args.limits (state g.S.Store c.args.conn) (state g.S.Store c.set_up.new.conn)
-    (create_cause c.args.limits bare (state g.S.Store c.set_up.new.conn) c.in-Err.error c.fault_of.result refl c.fault_of.ensures store ((rw c.set_step_limit.ensures at c.in-Err.ensures.failed) clean))
+    (create_cause c.args.limits bare (state g.S.Store c.set_up.new.conn) c.in-Err.error c.fault_of.result refl c.fault_of.ensures store
+    ((rw c.set_step_limit.ensures at c.in-Err.ensures.failed) clean))
 
 pub returns-then-not-limits_fit-clause-caused : goal.returns-then-not-limits_fit-clause-caused
 returns-then-not-limits_fit-clause-caused g c clean store =

@@ -11,11 +11,12 @@ use Rattle.acd_sqlbook.proofs.book.SqlBook.prune.Goals as goal
 
 pub returns-clause-commits : goal.returns-clause-commits
 returns-clause-commits g c =
-    let h = c.prune_ready-done.ensures.commits in
     rw (← c.self.view_is)
     (commits_followed c.self.inside.cache c.forget.new.self _ _ _ _ _ (λ k s up n. blank_of c.forget.new.self c.forget.ensures _)
-    (commits_recorded (state g.S.Store c.self.inside.ready.conn) (state g.S.Store c.prune_ready-done.new.ready.conn) c.self.inside.failures c.recorded.new.failures c.prune_ready-done.result c.recorded.result
-    h.written (pruned c.args.stamp c.args.number) (λ (x : Content). ⊤) h.same c.recorded.ensures.answer c.recorded.ensures.failures c.recorded.ensures.counts h.commits))
+    (commits_recorded (state g.S.Store c.self.inside.ready.conn) (state g.S.Store c.prune_ready-done.new.ready.conn) c.self.inside.failures
+    c.recorded.new.failures c.prune_ready-done.result c.recorded.result
+    (λ (x : Content). ⊤) (pruned c.args.stamp c.args.number) c.recorded.ensures.answer c.recorded.ensures.failures c.recorded.ensures.counts
+    c.prune_ready-done.ensures.commits))
 
 pub returns-clause-caused : goal.returns-clause-caused
 returns-clause-caused g c =
@@ -23,4 +24,5 @@ returns-clause-caused g c =
     let new = state g.S.Store c.prune_ready-done.new.ready.conn in
     rw (← c.self.view_is)
     (recorded_cause (prune c.args.stamp c.args.number) old new c.self.inside.failures c.recorded.new.failures c.recorded.result c.recorded.ensures.failures
-    (prune_caused c.args.stamp c.args.number old new c.self.inside.ready.unlimited c.prune_ready-done.result c.recorded.result c.recorded.ensures.answer c.prune_ready-done.ensures.cause))
+    (prune_caused c.args.stamp c.args.number old new c.self.inside.ready.unlimited c.prune_ready-done.result c.recorded.result c.recorded.ensures.answer
+    c.prune_ready-done.ensures.cause))

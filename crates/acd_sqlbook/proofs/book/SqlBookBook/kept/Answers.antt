@@ -11,12 +11,16 @@ pub returns-clause-reads : goal.returns-clause-reads
 returns-clause-reads g c =
     rw (← c.self.view_is)
     (reads_kept c.self.inside.cache _ _ _ _
-    (reads_recorded (state g.S.Store c.self.inside.ready.conn) (state g.S.Store c.kept-found.new.self.conn) c.self.inside.failures c.recorded.new.failures c.kept-found.result c.recorded.result
-    (λ x found. found ≡ kept_of x.kept c.args.requester.now c.args.invoke) (g.met.S.Store.settled c.self.inside.ready.conn.store) (g.met.S.Store.stays c.kept-found.new.self.conn.store)
+    (reads_recorded (state g.S.Store c.self.inside.ready.conn) (state g.S.Store c.kept-found.new.self.conn) c.self.inside.failures c.recorded.new.failures
+    c.kept-found.result c.recorded.result
+    (λ x found. found ≡ kept_of x.kept c.args.requester.now c.args.invoke) (g.met.S.Store.settled c.self.inside.ready.conn.store)
+    (g.met.S.Store.stays c.kept-found.new.self.conn.store)
     c.recorded.ensures.answer c.recorded.ensures.failures c.recorded.ensures.counts c.kept-found.ensures.read))
 
 pub returns-clause-caused : goal.returns-clause-caused
 returns-clause-caused g c =
     rw (← c.self.view_is)
-    (recorded_cause read (state g.S.Store c.self.inside.ready.conn) (state g.S.Store c.kept-found.new.self.conn) c.self.inside.failures c.recorded.new.failures c.recorded.result c.recorded.ensures.failures
-    (reads_caused (state g.S.Store c.self.inside.ready.conn) (state g.S.Store c.kept-found.new.self.conn) c.kept-found.result c.recorded.result c.self.inside.ready.unlimited c.recorded.ensures.answer c.kept-found.ensures.cause))
+    (recorded_cause read (state g.S.Store c.self.inside.ready.conn) (state g.S.Store c.kept-found.new.self.conn) c.self.inside.failures c.recorded.new.failures
+    c.recorded.result c.recorded.ensures.failures
+    (reads_caused (state g.S.Store c.self.inside.ready.conn) (state g.S.Store c.kept-found.new.self.conn) c.kept-found.result c.recorded.result
+    c.self.inside.ready.unlimited c.recorded.ensures.answer c.kept-found.ensures.cause))

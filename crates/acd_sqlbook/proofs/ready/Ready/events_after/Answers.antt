@@ -7,14 +7,17 @@ use Rattle.acd_sqlbook.proofs.ready.Ready.events_after.Goals as goal
 
 pub returns-clause-read : goal.returns-clause-read
 returns-clause-read g c =
-    reads_after (state g.S.Store c.args.self.now.conn) (state g.S.Store c.refresh.new.self.conn) (state g.S.Store c.events_after.new.conn) c.events_after.result (λ x found. found.items ≡ events_after x.events c.args.number c.args.limit)
+    reads_after (state g.S.Store c.args.self.now.conn) (state g.S.Store c.refresh.new.self.conn) (state g.S.Store c.events_after.new.conn) c.events_after.result
+    (λ x found. found.items ≡ events_after x.events c.args.number c.args.limit)
     c.refresh.ensures.quiet c.in_ok-refresh.ensures.up c.refresh.ensures.stops c.events_after.ensures.found
 
 pub returns-in_err-refresh-clause-cause : goal.returns-in_err-refresh-clause-cause
 returns-in_err-refresh-clause-cause g c =
-    cause_as (state g.S.Store c.args.self.now.conn) (state g.S.Store c.refresh.new.self.conn) c.in_err-refresh.field-0.0 c.from_residual.result (search rules) c.in_err-refresh.ensures.cause
+    cause_as (state g.S.Store c.args.self.now.conn) (state g.S.Store c.refresh.new.self.conn) c.in_err-refresh.field-0.0 c.from_residual.result (search rules)
+    c.in_err-refresh.ensures.cause
 
 pub returns-clause-cause : goal.returns-clause-cause
 returns-clause-cause g c =
-    cause_after (state g.S.Store c.args.self.now.conn) (state g.S.Store c.refresh.new.self.conn) (state g.S.Store c.events_after.new.conn) tt c.events_after.result
+    cause_after (state g.S.Store c.args.self.now.conn) (state g.S.Store c.refresh.new.self.conn) (state g.S.Store c.events_after.new.conn) tt
+    c.events_after.result
     c.in_ok-refresh.ensures.cause c.refresh.ensures.quiet c.in_ok-refresh.ensures.up c.events_after.ensures.found.quiet.clean c.events_after.ensures.cause

@@ -7,12 +7,14 @@ use Rattle.acd_sqlbook.proofs.ready.Ready.kept.Goals as goal
 
 pub returns-clause-read : goal.returns-clause-read
 returns-clause-read g c =
-    reads_after (state g.S.Store c.args.self.now.conn) (state g.S.Store c.refresh.new.self.conn) (state g.S.Store c.kept_under.new.conn) c.kept_under.result (λ x found. found ≡ kept_of x.kept c.args.requester.now c.args.invoke)
+    reads_after (state g.S.Store c.args.self.now.conn) (state g.S.Store c.refresh.new.self.conn) (state g.S.Store c.kept_under.new.conn) c.kept_under.result
+    (λ x found. found ≡ kept_of x.kept c.args.requester.now c.args.invoke)
     c.refresh.ensures.quiet c.in_ok-refresh.ensures.up c.refresh.ensures.stops c.kept_under.ensures.found
 
 pub returns-in_err-refresh-clause-cause : goal.returns-in_err-refresh-clause-cause
 returns-in_err-refresh-clause-cause g c =
-    cause_as (state g.S.Store c.args.self.now.conn) (state g.S.Store c.refresh.new.self.conn) c.in_err-refresh.field-0.0 c.from_residual.result (search rules) c.in_err-refresh.ensures.cause
+    cause_as (state g.S.Store c.args.self.now.conn) (state g.S.Store c.refresh.new.self.conn) c.in_err-refresh.field-0.0 c.from_residual.result (search rules)
+    c.in_err-refresh.ensures.cause
 
 pub returns-clause-cause : goal.returns-clause-cause
 returns-clause-cause g c =

@@ -18,17 +18,21 @@ returns-in-Some-clause-read g c =
 
 pub returns-in-None-clause-read : goal.returns-in-None-clause-read
 returns-in-None-clause-read g c =
-    reads_as (state g.S.Store c.args.self.now.conn) (state g.S.Store c.read_meta.new.conn) c.read_meta.result (λ c' meta. meta ≡ meta_of c'.rows) (λ c' meta. AreCounters c.args.held c' → meta ≡ meta_of c'.rows) (λ c' meta is of. is)
-    (reads_after (state g.S.Store c.args.self.now.conn) (state g.S.Store c.refresh.new.self.conn) (state g.S.Store c.read_meta.new.conn) c.read_meta.result (λ c' meta. meta ≡ meta_of c'.rows)
+    reads_as (state g.S.Store c.args.self.now.conn) (state g.S.Store c.read_meta.new.conn) c.read_meta.result (λ c' meta. meta ≡ meta_of c'.rows)
+    (λ c' meta. AreCounters c.args.held c' → meta ≡ meta_of c'.rows) (λ c' meta is of. is)
+    (reads_after (state g.S.Store c.args.self.now.conn) (state g.S.Store c.refresh.new.self.conn) (state g.S.Store c.read_meta.new.conn) c.read_meta.result
+    (λ c' meta. meta ≡ meta_of c'.rows)
     c.refresh.ensures.quiet c.in_ok-refresh.ensures.up c.refresh.ensures.stops c.read_meta.ensures.found)
 
 pub returns-in_err-refresh-clause-cause : goal.returns-in_err-refresh-clause-cause
 returns-in_err-refresh-clause-cause g c =
-    cause_as (state g.S.Store c.args.self.now.conn) (state g.S.Store c.refresh.new.self.conn) c.in_err-refresh.field-0.0 c.from_residual.result (search rules) c.in_err-refresh.ensures.cause
+    cause_as (state g.S.Store c.args.self.now.conn) (state g.S.Store c.refresh.new.self.conn) c.in_err-refresh.field-0.0 c.from_residual.result (search rules)
+    c.in_err-refresh.ensures.cause
 
 pub returns-in-Some-clause-cause : goal.returns-in-Some-clause-cause
 returns-in-Some-clause-cause g c =
-    cause_on (state g.S.Store c.args.self.now.conn) (state g.S.Store c.refresh.new.self.conn) tt (Ok c.in-Some.meta) c.in_ok-refresh.ensures.cause (λ clean c' held. tt)
+    cause_on (state g.S.Store c.args.self.now.conn) (state g.S.Store c.refresh.new.self.conn) tt (Ok c.in-Some.meta) c.in_ok-refresh.ensures.cause
+    (λ clean c' held. tt)
 
 pub returns-in-None-clause-cause : goal.returns-in-None-clause-cause
 returns-in-None-clause-cause g c =

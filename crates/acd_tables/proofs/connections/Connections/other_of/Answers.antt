@@ -9,6 +9,7 @@ use Rattle.acd_tables.proofs.connections.Connections.other_of.Goals as goal
 pub loop-key-init : goal.loop-key-init
 loop-key-init c =
     let x = c.args.connection.now in
-    ap (λ keys. find (λ (y : ConnectionRecord). not (y.device == x.device)) (filter_map (of_key c.args.self.now x.call) keys)) c.into_iter-key-iterator.ensures.into_iter_gives
+    ap (λ keys. find (λ (y : ConnectionRecord). not (y.device == x.device)) (filter_map (of_key c.args.self.now x.call) keys))
+    c.into_iter-key-iterator.ensures.into_iter_gives
     ∙ ap (find (λ (y : ConnectionRecord). not (y.device == x.device))) c.near-key-items.ensures
     ∙ find-both (λ (y : ConnectionRecord). y.call == x.call) (λ y. not (y.device == x.device)) c.args.self.now

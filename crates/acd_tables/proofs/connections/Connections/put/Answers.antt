@@ -14,7 +14,8 @@ invariant_of-self-in-Ok c =
     let held = c.self.inside.records in
     let keys = c.self.inside.keys in
     let new = ap is_some (ap (find_by (at_connection x.call x.device)) c.self.view_is ∙ sym c.find-old.ensures) ∙ c.is_none-new.ensures in
-    subst (λ cs. HasKeys cs c.insert_if.new.index) (sym c.in-Ok.ensures.ok) (keys-put held keys c.insert_if.new.index c.self.invariant x c.is_none-new.result new c.in_ok-insert_if.ensures.ok)
+    subst (λ cs. HasKeys cs c.insert_if.new.index) (sym c.in-Ok.ensures.ok)
+    (keys-put held keys c.insert_if.new.index c.self.invariant x c.is_none-new.result new c.in_ok-insert_if.ensures.ok)
 
 pub invariant_of-self-in-Err : goal.invariant_of-self-in-Err
 invariant_of-self-in-Err c =
@@ -22,4 +23,6 @@ invariant_of-self-in-Err c =
     let held = c.self.inside.records in
     let keys = c.self.inside.keys in
     let new = ap is_some (ap (find_by (at_connection x.call x.device)) c.self.view_is ∙ sym c.find-old.ensures) ∙ c.is_none-new.ensures in
-    subst (λ cs. HasKeys cs c.remove_if.new.index) (sym c.in-Err.ensures.err) (keys-back held keys c.remove_if.new.index c.self.invariant c.insert_if.new.index x.call x.device c.is_none-new.result new c.in_ok-insert_if.ensures.ok c.remove_if.ensures)
+    subst (λ cs. HasKeys cs c.remove_if.new.index) (sym c.in-Err.ensures.err)
+    (keys-back held keys c.remove_if.new.index c.self.invariant c.insert_if.new.index x.call x.device c.is_none-new.result new c.in_ok-insert_if.ensures.ok
+    c.remove_if.ensures)

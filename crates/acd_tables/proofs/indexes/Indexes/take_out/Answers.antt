@@ -6,7 +6,8 @@ use Rattle.acd_tables.proofs.indexes.Indexes.take_out.Goals as goal
 pub prune-requires : goal.prune-requires
 prune-requires c =
     let x = c.args.self.now in
-    offers-left c.args.records.now x.queues c.leave_alone.new.sets x.ready c.leave_entry.new.sets x.offering c.args.entries.now.queue c.args.entries.now.ready c.requires c.leave_alone.ensures c.leave_entry.ensures
+    offers-left c.args.records.now x.queues c.leave_alone.new.sets x.ready c.leave_entry.new.sets x.offering c.args.entries.now.queue c.args.entries.now.ready
+    c.requires c.leave_alone.ensures c.leave_entry.ensures
 
 pub returns : goal.returns
 returns c = subst (λ z. TakenOut c.args.records.now c.args.self.now z c.args.entries.now) (sym c.prune.ensures.rest) (record {

@@ -6,5 +6,6 @@ pub returns : goal.returns
 returns c =
     rw (← c.self.view_is)
     (subst (λ l. IfOk c.connections_among.result (λ v. v.items ≡ l))
-    (picks-at c.self.inside.records c.args.device c.self.invariant.connections c.lines_at.result (λ k e. c.lines_at.ensures.listed k (c.self.invariant.lines (c.args.device, k) ∙ e)) c.lines_at.ensures.sorted)
+    (picks-at c.self.inside.records c.args.device c.self.invariant.connections c.lines_at.result
+    (λ k e. c.lines_at.ensures.listed k (c.self.invariant.lines (c.args.device, k) ∙ e)) c.lines_at.ensures.sorted)
     (rw c.self.view_is c.connections_among.ensures))

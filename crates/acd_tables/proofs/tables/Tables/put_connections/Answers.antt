@@ -12,7 +12,8 @@ loop-connection-preserved c =
     let inside : c.loop-connection.connection-index < length c.args.connections.now = omega arith in
     c.in_ok-put_connection.ensures.ok
     ∙ ap (λ s. with_connection s c.connection-item.result) c.loop-connection.invariant
-    ∙ filled_connection c.args.self.now c.args.connections.now c.loop-connection.connection-index c.connection-item.result c.requires.order inside c.connection-item.is
+    ∙ filled_connection c.args.self.now c.args.connections.now c.loop-connection.connection-index c.connection-item.result c.requires.order inside
+    c.connection-item.is
 
 pub returns : goal.returns
 returns c =

@@ -13,4 +13,8 @@ pub returns-then-is_group-clause-members : goal.returns-then-is_group-clause-mem
 returns-then-is_group-clause-members c =
     rw (← c.self.view_is)
     (lent-members c.get.result c.self.inside.indexes.queues c.args.group _ c.get.ensures.value
-    (λ p. (λ h. (waiting-among c.self.inside.records c.args.group p c.self.invariant.connections).0 (sym (c.self.invariant.waiting c.args.group p) ∙ h), λ a. c.self.invariant.waiting c.args.group p ∙ (waiting-among c.self.inside.records c.args.group p c.self.invariant.connections).1 a)))
+    (λ p. (
+      λ h. (waiting-among c.self.inside.records c.args.group p c.self.invariant.connections).0 (sym (c.self.invariant.waiting c.args.group p) ∙ h),
+      λ a. c.self.invariant.waiting c.args.group p
+          ∙ (waiting-among c.self.inside.records c.args.group p c.self.invariant.connections).1 a,
+    )))

@@ -13,4 +13,8 @@ pub returns-then-is_group-clause-members : goal.returns-then-is_group-clause-mem
 returns-then-is_group-clause-members c =
     rw (← c.self.view_is)
     (lent-members c.get.result c.self.inside.indexes.ready c.args.group _ c.get.ensures.value
-    (λ p. (λ h. (eligible-among c.self.inside.records c.args.group p c.self.invariant.agents).0 (sym (c.self.invariant.able c.args.group p) ∙ h), λ a. c.self.invariant.able c.args.group p ∙ (eligible-among c.self.inside.records c.args.group p c.self.invariant.agents).1 a)))
+    (λ p. (
+      λ h. (eligible-among c.self.inside.records c.args.group p c.self.invariant.agents).0 (sym (c.self.invariant.able c.args.group p) ∙ h),
+      λ a. c.self.invariant.able c.args.group p
+          ∙ (eligible-among c.self.inside.records c.args.group p c.self.invariant.agents).1 a,
+    )))
