@@ -34,7 +34,7 @@ UNITS = ("acd.service", "acd-tick.service", "acd-gate.service", "acd-copy.servic
          "acd-local.service", "acd-node.service", "acd-node-upkeep.service", "acd-node-upkeep.timer",
          "acd-records.service", "acd-follow.service", "acd-prune.service", "acd-prune.timer", "acd-certificate.service",
          "acd-certificate.timer", "acd-rules.service", "acd-webhook.service")
-# until the next minor version
+# which units and scripts of an office may name
 OLD_NAMES_OF_USERS = ("acd-calls", "acd-export", "acd-plan", "acd-trail")
 OLD_NAMES_OF_ROOT = ("acd-carry", "acd-certificate", "acd-copy", "acd-follow", "acd-forget", "acd-gate", "acd-local",
                      "acd-node", "acd-ready", "acd-tick")

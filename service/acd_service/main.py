@@ -101,8 +101,7 @@ def tell_new_words(old: str) -> None:
     """Once a day, in the journal alone: scripts read what the command prints."""
     if os.path.exists(JOURNAL) and is_first_of_the_day(old):
         syslog.openlog(old)
-        syslog.syslog(syslog.LOG_NOTICE, f"'{old}' is '{words_now(old)}' now; the next minor version doesn't have the "
-                                         "old name any more")
+        syslog.syslog(syslog.LOG_NOTICE, f"'{old}' is '{words_now(old)}' now, and may go in a later version")
         syslog.closelog()
 
 
