@@ -11,7 +11,7 @@ from acd_service.gate.exchanges import Pipe
 
 # of a stream its begin, without a name or a time, and the last part, which is empty
 BEGIN, LAST = b"\x1f\x8b\x08\0\0\0\0\0\0\xff", b"\x03\0"
-# bytes: what is shorter than this is sent as it is; of a part that is kept for others; and the level of zlib
+# bytes: what is shorter than this is sent as it is, and of a part that is packed by more memory; and the level of zlib
 SHORT, LONG, LEVEL = 300, 3000, 4
 
 
@@ -29,14 +29,14 @@ def packed(part: bytes) -> bytes:
     return made.compress(part) + made.flush(zlib.Z_FULL_FLUSH)
 
 
-# those of some views, and the names
-kept = lru_cache(8)(packed)
+# those of some views, and the names; and what is shorter, of a turn
+kept, kept_shortly = lru_cache(8)(packed), lru_cache(64)(packed)
 
 
 def block(part: bytes) -> bytes:
     if len(part) < SHORT:
         return struct.pack("<BHH", 0, len(part), len(part) ^ 0xffff) + part
-    return packed(part) if len(part) < LONG else kept(part)
+    return kept_shortly(part) if len(part) < LONG else kept(part)
 
 
 class Packed:

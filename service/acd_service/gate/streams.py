@@ -35,6 +35,12 @@ def gone() -> asyncio.Future[None]:
     return asyncio.get_running_loop().create_future()
 
 
+def begun(kind: str, members: str, name: str = "") -> bytes:
+    """The begin of an event; `name` is its number with the epoch, for those from which one may go on."""
+    line = f"id: {name}\n" if name else ""
+    return f"event: {kind}\n{line}data: {{{members}".encode()
+
+
 @dataclass(eq=False)
 class Stream:
     """Who looks: a board, which has a sight, or the page of an agent, `groups` being those of the agent's line.
@@ -57,12 +63,15 @@ class Stream:
     ended: asyncio.Future[None] = field(default_factory=gone)
 
     def write(self, kind: str, members: str, name: str = "", shared: bytes = b"") -> None:
-        """An event; `name` is its number with the epoch, for those from which one may go on, and `shared` has further
-        members that several pages are told."""
+        """An event; `shared` has further members that several pages are told."""
+        if shared:
+            self.send(begun(kind, members, name) + b",", shared, b"}\n\n")
+        else:
+            self.send(begun(kind, members, name) + b"}\n\n")
+
+    def send(self, *parts: bytes) -> None:
         if self.pipe is not None:
-            line = f"id: {name}\n" if name else ""
-            told = f"event: {kind}\n{line}data: {{{members}".encode()
-            self.pipe.write(*((told + b",", shared, b"}\n\n") if shared else (told + b"}\n\n",)))
+            self.pipe.write(*parts)
 
     def end(self, why: str) -> None:
         if not self.ended.done():
@@ -85,6 +94,8 @@ class Streams:
         self.changes: tuple[int, dict[tuple[int, int], bytes]] = 0, {}
         self.queue_texts: dict[str, tuple[int, str]] = {}
         self.names = 0, b""
+        # of a step whether the desk answers in it, and its events by the groups that they tell of: none is in a beat
+        self.live, self.alike = False, dict[tuple[str, ...], bytes]()
         self.task: asyncio.Task[None] | None = None
 
     # who looks
@@ -143,10 +154,13 @@ class Streams:
     # what is told
 
     def head(self, stream: Stream) -> str:
-        """When the desk answered last, whether it still does, and what time it is."""
         stream.live = self.following.is_live()
-        live = "true" if stream.live else "false"
-        return f'"answered":{int(self.following.answered)},"clock":{time.time():.3f},"live":{live}'
+        return self.head_of(stream.live)
+
+    def head_of(self, live: bool) -> str:
+        """When the desk answered last, whether it still does, and what time it is."""
+        said = "true" if live else "false"
+        return f'"answered":{int(self.following.answered)},"clock":{time.time():.3f},"live":{said}'
 
     def epoch_of(self, stream: Stream) -> str:
         """What a number is of: the gate's run, the desk's file, and a board's view."""
@@ -224,7 +238,7 @@ class Streams:
 
     def write_agent(self, stream: Stream, state: State, parts: list[str], queues: Iterable[str],
                     is_whole: bool = False) -> None:
-        told = ",".join(f'"{queue}":{self.queue_of(state, queue)}' for queue in queues)
+        told = self.queues_of(state, queues)
         if told or is_whole:
             parts.append(f'"groups":{{{told}}}')
         names = b""
@@ -238,6 +252,9 @@ class Streams:
         if self.names[0] != self.following.names_changed:
             self.names = self.following.names_changed, f'"names":{names_text(state)}'.encode()
         return self.names[1]
+
+    def queues_of(self, state: State, queues: Iterable[str]) -> str:
+        return ",".join(f'"{queue}":{self.queue_of(state, queue)}' for queue in queues)
 
     def queue_of(self, state: State, queue: str) -> str:
         """A group's line, made once for all of its agents."""
@@ -277,8 +294,10 @@ class Streams:
     def take_turn(self, now: float) -> Iterator[None]:
         """In steps: where all pages get everything anew, others are answered between."""
         self.turn_boards(self.following.state, now)
-        since = self.clock()
+        since = self.begin_step()
         for stream in list(self.all):
+            if self.is_early(stream, now):
+                continue
             if stream.pipe is None or stream.pipe.is_gone():
                 stream.end("left")
             elif now - stream.judged >= JUDGED_EVERY and not self.judge(stream, now):
@@ -287,7 +306,24 @@ class Streams:
                 self.turn_stream(stream, self.following.state, now)
             if self.clock() - since >= STEP:
                 yield
-                since = self.clock()
+                since = self.begin_step()
+
+    def send_alike(self, stream: Stream, queues: tuple[str, ...], made: Callable[[], bytes]) -> None:
+        """Made once for all whom this step tells of these groups."""
+        if queues not in self.alike:
+            self.alike[queues] = made() + b"}\n\n"
+        stream.live = self.live
+        stream.send(self.alike[queues])
+
+    def begin_step(self) -> float:
+        """When it begins."""
+        self.live, self.alike = self.following.is_live(), {}
+        return self.clock()
+
+    def is_early(self, stream: Stream, now: float) -> bool:
+        """Whether an agent's page is told nothing yet, since the last turn in which it was looked at."""
+        return (now - stream.told < QUEUES_EVERY and now - stream.beaten < BEAT and stream.live == self.live
+                and stream.number > 0 and stream.sight is None)
 
     def judge(self, stream: Stream, now: float) -> bool:
         stream.judged = now
@@ -303,9 +339,9 @@ class Streams:
 
     def turn_stream(self, stream: Stream, state: State | None, now: float) -> None:
         """Tells it what isn't urgent, and at least that it is alive."""
-        if stream.live != self.following.is_live() or now - stream.beaten >= BEAT:
+        if stream.live != self.live or now - stream.beaten >= BEAT:
             stream.beaten = now
-            stream.write("beat", self.head(stream))
+            self.send_alike(stream, (), lambda: begun("beat", self.head_of(self.live)))
         if state is None:
             return
         if stream.sight is not None:
@@ -333,7 +369,10 @@ class Streams:
         queues = groups_of(state, stream.agent, stream.groups)
         if queues != stream.queues or self.following.all_changed > stream.number:
             return self.tell_agent(stream, state, is_whole=True)
-        changed = [queue for queue in queues if self.following.groups_changed.get(queue, 0) > stream.number]
+        changed = tuple(queue for queue in queues if self.following.groups_changed.get(queue, 0) > stream.number)
         stream.number = self.following.number
-        if changed or self.following.names_changed > stream.names:
+        if self.following.names_changed > stream.names:
             self.write_agent(stream, state, [], changed)
+        elif changed:
+            self.send_alike(stream, changed, lambda: begun("change", self.head_of(self.live) + ',"groups":{'
+                                                           f"{self.queues_of(state, changed)}}}", self.name(stream)))

@@ -27,6 +27,7 @@ class Pipe:
 class PackingTest(unittest.TestCase):
     def setUp(self):
         packing.kept.cache_clear()
+        packing.kept_shortly.cache_clear()
         self.pipe = Pipe()
         self.packed = Packed(self.pipe)
 
@@ -44,12 +45,13 @@ class PackingTest(unittest.TestCase):
         self.assertEqual(gzip.decompress(b"".join(self.pipe.told)), b"".join(map(b"".join, writes)))
 
     def test_what_several_are_sent_is_packed_once(self):
-        names, others = bytes(range(256)) * 20, [Packed(Pipe()) for _ in range(5)]
-        with mock.patch.object(packing.zlib, "compressobj", side_effect=zlib.compressobj) as made:
-            for number, other in enumerate(others):
-                other.write(b"%d," % number, names, b"}")
-                other.end()
-        self.assertEqual((made.call_count, {gzip.decompress(b"".join(other.pipe.told))[2:] for other in others}), (1, {names + b"}"}))
+        for names in (bytes(range(256)) * 20, bytes(range(256)) * 2):
+            others = [Packed(Pipe()) for _ in range(5)]
+            with mock.patch.object(packing.zlib, "compressobj", side_effect=zlib.compressobj) as made:
+                for number, other in enumerate(others):
+                    other.write(b"%d," % number, names, b"}")
+                    other.end()
+            self.assertEqual((made.call_count, {gzip.decompress(b"".join(other.pipe.told))[2:] for other in others}), (1, {names + b"}"}))
 
     def test_what_is_long_becomes_short(self):
         self.packed.write(b'"agent":"7",' * 1000)

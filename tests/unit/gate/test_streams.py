@@ -251,6 +251,34 @@ class StreamsTest(Named, unittest.IsolatedAsyncioTestCase):
         self.assertEqual([page.of("change")[-1]["agents"]["7"]["since"] for page in (*pages, *others)], [1001] * 6)
         self.assertEqual(made.call_count, 2)
 
+    async def test_what_is_told_alike_is_made_once(self):
+        """A group's line for all of its agents, and a sign of life for all."""
+        self.desk.events += [logged_on(1), logged_on(2, "8", "202")]
+        await self.following.catch_up()
+        pages = [await self.page(f"ana-{number}", agent=agent) for number, agent in enumerate("7788")]
+        await self.turn()
+        self.desk.events.append(event(3, event="queued", call=5, device="100", cause="newCall"))
+        for seconds, kind in ((1.0, "change"), (streams.BEAT, "beat")):
+            for page in pages:
+                page.told.clear()
+            with mock.patch.object(streams, "begun", side_effect=streams.begun) as made:
+                await self.turn(seconds)
+            self.assertEqual(([[told[0] for told in page.told] for page in pages], made.call_count), ([[kind]] * 4, 1))
+            self.assertEqual(len({json.dumps(page.told[0]) for page in pages}), 1)
+
+    async def test_the_desk_goes_between_two_looks_at_a_page(self):
+        """An agent's page is looked at once a second, but is told at once that the desk is away."""
+        page = await self.page("ana", agent="7")
+        await self.turn()
+        page.told.clear()
+        page.is_closed = True
+        self.now += 0.3
+        list(self.streams.take_turn(self.now))
+        self.assertEqual((page.stream.ended.done(), page.told), (False, []))
+        page.is_closed, self.following.heard = False, -following.AWAY
+        list(self.streams.take_turn(self.now))
+        self.assertEqual([(kind, members["live"]) for kind, _, members in page.told], [("beat", False)])
+
     async def test_a_turn_is_taken_in_steps(self):
         """Where all get everything anew, others go between; and who leaves meanwhile is told nothing more."""
         pages = [await self.page("ana", agent="7") for _ in range(4)]
