@@ -51,13 +51,25 @@ class AskingTest(unittest.IsolatedAsyncioTestCase):
             self.assertNotIn(b"Content-", self.heads[-2])
 
     async def test_what_is_no_whole_answer(self):
-        for sends in (b"", b"HTTP/1.1 200", WHOLE[:-1], b"HTTP/1.1 OK\r\n\r\n", b"garbage\r\n\r\n", WHOLE.replace(b": 9", b": x"), b"x" * 3 * desk.AHEAD):
+        for sends in (b"", b"HTTP/1.1 200", WHOLE[:-1], b"HTTP/1.1 OK\r\n\r\n", b"garbage\r\n\r\n", WHOLE.replace(b": 9", b": x"), b"x" * 3 * desk.LONGEST_HEAD):
             self.sends = sends
             self.assertEqual((await self.desk.ask("GET", "/"))[:3:2], NO_DESK, sends[:20])
 
     async def test_one_without_a_length_ends_with_the_connection(self):
-        self.sends = b"HTTP/1.0 200 OK\r\n\r\n" + b"x" * 3 * desk.AHEAD
-        self.assertEqual(len((await self.desk.ask("GET", "/")).body), 3 * desk.AHEAD)
+        self.sends = b"HTTP/1.0 200 OK\r\n\r\n" + b"x" * 3 * desk.LONGEST_HEAD
+        self.assertEqual(len((await self.desk.ask("GET", "/")).body), 3 * desk.LONGEST_HEAD)
+
+    async def test_one_in_parts(self):
+        """What comes after its length is nothing of it; a length below nothing is none."""
+        for sends, wanted in ((WHOLE, b'{"x": 1}\n'), (WHOLE + b"more", b'{"x": 1}\n'), (WHOLE.replace(b": 9", b": -1"), None)):
+            for size in (1, 7, len(sends)):
+                parts = iter([sends[place:place + size] for place in range(0, len(sends), size)])
+                answer = desk.read_answer(lambda: asyncio.sleep(0, next(parts, b"")))
+                if wanted is None:
+                    with self.assertRaises(desk.Broken):
+                        await answer
+                else:
+                    self.assertEqual((await answer)[:3], (409, "application/json", wanted))
 
     async def test_nobody_there(self):
         for where in (Place(1), Place(path=str(self.folder / "none"))):
