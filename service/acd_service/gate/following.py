@@ -25,7 +25,7 @@ from acd_service.gate.waiter import TURNS, Waiter
 # seconds: between two looks at the desk, at least and without a request in between, two snapshots, two tries of a desk
 # that is away; until pages learn that the desk is away, until the gate answers a question without news, and for how
 # long it follows the desk after the last question
-LEAST, EVERY, RENEW, AGAIN = 0.05, 0.2, 30, 1
+LEAST, EVERY, RENEW, AGAIN = 0.075, 0.2, 30, 1
 # the same after a request that changes what no event tells, and what such a request has in its text
 SOON, PLANS = 2, (b"setGroupPriority", b"changeGroup", b"changeAgent", b"addGroup", b"addAgent", b"addStation")
 AWAY, HELD, WANTED = 2, 20, 60

@@ -316,14 +316,14 @@ class FollowingTest(Named, unittest.IsolatedAsyncioTestCase):
         self.assertEqual((await self.mine(after=first["number"], names=first["number"]))["agent"]["pending"], "notReady")
         await self.ends()
 
-    async def test_at_most_twenty_looks_a_second(self):
+    async def test_at_most_thirteen_looks_a_second(self):
         await self.mine()
         before, begun = len(self.desk.asked), time.monotonic()
         while time.monotonic() - begun < 1:
             self.following.nudge(b"", b"")
             await asyncio.sleep(0.002)
         looks = (len(self.desk.asked) - before) / (time.monotonic() - begun)
-        self.assertLess(looks, 22)
+        self.assertLess(looks, 15)
         await self.ends()
 
     async def test_it_tells_that_the_desk_is_away_and_goes_on(self):
