@@ -87,7 +87,7 @@ class Streams:
         self.all: dict[Stream, None] = {}
         self.of_agent: defaultdict[str, set[Stream]] = defaultdict(set)
         self.boards: Boards | None = None
-        self.boarded = 0.0
+        self.boarded = self.rounded = 0.0
         # the pictures of views by their serial numbers, as they are at a number
         self.pictures: tuple[int, dict[int, bytes]] = 0, {}
         # and what changed of them since a number
@@ -294,9 +294,11 @@ class Streams:
     def take_turn(self, now: float) -> Iterator[None]:
         """In steps: where all pages get everything anew, others are answered between."""
         self.turn_boards(self.following.state, now)
-        since = self.begin_step()
+        # all agents' pages in one turn of a second, so that many are told alike
+        is_round = now - self.rounded >= QUEUES_EVERY
+        self.rounded, since = now if is_round else self.rounded, self.begin_step()
         for stream in list(self.all):
-            if self.is_early(stream, now):
+            if not is_round and self.is_early(stream, now):
                 continue
             if stream.pipe is None or stream.pipe.is_gone():
                 stream.end("left")
@@ -321,9 +323,9 @@ class Streams:
         return self.clock()
 
     def is_early(self, stream: Stream, now: float) -> bool:
-        """Whether an agent's page is told nothing yet, since the last turn in which it was looked at."""
-        return (now - stream.told < QUEUES_EVERY and now - stream.beaten < BEAT and stream.live == self.live
-                and stream.number > 0 and stream.sight is None)
+        """Whether an agent's page is told nothing between two of these turns."""
+        return (now - stream.beaten < BEAT and stream.live == self.live and stream.number > 0
+                and stream.sight is None)
 
     def judge(self, stream: Stream, now: float) -> bool:
         stream.judged = now

@@ -252,10 +252,13 @@ class StreamsTest(Named, unittest.IsolatedAsyncioTestCase):
         self.assertEqual(made.call_count, 2)
 
     async def test_what_is_told_alike_is_made_once(self):
-        """A group's line for all of its agents, and a sign of life for all."""
+        """A group's line for all of its agents, whenever they came; and a sign of life."""
         self.desk.events += [logged_on(1), logged_on(2, "8", "202")]
         await self.following.catch_up()
-        pages = [await self.page(f"ana-{number}", agent=agent) for number, agent in enumerate("7788")]
+        pages = []
+        for number, agent in enumerate("7788"):
+            pages.append(await self.page(f"ana-{number}", agent=agent))
+            await self.turn(0.3)
         await self.turn()
         self.desk.events.append(event(3, event="queued", call=5, device="100", cause="newCall"))
         for seconds, kind in ((1.0, "change"), (streams.BEAT, "beat")):
