@@ -21,6 +21,8 @@ class Token:
 
 def uncommented(line):
     """The line without its comment: `--` begins one where a word begins."""
+    if "--" not in line:
+        return line.rstrip()
     place, quoted = 0, False
     while place < len(line):
         if line[place] == '"' and line[place - 1:place] != "\\":
