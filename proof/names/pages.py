@@ -7,7 +7,7 @@ from table import Table, word_of
 from tree import Key, Tree, types_of
 
 IN_CRATES = re.compile(r"(crates|acd_\w+|specs|proofs|src|\.)/|\S+\.(antt|rt)$")
-FOLDER = re.compile(r"(?:acd_\w+/)?(?:specs|proofs)(?:/\w+)*$")
+FOLDER = re.compile(r"(?:acd_\w+/)?(?:specs|proofs)$")
 MARK = "The crate is cut to what that body stands on"
 
 
@@ -82,7 +82,8 @@ class Names:
                 if at % 2:
                     folder = f"{span}/" if FOLDER.match(span) and mark == "`" else "" if "/" in span else folder
                     is_name = folder and re.match(r"[A-Z]\w*$", span)
-                    spans[at] = self.words(f"{folder}{span}" if is_name else span, crates[-1:], f"{where}:{number}").removeprefix(folder if is_name else "")
+                    found_here = self.words(f"{folder}{span}" if is_name else span, crates[-1:], f"{where}:{number}")
+                    spans[at] = found_here.rpartition("/")[2] if is_name else found_here
                 elif "|" in span:
                     folder = ""
             found.append(mark.join(spans))

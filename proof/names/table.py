@@ -81,10 +81,10 @@ class Table:
                 folder = "specs" if kind in ("specs", "word") else "proofs"
                 front = self.path(tree, ["Rattle", crate, folder, *front])[3:]
             elif kind != "member":
-                name, front = front[-1], front[:-1] if kind == "variant" else front
-                front = [self.new(("source", crate, tuple(front[:at + 1])), name) for at, name in enumerate(front)]
-            if kind == "variant":
-                front.append(self.new(tree.item(crate, tuple(old.split(".")[:-2]), name), name))
+                types = [front.pop()] if kind == "variant" else []
+                place = tuple(front)
+                front = [self.new(("source", crate, place[:at + 1]), name) for at, name in enumerate(place)]
+                front += [self.new(("type", crate, place, name), name) for name in types]
             found.append(f"{kind} {crate} {'.'.join([*front, new])} {last}")
         return "\n".join(found) + "\n"
 
@@ -111,8 +111,8 @@ def unknown(tree: Tree, table: Table) -> list[str]:
     return found
 
 
-def crowded(tree: Tree, table: Table) -> list[str]:
-    """New names that their folder or module has, or that differ only in case from one there."""
+def crowded(tree: Tree, table: Table, is_back: bool) -> list[str]:
+    """New names that their folder or module has, or that differ only in case from one there, as old ones that come back may."""
     paths = {PurePath(where) for where in tree.files}
     found = []
     for (kind, crate, old, new), key in zip(table.rows, table.names):
@@ -125,6 +125,6 @@ def crowded(tree: Tree, table: Table) -> list[str]:
             others = {table.new((*key[:-1], it), it) for it in {*module.definitions, *module.constructors} - {key[4]}}
         else:
             continue
-        if hit := [it for it in others if it.lower() == new.lower()]:
+        if hit := [it for it in others if it == new or it.lower() == new.lower() and not is_back]:
             found.append(f"{kind} {crate} {old}: {hit[0]} is there beside {new}")
     return found
