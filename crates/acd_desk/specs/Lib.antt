@@ -21,6 +21,7 @@ pub mod Session
 pub mod Audit
 pub mod Replay
 pub mod GroupStates
+pub mod Kinds
 pub mod Pages
 pub mod KeyPlaces
 pub mod WithArchive

@@ -1,16 +1,18 @@
--- The comparison of the records of an archive and those of the content that continues it: what it finds.
-use Rattle.std.specs.Prelude.{◌≡◌, ◌≢◌, ℕ, ◌<◌, ◌≤◌, Bool, List, [], ◌∷◌, Option, Some, None, IfSome, min}
+-- The comparison of an archive and the content that continues it: what it finds.
+use Rattle.std.specs.Prelude.{◌≡◌, ◌≢◌, ◌⊎◌, ℕ, ◌<◌, ◌≤◌, Bool, List, [], ◌∷◌, Option, Some, None, min}
 use Rattle.std.specs.Bool.{Decides}
 use Rattle.acd_terms.specs.declared.event.Event.{Event}
 use Rattle.acd_book.specs.declared.kept.Kept.{Kept}
-use Rattle.acd_book.specs.Content.{Content, records_after, events_after}
+use Rattle.acd_book.specs.Content.{Content}
 use Rattle.acd_book.specs.Memory.{stamp_of, number_of}
-use Rattle.acd_book.specs.Order.{IsOrdered}
+use Rattle.acd_book.specs.Order.{Rises, IsOrdered}
+use Rattle.acd_terms.specs.Lists.{Every}
 use Rattle.acd_desk.specs.declared.overlap.Cut.{Cut}
 use Rattle.acd_desk.specs.declared.overlap.Next.{Next}
 use Rattle.acd_desk.specs.declared.overlap.Pages.{Pages}
 use Rattle.acd_desk.specs.declared.overlap.Next.TheVariants.{Same, Other, Over}
-use Rattle.acd_desk.specs.Pages.{IsPageOf}
+use Rattle.acd_desk.specs.Kinds.{Kind, page_above}
+use Rattle.acd_desk.specs.Pages.{IsPage}
 use Rattle.acd_book.specs.Sharing.{IsSplit, Begins, cut_before}
 use Rattle.acd_desk.specs.WithArchive.{ComeBefore}
 use Rattle.acd_desk.specs.AuditWith.{StandsInTime, HoldsArchive}
@@ -27,15 +29,12 @@ cut_stamp a c = cut_before stamp_of a.rows.last_stamp c.kept
 abbrev pub cut_number : Content → Content → ℕ
 cut_number a c = cut_before number_of a.rows.last_event c.events
 
--- the same of a content and an archive's last stamp and number
-abbrev pub IsCutStamp : ℕ → Content → ℕ → Type 0
-IsCutStamp last c found = found ≡ cut_before stamp_of last c.kept
+-- the last place of a kind that was left in an archive, by a content in order and the archive's last place
+abbrev pub IsCutAt : {T : Type 0} → Kind T → ℕ → Content → ℕ → Type 0
+IsCutAt kind last c found = Rises kind.place 0 (kind.all c) → found ≡ cut_before kind.place last (kind.all c)
 
-abbrev pub IsCutNumber : ℕ → Content → ℕ → Type 0
-IsCutNumber last c found = found ≡ cut_before number_of last c.events
-
-abbrev pub IsCutOf : ℕ → ℕ → Content → Cut → Type 0
-IsCutOf stamp number c cut = IsCutStamp stamp c cut.stamp × IsCutNumber number c cut.number
+abbrev pub IsCutOf : Cut → Content → Cut → Type 0
+IsCutOf last c cut = (cut.stamp ≡ cut_before stamp_of last.stamp c.kept) × (cut.number ≡ cut_before number_of last.number c.events)
 
 -- the kept records, and the events, begin with the archive's above the cut
 abbrev pub KeepsArchive : Content → Content → Type 0
@@ -44,35 +43,25 @@ KeepsArchive a c = Begins stamp_of (cut_stamp a c) a.rows.last_stamp a.kept c.ke
 abbrev pub ReportsArchive : Content → Content → Type 0
 ReportsArchive a c = Begins number_of (cut_number a c) a.rows.last_event a.events c.events
 
--- of two lists of one member at most: the first of one is that of the other too, it isn't, or there is none
-abbrev pub IsNextOf : {T : Type 0} → (T → ℕ) → List T → List T → Next → Type 0
-IsNextOf {T} f archived current (Same place) = (x : T) × (xs : List T) × (ys : List T) × (archived ≡ x ∷ xs) × (current ≡ x ∷ ys) × (place ≡ f x)
-IsNextOf {T} f archived current (Other place) = (x : T) × (xs : List T) × (archived ≡ x ∷ xs) × (current ≢ archived)
-IsNextOf f archived current Over = archived ≡ []
+-- of two lists of one member at most: one has a first that the other hasn't, not above a last place where only the second list has one
+abbrev pub Differ : {T : Type 0} → (T → ℕ) × ℕ → List T → List T → Type 0
+Differ {T} at archived current =
+    ((x : T) × (xs : List T) × (archived ≡ x ∷ xs) × (current ≢ archived)) ⊎ ((archived ≡ []) × (x : T) × (xs : List T) × (current ≡ x ∷ xs) × (at.0 x ≤ at.1))
 
--- and the place of another one isn't after that of this one
-abbrev pub IsOtherPlace : {T : Type 0} → (T → ℕ) → List T → Next → Type 0
-IsOtherPlace f archived (Same place) = Unit {0}
-IsOtherPlace {T} f archived (Other place) = (x : T) × (xs : List T) × (archived ≡ x ∷ xs) × (place ≤ f x)
-IsOtherPlace f archived Over = Unit {0}
+-- of two such lists: the first of one is that of the other too; it isn't; or there is none, and none up to a last place in the other
+abbrev pub IsNextOf : {T : Type 0} → (T → ℕ) × ℕ → List T → List T → Next → Type 0
+IsNextOf {T} at archived current (Same place) = (x : T) × (xs : List T) × (ys : List T) × (archived ≡ x ∷ xs) × (current ≡ x ∷ ys) × (place ≡ at.0 x)
+IsNextOf {T} at archived current (Other mark) = Differ at archived current
+IsNextOf {T} at archived current Over = (archived ≡ []) × ((x : T) (xs : List T) → current ≡ x ∷ xs → at.1 < at.0 x)
 
--- a member, where there is one, as a list
-abbrev pub listed : {T : Type 0} → Option T → List T
-listed None = []
-listed (Some x) = x ∷ []
+-- pages of both
+abbrev pub ArePagesOf : {T : Type 0} → Kind T → Content → Content → Pages T → Type 0
+ArePagesOf kind a c pages = IsPage kind a pages.archive × IsPage kind c pages.current
 
--- the next record of each above a stamp
-abbrev pub IsNextRecord : ℕ → Content → Content → Next → Type 0
-IsNextRecord stamp a c found = AreInOrder a c → IsNextOf stamp_of (records_after a.kept stamp 1) (records_after c.kept stamp 1) found × IsOtherPlace stamp_of (records_after a.kept stamp 1) found
-
--- what both have next above a number
-abbrev pub IsNextEvent : ℕ → Content → Content → Next → Type 0
-IsNextEvent number a c found = IsNextOf number_of (events_after a.events number 1) (events_after c.events number 1) found
-
--- it is read by pages of both, which stay pages of them
-abbrev pub ReadsNextEvent : ℕ → Pages → Pages → Content → Content → Next → Type 0
-ReadsNextEvent number old new a c found =
-    IsPageOf a old.archive → IsPageOf c old.current → IsPageOf a new.archive × IsPageOf c new.current × IsNextEvent number a c found
+-- what both have next above a place is read by pages of both, which stay pages of them
+abbrev pub ReadsNext : {T : Type 0} → Kind T → Pages T × Pages T → ℕ → ℕ → Content → Content → Next → Type 0
+ReadsNext kind pages above last a c found =
+    ArePagesOf kind a c pages.0 → ArePagesOf kind a c pages.1 × IsNextOf (kind.place, last) (page_above kind above 1 a) (page_above kind above 1 c) found
 
 -- a place where they differ, or none where they don't, of what is asked above a cut
 abbrev pub IsOther : Type 0 → Option ℕ → Type 0
@@ -98,41 +87,30 @@ abbrev pub IsBefore : List Event → ℕ → ℕ → Type 0
 IsBefore [] number moment = Unit {0}
 IsBefore (e ∷ es) number moment = e.number ≡ number → e.moment < moment
 
--- the first of a list, where it isn't above the last place
-abbrev pub IsFirstUpTo : {T : Type 0} → (T → ℕ) → ℕ → List T → Option ℕ → Type 0
-IsFirstUpTo {T} f last current None = (x : T) (xs : List T) → current ≡ x ∷ xs → last < f x
-IsFirstUpTo {T} f last current (Some place) = (x : T) × (xs : List T) × (current ≡ x ∷ xs) × (f x ≤ last)
-
--- the next record above a stamp, where it isn't above the last one
-abbrev pub IsRecordUpTo : ℕ → ℕ → Content → Option ℕ → Type 0
-IsRecordUpTo stamp last c found = IsFirstUpTo stamp_of last (records_after c.kept stamp 1) found × IfSome found (λ place. place ≤ last)
-
--- the next event above a number, where it isn't above the last one
-abbrev pub IsEventUpTo : ℕ → ℕ → Content → Option ℕ → Type 0
-IsEventUpTo number last c found = IsFirstUpTo number_of last (events_after c.events number 1) found
-
 -- the archive's counters
 pub record IsLast (a : Content) (last : Cut) : Type 0 where
   pub stamp : last.stamp ≡ a.rows.last_stamp
   pub number : last.number ≡ a.rows.last_event
 
--- the lesser of two places, where there is one
-abbrev pub earlier : Option ℕ → Option ℕ → Option ℕ
-earlier None second = second
-earlier (Some place) None = Some place
-earlier (Some place) (Some other) = Some (min place other)
+-- the lesser of two places, where there is one: at most the last one
+abbrev pub earlier : Option ℕ → Option ℕ → ℕ → Option ℕ
+earlier None None last = None
+earlier None (Some place) last = Some (min place last)
+earlier (Some place) None last = Some (min place last)
+earlier (Some place) (Some other) last = Some (min (min place other) last)
 
 -- ---- where an archive and a content in order differ, from the cut up to the archive's last place
 
--- by a record
-abbrev pub FindsRecord : ℕ → ℕ → Content → Content → Option ℕ → Type 0
-FindsRecord above last a c found =
-    AreInOrder a c → last ≡ a.rows.last_stamp → above ≡ cut_stamp a c → IsOtherUpTo last (KeepsArchive a c) found
+-- all of a kind is in order, the archive's up to a last place, and above is where it was cut
+pub record StandAbove {T : Type 0} (kind : Kind T) (above last : ℕ) (a c : Content) : Type 0 where
+  pub archive : Rises kind.place 0 (kind.all a)
+  pub within : Every (λ (x : T). kind.place x ≤ last) (kind.all a)
+  pub current : Rises kind.place 0 (kind.all c)
+  pub cut : above ≡ cut_before kind.place last (kind.all c)
 
--- by an event
-abbrev pub FindsEvent : ℕ → ℕ → Content → Content → Option ℕ → Type 0
-FindsEvent above last a c found =
-    AreInOrder a c → last ≡ a.rows.last_event → above ≡ cut_number a c → IsOther (ReportsArchive a c) found
+-- by one of a kind
+abbrev pub FindsOther : {T : Type 0} → Kind T → ℕ → ℕ → Content → Content → Option ℕ → Type 0
+FindsOther kind above last a c found = StandAbove kind above last a c → IsOther (Begins kind.place above last (kind.all a) (kind.all c)) found
 
 -- by an event; or the cut left some events of the first carried record behind
 abbrev pub FindsMoment : Cut → ℕ → Content → Content → Option ℕ → Type 0

@@ -1,11 +1,12 @@
 -- Reads of two books, of which one is the archive of the other one.
-use Rattle.std.specs.Prelude.{Result, Ok, Err, IfOk}
+use Rattle.std.specs.Prelude.{◌≡◌, Result, Ok, Err, IfOk}
 use Rattle.acd_book.specs.Content.{Content}
 use Rattle.acd_book.specs.State.{BookState, IfHonest}
 use Rattle.acd_book.specs.declared.fault.BookFault.{BookFault}
 use Rattle.acd_book.specs.declared.fault.BookFault.TheVariants as book
 use Rattle.acd_desk.specs.declared.open_fault.OpenFault.{OpenFault}
 use Rattle.acd_desk.specs.declared.open_fault.OpenFault.TheVariants as open_fault
+use Rattle.acd_desk.specs.declared.pair.Pair.{Pair}
 use Rattle.acd_desk.specs.declared.pair.PairFault.{PairFault}
 use Rattle.acd_desk.specs.declared.pair.PairFault.TheVariants.{Current, Archive}
 use Rattle.acd_desk.specs.Opening.{by_book}
@@ -62,6 +63,13 @@ pub record BookCall : Type 1 where
 abbrev pub across : {B : Type 0} → (B → BookState) → B → B → BookCall
 across state old new = record { old = state old; new = state new }
 
--- reads of the archive and the book
-abbrev pub BothRead : {T : Type 0} → BookCall → BookCall → Result T PairFault → (Content → Content → T → Type 0) → Type 0
-BothRead archive current result IsAnswer = ReadsBoth archive.old archive.new current.old current.new result IsAnswer
+-- ---- of a pair, before a call and after it
+
+-- it has borrowed the same two
+abbrev pub BorrowsSame : {A B : Type 0} → Pair A B → Pair A B → Type 0
+BorrowsSame old new = (new.archive.ghost_name ≡ old.archive.ghost_name) × (new.book.ghost_name ≡ old.book.ghost_name)
+
+-- reads of both, by what each says of itself
+abbrev pub BothRead : {A B T : Type 0} → (A → BookState) → (B → BookState) → Pair A B × Pair A B → Result T PairFault → (Content → Content → T → Type 0) → Type 0
+BothRead archive current pairs result IsAnswer =
+    ReadsBoth (archive pairs.0.archive.now) (archive pairs.1.archive.now) (current pairs.0.book.now) (current pairs.1.book.now) result IsAnswer

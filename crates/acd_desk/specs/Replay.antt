@@ -85,7 +85,7 @@ abbrev pub FindsFirst : Content → SeenKeys → Kept → Type 0
 FindsFirst c keys k = ¬ IsSeenKey keys k.request → IsFirstOfKey c k
 
 -- so much is known of the content before a record is compared with what its request gives
-pub record Knows (c : Content) (keys : SeenKeys) (p : Page) (k : Kept) : Type 0 where
+pub record Knows (c : Content) (keys : SeenKeys) (p : Page Event) (k : Kept) : Type 0 where
   pub finds : FindsFirst c keys k
   pub page : IsPageOf c p
 
@@ -94,11 +94,11 @@ abbrev pub DecidesFirst : SeenKeys → Kept → Content → Bool → Type 0
 DecidesFirst keys k c found = FindsFirst c keys k → Decides found (IsFirstOfKey c k)
 
 -- where the page is of the content, it is found whether these events come above a number, and it stays a page of the content
-abbrev pub DecidesNext : Page → Page → ℕ → List Event → Content → Bool → Type 0
+abbrev pub DecidesNext : Page Event → Page Event → ℕ → List Event → Content → Bool → Type 0
 DecidesNext old new last events c found = IsPageOf c old → IsPageOf c new × Decides found (ComeNext c last events)
 
 -- where so much is known before, it is found whether this holds, and the page stays one of the content
-abbrev pub DecidesKnown : SeenKeys → Page × Page → Kept → (Content → Type 0) → Content → Bool → Type 0
+abbrev pub DecidesKnown : SeenKeys → Page Event × Page Event → Kept → (Content → Type 0) → Content → Bool → Type 0
 DecidesKnown keys pages k P c found = Knows c keys pages.0 k → IsPageOf c pages.1 × Decides found (P c)
 
 -- its switch replays the first records, it has seen their keys, and its page is of the content

@@ -2,6 +2,7 @@
 use Rattle.std.specs.Prelude.{◌≡◌, ℕ, ◌+◌, Bool, true, false, Option, Some, None, IfSome, option_map, is_some, if◌then◌else◌}
 use Rattle.acd_terms.specs.Lists.{Every}
 use Rattle.acd_terms.specs.declared.rows.Rows.{Rows}
+use Rattle.acd_terms.specs.declared.event.Event.{Event}
 use Rattle.acd_terms.specs.declared.command.Request.{Request}
 use Rattle.acd_book.specs.declared.kept.Kept.{Kept}
 use Rattle.acd_book.specs.Content.{Content, kept_of}
@@ -35,7 +36,7 @@ abbrev pub IsSwitchOf : Content → LoadedSwitch → Type 0
 IsSwitchOf a loaded = loaded.switch.value ≡ a.rows
 
 -- so much is known of both before a record is compared with what its request gives
-pub record KnowsWith (a c : Content) (keys : SeenKeys) (p : Page) (k : Kept) : Type 0 where
+pub record KnowsWith (a c : Content) (keys : SeenKeys) (p : Page Event) (k : Kept) : Type 0 where
   pub finds : kept_of a.kept k.request.requester k.request.invoke ≡ None → FindsFirst c keys k
   pub page : IsPageOf c p
 

@@ -9,9 +9,8 @@ ghost use Rattle.acd_desk.specs.AuditedWith.{desk_part, archive_part, audit_faul
 
 use crate::desk::Desk;
 use crate::fault::DeskFault;
-use crate::newer::audited_with;
 use crate::open_fault::OpenFault;
-use crate::pair::PairFault;
+use crate::pair::{Pair, PairFault};
 use crate::replay::audited;
 use crate::working::Working;
 use acd_book::Book;
@@ -84,7 +83,11 @@ impl<B: Book> Desk<B> {
         if self.has_failed() {
             return Err(AuditFault::Desk(DeskFault::StoreFault));
         }
-        match audited_with(self.alloc, archive, &mut self.book) {
+        let mut pair = Pair {
+            archive,
+            book: &mut self.book,
+        };
+        match pair.audited(self.alloc) {
             Ok(audit) => Ok(audit),
             Err(fault) => Err(self.pair_failed(fault)),
         }

@@ -29,6 +29,7 @@ mod open_fault;
 mod overlap;
 mod page;
 mod pair;
+mod placed;
 mod question;
 mod reads;
 mod replay;

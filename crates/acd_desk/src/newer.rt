@@ -3,13 +3,13 @@
 ghost use Rattle.std.specs.Prelude.{◌≡◌, ◌+◌, ◌<◌, IfOk};
 ghost use Rattle.acd_book.specs.State.{BookFinds};
 ghost use Rattle.acd_book.specs.BookReading.{MayRead};
-ghost use Rattle.acd_desk.specs.Pairs.{BothRead, across, by_opening};
+ghost use Rattle.acd_desk.specs.Pairs.{BorrowsSame, BothRead, by_opening};
 ghost use Rattle.acd_desk.specs.ReplayWith.{is_kept, IsSwitchOf, Notes, first_of_both, with_first, PlaysWith, StepsOnWith, answer_at_end, IsStepWith, CountsOneWith, AuditsFrom, AuditsInOrder};
 
 use crate::audit::ArchiveAudit;
 use crate::open_fault::OpenFault;
-use crate::overlap::{Cut, other_place};
-use crate::pair::{PairFault, of_archive, of_current, of_opening};
+use crate::overlap::Cut;
+use crate::pair::{Pair, PairFault, of_archive, of_current, of_opening};
 use crate::replay::{Course, coursed, is_all, is_whole, replayed};
 use crate::working::LoadedSwitch;
 use acd_book::{Book, BookFault, Kept};
@@ -73,27 +73,6 @@ fn with_first(played: Option<Course>, sent_again: Option<u64>) -> Option<NewerCo
     }
 }
 
-// Replays a record, and looks whether its key was left in the archive.
-fn replayed_with<A: Book, B: Book>(
-    alloc: Global,
-    archive: &mut A,
-    book: &mut B,
-    newer: NewerCourse,
-    kept: &Kept,
-) -> Result<Option<NewerCourse>, PairFault>
-    requires { newer.course.loaded.switch.value.last_stamp
-        < newer.course.loaded.switch.value.limits.requests }
-    ensures read { BothRead (across A.state archive.old archive.new)
-        (across B.state book.old book.new) result (PlaysWith newer kept.now) }
-    ensures stepped { IfOk result (StepsOnWith newer.course.loaded.switch.value kept.now) }
-{
-    let known = of_archive(is_known(archive, kept))?;
-    let NewerCourse { course, sent_again } = newer;
-    let course = noted(course, known, &kept.request);
-    let played = of_current(replayed(alloc, book, course, kept))?;
-    Ok(with_first(played, first_of_both(sent_again, known, kept.stamp)))
-}
-
 // The stamp after the last one. The limit of requests is far below the end of its type.
 fn next_stamp(loaded: &LoadedSwitch) -> u64
     ensures { result ≡ loaded.now.switch.value.last_stamp + 1 }
@@ -112,57 +91,6 @@ fn answer_at_end(newer: &NewerCourse, whole: bool) -> ArchiveAudit
         Some(first) => ArchiveAudit::SentAgain(first),
         None => ArchiveAudit::Sound,
     }
-}
-
-// Replays the next record, where one is left.
-fn next_newer<A: Book, B: Book>(
-    alloc: Global,
-    archive: &mut A,
-    book: &mut B,
-    newer: NewerCourse,
-) -> Result<NewerStep, PairFault>
-    requires { newer.course.loaded.switch.value.last_stamp
-        < newer.course.loaded.switch.value.limits.requests }
-    ensures read { BothRead (across A.state archive.old archive.new)
-        (across B.state book.old book.new) result (λ a c found. IsStepWith a c newer found) }
-    ensures counts { IfOk result (CountsOneWith newer.course.loaded.switch.value) }
-{
-    let next = next_stamp(&newer.course.loaded);
-    let last = newer.course.loaded.switch.last_stamp();
-    let Some(kept) = of_current(book.kept_after(last))? else {
-        let whole = of_current(is_whole(book, &newer.course.loaded.switch))?;
-        return Ok(NewerStep::Ended(answer_at_end(&newer, whole)));
-    };
-    match replayed_with(alloc, archive, book, newer, &kept)? {
-        Some(newer) => Ok(NewerStep::Replayed(newer)),
-        None => Ok(NewerStep::Ended(ArchiveAudit::Differs(next))),
-    }
-}
-
-// Replays all that is newer than the archive, from its state on.
-fn audited_newer<A: Book, B: Book>(
-    alloc: Global,
-    archive: &mut A,
-    book: &mut B,
-    first: Course,
-) -> Result<ArchiveAudit, PairFault>
-    ensures { BothRead (across A.state archive.old archive.new)
-        (across B.state book.old book.new) result (AuditsFrom first) }
-{
-    let start = first.loaded.switch.last_stamp();
-    let most = first.loaded.switch.tables().limits().requests;
-    let mut newer = NewerCourse {
-        course: first,
-        sent_again: None,
-    };
-    for _ in start..most {
-        match next_newer(alloc, archive, book, newer)? {
-            NewerStep::Replayed(next) => newer = next,
-            NewerStep::Ended(found) => return Ok(found),
-        }
-    }
-    let all = of_current(is_all(book, &newer.course.loaded.switch))?;
-    Ok(answer_at_end(&newer, all))
 }
 
 // A switch of the archive's rows, which break no rule.
@@ -190,21 +118,82 @@ fn last_of(loaded: &LoadedSwitch) -> Cut
     }
 }
 
-/// Compares the records of a book up to its archive's last stamp with those of the archive, and replays the newer ones
-/// from the archive's state on.
-pub(crate) fn audited_with<A: Book, B: Book>(
-    alloc: Global,
-    archive: &mut A,
-    book: &mut B,
-) -> Result<ArchiveAudit, PairFault>
-    ensures { BothRead (across A.state archive.old archive.new)
-        (across B.state book.old book.new) result AuditsInOrder }
-{
-    let loaded = of_opening(archive_switch(alloc, archive))?;
-    let other = other_place(alloc, archive, book, last_of(&loaded))?;
-    if let Some(place) = other {
-        return Ok(ArchiveAudit::Differs(place));
+impl<A: Book, B: Book> Pair<'_, A, B> {
+    // Replays a record, and looks whether its key was left in the archive.
+    fn replayed(
+        &mut self,
+        alloc: Global,
+        newer: NewerCourse,
+        kept: &Kept,
+    ) -> Result<Option<NewerCourse>, PairFault>
+        requires { newer.course.loaded.switch.value.last_stamp
+            < newer.course.loaded.switch.value.limits.requests }
+        ensures same { BorrowsSame self.old self.new }
+        ensures read { BothRead A.state B.state (self.old, self.new) result
+            (PlaysWith newer kept.now) }
+        ensures stepped { IfOk result (StepsOnWith newer.course.loaded.switch.value kept.now) }
+    {
+        let known = of_archive(is_known(&mut *self.archive, kept))?;
+        let NewerCourse { course, sent_again } = newer;
+        let course = noted(course, known, &kept.request);
+        let played = of_current(replayed(alloc, &mut *self.book, course, kept))?;
+        Ok(with_first(played, first_of_both(sent_again, known, kept.stamp)))
     }
-    let first = coursed(alloc, loaded)?;
-    audited_newer(alloc, archive, book, first)
+
+    // Replays the next record, where one is left.
+    fn next_newer(&mut self, alloc: Global, newer: NewerCourse) -> Result<NewerStep, PairFault>
+        requires { newer.course.loaded.switch.value.last_stamp
+            < newer.course.loaded.switch.value.limits.requests }
+        ensures same { BorrowsSame self.old self.new }
+        ensures read { BothRead A.state B.state (self.old, self.new) result
+            (λ a c found. IsStepWith a c newer found) }
+        ensures counts { IfOk result (CountsOneWith newer.course.loaded.switch.value) }
+    {
+        let next = next_stamp(&newer.course.loaded);
+        let last = newer.course.loaded.switch.last_stamp();
+        let Some(kept) = of_current(self.book.kept_after(last))? else {
+            let whole = of_current(is_whole(&mut *self.book, &newer.course.loaded.switch))?;
+            return Ok(NewerStep::Ended(answer_at_end(&newer, whole)));
+        };
+        match self.replayed(alloc, newer, &kept)? {
+            Some(newer) => Ok(NewerStep::Replayed(newer)),
+            None => Ok(NewerStep::Ended(ArchiveAudit::Differs(next))),
+        }
+    }
+
+    // Replays all that is newer than the archive, from its state on.
+    fn audited_newer(&mut self, alloc: Global, first: Course) -> Result<ArchiveAudit, PairFault>
+        ensures same { BorrowsSame self.old self.new }
+        ensures read { BothRead A.state B.state (self.old, self.new) result (AuditsFrom first) }
+    {
+        let start = first.loaded.switch.last_stamp();
+        let most = first.loaded.switch.tables().limits().requests;
+        let mut newer = NewerCourse {
+            course: first,
+            sent_again: None,
+        };
+        for _ in start..most {
+            match self.next_newer(alloc, newer)? {
+                NewerStep::Replayed(next) => newer = next,
+                NewerStep::Ended(found) => return Ok(found),
+            }
+        }
+        let all = of_current(is_all(&mut *self.book, &newer.course.loaded.switch))?;
+        Ok(answer_at_end(&newer, all))
+    }
+
+    /// Compares the records of the book up to its archive's last stamp with those of the archive, and replays the newer
+    /// ones from the archive's state on.
+    pub(crate) fn audited(&mut self, alloc: Global) -> Result<ArchiveAudit, PairFault>
+        ensures same { BorrowsSame self.old self.new }
+        ensures read { BothRead A.state B.state (self.old, self.new) result AuditsInOrder }
+    {
+        let loaded = of_opening(archive_switch(alloc, &mut *self.archive))?;
+        let other = self.other_place(alloc, last_of(&loaded))?;
+        if let Some(place) = other {
+            return Ok(ArchiveAudit::Differs(place));
+        }
+        let first = coursed(alloc, loaded)?;
+        self.audited_newer(alloc, first)
+    }
 }

@@ -1,31 +1,21 @@
-//! The records that a book has in common with the archive that it continues.
+//! What a book has in common with the archive that it continues.
 
-ghost use Rattle.std.specs.Prelude.{◌≡◌, ◌≤◌, ◌∷◌, [], IfOk, IfSome, is_some};
+ghost use Rattle.std.specs.Prelude.{◌≡◌, IfOk, is_some, option_copied};
 ghost use Rattle.std.specs.Bool.{Decides};
-ghost use Rattle.acd_book.specs.Memory.{stamp_of, number_of};
+ghost use Rattle.acd_book.specs.Content.{Content};
 ghost use Rattle.acd_book.specs.State.{BookReads};
 ghost use Rattle.acd_book.specs.BookReading.{Anything, IfOrdered, MayRead};
-ghost use Rattle.acd_desk.specs.Pairs.{BothRead, across};
 ghost use Rattle.acd_book.specs.Sharing.{cut_before};
-ghost use Rattle.acd_desk.specs.Overlap.{IsCutStamp, IsCutNumber, IsCutOf, DecidesCleanCut, IsNextOf, IsNextRecord, ReadsNextEvent, IsOtherPlace, listed, IsBefore, IsFirstUpTo, IsRecordUpTo, IsEventUpTo, FindsRecord, FindsEvent, FindsMoment, FindsAbove, FindsPlace, earlier};
+ghost use Rattle.acd_desk.specs.Kinds.{listed};
+ghost use Rattle.acd_desk.specs.Pairs.{BorrowsSame, BothRead};
+ghost use Rattle.acd_desk.specs.Overlap.{IsCutAt, IsCutOf, IsBefore, DecidesCleanCut, IsNextOf, ArePagesOf, ReadsNext, FindsOther, FindsMoment, FindsAbove, FindsPlace, earlier};
 
 use crate::page::Page;
-use crate::pair::{PairFault, of_archive, of_current};
-use crate::same::{are_same_events, is_same_kept};
+use crate::pair::{Pair, PairFault, of_archive, of_current};
+use crate::placed::Placed;
 use acd_book::{Book, BookFault, Kept};
 use acd_terms::Event;
 use std::alloc::Global;
-
-/// The next record or event of an archive and of a book, above a place.
-#[derive(Clone, Copy)]
-pub(crate) enum Next {
-    /// The same, at this place.
-    Same(u64),
-    /// The archive has something that the book hasn't: by a record of this stamp, or an event of this moment.
-    Other(u64),
-    /// The archive has nothing more.
-    Over,
-}
 
 // ---- the cut ----
 
@@ -36,40 +26,31 @@ pub(crate) struct Cut {
     pub(crate) number: u64,
 }
 
-// The stamp before that of the first record, or the last of all.
-fn stamp_before(records: &[Kept], last: u64) -> u64
-    ensures { result ≡ cut_before stamp_of last records.now }
+// The place before that of the first, or the last of all.
+fn place_before<T: Placed>(items: &[T], last: u64) -> u64
+    ensures { result ≡ cut_before T.kind.place last items.now }
 {
-    match records {
+    match items {
         [] => last,
-        [first, ..] => last.min(first.stamp.saturating_sub(1)),
+        [first, ..] => last.min(first.place().saturating_sub(1)),
     }
 }
 
-// The number before that of the first event, or the last of all.
-fn number_before(events: &[Event], last: u64) -> u64
-    ensures { result ≡ cut_before number_of last events.now }
+// The last place of a kind that was left in the archive.
+fn cut_at<T: Placed, B: Book>(book: &mut B, last: u64) -> Result<u64, BookFault>
+    ensures { BookReads B.state book.old book.new result (IsCutAt T.kind last) }
 {
-    match events {
-        [] => last,
-        [first, ..] => last.min(first.number.saturating_sub(1)),
-    }
+    let first: Vec<T> = T::read_above(book, 0, 1)?;
+    Ok(place_before(&first, last))
 }
 
-// The last stamp that was left in the archive.
-fn cut_stamp<B: Book>(book: &mut B, last: u64) -> Result<u64, BookFault>
-    ensures { BookReads B.state book.old book.new result (IfOrdered (IsCutStamp last)) }
+// The place where the archive was cut, by the first records of the book.
+fn cut_of<B: Book>(book: &mut B, last: Cut) -> Result<Cut, BookFault>
+    ensures { BookReads B.state book.old book.new result (IfOrdered (IsCutOf last)) }
 {
-    let first = book.requests_after(0, 1)?;
-    Ok(stamp_before(&first, last))
-}
-
-// The last event number that was left in the archive.
-fn cut_number<B: Book>(book: &mut B, last: u64) -> Result<u64, BookFault>
-    ensures { BookReads B.state book.old book.new result (IfOrdered (IsCutNumber last)) }
-{
-    let first = book.events_after(0, 1)?;
-    Ok(number_before(&first, last))
+    let stamp = cut_at::<Kept, B>(book, last.stamp)?;
+    let number = cut_at::<Event, B>(book, last.number)?;
+    Ok(Cut { stamp, number })
 }
 
 // Whether the event of a number, where it comes first of these, is before a moment.
@@ -83,180 +64,91 @@ fn is_before(events: &[Event], number: u64, moment: u32) -> bool
 }
 
 // Whether the last event left in the archive is before the first record that was carried over.
-fn is_clean_cut<A: Book>(archive: &mut A, stamp: u64, number: u64) -> Result<bool, BookFault>
-    ensures { BookReads A.state archive.old archive.new result (DecidesCleanCut stamp number) }
+fn is_clean_cut<A: Book>(archive: &mut A, cut: Cut) -> Result<bool, BookFault>
+    ensures { BookReads A.state archive.old archive.new result
+        (DecidesCleanCut cut.stamp cut.number) }
 {
-    let Some(first) = archive.kept_after(stamp)? else {
+    let Some(first) = archive.kept_after(cut.stamp)? else {
         return Ok(true);
     };
-    let last = archive.events_after(number.saturating_sub(1), 1)?;
-    Ok(is_before(&last, number, first.moment))
+    let last = archive.events_after(cut.number.saturating_sub(1), 1)?;
+    Ok(is_before(&last, cut.number, first.moment))
 }
 
-// ---- records ----
+// ---- one kind ----
 
-// The next record of each, where the archive has one.
-fn next_of_current(kept: &Kept, current: &Option<Kept>) -> Next
-    ensures next { IsNextOf stamp_of (kept.now ∷ []) (listed current.now) result }
-    ensures place { IsOtherPlace stamp_of (kept.now ∷ []) result }
-{
-    match current {
-        Some(other) if is_same_kept(other, kept) => Next::Same(kept.stamp),
-        Some(other) => Next::Other(kept.stamp.min(other.stamp)),
-        None => Next::Other(kept.stamp),
-    }
+/// The next of an archive and of a book, above a place.
+#[derive(Clone, Copy)]
+pub(crate) enum Next {
+    /// The same, at this place.
+    Same(u64),
+    /// One has something that the other hasn't, which has this mark.
+    Other(u64),
+    /// The archive has nothing more, nor has the book up to the last place.
+    Over,
 }
 
-// The next of each, by their next records.
-fn next_of_records(archived: &Option<Kept>, current: &Option<Kept>) -> Next
-    ensures next { IsNextOf stamp_of (listed archived.now) (listed current.now) result }
-    ensures place { IsOtherPlace stamp_of (listed archived.now) result }
+// The next of both.
+fn next_of<T: Placed>(archived: Option<&T>, current: Option<&T>, last: u64) -> Next
+    ensures { IsNextOf (T.kind.place, last) (listed (option_copied archived.entry))
+        (listed (option_copied current.entry)) result }
 {
-    match archived {
-        Some(kept) => next_of_current(kept, current),
-        None => Next::Over,
-    }
-}
-
-// The next record of both.
-fn next_record<A: Book, B: Book>(
-    archive: &mut A,
-    book: &mut B,
-    stamp: u64,
-) -> Result<Next, PairFault>
-    ensures { BothRead (across A.state archive.old archive.new)
-        (across B.state book.old book.new) result (IsNextRecord stamp) }
-{
-    let archived = of_archive(archive.kept_after(stamp))?;
-    let current = of_current(book.kept_after(stamp))?;
-    Ok(next_of_records(&archived, &current))
-}
-
-// The stamp of the first record, where it isn't above the last one.
-fn stamp_up_to(records: &[Kept], last: u64) -> Option<u64>
-    ensures first { IsFirstUpTo stamp_of last records.now result }
-    ensures place { IfSome result (λ place. place ≤ last) }
-{
-    match records {
-        [kept, ..] if kept.stamp <= last => Some(kept.stamp),
-        _ => None,
-    }
-}
-
-// The stamp of the book's next record, where it isn't above the last one.
-fn record_up_to<B: Book>(book: &mut B, stamp: u64, last: u64) -> Result<Option<u64>, BookFault>
-    ensures { BookReads B.state book.old book.new result (IsRecordUpTo stamp last) }
-{
-    let next = book.requests_after(stamp, 1)?;
-    Ok(stamp_up_to(&next, last))
-}
-
-// The first stamp above this one, up to the last, at which the book's records aren't the archive's.
-fn other_record<A: Book, B: Book>(
-    archive: &mut A,
-    book: &mut B,
-    above: u64,
-    last: u64,
-) -> Result<Option<u64>, PairFault>
-    ensures { BothRead (across A.state archive.old archive.new)
-        (across B.state book.old book.new) result (FindsRecord above last) }
-{
-    let mut stamp = above;
-    for _ in above..last {
-        match next_record(archive, book, stamp)? {
-            Next::Same(next) => stamp = next,
-            Next::Other(place) => return Ok(Some(place)),
-            Next::Over => return of_current(record_up_to(book, stamp, last)),
+    match (archived, current) {
+        (Some(item), Some(other)) => {
+            if item.is_same(other) {
+                return Next::Same(item.place());
+            }
+            let first = if other.place() < item.place() {
+                other
+            } else {
+                item
+            };
+            Next::Other(first.mark())
         }
-    }
-    Ok(None)
-}
-
-// ---- events ----
-
-// The next of each, by their next events.
-fn next_of_events(archived: &[Event], current: &[Event]) -> Next
-    ensures { IsNextOf number_of archived.now current.now result }
-{
-    match archived {
-        [] => Next::Over,
-        [event, ..] if are_same_events(current, archived) => Next::Same(event.number),
-        [event, ..] => Next::Other(u64::from(event.moment)),
+        (Some(item), None) => Next::Other(item.mark()),
+        (None, Some(other)) if other.place() <= last => Next::Other(other.mark()),
+        (None, _) => Next::Over,
     }
 }
 
-/// Events that were read ahead of an archive, and of the book that continues it.
+/// What was read ahead of an archive, and of the book that continues it.
 #[derive(Drop)]
-pub(crate) struct Pages {
-    pub(crate) archive: Page,
-    pub(crate) current: Page,
+pub(crate) struct Pages<T> {
+    pub(crate) archive: Page<T>,
+    pub(crate) current: Page<T>,
 }
 
-// The next event of both.
-fn next_event<A: Book, B: Book>(
-    alloc: Global,
-    archive: &mut A,
-    book: &mut B,
-    pages: &mut Pages,
-    number: u64,
-) -> Result<Next, PairFault>
-    ensures { BothRead (across A.state archive.old archive.new)
-        (across B.state book.old book.new) result
-        (ReadsNextEvent number pages.old pages.new) }
-{
-    let archived = of_archive(pages.archive.events_after(alloc, archive, number, 1))?;
-    let current = of_current(pages.current.events_after(alloc, book, number, 1))?;
-    Ok(next_of_events(&archived, &current))
-}
-
-// The moment of the first event, where its number isn't above the last one.
-fn moment_up_to(events: &[Event], last: u64) -> Option<u64>
-    ensures { IsFirstUpTo number_of last events.now result }
-{
-    match events {
-        [event, ..] if event.number <= last => Some(u64::from(event.moment)),
-        _ => None,
-    }
-}
-
-// The moment of the book's next event, where its number isn't above the last one.
-fn event_up_to<B: Book>(book: &mut B, number: u64, last: u64) -> Result<Option<u64>, BookFault>
-    ensures { BookReads B.state book.old book.new result (IsEventUpTo number last) }
-{
-    let next = book.events_after(number, 1)?;
-    Ok(moment_up_to(&next, last))
-}
-
-// The moment of the first event above a number, up to the last one, that isn't the archive's.
-fn other_event<A: Book, B: Book>(
-    alloc: Global,
-    archive: &mut A,
-    book: &mut B,
-    above: u64,
-    last: u64,
-) -> Result<Option<u64>, PairFault>
-    ensures { BothRead (across A.state archive.old archive.new)
-        (across B.state book.old book.new) result (FindsEvent above last) }
-{
-    let mut pages = Pages {
-        archive: Page::empty(alloc),
-        current: Page::empty(alloc),
-    };
-    let mut number = above;
-    for _ in above..last {
-        match next_event(alloc, archive, book, &mut pages, number)? {
-            Next::Same(next) => number = next,
-            Next::Other(moment) => return Ok(Some(moment)),
-            Next::Over => return of_current(event_up_to(book, number, last)),
+impl<T: Placed> Pages<T> {
+    // Pages of nothing.
+    fn empty(alloc: Global) -> Pages<T>
+        ensures { (a c : Content) → ArePagesOf T.kind a c result }
+    {
+        Pages {
+            archive: Page::empty(alloc),
+            current: Page::empty(alloc),
         }
     }
-    Ok(None)
+
+    // The next of both above a place.
+    fn next<A: Book, B: Book>(
+        &mut self,
+        pair: &mut Pair<A, B>,
+        above: u64,
+        last: u64,
+    ) -> Result<Next, PairFault>
+        ensures same { BorrowsSame pair.old pair.new }
+        ensures read { BothRead A.state B.state (pair.old, pair.new) result
+            (ReadsNext T.kind (self.old, self.new) above last) }
+    {
+        of_archive(self.archive.reach(&mut *pair.archive, above, 1))?;
+        of_current(self.current.reach(&mut *pair.book, above, 1))?;
+        Ok(next_of(self.archive.next(above), self.current.next(above), last))
+    }
 }
 
 // The stamp of the archive's first record above this one that isn't before a moment, or the last one.
 fn stamp_at<A: Book>(archive: &mut A, above: u64, last: u64, moment: u64) -> Result<u64, BookFault>
-    ensures read { MayRead A.state archive.old archive.new result Anything }
-    ensures within { IfOk result (λ found. found ≤ last) }
+    ensures { MayRead A.state archive.old archive.new result Anything }
 {
     let mut stamp = above;
     for _ in above..last {
@@ -265,31 +157,10 @@ fn stamp_at<A: Book>(archive: &mut A, above: u64, last: u64, moment: u64) -> Res
         };
         stamp = kept.stamp;
         if u64::from(kept.moment) >= moment {
-            return Ok(stamp.min(last));
+            return Ok(stamp);
         }
     }
     Ok(last)
-}
-
-// ---- both ----
-
-// The moment of the first event that the book hasn't as the archive has it; 0 where some events of the first carried
-// record were left in the archive.
-fn other_moment<A: Book, B: Book>(
-    alloc: Global,
-    archive: &mut A,
-    book: &mut B,
-    cut: Cut,
-    last: u64,
-) -> Result<Option<u64>, PairFault>
-    ensures { BothRead (across A.state archive.old archive.new)
-        (across B.state book.old book.new) result (FindsMoment cut last) }
-{
-    let clean = of_archive(is_clean_cut(archive, cut.stamp, cut.number))?;
-    if !clean {
-        return Ok(Some(0));
-    }
-    other_event(alloc, archive, book, cut.number, last)
 }
 
 // The stamp that belongs to a moment, where there is one.
@@ -301,7 +172,6 @@ fn stamp_of_moment<A: Book>(
 ) -> Result<Option<u64>, BookFault>
     ensures read { MayRead A.state archive.old archive.new result Anything }
     ensures same { IfOk result (λ found. is_some found ≡ is_some moment) }
-    ensures within { IfOk result (λ found. IfSome found (λ stamp. stamp ≤ last)) }
 {
     match moment {
         Some(moment) => Ok(Some(stamp_at(archive, above, last, moment)?)),
@@ -309,54 +179,75 @@ fn stamp_of_moment<A: Book>(
     }
 }
 
-// The lesser of two stamps, where there is one.
-fn earlier(first: Option<u64>, second: Option<u64>) -> Option<u64>
-    ensures { result ≡ earlier first second }
+// The lesser of two stamps, where there is one: at most the last one.
+fn earlier(first: Option<u64>, second: Option<u64>, last: u64) -> Option<u64>
+    ensures { result ≡ earlier first second last }
 {
     match (first, second) {
-        (Some(first), Some(second)) => Some(first.min(second)),
-        (None, second) => second,
-        (first, None) => first,
+        (Some(first), Some(second)) => Some(first.min(second).min(last)),
+        (Some(stamp), None) | (None, Some(stamp)) => Some(stamp.min(last)),
+        (None, None) => None,
     }
 }
 
-// The place where the archive was cut, by the first records of the book.
-fn cut_of<B: Book>(book: &mut B, stamp: u64, number: u64) -> Result<Cut, BookFault>
-    ensures { BookReads B.state book.old book.new result (IfOrdered (IsCutOf stamp number)) }
-{
-    let stamp = cut_stamp(book, stamp)?;
-    let number = cut_number(book, number)?;
-    Ok(Cut { stamp, number })
-}
+impl<A: Book, B: Book> Pair<'_, A, B> {
+    // The mark of the first of a kind above a place, up to the last one, that only one of them has.
+    fn other<T: Placed>(
+        &mut self,
+        alloc: Global,
+        above: u64,
+        last: u64,
+    ) -> Result<Option<u64>, PairFault>
+        ensures same { BorrowsSame self.old self.new }
+        ensures read { BothRead A.state B.state (self.old, self.new) result
+            (FindsOther T.kind above last) }
+    {
+        let mut pages: Pages<T> = Pages::empty(alloc);
+        let mut place = above;
+        for _ in above..last {
+            match pages.next(self, place, last)? {
+                Next::Same(next) => place = next,
+                Next::Other(mark) => return Ok(Some(mark)),
+                Next::Over => return Ok(None),
+            }
+        }
+        Ok(None)
+    }
 
-// The first stamp above the cut at which they differ.
-fn other_above<A: Book, B: Book>(
-    alloc: Global,
-    archive: &mut A,
-    book: &mut B,
-    cut: Cut,
-    last: Cut,
-) -> Result<Option<u64>, PairFault>
-    ensures { BothRead (across A.state archive.old archive.new)
-        (across B.state book.old book.new) result (FindsAbove cut last) }
-{
-    let kept = other_record(archive, book, cut.stamp, last.stamp)?;
-    let moment = other_moment(alloc, archive, book, cut, last.number)?;
-    let event = of_archive(stamp_of_moment(archive, cut.stamp, last.stamp, moment))?;
-    Ok(earlier(kept, event))
-}
+    // The moment of the first event that only one of them has; 0 where some events of the first carried record were
+    // left in the archive.
+    fn other_moment(&mut self, alloc: Global, cut: Cut, last: u64) -> Result<Option<u64>, PairFault>
+        ensures same { BorrowsSame self.old self.new }
+        ensures read { BothRead A.state B.state (self.old, self.new) result
+            (FindsMoment cut last) }
+    {
+        let clean = of_archive(is_clean_cut(&mut *self.archive, cut))?;
+        if !clean {
+            return Ok(Some(0));
+        }
+        self.other::<Event>(alloc, cut.number, last)
+    }
 
-/// The first stamp up to the archive's last one at which the book isn't as the archive: by its record, or by an event of it, which has its
-/// stamp by its moment alone.
-pub(crate) fn other_place<A: Book, B: Book>(
-    alloc: Global,
-    archive: &mut A,
-    book: &mut B,
-    last: Cut,
-) -> Result<Option<u64>, PairFault>
-    ensures { BothRead (across A.state archive.old archive.new)
-        (across B.state book.old book.new) result (FindsPlace last) }
-{
-    let cut = of_current(cut_of(book, last.stamp, last.number))?;
-    other_above(alloc, archive, book, cut, last)
+    // The first stamp above the cut at which they differ.
+    fn other_above(&mut self, alloc: Global, cut: Cut, last: Cut) -> Result<Option<u64>, PairFault>
+        ensures same { BorrowsSame self.old self.new }
+        ensures read { BothRead A.state B.state (self.old, self.new) result
+            (FindsAbove cut last) }
+    {
+        let kept = self.other::<Kept>(alloc, cut.stamp, last.stamp)?;
+        let moment = self.other_moment(alloc, cut, last.number)?;
+        let event = stamp_of_moment(&mut *self.archive, cut.stamp, last.stamp, moment);
+        Ok(earlier(kept, of_archive(event)?, last.stamp))
+    }
+
+    /// The first stamp up to the archive's last one at which the book isn't as the archive: by its record, or by an
+    /// event of it, which has its stamp by its moment alone.
+    pub(crate) fn other_place(&mut self, alloc: Global, last: Cut) -> Result<Option<u64>, PairFault>
+        ensures same { BorrowsSame self.old self.new }
+        ensures read { BothRead A.state B.state (self.old, self.new) result
+            (FindsPlace last) }
+    {
+        let cut = of_current(cut_of(&mut *self.book, last))?;
+        self.other_above(alloc, cut, last)
+    }
 }

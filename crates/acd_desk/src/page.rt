@@ -1,59 +1,80 @@
-//! Events of a book that were read ahead, so that a replay reads a page for many requests.
+//! Records or events of a book that were read ahead, so that a page is read for many steps.
 
-ghost use Rattle.std.specs.Prelude.{◌≡◌, ◌≤◌, length, true, IfOk};
+ghost use Rattle.std.specs.Prelude.{◌≡◌, ◌≤◌, length, option_copied, true, IfOk};
 ghost use Rattle.acd_book.specs.Content.{Content, events_after};
 ghost use Rattle.acd_book.specs.State.{BookReads};
-ghost use Rattle.acd_desk.specs.Pages.{IsPageOf, Reaches, Extends, GivesEvents};
+ghost use Rattle.acd_desk.specs.Kinds.{all_above, first_above, listed};
+ghost use Rattle.acd_desk.specs.Pages.{IsPage, Reaches, Extends, GivesEvents};
 ghost use Rattle.acd_book.specs.BookReading.{MayRead};
-ghost use Rattle.acd_desk.specs.ReadAnswers.{above};
 
+use crate::placed::Placed;
 use acd_book::{Book, BookFault};
 use acd_terms::Event;
 use std::alloc::{AllocError, Global};
 
-// How many events a page has, where more are left.
+// How many a page has, where more are left.
 const PAGE: usize = 100;
 
-/// The first events above a number, so many at most.
+/// The first above a place, so many at most.
 #[derive(Drop)]
-pub(crate) struct Page {
+pub(crate) struct Page<T> {
     pub(crate) above: u64,
     pub(crate) limit: usize,
-    pub(crate) events: Vec<Event>,
+    pub(crate) items: Vec<T>,
 }
 
-impl Page {
-    /// A page of no events.
-    pub(crate) fn empty(alloc: Global) -> Page
-        ensures { (c : Content) → IsPageOf c result }
+impl<T: Placed> Page<T> {
+    /// A page of nothing.
+    pub(crate) fn empty(alloc: Global) -> Page<T>
+        ensures { (c : Content) → IsPage T.kind c result }
     {
         Page {
             above: 0,
             limit: 0,
-            events: Vec::new(alloc),
+            items: Vec::new(alloc),
         }
     }
 
-    // Whether the first events above a number, so many, are on the page.
-    fn reaches(&self, number: u64, count: usize) -> bool
-        ensures { result ≡ true → Reaches self.now number count }
+    // Whether the first above a place, so many, are on the page.
+    fn reaches(&self, above: u64, count: usize) -> bool
+        ensures { result ≡ true → Reaches T.kind self.now above count }
     {
-        self.above <= number
-            && (self.events.len() < self.limit || has_after(&self.events, number, count))
+        self.above <= above
+            && (self.items.len() < self.limit || has_above(&self.items, above, count))
     }
 
-    // Reads the next page, where this one doesn't reach so far.
-    fn reach<B: Book>(&mut self, book: &mut B, number: u64, count: usize) -> Result<(), BookFault>
+    /// Reads the next page, where this one doesn't reach so far.
+    pub(crate) fn reach<B: Book>(
+        &mut self,
+        book: &mut B,
+        above: u64,
+        count: usize,
+    ) -> Result<(), BookFault>
         ensures { MayRead B.state book.old book.new result
-            (Extends self.old self.new number count) }
+            (Extends T.kind (self.old, self.new) above count) }
     {
-        if self.reaches(number, count) {
+        if self.reaches(above, count) {
             return Ok(());
         }
-        *self = read_page(book, number, count.max(PAGE))?;
+        *self = read_page(book, above, count.max(PAGE))?;
         Ok(())
     }
 
+    /// The first on the page above a place.
+    pub(crate) fn next(&self, above: u64) -> Option<&T>
+        ensures { listed (option_copied result)
+            ≡ first_above T.kind.place above 1 self.now.items.items }
+    {
+        for item in &self.items {
+            if item.place() > above {
+                return Some(item);
+            }
+        }
+        None
+    }
+}
+
+impl Page<Event> {
     /// The first events above a number. Where the page doesn't reach so far, the next one is read.
     pub(crate) fn events_after<B: Book>(
         &mut self,
@@ -66,39 +87,43 @@ impl Page {
             (GivesEvents self.old self.new number count) }
     {
         self.reach(book, number, count)?;
-        Ok(first_after(alloc, &self.events, number, count)?)
+        Ok(first_after(alloc, &self.items, number, count)?)
     }
 }
 
-fn read_page<B: Book>(book: &mut B, above: u64, limit: usize) -> Result<Page, BookFault>
-    ensures page { BookReads B.state book.old book.new result (λ c found. IsPageOf c found) }
+fn read_page<T: Placed, B: Book>(
+    book: &mut B,
+    above: u64,
+    limit: usize,
+) -> Result<Page<T>, BookFault>
+    ensures page { BookReads B.state book.old book.new result (λ c found. IsPage T.kind c found) }
     ensures at { IfOk result (λ found. (found.above ≡ above) × (found.limit ≡ limit)) }
 {
-    let events = book.events_after(above, limit)?;
+    let items = T::read_above(book, above, limit)?;
     Ok(Page {
         above,
         limit,
-        events,
+        items,
     })
 }
 
-// Whether so many of these are above a number.
-fn has_after(events: &[Event], number: u64, count: usize) -> bool
-    ensures { result ≡ true → count ≤ length (above events.now number) }
+// Whether so many of these are above a place.
+fn has_above<T: Placed>(items: &[T], above: u64, count: usize) -> bool
+    ensures { result ≡ true → count ≤ length (all_above T.kind.place above items.now) }
 {
     let mut left = count;
-    for event in events {
+    for item in items {
         if left == 0 {
             return true;
         }
-        if event.number > number {
+        if item.place() > above {
             left -= 1;
         }
     }
     left == 0
 }
 
-// The first of these above a number.
+// The first of these events above a number.
 fn first_after(
     alloc: Global,
     events: &[Event],

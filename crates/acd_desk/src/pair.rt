@@ -1,11 +1,18 @@
-//! Reads of two books, of which one is the archive of the other one.
+//! An archive and the book that continues it, and what reads of both answer.
 
 ghost use Rattle.std.specs.Prelude.{◌≡◌};
 ghost use Rattle.acd_desk.specs.Pairs.{of_current, of_archive, of_opening};
 
 use crate::open_fault::OpenFault;
-use acd_book::BookFault;
+use acd_book::{Book, BookFault};
 use std::alloc::AllocError;
+
+/// An archive, and the book that continues it.
+#[derive(Drop)]
+pub(crate) struct Pair<'a, A: Book, B: Book> {
+    pub(crate) archive: &'a mut A,
+    pub(crate) book: &'a mut B,
+}
 
 /// Why reads of both answered nothing.
 #[derive(Clone, Copy, Debug, PartialEq, Eq)]

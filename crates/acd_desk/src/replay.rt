@@ -17,7 +17,8 @@ ghost use Rattle.acd_desk.specs.Replay.{again, IsFirstOfKey, DecidesFirst, Decid
 use crate::audit::Audit;
 use crate::executing::executed;
 use crate::page::Page;
-use crate::same::{are_same_events, are_same_rows, is_same_kept};
+use crate::placed::Placed;
+use crate::same::{are_same_events, are_same_rows};
 use crate::seen::SeenKeys;
 use crate::working::LoadedSwitch;
 use acd_book::{Book, BookFault, Kept};
@@ -31,7 +32,7 @@ use std::alloc::{AllocError, Global};
 pub(crate) struct Course {
     pub(crate) loaded: LoadedSwitch,
     pub(crate) keys: SeenKeys,
-    pub(crate) page: Page,
+    pub(crate) page: Page<Event>,
 }
 
 // The result of a step of a replay.
@@ -77,7 +78,7 @@ fn is_new_key<B: Book>(book: &mut B, keys: &SeenKeys, kept: &Kept) -> Result<boo
 fn has_events<B: Book>(
     alloc: Global,
     book: &mut B,
-    page: &mut Page,
+    page: &mut Page<Event>,
     last: u64,
     events: &[Event],
 ) -> Result<bool, BookFault>
@@ -93,7 +94,7 @@ fn is_as_kept<B: Book>(
     alloc: Global,
     book: &mut B,
     keys: &SeenKeys,
-    page: &mut Page,
+    page: &mut Page<Event>,
     kept: &Kept,
     last: u64,
     expected: &Kept,
@@ -103,7 +104,7 @@ fn is_as_kept<B: Book>(
         (DecidesKnown keys.now (page.old, page.new) kept.now
         (IsExpected kept.now expected.now last events.now)) }
 {
-    if !is_same_kept(kept, expected) {
+    if !kept.is_same(expected) {
         return Ok(false);
     }
     let is_new = is_new_key(book, keys, kept)?;
@@ -119,7 +120,7 @@ fn replays_as_kept<B: Book>(
     book: &mut B,
     switch: &mut Switch,
     keys: &SeenKeys,
-    page: &mut Page,
+    page: &mut Page<Event>,
     kept: &Kept,
 ) -> Result<bool, BookFault>
     requires rules { BreaksNoRule switch.old }

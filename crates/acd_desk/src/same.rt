@@ -3,15 +3,7 @@
 ghost use Rattle.std.specs.Prelude.{◌≡◌};
 ghost use Rattle.std.specs.Bool.{Decides};
 
-use acd_book::Kept;
 use acd_terms::{Event, Rows};
-
-/// The same stamp, moment, request, status and text.
-pub(crate) fn is_same_kept(a: &Kept, b: &Kept) -> bool
-    ensures { Decides result (a.now ≡ b.now) }
-{
-    *a == *b
-}
 
 /// The same events in the same order.
 pub(crate) fn are_same_events(a: &[Event], b: &[Event]) -> bool

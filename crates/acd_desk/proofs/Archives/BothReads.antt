@@ -2,7 +2,7 @@
 use Rattle.std.proofs.Common.{◌≡◌, Result, Ok, Err, IfOk, refl, sym, subst, ◌∙◌}
 use Rattle.std.proofs.lemmas.Result.{IfOk-weaker}
 use Rattle.acd_book.specs.Content.{Content}
-use Rattle.acd_book.specs.State.{BookState, IfHonest, Reads}
+use Rattle.acd_book.specs.State.{BookState, Reads}
 use Rattle.acd_book.specs.declared.fault.BookFault.{BookFault}
 use Rattle.acd_book.specs.declared.fault.BookFault.TheVariants as book
 use Rattle.acd_desk.specs.declared.open_fault.OpenFault.{OpenFault}

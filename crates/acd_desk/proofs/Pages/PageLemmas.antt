@@ -4,6 +4,8 @@ use Rattle.std.specs.Prelude.{nat_lt, slice_get}
 use Rattle.std.proofs.lemmas.Bool.Decides.{nat_tests}
 use Rattle.acd_terms.specs.declared.event.Event.{Event}
 use Rattle.acd_book.specs.Content.{Content, events_after}
+use Rattle.acd_book.specs.Memory.{number_of}
+use Rattle.acd_desk.specs.Kinds.{all_above}
 use Rattle.acd_reports.proofs.ExportLemmas.{joined}
 use Rattle.acd_reports.specs.Export.{header_record, records_text, events_csv}
 use Rattle.acd_desk.specs.Standing.{Standing}
@@ -62,13 +64,17 @@ after_last m (e ∷ es) more h =
     ap (λ b. cond b (e ∷ above (es ++ more) (last_of e.number es)) (above (es ++ more) (last_of e.number es))) (not_above (last_of e.number es) e (last-up e.number es more h.1))
     ∙ after_last e.number es more h.1
 
-pub above-again : (m n : ℕ) (es : List Event) → m ≤ n → above (above es m) n ≡ above es n
-above-again m n [] le = refl
-above-again m n (e ∷ es) le = by (nat_lt m e.number) refl (nat_lt n e.number) refl (above-again m n es le)
+-- those above a lower place have all of those above a place
+pub above_again : {T : Type 0} (f : T → ℕ) (m n : ℕ) (xs : List T) → m ≤ n → all_above f n (all_above f m xs) ≡ all_above f n xs
+above_again f m n [] le = refl
+above_again {T = T} f m n (x ∷ xs) le = by (nat_lt m (f x)) refl (nat_lt n (f x)) refl (above_again f m n xs le)
   where
-    by : (a : Bool) → nat_lt m e.number ≡ a → (b : Bool) → nat_lt n e.number ≡ b → above (above es m) n ≡ above es n → above (cond a (e ∷ above es m) (above es m)) n ≡ cond b (e ∷ above es n) (above es n)
-    by true p b q more = ap (λ v. cond v (e ∷ above (above es m) n) (above (above es m) n)) q ∙ ap (λ l. cond b (e ∷ l) l) more
-    by false p true q more = absurd (let up = above_is n e q in let low = is_above m e (omega (arith, up, le)) in cc (low, p))
+    lower : (k : ℕ) → nat_lt m k ≡ false → nat_lt n k ≡ true → ⊥
+    lower k p q = grind (arith, nat_tests, le, p, q)
+
+    by : (a : Bool) → nat_lt m (f x) ≡ a → (b : Bool) → nat_lt n (f x) ≡ b → all_above f n (all_above f m xs) ≡ all_above f n xs → all_above f n (cond a (x ∷ all_above f m xs) (all_above f m xs)) ≡ cond b (x ∷ all_above f n xs) (all_above f n xs)
+    by true p b q more = ap (λ v. cond v (x ∷ all_above f n (all_above f m xs)) (all_above f n (all_above f m xs))) q ∙ ap (λ l. cond b (x ∷ l) l) more
+    by false p true q more = absurd (lower (f x) p q)
     by false p false q more = more
 
 pub split : {T : Type 0} (n : ℕ) (xs : List T) → take n xs ++ drop n xs ≡ xs
@@ -108,7 +114,7 @@ page-then n limit events e rise last =
     let number : last_of n page ≡ e.number = last-number n page e last in
     let up : n ≤ e.number = subst (λ k. n ≤ k) number (last-up n page rest rises) in
     let rest_above : rest ≡ above events e.number
-    = sym (after_last n page rest rises) ∙ ap (λ l. above l (last_of n page)) whole ∙ ap (above all) number ∙ above-again n e.number events up in
+    = sym (after_last n page rest rises) ∙ ap (λ l. above l (last_of n page)) whole ∙ ap (above all) number ∙ above_again number_of n e.number events up in
     sym whole ∙ ap (λ l. page ++ l) rest_above
 
 -- where a page has none, there is none

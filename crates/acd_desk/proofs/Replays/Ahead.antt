@@ -1,20 +1,15 @@
--- The events above a number, found in a page of events that were read ahead.
+-- Those above a place, found in a page that was read ahead.
 use Rattle.std.proofs.Common.{◌≡◌, ℕ, ◌<◌, ◌≤◌, zero, suc, Bool, true, false, cond, List, [], ◌∷◌, ◌++◌, inl, inr, refl, ap, sym, ◌∙◌, subst, take, drop, length, arith}
 use Rattle.std.specs.Prelude.{◌⊎◌, nat_lt}
-use Rattle.acd_terms.specs.declared.event.Event.{Event}
-use Rattle.acd_book.specs.Content.{Content, events_after}
-use Rattle.acd_desk.specs.ReadAnswers.{above}
+use Rattle.std.proofs.lemmas.List.Elements.{filter-append}
+use Rattle.acd_book.specs.Content.{Content}
+use Rattle.acd_desk.specs.Kinds.{Kind, all_above, first_above, page_above}
 use Rattle.acd_desk.specs.declared.page.Page.{Page}
-use Rattle.acd_desk.specs.Pages.{IsPageOf, Reaches}
-use Rattle.acd_desk.proofs.Pages.PageLemmas.{above-again, split}
+use Rattle.acd_desk.specs.Pages.{IsPage, Reaches}
+use Rattle.acd_desk.proofs.Pages.PageLemmas.{above_again, split}
 
-above_append : (n : ℕ) (xs ys : List Event) → above (xs ++ ys) n ≡ above xs n ++ above ys n
-above_append n [] ys = refl
-above_append n (e ∷ xs) ys = by (nat_lt n e.number) (above_append n xs ys)
-  where
-    by : (b : Bool) → above (xs ++ ys) n ≡ above xs n ++ above ys n → cond b (e ∷ above (xs ++ ys) n) (above (xs ++ ys) n) ≡ cond b (e ∷ above xs n) (above xs n) ++ above ys n
-    by true h = ap (λ l. e ∷ l) h
-    by false h = h
+above_append : {T : Type 0} (f : T → ℕ) (n : ℕ) (xs ys : List T) → all_above f n (xs ++ ys) ≡ all_above f n xs ++ all_above f n ys
+above_append {T = T} f n xs ys = filter-append (λ (x : T). nat_lt n (f x)) xs ys
 
 take_short : {T : Type 0} (n : ℕ) (xs : List T) → length (take n xs) < n → take n xs ≡ xs
 take_short zero xs h = absurd (omega (arith, h))
@@ -32,32 +27,32 @@ take_less (suc m) zero xs h = absurd (omega (arith, h))
 take_less (suc m) (suc n) [] h = refl
 take_less (suc m) (suc n) (x ∷ xs) h = ap (λ l. x ∷ l) (take_less m n xs (omega (arith, h)))
 
--- a page that reaches so far has the first events above a number
-by_reach : (n count limit : ℕ) (all page : List Event) → page ≡ take limit all → (length page < limit) ⊎ (count ≤ length (above page n)) → take count (above page n) ≡ take count (above all n)
-by_reach n count limit all page is (inl short) =
-    ap (λ l. take count (above l n)) (is ∙ take_short limit all (subst (λ (l : List Event). length l < limit) is short))
-by_reach n count limit all page is (inr there) =
-    sym (take_front count (above page n) (above (drop limit all) n) there)
-    ∙ ap (take count) (sym (above_append n page (drop limit all)) ∙ ap (λ l. above l n) (ap (λ l. l ++ drop limit all) is ∙ split limit all))
+-- a page that reaches so far has the first above a place
+by_reach : {T : Type 0} (f : T → ℕ) (n count limit : ℕ) (all page : List T) → page ≡ take limit all → (length page < limit) ⊎ (count ≤ length (all_above f n page)) → first_above f n count page ≡ first_above f n count all
+by_reach {T = T} f n count limit all page is (inl short) =
+    ap (first_above f n count) (is ∙ take_short limit all (subst (λ (l : List T). length l < limit) is short))
+by_reach f n count limit all page is (inr there) =
+    sym (take_front count (all_above f n page) (all_above f n (drop limit all)) there)
+    ∙ ap (take count) (sym (above_append f n page (drop limit all)) ∙ ap (all_above f n) (ap (λ l. l ++ drop limit all) is ∙ split limit all))
 
-pub on_page : (c : Content) (p : Page) (n count : ℕ) → IsPageOf c p → Reaches p n count → events_after p.events.items n count ≡ events_after c.events n count
-on_page c p n count is reaches =
-    by_reach n count p.limit (above c.events p.above) p.events.items is reaches.1 ∙ ap (take count) (above-again p.above n c.events reaches.0)
+pub on_page : {T : Type 0} (kind : Kind T) (c : Content) (p : Page T) (n count : ℕ) → IsPage kind c p → Reaches kind p n count → first_above kind.place n count p.items.items ≡ page_above kind n count c
+on_page kind c p n count is reaches =
+    by_reach kind.place n count p.limit (all_above kind.place p.above (kind.all c)) p.items.items is reaches.1 ∙ ap (take count) (above_again kind.place p.above n (kind.all c) reaches.0)
 
--- those above a number are above it
-still_above : (n : ℕ) (events : List Event) (k : ℕ) → above (take k (above events n)) n ≡ take k (above events n)
-still_above n [] zero = refl
-still_above n [] (suc k) = refl
-still_above n (e ∷ events) k = by (nat_lt n e.number) refl k (still_above n events)
+-- those above a place are above it
+still_above : {T : Type 0} (f : T → ℕ) (n : ℕ) (xs : List T) (k : ℕ) → all_above f n (first_above f n k xs) ≡ first_above f n k xs
+still_above f n [] zero = refl
+still_above f n [] (suc k) = refl
+still_above {T = T} f n (x ∷ xs) k = by (nat_lt n (f x)) refl k (still_above f n xs)
   where
-    by : (b : Bool) → nat_lt n e.number ≡ b → (k : ℕ) → ((k : ℕ) → above (take k (above events n)) n ≡ take k (above events n))
-        → above (take k (cond b (e ∷ above events n) (above events n))) n ≡ take k (cond b (e ∷ above events n) (above events n))
+    by : (b : Bool) → nat_lt n (f x) ≡ b → (k : ℕ) → ((k : ℕ) → all_above f n (first_above f n k xs) ≡ first_above f n k xs)
+        → all_above f n (take k (cond b (x ∷ all_above f n xs) (all_above f n xs))) ≡ take k (cond b (x ∷ all_above f n xs) (all_above f n xs))
     by true p zero more = refl
-    by true p (suc k) more = ap (λ c. cond c (e ∷ above (take k (above events n)) n) (above (take k (above events n)) n)) p ∙ ap (λ l. e ∷ l) (more k)
+    by true p (suc k) more = ap (λ c. cond c (x ∷ all_above f n (first_above f n k xs)) (all_above f n (first_above f n k xs))) p ∙ ap (λ l. x ∷ l) (more k)
     by false p k more = more k
 
--- a page that begins after the number has the first of so many
-pub on_next_page : (c : Content) (p : Page) (n count : ℕ) → IsPageOf c p → p.above ≡ n → count ≤ p.limit → events_after p.events.items n count ≡ events_after c.events n count
-on_next_page c p n count is at room =
-    let is : p.events.items ≡ take p.limit (above c.events n) = is ∙ ap (λ (m : ℕ). take p.limit (above c.events m)) at in
-    ap (λ l. take count (above l n)) is ∙ ap (take count) (still_above n c.events p.limit) ∙ take_less count p.limit (above c.events n) room
+-- a page that begins after the place has the first of so many
+pub on_next_page : {T : Type 0} (kind : Kind T) (c : Content) (p : Page T) (n count : ℕ) → IsPage kind c p → p.above ≡ n → count ≤ p.limit → first_above kind.place n count p.items.items ≡ page_above kind n count c
+on_next_page {T = T} kind c p n count is at room =
+    let is : p.items.items ≡ first_above kind.place n p.limit (kind.all c) = is ∙ ap (λ (m : ℕ). first_above kind.place m p.limit (kind.all c)) at in
+    ap (first_above kind.place n count) is ∙ ap (take count) (still_above kind.place n (kind.all c) p.limit) ∙ take_less count p.limit (all_above kind.place n (kind.all c)) room

@@ -29,19 +29,19 @@ events_decided c last n found lent events b is same decides long =
     subst (λ (l : List Event). Decides b (l ≡ events)) whole decides
 
 -- another record
-pub other_record : (c : Content) (keys : SeenKeys) (page : Page) (k expected : Kept) (last : ℕ) (events : List Event) (b : Bool) → b ≡ false → Decides b (k ≡ expected) → Knows c keys page k
+pub other_record : (c : Content) (keys : SeenKeys) (page : Page Event) (k expected : Kept) (last : ℕ) (events : List Event) (b : Bool) → b ≡ false → Decides b (k ≡ expected) → Knows c keys page k
     → IsPageOf c page × Decides false (IsAsKept c k expected last events)
 other_record c keys page k expected last events b other decides knows =
     (knows.page, (λ holds. absurd (true≢false (sym holds)), λ same. absurd (true≢false (sym (decides.1 same.0) ∙ other))))
 
 -- a key that an earlier record has
-pub other_key : (c : Content) (keys : SeenKeys) (page : Page) (k expected : Kept) (last : ℕ) (events : List Event) (b : Bool) → b ≡ false → (FindsFirst c keys k → Decides b (IsFirstOfKey c k)) → Knows c keys page k
+pub other_key : (c : Content) (keys : SeenKeys) (page : Page Event) (k expected : Kept) (last : ℕ) (events : List Event) (b : Bool) → b ≡ false → (FindsFirst c keys k → Decides b (IsFirstOfKey c k)) → Knows c keys page k
     → IsPageOf c page × Decides false (IsAsKept c k expected last events)
 other_key c keys page k expected last events b other decides knows =
     (knows.page, (λ holds. absurd (true≢false (sym holds)), λ same. absurd (true≢false (sym ((decides knows.finds).1 same.1) ∙ other))))
 
 -- the record and its key, so all hangs on the events
-pub same_events : (c : Content) (keys : SeenKeys) (old new : Page) (k expected : Kept) (last : ℕ) (events : List Event) (same first b : Bool) → same ≡ true → Decides same (k ≡ expected)
+pub same_events : (c : Content) (keys : SeenKeys) (old new : Page Event) (k expected : Kept) (last : ℕ) (events : List Event) (same first b : Bool) → same ≡ true → Decides same (k ≡ expected)
     → first ≡ true → (FindsFirst c keys k → Decides first (IsFirstOfKey c k)) → (IsPageOf c old → IsPageOf c new × Decides b (events_after c.events last (length events) ≡ events)) → Knows c keys old k
     → IsPageOf c new × Decides b (IsAsKept c k expected last events)
 same_events c keys old new k expected last events same first b is_same same_decides is_first first_decides events_hold knows =

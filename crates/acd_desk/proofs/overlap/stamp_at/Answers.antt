@@ -11,10 +11,10 @@ pub loop-preserved : goal.loop-preserved
 loop-preserved g c =
     read_on {S = Unit {0}} (g.A.Book.state c.args.archive.now) (g.A.Book.state c.loop.archive) (g.A.Book.state c.kept_after.new.self) c.in_ok-kept.field-0 tt c.loop.invariant c.in_ok-kept.ensures
 
-pub returns-in_default-clause-read : goal.returns-in_default-clause-read
-returns-in_default-clause-read g c =
+pub returns-in_default : goal.returns-in_default
+returns-in_default g c =
     read_on {S = ℕ} (g.A.Book.state c.args.archive.now) (g.A.Book.state c.loop.archive) (g.A.Book.state c.kept_after.new.self) c.in_ok-kept.field-0 c.args.last c.loop.invariant c.in_ok-kept.ensures
 
-pub returns-in_err-kept-clause-read : goal.returns-in_err-kept-clause-read
-returns-in_err-kept-clause-read g c =
+pub returns-in_err-kept : goal.returns-in_err-kept
+returns-in_err-kept g c =
     fault_on {S = ℕ} (g.A.Book.state c.args.archive.now) (g.A.Book.state c.loop.archive) (g.A.Book.state c.kept_after.new.self) c.in_err-kept.field-0.0 c.from_residual.result c.loop.invariant c.in_err-kept.ensures (search rules)

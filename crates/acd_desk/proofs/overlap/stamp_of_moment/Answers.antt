@@ -1,6 +1,6 @@
-use Rattle.std.proofs.Common.{ℕ, Option, None, Some, rules}
+use Rattle.std.proofs.Common.{ℕ, Option, None}
 use Rattle.acd_book.specs.Content.{Content}
-use Rattle.acd_book.proofs.ReadsAhead.{known, read_ok, read_nothing}
+use Rattle.acd_book.proofs.ReadsAhead.{known}
 use Rattle.acd_desk.proofs.overlap.stamp_of_moment.Goals as goal
 
 pub returns-in-None-clause-read : goal.returns-in-None-clause-read

@@ -7,10 +7,10 @@ use Rattle.acd_desk.proofs.Replays.Comparing.{IsAsKept, other_record, other_key,
 use Rattle.acd_book.proofs.ReadsAhead.{known, read_ok, read_nothing, read_twice}
 use Rattle.acd_desk.proofs.replay.is_as_kept.Goals as goal
 
-pub returns-then-not-is_same_kept : goal.returns-then-not-is_same_kept
-returns-then-not-is_same_kept g c =
+pub returns-then-not-is_same : goal.returns-then-not-is_same
+returns-then-not-is_same g c =
     known (λ (k : Content) (found : Bool). Knows k c.args.keys.now c.args.page.now c.args.kept.now → IsPageOf k c.args.page.now × Decides found (IsAsKept k c.args.kept.now c.args.expected.now c.args.last c.args.events.now)) (g.B.Book.state c.args.book.now) false
-    (λ k knows. other_record k c.args.keys.now c.args.page.now c.args.kept.now c.args.expected.now c.args.last c.args.events.now c.is_same_kept.result c.if-not-is_same_kept.true c.is_same_kept.ensures knows)
+    (λ k knows. other_record k c.args.keys.now c.args.page.now c.args.kept.now c.args.expected.now c.args.last c.args.events.now c.is_same.result c.if-not-is_same.true c.is_same.ensures knows)
 
 pub returns-in_err-is_new : goal.returns-in_err-is_new
 returns-in_err-is_new g c =
@@ -27,5 +27,5 @@ pub returns : goal.returns
 returns g c =
     read_twice (λ (k : Content) (found : Bool). Knows k c.args.keys.now c.args.page.now c.args.kept.now → IsPageOf k c.has_events.new.page × Decides found (IsAsKept k c.args.kept.now c.args.expected.now c.args.last c.args.events.now)) (g.B.Book.state c.args.book.now) (g.B.Book.state c.is_new_key.new.book) (g.B.Book.state c.has_events.new.book)
     c.in_ok-is_new.is_new c.has_events.result c.in_ok-is_new.ensures c.has_events.ensures
-    (λ k decides found holds knows. same_events k c.args.keys.now c.args.page.now c.has_events.new.page c.args.kept.now c.args.expected.now c.args.last c.args.events.now c.is_same_kept.result c.in_ok-is_new.is_new found
-    c.if-not-is_same_kept.false c.is_same_kept.ensures c.if-not-is_new.false decides holds knows)
+    (λ k decides found holds knows. same_events k c.args.keys.now c.args.page.now c.has_events.new.page c.args.kept.now c.args.expected.now c.args.last c.args.events.now c.is_same.result c.in_ok-is_new.is_new found
+    c.if-not-is_same.false c.is_same.ensures c.if-not-is_new.false decides holds knows)

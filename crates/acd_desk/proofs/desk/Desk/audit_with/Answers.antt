@@ -1,8 +1,8 @@
-use Rattle.std.proofs.Common.{Ok, Err, sym, subst, ◌∙◌}
+use Rattle.std.proofs.Common.{◌≡◌, Ok, Err, rules, sym, subst, ◌∙◌}
 use Rattle.acd_book.specs.Content.{Content}
 use Rattle.acd_desk.specs.declared.audit.ArchiveAudit.{ArchiveAudit}
 use Rattle.acd_desk.specs.declared.audit.AuditFault.{AuditFault}
-use Rattle.acd_desk.specs.AuditedWith.{desk_part, archive_part, audit_fault}
+use Rattle.acd_desk.specs.AuditedWith.{desk_part, archive_part, audit_fault, IsAuditedWith}
 use Rattle.acd_book.specs.BookReading.{ReadsIfOpen}
 use Rattle.acd_desk.specs.Standing.{standing}
 use Rattle.acd_desk.specs.ReadDone.{ReadDone}
@@ -11,23 +11,29 @@ use Rattle.acd_desk.proofs.Archives.AuditedWith.{read_found, both_failed, archiv
 use Rattle.acd_desk.proofs.desk.Desk.audit_with.Goals as goal
 
 pub returns-in-Ok-clause-read : goal.returns-in-Ok-clause-read
-returns-in-Ok-clause-read g c = read_found (g.B.Book.state c.args.self.now.book) (g.B.Book.state c.audited_with.new.book) c.args.self.now.working c.in-Ok.audit c.in-Ok.ensures.current (sym c.has_failed.ensures ∙ c.if-has_failed.false)
+returns-in-Ok-clause-read g c = read_found (g.B.Book.state c.args.self.now.book) (g.B.Book.state c.audited.new.self.book.now) c.args.self.now.working c.in-Ok.audit c.in-Ok.ensures.read.current (sym c.has_failed.ensures ∙ c.if-has_failed.false)
 
 pub returns-in-Ok-clause-archive : goal.returns-in-Ok-clause-archive
-returns-in-Ok-clause-archive g c = c.in-Ok.ensures.archive
+returns-in-Ok-clause-archive g c =
+    let lent : c.archive-1.given.0 ≡ c.audited.new.self.archive.now = search rules in
+    subst (λ (x : _). ReadsIfOpen {A = ArchiveAudit} (g.A.Book.state c.args.archive.now) (g.A.Book.state x) (Ok c.in-Ok.audit) (λ (k : Content) (found : ArchiveAudit). Unit {0})) (sym lent) c.in-Ok.ensures.read.archive
 
 pub returns-in-Ok-clause-audited : goal.returns-in-Ok-clause-audited
 returns-in-Ok-clause-audited g c =
-    audited_both (g.A.Book.state c.args.archive.now) (g.A.Book.state c.audited_with.new.archive) (g.B.Book.state c.args.self.now.book) (g.B.Book.state c.audited_with.new.book) c.in-Ok.audit c.in-Ok.ensures
+    let lent : c.archive-1.given.0 ≡ c.audited.new.self.archive.now = search rules in
+    subst (λ (x : _). IsAuditedWith (g.A.Book.state c.args.archive.now) (g.A.Book.state x) (g.B.Book.state c.args.self.now.book) (g.B.Book.state c.audited.new.self.book.now) (Ok c.in-Ok.audit)) (sym lent)
+    (audited_both (g.A.Book.state c.args.archive.now) (g.A.Book.state c.audited.new.self.archive.now) (g.B.Book.state c.args.self.now.book) (g.B.Book.state c.audited.new.self.book.now) c.in-Ok.audit c.in-Ok.ensures.read)
 
 pub returns-in-Err-clause-read : goal.returns-in-Err-clause-read
 returns-in-Err-clause-read g c =
     subst (λ (x : AuditFault). ReadDone {A = ArchiveAudit} (standing g.B.Book c.args.self.now) (standing g.B.Book c.pair_failed.new.self) (desk_part (Err x)) (λ (k : Content) (found : ArchiveAudit). Unit {0})) (sym c.pair_failed.ensures.fault)
     (subst (λ (d : _). ReadDone {A = ArchiveAudit} (standing g.B.Book c.args.self.now) (standing g.B.Book d) (desk_part (Err (audit_fault c.in-Err.fault))) (λ (k : Content) (found : ArchiveAudit). Unit {0})) (sym c.pair_failed.ensures.left)
-    (both_failed (g.A.Book.state c.args.archive.now) (g.A.Book.state c.audited_with.new.archive) (g.B.Book.state c.args.self.now.book) (g.B.Book.state c.audited_with.new.book) c.args.self.now.working c.in-Err.fault AuditsInOrder c.in-Err.ensures
+    (both_failed (g.A.Book.state c.args.archive.now) (g.A.Book.state c.audited.new.self.archive.now) (g.B.Book.state c.args.self.now.book) (g.B.Book.state c.audited.new.self.book.now) c.args.self.now.working c.in-Err.fault AuditsInOrder c.in-Err.ensures.read
     (sym c.has_failed.ensures ∙ c.if-has_failed.false)))
 
 pub returns-in-Err-clause-archive : goal.returns-in-Err-clause-archive
 returns-in-Err-clause-archive g c =
-    subst (λ (x : AuditFault). ReadsIfOpen {A = ArchiveAudit} (g.A.Book.state c.args.archive.now) (g.A.Book.state c.audited_with.new.archive) (archive_part (Err x)) (λ (k : Content) (found : ArchiveAudit). Unit {0})) (sym c.pair_failed.ensures.fault)
-    (archive_neither (g.A.Book.state c.args.archive.now) (g.A.Book.state c.audited_with.new.archive) (g.B.Book.state c.args.self.now.book) (g.B.Book.state c.audited_with.new.book) c.in-Err.fault AuditsInOrder c.in-Err.ensures)
+    let lent : c.archive-1.given.0 ≡ c.audited.new.self.archive.now = search rules in
+    subst (λ (x : _). ReadsIfOpen {A = ArchiveAudit} (g.A.Book.state c.args.archive.now) (g.A.Book.state x) (archive_part (Err c.pair_failed.result)) (λ (k : Content) (found : ArchiveAudit). Unit {0})) (sym lent)
+    (subst (λ (x : AuditFault). ReadsIfOpen {A = ArchiveAudit} (g.A.Book.state c.args.archive.now) (g.A.Book.state c.audited.new.self.archive.now) (archive_part (Err x)) (λ (k : Content) (found : ArchiveAudit). Unit {0})) (sym c.pair_failed.ensures.fault)
+    (archive_neither (g.A.Book.state c.args.archive.now) (g.A.Book.state c.audited.new.self.archive.now) (g.B.Book.state c.args.self.now.book) (g.B.Book.state c.audited.new.self.book.now) c.in-Err.fault AuditsInOrder c.in-Err.ensures.read))
