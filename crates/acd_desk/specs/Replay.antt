@@ -15,7 +15,7 @@ use Rattle.acd_desk.specs.Firsts.{stepped, record_of, run}
 use Rattle.acd_desk.specs.Stands.{arrivals_of, IsSound}
 use Rattle.acd_desk.specs.declared.seen.SeenKeys.{SeenKeys}
 use Rattle.acd_desk.specs.declared.page.Page.{Page}
-use Rattle.acd_desk.specs.declared.replay.Course.{Course}
+use Rattle.acd_desk.specs.declared.replay.Replay.{Replay}
 use Rattle.acd_desk.specs.declared.replay.Step.{Step}
 use Rattle.acd_desk.specs.declared.replay.Step.TheVariants.{Replayed, Differs, Ended}
 use Rattle.acd_desk.specs.Audit.{AgreesBefore, IsFirstDifference}
@@ -23,7 +23,7 @@ use Rattle.acd_desk.specs.KeyPlaces.{IsSeenKey}
 use Rattle.acd_desk.specs.Pages.{IsPageOf}
 
 -- the rows of its switch
-abbrev pub rows_of : Course → Rows
+abbrev pub rows_of : Replay → Rows
 rows_of r = r.loaded.switch.value
 
 -- a kept request, at the moment that its record holds
@@ -61,9 +61,9 @@ ComeNext c last events = events_after c.events last (length events) ≡ events
 abbrev pub HasNext : Content → Rows → List Event → Type 0
 HasNext c s events = ComeNext c s.last_event events
 
--- a record is the one that is expected, the first of its key, and these events come above a number
-abbrev pub IsExpected : Kept → Kept → ℕ → List Event → Content → Type 0
-IsExpected k expected last events c = (k ≡ expected) × IsFirstOfKey c k × ComeNext c last events
+-- a record is the first of its key, and these events come above a number
+abbrev pub IsFirstWith : Kept → ℕ → List Event → Content → Type 0
+IsFirstWith k last events c = IsFirstOfKey c k × ComeNext c last events
 
 -- a record is the one that a step from these rows keeps of its request, and the step's events are there
 pub record Matches (c : Content) (s : Rows) (k : Kept) : Type 0 where
@@ -102,41 +102,41 @@ abbrev pub DecidesKnown : SeenKeys → Page Event × Page Event → Kept → (Co
 DecidesKnown keys pages k P c found = Knows c keys pages.0 k → IsPageOf c pages.1 × Decides found (P c)
 
 -- its switch replays the first records, it has seen their keys, and its page is of the content
-pub record Goes (c : Content) (r : Course) : Type 0 where
+pub record Goes (c : Content) (r : Replay) : Type 0 where
   pub replays : Replays c (rows_of r)
   pub seen : Every (λ (k : Kept). IsSeenKey r.keys k.request) (take (rows_of r).last_stamp c.kept)
   pub page : IsPageOf c r.page
 
 -- a replay begins with no record, or at limits that don't fit
-abbrev pub BeginsReplay : Content → Option Course → Type 0
+abbrev pub BeginsReplay : Content → Option Replay → Type 0
 BeginsReplay c None = IsFirstDifference c 1
 BeginsReplay c (Some first) = IsOrdered c → Goes c first
 
 -- the key of one more record was seen, and the page is of the content
-pub record GoesOn (c : Content) (r : Course) (k : Kept) (next : Course) : Type 0 where
+pub record GoesOn (c : Content) (r : Replay) (k : Kept) (next : Replay) : Type 0 where
   pub itself : IsSeenKey next.keys k.request
   pub others : (other : Request) → IsSeenKey r.keys other → IsSeenKey next.keys other
   pub page : IsPageOf c next.page
 
 -- a record is replayed, or it isn't what its request gives
-abbrev pub IsReplayed : Content → Course → Kept → Option Course → Type 0
+abbrev pub IsReplayed : Content → Replay → Kept → Option Replay → Type 0
 IsReplayed c r k None = ¬ Matches c (rows_of r) k
 IsReplayed c r k (Some next) = Matches c (rows_of r) k × GoesOn c r k next
 
 -- the same where so much is known before
-abbrev pub Plays : Course → Kept → Content → Option Course → Type 0
+abbrev pub Plays : Replay → Kept → Content → Option Replay → Type 0
 Plays r k c found = Knows c r.keys r.page k → IsReplayed c r k found
 
 -- the switch made one step more, where the record was replayed
-abbrev pub StepsOn : Rows → Kept → Option Course → Type 0
-StepsOn s k played = IfSome played (λ (next : Course). rows_of next ≡ (stepped s (again k)).rows)
+abbrev pub StepsOn : Rows → Kept → Option Replay → Type 0
+StepsOn s k played = IfSome played (λ (next : Replay). rows_of next ≡ (stepped s (again k)).rows)
 
--- a course that begins has replayed nothing, and its limit of requests is one that fits
-abbrev pub BeginsEmpty : Option Course → Type 0
-BeginsEmpty found = IfSome found (λ (first : Course). ((rows_of first).last_stamp ≡ 0) × ((rows_of first).limits.requests ≤ 1000000000))
+-- a replay that begins has replayed nothing, and its limit of requests is one that fits
+abbrev pub BeginsEmpty : Option Replay → Type 0
+BeginsEmpty found = IfSome found (λ (first : Replay). ((rows_of first).last_stamp ≡ 0) × ((rows_of first).limits.requests ≤ 1000000000))
 
 -- the result of a step of the replay from there
-abbrev pub IsStep : Content → Course → Step → Type 0
+abbrev pub IsStep : Content → Replay → Step → Type 0
 IsStep c r (Replayed next) = Goes c r → Goes c next
 IsStep c r Differs = Goes c r → IsFirstDifference c ((rows_of r).last_stamp + 1)
 IsStep c r Ended = Goes c r → IsSound c

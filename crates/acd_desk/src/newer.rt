@@ -10,7 +10,7 @@ use crate::audit::ArchiveAudit;
 use crate::open_fault::OpenFault;
 use crate::overlap::Cut;
 use crate::pair::{Pair, PairFault, of_archive, of_current, of_opening};
-use crate::replay::{Course, coursed, is_all, is_whole, replayed};
+use crate::replay::{Replay, is_all, is_whole};
 use crate::working::LoadedSwitch;
 use acd_book::{Book, BookFault, Kept};
 use acd_terms::Request;
@@ -19,8 +19,8 @@ use std::alloc::Global;
 /// How far a replay from an archive on has come, and the stamp of the first request that was sent again: of the first
 /// record whose key was left in the archive.
 #[derive(Drop)]
-pub(crate) struct NewerCourse {
-    pub(crate) course: Course,
+pub(crate) struct NewerReplay {
+    pub(crate) replay: Replay,
     pub(crate) sent_again: Option<u64>,
 }
 
@@ -28,7 +28,7 @@ pub(crate) struct NewerCourse {
 #[derive(Drop)]
 pub(crate) enum NewerStep {
     /// The next record and its events are what its request gives.
-    Replayed(NewerCourse),
+    Replayed(NewerReplay),
     /// They aren't, or no record is left: the answer of the audit.
     Ended(ArchiveAudit),
 }
@@ -41,15 +41,15 @@ fn is_known<A: Book>(archive: &mut A, kept: &Kept) -> Result<bool, BookFault>
     Ok(found.is_some())
 }
 
-// The course, to which a key that the archive has counts as seen: whether it is new to the book is asked there.
-fn noted(course: Course, known: bool, request: &Request) -> Course
-    ensures { Notes course known request.now result }
+// The same replay, to which a key that the archive has counts as seen: whether it is new to the book is asked there.
+fn noted(replay: Replay, known: bool, request: &Request) -> Replay
+    ensures { Notes replay known request.now result }
 {
-    let mut course = course;
+    let mut replay = replay;
     if known {
-        course.keys.insert(request);
+        replay.keys.insert(request);
     }
-    course
+    replay
 }
 
 // The stamp of the first request that was sent again: the one before, or this one where the archive has its key.
@@ -63,12 +63,12 @@ fn first_of_both(first: Option<u64>, known: bool, stamp: u64) -> Option<u64>
     }
 }
 
-// A course that was continued, with the stamp of the first request that was sent again.
-fn with_first(played: Option<Course>, sent_again: Option<u64>) -> Option<NewerCourse>
+// A replay that went on, with the stamp of the first request that was sent again.
+fn with_first(played: Option<Replay>, sent_again: Option<u64>) -> Option<NewerReplay>
     ensures { result ≡ with_first sent_again played }
 {
     match played {
-        Some(course) => Some(NewerCourse { course, sent_again }),
+        Some(replay) => Some(NewerReplay { replay, sent_again }),
         None => None,
     }
 }
@@ -81,11 +81,11 @@ fn next_stamp(loaded: &LoadedSwitch) -> u64
 }
 
 // The answer where no record is left: whether all else is as it has to be is known.
-fn answer_at_end(newer: &NewerCourse, whole: bool) -> ArchiveAudit
+fn answer_at_end(newer: &NewerReplay, whole: bool) -> ArchiveAudit
     ensures { result ≡ answer_at_end newer.now whole }
 {
     if !whole {
-        return ArchiveAudit::Differs(next_stamp(&newer.course.loaded));
+        return ArchiveAudit::Differs(next_stamp(&newer.replay.loaded));
     }
     match newer.sent_again {
         Some(first) => ArchiveAudit::SentAgain(first),
@@ -123,36 +123,36 @@ impl<A: Book, B: Book> Pair<'_, A, B> {
     fn replayed(
         &mut self,
         alloc: Global,
-        newer: NewerCourse,
+        newer: NewerReplay,
         kept: &Kept,
-    ) -> Result<Option<NewerCourse>, PairFault>
-        requires { newer.course.loaded.switch.value.last_stamp
-            < newer.course.loaded.switch.value.limits.requests }
+    ) -> Result<Option<NewerReplay>, PairFault>
+        requires { newer.replay.loaded.switch.value.last_stamp
+            < newer.replay.loaded.switch.value.limits.requests }
         ensures same { BorrowsSame self.old self.new }
         ensures read { BothRead A.state B.state (self.old, self.new) result
             (PlaysWith newer kept.now) }
-        ensures stepped { IfOk result (StepsOnWith newer.course.loaded.switch.value kept.now) }
+        ensures stepped { IfOk result (StepsOnWith newer.replay.loaded.switch.value kept.now) }
     {
         let known = of_archive(is_known(&mut *self.archive, kept))?;
-        let NewerCourse { course, sent_again } = newer;
-        let course = noted(course, known, &kept.request);
-        let played = of_current(replayed(alloc, &mut *self.book, course, kept))?;
+        let NewerReplay { replay, sent_again } = newer;
+        let replay = noted(replay, known, &kept.request);
+        let played = of_current(replay.replayed(alloc, &mut *self.book, kept))?;
         Ok(with_first(played, first_of_both(sent_again, known, kept.stamp)))
     }
 
     // Replays the next record, where one is left.
-    fn next_newer(&mut self, alloc: Global, newer: NewerCourse) -> Result<NewerStep, PairFault>
-        requires { newer.course.loaded.switch.value.last_stamp
-            < newer.course.loaded.switch.value.limits.requests }
+    fn next_newer(&mut self, alloc: Global, newer: NewerReplay) -> Result<NewerStep, PairFault>
+        requires { newer.replay.loaded.switch.value.last_stamp
+            < newer.replay.loaded.switch.value.limits.requests }
         ensures same { BorrowsSame self.old self.new }
         ensures read { BothRead A.state B.state (self.old, self.new) result
             (λ a c found. IsStepWith a c newer found) }
-        ensures counts { IfOk result (CountsOneWith newer.course.loaded.switch.value) }
+        ensures counts { IfOk result (CountsOneWith newer.replay.loaded.switch.value) }
     {
-        let next = next_stamp(&newer.course.loaded);
-        let last = newer.course.loaded.switch.last_stamp();
+        let next = next_stamp(&newer.replay.loaded);
+        let last = newer.replay.loaded.switch.last_stamp();
         let Some(kept) = of_current(self.book.kept_after(last))? else {
-            let whole = of_current(is_whole(&mut *self.book, &newer.course.loaded.switch))?;
+            let whole = of_current(is_whole(&mut *self.book, &newer.replay.loaded.switch))?;
             return Ok(NewerStep::Ended(answer_at_end(&newer, whole)));
         };
         match self.replayed(alloc, newer, &kept)? {
@@ -162,14 +162,14 @@ impl<A: Book, B: Book> Pair<'_, A, B> {
     }
 
     // Replays all that is newer than the archive, from its state on.
-    fn audited_newer(&mut self, alloc: Global, first: Course) -> Result<ArchiveAudit, PairFault>
+    fn audited_newer(&mut self, alloc: Global, first: Replay) -> Result<ArchiveAudit, PairFault>
         ensures same { BorrowsSame self.old self.new }
         ensures read { BothRead A.state B.state (self.old, self.new) result (AuditsFrom first) }
     {
         let start = first.loaded.switch.last_stamp();
         let most = first.loaded.switch.tables().limits().requests;
-        let mut newer = NewerCourse {
-            course: first,
+        let mut newer = NewerReplay {
+            replay: first,
             sent_again: None,
         };
         for _ in start..most {
@@ -178,7 +178,7 @@ impl<A: Book, B: Book> Pair<'_, A, B> {
                 NewerStep::Ended(found) => return Ok(found),
             }
         }
-        let all = of_current(is_all(&mut *self.book, &newer.course.loaded.switch))?;
+        let all = of_current(is_all(&mut *self.book, &newer.replay.loaded.switch))?;
         Ok(answer_at_end(&newer, all))
     }
 
@@ -193,7 +193,7 @@ impl<A: Book, B: Book> Pair<'_, A, B> {
         if let Some(place) = other {
             return Ok(ArchiveAudit::Differs(place));
         }
-        let first = coursed(alloc, loaded)?;
+        let first = Replay::from(alloc, loaded)?;
         self.audited_newer(alloc, first)
     }
 }

@@ -12,7 +12,7 @@ ghost use Rattle.acd_desk.specs.Firsts.{stepped};
 ghost use Rattle.acd_desk.specs.Audit.{IsAudit};
 ghost use Rattle.acd_desk.specs.Pages.{IsPageOf};
 ghost use Rattle.acd_book.specs.BookReading.{MayRead, BookDecides, IfOrdered};
-ghost use Rattle.acd_desk.specs.Replay.{again, IsFirstOfKey, DecidesFirst, DecidesNext, DecidesKnown, IsExpected, Matches, IsEnd, BeginsReplay, BeginsEmpty, Plays, StepsOn, IsStep, CountsOne, IsAll};
+ghost use Rattle.acd_desk.specs.Replay.{again, IsFirstOfKey, IsFirstWith, DecidesFirst, DecidesNext, DecidesKnown, Matches, IsEnd, BeginsReplay, BeginsEmpty, Plays, StepsOn, IsStep, CountsOne, IsAll};
 
 use crate::audit::Audit;
 use crate::executing::executed;
@@ -26,10 +26,10 @@ use acd_switch::Switch;
 use acd_terms::{Event, Limits};
 use std::alloc::{AllocError, Global};
 
-/// How far a replay has come: the switch after the records that it has replayed, the keys of these, and events that
+/// A replay of kept requests: the switch after the records that it has come past, the keys of these, and events that
 /// were read ahead.
 #[derive(Drop)]
-pub(crate) struct Course {
+pub(crate) struct Replay {
     pub(crate) loaded: LoadedSwitch,
     pub(crate) keys: SeenKeys,
     pub(crate) page: Page<Event>,
@@ -39,7 +39,7 @@ pub(crate) struct Course {
 #[derive(Drop)]
 enum Step {
     // The next record and its events are what its request gives.
-    Replayed(Course),
+    Replayed(Replay),
     // They aren't; or no record is left, but some event is, or the tables differ.
     Differs,
     // No record and no event is left, and the tables are the same.
@@ -89,24 +89,20 @@ fn has_events<B: Book>(
     Ok(are_same_events(&found, events))
 }
 
-// Whether a record and its events, above a number, are these, and no earlier record has its key.
-fn is_as_kept<B: Book>(
+// Whether no earlier record has the key of a record, and these events come first above a number.
+fn is_first_with<B: Book>(
     alloc: Global,
     book: &mut B,
     keys: &SeenKeys,
     page: &mut Page<Event>,
     kept: &Kept,
     last: u64,
-    expected: &Kept,
     events: &[Event],
 ) -> Result<bool, BookFault>
     ensures { MayRead B.state book.old book.new result
         (DecidesKnown keys.now (page.old, page.new) kept.now
-        (IsExpected kept.now expected.now last events.now)) }
+        (IsFirstWith kept.now last events.now)) }
 {
-    if !kept.is_same(expected) {
-        return Ok(false);
-    }
     let is_new = is_new_key(book, keys, kept)?;
     if !is_new {
         return Ok(false);
@@ -134,33 +130,10 @@ fn replays_as_kept<B: Book>(
     let last = switch.tables().last_event();
     let prepared = executed(alloc, switch, kept.moment, &kept.request)?;
     let (done, expected) = prepared;
-    is_as_kept(alloc, book, keys, page, kept, last, &expected, &done.events)
-}
-
-/// Replays a record: the course after it, where the record and its events are what its request gives.
-pub(crate) fn replayed<B: Book>(
-    alloc: Global,
-    book: &mut B,
-    course: Course,
-    kept: &Kept,
-) -> Result<Option<Course>, BookFault>
-    requires { course.loaded.switch.value.last_stamp < course.loaded.switch.value.limits.requests }
-    ensures read { MayRead B.state book.old book.new result (Plays course kept.now) }
-    ensures stepped { IfOk result (StepsOn course.loaded.switch.value kept.now) }
-{
-    let Course {
-        loaded,
-        mut keys,
-        mut page,
-    } = course;
-    let LoadedSwitch { mut switch } = loaded;
-    let matches = replays_as_kept(alloc, book, &mut *switch, &keys, &mut page, kept)?;
-    if !matches {
-        return Ok(None);
+    if !kept.is_same(&expected) {
+        return Ok(false);
     }
-    keys.insert(&kept.request);
-    let loaded = LoadedSwitch { switch };
-    Ok(Some(Course { loaded, keys, page }))
+    is_first_with(alloc, book, keys, page, kept, last, &done.events)
 }
 
 // Whether no event is left after a number.
@@ -199,21 +172,6 @@ fn last_step(is_whole: bool) -> Step
     if is_whole { Step::Ended } else { Step::Differs }
 }
 
-// Replays the next record, where one is left.
-fn next_step<B: Book>(alloc: Global, book: &mut B, course: Course) -> Result<Step, BookFault>
-    requires { course.loaded.switch.value.last_stamp < course.loaded.switch.value.limits.requests }
-    ensures read { BookReads B.state book.old book.new result (λ c found. IsStep c course found) }
-    ensures counts { IfOk result (CountsOne course.loaded.switch.value) }
-{
-    let Some(kept) = book.kept_after(course.loaded.switch.last_stamp())? else {
-        return Ok(last_step(is_whole(book, &course.loaded.switch)?));
-    };
-    match replayed(alloc, book, course, &kept)? {
-        Some(next) => Ok(Step::Replayed(next)),
-        None => Ok(Step::Differs),
-    }
-}
-
 /// Whether a replay has come past all that is kept.
 pub(crate) fn is_all<B: Book>(book: &mut B, switch: &Switch) -> Result<bool, BookFault>
     ensures { BookReads B.state book.old book.new result (λ c found. IsAll c switch.now found) }
@@ -224,8 +182,8 @@ pub(crate) fn is_all<B: Book>(book: &mut B, switch: &Switch) -> Result<bool, Boo
     Ok(false)
 }
 
-// A switch that has replayed nothing yet.
-fn unplayed(alloc: Global, limits: Limits) -> Result<LoadedSwitch, AllocError>
+// A switch of empty tables.
+fn empty_switch(alloc: Global, limits: Limits) -> Result<LoadedSwitch, AllocError>
     requires { limits_fit limits ≡ true }
     ensures { IfOk result (λ loaded. loaded.switch.value ≡ empty_rows limits) }
 {
@@ -233,36 +191,79 @@ fn unplayed(alloc: Global, limits: Limits) -> Result<LoadedSwitch, AllocError>
     Ok(LoadedSwitch { switch })
 }
 
-/// A course that has come past nothing yet, from this switch on.
-pub(crate) fn coursed(alloc: Global, loaded: LoadedSwitch) -> Result<Course, AllocError>
-    ensures rows { IfOk result (λ first. first.loaded.switch.value ≡ loaded.switch.value) }
-    ensures page { IfOk result (λ first. (c : Content) → IsPageOf c first.page) }
-{
-    let keys = SeenKeys::none(alloc)?;
-    let page = Page::empty(alloc);
-    Ok(Course { loaded, keys, page })
-}
+impl Replay {
+    /// A replay from this switch on.
+    pub(crate) fn from(alloc: Global, loaded: LoadedSwitch) -> Result<Replay, AllocError>
+        ensures rows { IfOk result (λ replay. replay.loaded.switch.value ≡ loaded.switch.value) }
+        ensures page { IfOk result (λ replay. (c : Content) → IsPageOf c replay.page) }
+    {
+        let keys = SeenKeys::none(alloc)?;
+        let page = Page::empty(alloc);
+        Ok(Replay { loaded, keys, page })
+    }
 
-// The same from an empty switch on.
-fn uncoursed(alloc: Global, limits: Limits) -> Result<Course, AllocError>
-    requires { limits_fit limits ≡ true }
-    ensures rows { IfOk result (λ first. first.loaded.switch.value ≡ empty_rows limits) }
-    ensures page { IfOk result (λ first. (c : Content) → IsPageOf c first.page) }
-{
-    let loaded = unplayed(alloc, limits)?;
-    coursed(alloc, loaded)
-}
+    // A replay from an empty switch on.
+    fn new(alloc: Global, limits: Limits) -> Result<Replay, AllocError>
+        requires { limits_fit limits ≡ true }
+        ensures rows { IfOk result (λ replay. replay.loaded.switch.value ≡ empty_rows limits) }
+        ensures page { IfOk result (λ replay. (c : Content) → IsPageOf c replay.page) }
+    {
+        let loaded = empty_switch(alloc, limits)?;
+        Replay::from(alloc, loaded)
+    }
 
-// A course under the limits of the book, where they fit.
-fn begun<B: Book>(alloc: Global, book: &mut B) -> Result<Option<Course>, BookFault>
-    ensures read { BookReads B.state book.old book.new result BeginsReplay }
-    ensures empty { IfOk result BeginsEmpty }
-{
-    let limits = book.limits()?;
-    if limits.fits() {
-        Ok(Some(uncoursed(alloc, limits)?))
-    } else {
-        Ok(None)
+    // The same under the limits of the book, where they fit.
+    fn start<B: Book>(alloc: Global, book: &mut B) -> Result<Option<Replay>, BookFault>
+        ensures read { BookReads B.state book.old book.new result BeginsReplay }
+        ensures empty { IfOk result BeginsEmpty }
+    {
+        let limits = book.limits()?;
+        if limits.fits() {
+            Ok(Some(Replay::new(alloc, limits)?))
+        } else {
+            Ok(None)
+        }
+    }
+
+    /// Replays a record, and goes on where the record and its events are what its request gives.
+    pub(crate) fn replayed<B: Book>(
+        self,
+        alloc: Global,
+        book: &mut B,
+        kept: &Kept,
+    ) -> Result<Option<Replay>, BookFault>
+        requires { self.loaded.switch.value.last_stamp < self.loaded.switch.value.limits.requests }
+        ensures read { MayRead B.state book.old book.new result (Plays self kept.now) }
+        ensures stepped { IfOk result (StepsOn self.loaded.switch.value kept.now) }
+    {
+        let Replay {
+            loaded,
+            mut keys,
+            mut page,
+        } = self;
+        let LoadedSwitch { mut switch } = loaded;
+        let matches = replays_as_kept(alloc, book, &mut *switch, &keys, &mut page, kept)?;
+        if !matches {
+            return Ok(None);
+        }
+        keys.insert(&kept.request);
+        let loaded = LoadedSwitch { switch };
+        Ok(Some(Replay { loaded, keys, page }))
+    }
+
+    // Replays the next record, where one is left.
+    fn next<B: Book>(self, alloc: Global, book: &mut B) -> Result<Step, BookFault>
+        requires { self.loaded.switch.value.last_stamp < self.loaded.switch.value.limits.requests }
+        ensures read { BookReads B.state book.old book.new result (λ c found. IsStep c self found) }
+        ensures counts { IfOk result (CountsOne self.loaded.switch.value) }
+    {
+        let Some(kept) = book.kept_after(self.loaded.switch.last_stamp())? else {
+            return Ok(last_step(is_whole(book, &self.loaded.switch)?));
+        };
+        match self.replayed(alloc, book, &kept)? {
+            Some(next) => Ok(Step::Replayed(next)),
+            None => Ok(Step::Differs),
+        }
     }
 }
 
@@ -272,19 +273,19 @@ fn begun<B: Book>(alloc: Global, book: &mut B) -> Result<Option<Course>, BookFau
 pub(crate) fn audited<B: Book>(alloc: Global, book: &mut B) -> Result<Audit, BookFault>
     ensures { BookReads B.state book.old book.new result (IfOrdered IsAudit) }
 {
-    let Some(first) = begun(alloc, book)? else {
+    let Some(first) = Replay::start(alloc, book)? else {
         return Ok(Audit::Differs(1));
     };
     let most = first.loaded.switch.tables().limits().requests;
-    let mut course = first;
+    let mut replay = first;
     for count in 0..most {
-        match next_step(alloc, book, course)? {
-            Step::Replayed(next) => course = next,
+        match replay.next(alloc, book)? {
+            Step::Replayed(next) => replay = next,
             Step::Differs => return Ok(Audit::Differs(count + 1)),
             Step::Ended => return Ok(Audit::Sound),
         }
     }
-    let all = is_all(book, &course.loaded.switch)?;
+    let all = is_all(book, &replay.loaded.switch)?;
     if all {
         Ok(Audit::Sound)
     } else {

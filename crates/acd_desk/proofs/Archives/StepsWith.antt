@@ -15,12 +15,12 @@ use Rattle.acd_book.specs.Memory.{stamp_of}
 use Rattle.acd_book.specs.State.{BookState}
 use Rattle.acd_desk.specs.declared.audit.ArchiveAudit.{ArchiveAudit}
 use Rattle.acd_desk.specs.declared.audit.ArchiveAudit.TheVariants.{Differs}
-use Rattle.acd_desk.specs.declared.newer.NewerCourse.{NewerCourse}
+use Rattle.acd_desk.specs.declared.newer.NewerReplay.{NewerReplay}
 use Rattle.acd_desk.specs.declared.newer.NewerStep.{NewerStep}
 use Rattle.acd_desk.specs.declared.newer.NewerStep.TheVariants as step
 use Rattle.acd_desk.specs.declared.overlap.Cut.{Cut}
 use Rattle.acd_desk.specs.declared.pair.PairFault.{PairFault}
-use Rattle.acd_desk.specs.declared.replay.Course.{Course}
+use Rattle.acd_desk.specs.declared.replay.Replay.{Replay}
 use Rattle.acd_desk.specs.Carried.{Archive}
 use Rattle.acd_desk.specs.Firsts.{stepped, executed}
 use Rattle.acd_desk.specs.KeyPlaces.{IsSeenKey}
@@ -71,7 +71,7 @@ differs_here a c s p unled differs = record {
   newer = λ above. record { rows = s; before = p; place = refl; differs = differs };
 }
 
-pub newer_unlike : (a c : Content) (r : NewerCourse) (k : Kept) → GoesWith a c r → IsKeptAfter c.kept (newer_rows r).last_stamp (Some k) → ¬ Matches c (newer_rows r) k → IsDifferenceWith a c ((newer_rows r).last_stamp + 1)
+pub newer_unlike : (a c : Content) (r : NewerReplay) (k : Kept) → GoesWith a c r → IsKeptAfter c.kept (newer_rows r).last_stamp (Some k) → ¬ Matches c (newer_rows r) k → IsDifferenceWith a c ((newer_rows r).last_stamp + 1)
 newer_unlike a c r k g at unlike =
     let s : Rows = newer_rows r in
     let p : RunsTo a c s = g.runs in
@@ -81,7 +81,7 @@ newer_unlike a c r k g at unlike =
     (λ goes. unlike (subst (λ (x : Rows). Matches c x k) (sym p.rows) (led_matches a c p.ran k left.0 p.events_left runs goes g.order.archive.counted).0))
     (λ other also room m. let next = rows_next a c s other p also in unlike (subst (Matches c s) (head_is other k next.0 left.0 (sym next.1 ∙ left.1)) m))
 
-pub newer_full : (a c : Content) (r : NewerCourse) (k : Kept) → GoesWith a c r → IsKeptAfter c.kept (newer_rows r).last_stamp (Some k) → (newer_rows r).limits.requests ≤ (newer_rows r).last_stamp
+pub newer_full : (a c : Content) (r : NewerReplay) (k : Kept) → GoesWith a c r → IsKeptAfter c.kept (newer_rows r).last_stamp (Some k) → (newer_rows r).limits.requests ≤ (newer_rows r).last_stamp
     → IsDifferenceWith a c ((newer_rows r).last_stamp + 1)
 newer_full a c r k g at full =
     let s : Rows = newer_rows r in
@@ -105,7 +105,7 @@ led_answer a c goes (Some n) (Some k) counted is here = record {
   first = ap (option_map stamp_of) (sym here) ∙ sym is;
 }
 
-pub newer_sound : (a c : Content) (r : NewerCourse) → GoesWith a c r → IsKeptAfter c.kept (newer_rows r).last_stamp None → IsEnd c (newer_rows r) → IsAuditWith a c (sound_or r.sent_again)
+pub newer_sound : (a c : Content) (r : NewerReplay) → GoesWith a c r → IsKeptAfter c.kept (newer_rows r).last_stamp None → IsEnd c (newer_rows r) → IsAuditWith a c (sound_or r.sent_again)
 newer_sound a c r g at ended =
     let p : RunsTo a c (newer_rows r) = g.runs in
     let none : p.kept_left ≡ [] = rows_none a c (newer_rows r) p at in
@@ -115,7 +115,7 @@ newer_sound a c r g at ended =
     led_answer a c led.0 r.sent_again (first_sent_again all.0.left all.0.newer) g.order.archive.counted all.1
     (ap₂ first_sent_again (sym led.2) (sym led.1))
 
-pub newer_rest : (a c : Content) (r : NewerCourse) → GoesWith a c r → IsKeptAfter c.kept (newer_rows r).last_stamp None → ¬ IsEnd c (newer_rows r) → IsDifferenceWith a c ((newer_rows r).last_stamp + 1)
+pub newer_rest : (a c : Content) (r : NewerReplay) → GoesWith a c r → IsKeptAfter c.kept (newer_rows r).last_stamp None → ¬ IsEnd c (newer_rows r) → IsDifferenceWith a c ((newer_rows r).last_stamp + 1)
 newer_rest a c r g at unmet =
     let s : Rows = newer_rows r in
     let p : RunsTo a c s = g.runs in
@@ -128,13 +128,13 @@ newer_rest a c r g at unmet =
     (λ k also room m. let next = rows_next a c s k p also in cons_not_nil k next.0 (sym next.1 ∙ none))
 
 -- whichever it is
-pub newer_at_end : (a c : Content) (r : NewerCourse) → IsKeptAfter c.kept (newer_rows r).last_stamp None → (w : Bool) → Decides w (IsEnd c (newer_rows r)) → GoesWith a c r → IsAuditWith a c (answer_at_end r w)
+pub newer_at_end : (a c : Content) (r : NewerReplay) → IsKeptAfter c.kept (newer_rows r).last_stamp None → (w : Bool) → Decides w (IsEnd c (newer_rows r)) → GoesWith a c r → IsAuditWith a c (answer_at_end r w)
 newer_at_end a c r found true holds g = newer_sound a c r g found (holds.0 refl)
 newer_at_end a c r found false holds g = newer_rest a c r g found (λ ended. true≢false (sym (holds.1 ended)))
 
 -- ---- it begins and continues ----
 
-pub newer_start : (a c : Content) (r : Course) → BeginsWith a c r → GoesWith a c (record { course = r; sent_again = None })
+pub newer_start : (a c : Content) (r : Replay) → BeginsWith a c r → GoesWith a c (record { replay = r; sent_again = None })
 newer_start a c r b =
     let first = runs_start a c b.holds b.order.archive.counted in
     record {
@@ -157,13 +157,13 @@ first_of_more p newer k known is =
     both None k true = refl
     both None k false = refl
 
-pub newer_next : (a c : Content) (r next : NewerCourse) (k : Kept) → GoesWith a c r → IsKeptAfter c.kept (newer_rows r).last_stamp (Some k) → IsReplayedWith a c r k (Some next)
+pub newer_next : (a c : Content) (r next : NewerReplay) (k : Kept) → GoesWith a c r → IsKeptAfter c.kept (newer_rows r).last_stamp (Some k) → IsReplayedWith a c r k (Some next)
     → newer_rows next ≡ (stepped (newer_rows r) (again k)).rows → (newer_rows r).last_stamp < (newer_rows r).limits.requests → GoesWith a c next
 newer_next a c r next k g at replayed is room =
     let s : Rows = newer_rows r in
     let p : RunsTo a c s = g.runs in
     let left = rows_next a c s k p at in
-    let HasNoted : List Kept → Type 0 = λ l. (t : RunsOn a c p.ran l p.events_left) × Every (λ (x : Kept). IsSeenKey r.course.keys x.request) t.newer × (r.sent_again ≡ option_map stamp_of (first_sent_again t.left t.newer)) in
+    let HasNoted : List Kept → Type 0 = λ l. (t : RunsOn a c p.ran l p.events_left) × Every (λ (x : Kept). IsSeenKey r.replay.keys x.request) t.newer × (r.sent_again ≡ option_map stamp_of (first_sent_again t.left t.newer)) in
     let both : HasNoted (k ∷ left.0) = subst HasNoted left.1 (p.runs, g.seen, g.noted) in
     let matches : Matches c p.ran.rows k = subst (λ (x : Rows). Matches c x k) p.rows replayed.0 in
     let more = runs_next a c p.ran k left.0 p.events_left both.0 matches (subst (λ (x : Rows). x.last_stamp < x.limits.requests) p.rows room) in
@@ -180,8 +180,8 @@ newer_next a c r next k g at replayed is room =
         runs = more.0;
         rows = is ∙ ap (λ (x : Rows). (stepped x (again k)).rows) p.rows;
       };
-      seen = subst (Every (λ (x : Kept). IsSeenKey next.course.keys x.request)) (sym more.1)
-          (seen_one_more r.course.keys next.course.keys k both.0.newer replayed.1.others replayed.1.itself both.1);
+      seen = subst (Every (λ (x : Kept). IsSeenKey next.replay.keys x.request)) (sym more.1)
+          (seen_one_more r.replay.keys next.replay.keys k both.0.newer replayed.1.others replayed.1.itself both.1);
       page = replayed.1.page;
       noted = replayed.2 ∙ ap (λ (first : Option ℕ). first_of_both first (is_some (kept_of a.kept k.request.requester k.request.invoke)) k.stamp) both.2
           ∙ sym (first_of_more both.0.left both.0.newer k (is_some (kept_of a.kept k.request.requester k.request.invoke)) known)
@@ -189,11 +189,11 @@ newer_next a c r next k g at replayed is room =
     }
 
 -- so much is known of the next record
-pub knows_newer : (a c : Content) (r : NewerCourse) (k : Kept) → GoesWith a c r → IsKeptAfter c.kept (newer_rows r).last_stamp (Some k) → KnowsWith a c r.course.keys r.course.page k
+pub knows_newer : (a c : Content) (r : NewerReplay) (k : Kept) → GoesWith a c r → IsKeptAfter c.kept (newer_rows r).last_stamp (Some k) → KnowsWith a c r.replay.keys r.replay.page k
 knows_newer a c r k g at =
     let left = rows_next a c (newer_rows r) k g.runs at in
     record {
-      finds = λ none new. newer_first a c g.runs.ran k left.0 g.runs.kept_left g.runs.events_left g.runs.runs left.1 r.course.keys g.seen none new;
+      finds = λ none new. newer_first a c g.runs.ran k left.0 g.runs.kept_left g.runs.events_left g.runs.runs left.1 r.replay.keys g.seen none new;
       page = g.page;
     }
 
@@ -203,7 +203,7 @@ knows_newer a c r k g at =
 abbrev pub IsNextCurrent : ℕ → Content → Content → Option Kept → Type 0
 IsNextCurrent n a c found = IsKeptAfter c.kept n found
 
-abbrev pub StepOf : NewerCourse → Content → Content → NewerStep → Type 0
+abbrev pub StepOf : NewerReplay → Content → Content → NewerStep → Type 0
 StepOf r a c found = IsStepWith a c r found
 
 next_at : (c : Content) (n m : ℕ) (found known : Option Kept) → n ≡ m → found ≡ known → IsKeptAfter c.kept n found → IsKeptAfter c.kept m known
@@ -215,7 +215,7 @@ pub both_then_ok : {T S V : Type 0} {P : Content → Content → T → Type 0} {
 both_then_ok {S = S} {P = P} {Q = Q} R a b e c d f x y v one two follows =
     both_ok R a e c f y v (both_then (λ (p q : Content) (z : S). P p q x × Q p q z) a b e c d f x (Ok y) one two (λ p q holds z more. (holds, more))) (λ p q both. follows p q both.0 both.1)
 
-pub step_replayed : (a b e c d f : BookState) (r : NewerCourse) (n : ℕ) (found : Option Kept) (k : Kept) (played : Option NewerCourse) (next : NewerCourse) → n ≡ (newer_rows r).last_stamp → found ≡ Some k → played ≡ Some next
+pub step_replayed : (a b e c d f : BookState) (r : NewerReplay) (n : ℕ) (found : Option Kept) (k : Kept) (played : Option NewerReplay) (next : NewerReplay) → n ≡ (newer_rows r).last_stamp → found ≡ Some k → played ≡ Some next
     → ReadsBoth a b c d (Ok found) (IsNextCurrent n) → ReadsBoth b e d f (Ok played) (PlaysWith r k) → StepsOnWith (newer_rows r) k played → (newer_rows r).last_stamp < (newer_rows r).limits.requests
     → ReadsBoth a e c f (Ok (step.Replayed next)) (StepOf r)
 step_replayed a b e c d f r n found k played next from_last is_next is_played one two goes room =
@@ -224,7 +224,7 @@ step_replayed a b e c d f r n found k played next from_last is_next is_played on
     let at = next_at q n (newer_rows r).last_stamp found (Some k) from_last is_next holds in
     newer_next p q r next k g at (subst (IsReplayedWith p q r k) is_played (plays (knows_newer p q r k g at))) (subst (StepsOnWith (newer_rows r) k) is_played goes) room)
 
-pub step_differs : (a b e c d f : BookState) (r : NewerCourse) (n : ℕ) (found : Option Kept) (k : Kept) (played : Option NewerCourse) (m : ℕ) → n ≡ (newer_rows r).last_stamp → found ≡ Some k → played ≡ None → m ≡ (newer_rows r).last_stamp + 1
+pub step_differs : (a b e c d f : BookState) (r : NewerReplay) (n : ℕ) (found : Option Kept) (k : Kept) (played : Option NewerReplay) (m : ℕ) → n ≡ (newer_rows r).last_stamp → found ≡ Some k → played ≡ None → m ≡ (newer_rows r).last_stamp + 1
     → ReadsBoth a b c d (Ok found) (IsNextCurrent n) → ReadsBoth b e d f (Ok played) (PlaysWith r k) → ReadsBoth a e c f (Ok (step.Ended (Differs m))) (StepOf r)
 step_differs a b e c d f r n found k played m from_last is_next is_played is one two =
     both_then_ok (StepOf r) a b e c d f found played (step.Ended (Differs m)) one two
@@ -232,7 +232,7 @@ step_differs a b e c d f r n found k played m from_last is_next is_played is one
     let at = next_at q n (newer_rows r).last_stamp found (Some k) from_last is_next holds in
     subst (IsDifferenceWith p q) (sym is) (newer_unlike p q r k g at (subst (IsReplayedWith p q r k) is_played (plays (knows_newer p q r k g at)))))
 
-pub step_last : (a b e c d f : BookState) (r : NewerCourse) (s : Rows) (n : ℕ) (found : Option Kept) (whole : Bool) (last : ArchiveAudit) → s ≡ newer_rows r → n ≡ (newer_rows r).last_stamp → found ≡ None
+pub step_last : (a b e c d f : BookState) (r : NewerReplay) (s : Rows) (n : ℕ) (found : Option Kept) (whole : Bool) (last : ArchiveAudit) → s ≡ newer_rows r → n ≡ (newer_rows r).last_stamp → found ≡ None
     → ReadsBoth a b c d (Ok found) (IsNextCurrent n) → ReadsBoth b e d f (Ok whole) (λ (p q : Content) (w : Bool). Decides w (IsEnd q s)) → last ≡ answer_at_end r whole → ReadsBoth a e c f (Ok (step.Ended last)) (StepOf r)
 step_last a b e c d f r s n found whole last same from_last is_next one two is =
     both_then_ok (StepOf r) a b e c d f found whole (step.Ended last) one two
@@ -245,7 +245,7 @@ abbrev pub IsKnownIn : Kept → Content → Content → Bool → Type 0
 IsKnownIn k a c found = found ≡ is_some (kept_of a.kept k.request.requester k.request.invoke)
 
 -- the book is asked whether the key is new there, where the archive has it
-known_or_found : (a c : Content) (r noted : Course) (k : Kept) (known : Bool) → Notes r known k.request noted → known ≡ is_some (kept_of a.kept k.request.requester k.request.invoke) → KnowsWith a c r.keys r.page k → Knows c noted.keys noted.page k
+known_or_found : (a c : Content) (r noted : Replay) (k : Kept) (known : Bool) → Notes r known k.request noted → known ≡ is_some (kept_of a.kept k.request.requester k.request.invoke) → KnowsWith a c r.keys r.page k → Knows c noted.keys noted.page k
 known_or_found a c r noted k known notes is knows = record {
   finds = λ unseen. found known notes.itself is unseen;
   page = subst (IsPageOf c) (sym notes.page) knows.page;
@@ -255,7 +255,7 @@ known_or_found a c r noted k known notes is knows = record {
     found true itself is unseen = absurd (unseen (itself refl))
     found false itself is unseen = knows.finds (none_of (kept_of a.kept k.request.requester k.request.invoke) (sym is)) (λ seen. unseen (notes.others k.request seen))
 
-played_as : (a c : Content) (r : NewerCourse) (noted : Course) (k : Kept) (known : Bool) (first : Option ℕ) (played : Option Course) → Notes r.course known k.request noted → known ≡ is_some (kept_of a.kept k.request.requester k.request.invoke)
+played_as : (a c : Content) (r : NewerReplay) (noted : Replay) (k : Kept) (known : Bool) (first : Option ℕ) (played : Option Replay) → Notes r.replay known k.request noted → known ≡ is_some (kept_of a.kept k.request.requester k.request.invoke)
     → first ≡ first_of_both r.sent_again known k.stamp → IsReplayed c noted k played → IsReplayedWith a c r k (with_first first played)
 played_as a c r noted k known first None notes is same unlike = λ m. unlike (subst (λ (s : Rows). Matches c s k) (sym notes.rows) m)
 played_as a c r noted k known first (Some next) notes is same both = (
@@ -264,53 +264,53 @@ played_as a c r noted k known first (Some next) notes is same both = (
   same ∙ ap (λ (b : Bool). first_of_both r.sent_again b k.stamp) is,
 )
 
-pub replayed_both : (a b e c d f : BookState) (r : NewerCourse) (noted : Course) (k : Kept) (known : Bool) (first : Option ℕ) (played : Option Course) (found : Option NewerCourse) → Notes r.course known k.request noted
-    → first ≡ first_of_both r.sent_again known k.stamp → found ≡ with_first first played → ReadsBoth a b c d (Ok known) (IsKnownIn k) → ReadsBoth b e d f (Ok played) (λ (p q : Content) (y : Option Course). Plays noted k q y)
+pub replayed_both : (a b e c d f : BookState) (r : NewerReplay) (noted : Replay) (k : Kept) (known : Bool) (first : Option ℕ) (played : Option Replay) (found : Option NewerReplay) → Notes r.replay known k.request noted
+    → first ≡ first_of_both r.sent_again known k.stamp → found ≡ with_first first played → ReadsBoth a b c d (Ok known) (IsKnownIn k) → ReadsBoth b e d f (Ok played) (λ (p q : Content) (y : Option Replay). Plays noted k q y)
     → ReadsBoth a e c f (Ok found) (PlaysWith r k)
 replayed_both a b e c d f r noted k known first played found notes is_first is one two =
     both_then_ok (PlaysWith r k) a b e c d f known played found one two
     (λ p q is_known plays knows. subst (IsReplayedWith p q r k) (sym is)
-    (played_as p q r noted k known first played notes is_known is_first (plays (known_or_found p q r.course noted k known notes is_known knows))))
+    (played_as p q r noted k known first played notes is_known is_first (plays (known_or_found p q r.replay noted k known notes is_known knows))))
 
-pub steps_with : (s : Rows) (k : Kept) (noted : Course) (first : Option ℕ) (played : Option Course) (found : Option NewerCourse) → rows_of noted ≡ s → found ≡ with_first first played → StepsOn (rows_of noted) k played → StepsOnWith s k found
+pub steps_with : (s : Rows) (k : Kept) (noted : Replay) (first : Option ℕ) (played : Option Replay) (found : Option NewerReplay) → rows_of noted ≡ s → found ≡ with_first first played → StepsOn (rows_of noted) k played → StepsOnWith s k found
 steps_with s k noted first None found rows is goes = subst (StepsOnWith s k) (sym is) tt
 steps_with s k noted first (Some next) found rows is goes = subst (StepsOnWith s k) (sym is) (goes ∙ ap (λ (x : Rows). (stepped x (again k)).rows) rows)
 
-pub counts_one_with : (s : Rows) (k : Kept) (played : Option NewerCourse) (next : NewerCourse) → played ≡ Some next → StepsOnWith s k played → CountsOneWith s (step.Replayed next)
-counts_one_with s k played next is goes = counts_one s k (option_map (λ (x : NewerCourse). x.course) played) next.course (ap (option_map (λ (x : NewerCourse). x.course)) is) (course_goes played goes)
+pub counts_one_with : (s : Rows) (k : Kept) (played : Option NewerReplay) (next : NewerReplay) → played ≡ Some next → StepsOnWith s k played → CountsOneWith s (step.Replayed next)
+counts_one_with s k played next is goes = counts_one s k (option_map (λ (x : NewerReplay). x.replay) played) next.replay (ap (option_map (λ (x : NewerReplay). x.replay)) is) (course_goes played goes)
   where
-    course_goes : (played : Option NewerCourse) → StepsOnWith s k played → StepsOn s k (option_map (λ (x : NewerCourse). x.course) played)
+    course_goes : (played : Option NewerReplay) → StepsOnWith s k played → StepsOn s k (option_map (λ (x : NewerReplay). x.replay) played)
     course_goes None goes = tt
     course_goes (Some next) goes = goes
 
 -- ---- step by step ----
 
 -- a replay has come so far
-abbrev pub SeenWith : Course → NewerCourse → Content → Content → Unit {0} → Type 0
+abbrev pub SeenWith : Replay → NewerReplay → Content → Content → Unit {0} → Type 0
 SeenWith first r a c u = BeginsWith a c first → GoesWith a c r
 
-pub newer_begun : (a c : BookState) (first : Course) → ReadsBoth a a c c (Ok tt) (SeenWith first (record { course = first; sent_again = None }))
-newer_begun a c first = both_known (SeenWith first (record { course = first; sent_again = None })) a c tt (λ p q begins. newer_start p q first begins)
+pub newer_begun : (a c : BookState) (first : Replay) → ReadsBoth a a c c (Ok tt) (SeenWith first (record { replay = first; sent_again = None }))
+newer_begun a c first = both_known (SeenWith first (record { replay = first; sent_again = None })) a c tt (λ p q begins. newer_start p q first begins)
 
-pub newer_more : (a b e c d f : BookState) (first : Course) (r : NewerCourse) (taken : NewerStep) (next : NewerCourse) → taken ≡ step.Replayed next → ReadsBoth a b c d (Ok tt) (SeenWith first r) → ReadsBoth b e d f (Ok taken) (StepOf r)
+pub newer_more : (a b e c d f : BookState) (first : Replay) (r : NewerReplay) (taken : NewerStep) (next : NewerReplay) → taken ≡ step.Replayed next → ReadsBoth a b c d (Ok tt) (SeenWith first r) → ReadsBoth b e d f (Ok taken) (StepOf r)
     → ReadsBoth a e c f (Ok tt) (SeenWith first next)
 newer_more a b e c d f first r taken next is seen read =
     both_then_ok (SeenWith first next) a b e c d f tt taken tt seen read (λ p q before goes_on begins. subst (IsStepWith p q r) is goes_on (before begins))
 
-pub newer_ended : (a b e c d f : BookState) (first : Course) (r : NewerCourse) (taken : NewerStep) (found : ArchiveAudit) → taken ≡ step.Ended found → ReadsBoth a b c d (Ok tt) (SeenWith first r) → ReadsBoth b e d f (Ok taken) (StepOf r)
+pub newer_ended : (a b e c d f : BookState) (first : Replay) (r : NewerReplay) (taken : NewerStep) (found : ArchiveAudit) → taken ≡ step.Ended found → ReadsBoth a b c d (Ok tt) (SeenWith first r) → ReadsBoth b e d f (Ok taken) (StepOf r)
     → ReadsBoth a e c f (Ok found) (AuditsFrom first)
 newer_ended a b e c d f first r taken found is seen read =
     both_then_ok (AuditsFrom first) a b e c d f tt taken found seen read (λ p q before goes_on begins. subst (IsStepWith p q r) is goes_on (before begins))
 
 -- the limit of executed requests is reached
-newer_limit : (a c : Content) (r : NewerCourse) (all : Bool) → IsAll c (newer_rows r) all → (newer_rows r).limits.requests ≤ (newer_rows r).last_stamp → GoesWith a c r → IsAuditWith a c (answer_at_end r all)
+newer_limit : (a c : Content) (r : NewerReplay) (all : Bool) → IsAll c (newer_rows r) all → (newer_rows r).limits.requests ≤ (newer_rows r).last_stamp → GoesWith a c r → IsAuditWith a c (answer_at_end r all)
 newer_limit a c r true whole full g = newer_sound a c r g whole.0 whole.1
 newer_limit a c r false rest full g = elim rest [
   | inl more ↦ newer_full a c r more.0 g more.1 full
   | inr none ↦ newer_rest a c r g none.0 none.1
 ]
 
-pub newer_left : (a b e c d f : BookState) (first : Course) (r : NewerCourse) (s : Rows) (all : Bool) (found : ArchiveAudit) → s ≡ newer_rows r → found ≡ answer_at_end r all → (newer_rows r).limits.requests ≤ (newer_rows r).last_stamp
+pub newer_left : (a b e c d f : BookState) (first : Replay) (r : NewerReplay) (s : Rows) (all : Bool) (found : ArchiveAudit) → s ≡ newer_rows r → found ≡ answer_at_end r all → (newer_rows r).limits.requests ≤ (newer_rows r).last_stamp
     → ReadsBoth a b c d (Ok tt) (SeenWith first r) → ReadsBoth b e d f (Ok all) (λ (p q : Content) (w : Bool). IsAll q s w) → ReadsBoth a e c f (Ok found) (AuditsFrom first)
 newer_left a b e c d f first r s all found same is full seen read =
     both_then_ok (AuditsFrom first) a b e c d f tt all found seen read
@@ -339,7 +339,7 @@ whole_differs a b e c d f s last found place stamp number is one two =
     differs_older p q place (subst (λ (n : ℕ). place ≤ n) is_last.stamp other.0) other.1)
 
 -- all is as the archive's up to its last stamp, and the rest is replayed
-pub whole_newer : (a b e g c d f h : BookState) (s : Rows) (last : Cut) (found : Option ℕ) (first : Course) (result : Result ArchiveAudit PairFault) → last.stamp ≡ s.last_stamp → last.number ≡ s.last_event → found ≡ None → rows_of first ≡ s
+pub whole_newer : (a b e g c d f h : BookState) (s : Rows) (last : Cut) (found : Option ℕ) (first : Replay) (result : Result ArchiveAudit PairFault) → last.stamp ≡ s.last_stamp → last.number ≡ s.last_event → found ≡ None → rows_of first ≡ s
     → ((x : Content) → IsPageOf x first.page) → ReadsBoth a b c d (Ok tt) (IsLoaded s) → ReadsBoth b e d f (Ok found) (FindsPlace last) → ReadsBoth e g f h result (AuditsFrom first) → ReadsBoth a g c h result AuditsInOrder
 whole_newer a b e g c d f h s last found first result stamp number is rows page one two three =
     both_then AuditsInOrder a e g c f h tt result

@@ -13,7 +13,7 @@ use Rattle.acd_book.specs.Order.{IsOrdered}
 use Rattle.acd_book.specs.State.{BookState, Reads}
 use Rattle.acd_desk.specs.declared.audit.Audit.{Audit}
 use Rattle.acd_desk.specs.declared.audit.Audit.TheVariants.{Sound, Differs}
-use Rattle.acd_desk.specs.declared.replay.Course.{Course}
+use Rattle.acd_desk.specs.declared.replay.Replay.{Replay}
 use Rattle.acd_desk.specs.declared.replay.Step.{Step}
 use Rattle.acd_desk.specs.declared.replay.Step.TheVariants as step
 use Rattle.acd_desk.specs.Audit.{IsFirstDifference, IsAudit}
@@ -30,7 +30,7 @@ use Rattle.acd_book.proofs.ReadsAhead.{read_then}
 use Rattle.acd_lemmas.proofs.Changes.{requests_few}
 
 -- a replay has come so far in a content that is in order
-abbrev pub Seen : Course → Content → Unit {0} → Type 0
+abbrev pub Seen : Replay → Content → Unit {0} → Type 0
 Seen r c u = IsOrdered c → Goes c r
 
 -- ---- a step ----
@@ -48,7 +48,7 @@ read_then_ok : {A C D : Type 0} {P : Content → A → Type 0} {Q : Content → 
 read_then_ok {C = C} {P = P} {Q = Q} R a b d x y z one two follows =
     then_ok R a d y z (read_then (λ (c : Content) (found : C). P c x × Q c found) a b d x (Ok y) one two (λ c p found q. (p, q))) (λ c both. follows c both.0 both.1)
 
-pub step_replayed : (a b d : BookState) (r : Course) (n : ℕ) (found : Option Kept) (k : Kept) (played : Option Course) (next : Course) → n ≡ (rows_of r).last_stamp → found ≡ Some k → played ≡ Some next
+pub step_replayed : (a b d : BookState) (r : Replay) (n : ℕ) (found : Option Kept) (k : Kept) (played : Option Replay) (next : Replay) → n ≡ (rows_of r).last_stamp → found ≡ Some k → played ≡ Some next
     → Reads a b (Ok found) (IsNext n) → ReadsIfOpen b d (Ok played) (Plays r k) → StepsOn (rows_of r) k played → (rows_of r).last_stamp < (rows_of r).limits.requests
     → Reads a d (Ok (step.Replayed next)) (λ (c : Content) (found : Step). IsStep c r found)
 step_replayed a b d r n found k played next from_last is_next is_played one two goes room =
@@ -58,7 +58,7 @@ step_replayed a b d r n found k played next from_last is_next is_played one two 
     let both = subst (IsReplayed c r k) is_played (plays (knows_next c r k g at)) in
     goes_next c r next k g at both.0 both.1 (subst (StepsOn (rows_of r) k) is_played goes) room)
 
-pub step_differs : (a b d : BookState) (r : Course) (n : ℕ) (found : Option Kept) (k : Kept) (played : Option Course) → n ≡ (rows_of r).last_stamp → found ≡ Some k → played ≡ None
+pub step_differs : (a b d : BookState) (r : Replay) (n : ℕ) (found : Option Kept) (k : Kept) (played : Option Replay) → n ≡ (rows_of r).last_stamp → found ≡ Some k → played ≡ None
     → Reads a b (Ok found) (IsNext n) → ReadsIfOpen b d (Ok played) (Plays r k)
     → Reads a d (Ok step.Differs) (λ (c : Content) (found : Step). IsStep c r found)
 step_differs a b d r n found k played from_last is_next is_played one two =
@@ -67,18 +67,18 @@ step_differs a b d r n found k played from_last is_next is_played one two =
     let at = next_at c n (rows_of r).last_stamp found (Some k) from_last is_next holds in
     replay_unlike c (rows_of r) k g.replays at (subst (IsReplayed c r k) is_played (plays (knows_next c r k g at))))
 
-last_is : (c : Content) (r : Course) → IsNext (rows_of r).last_stamp c None → (w : Bool) → Decides w (IsEnd c (rows_of r)) → IsStep c r (cond w step.Ended step.Differs)
+last_is : (c : Content) (r : Replay) → IsNext (rows_of r).last_stamp c None → (w : Bool) → Decides w (IsEnd c (rows_of r)) → IsStep c r (cond w step.Ended step.Differs)
 last_is c r found true holds = λ g. replay_sound c (rows_of r) g.replays found (holds.0 refl)
 last_is c r found false holds = λ g. replay_rest c (rows_of r) g.replays found (λ ended. true≢false (sym (holds.1 ended)))
 
-pub step_last : (a b d : BookState) (r : Course) (n : ℕ) (found : Option Kept) (whole : Bool) (last : Step) → n ≡ (rows_of r).last_stamp → found ≡ None → Reads a b (Ok found) (IsNext n)
+pub step_last : (a b d : BookState) (r : Replay) (n : ℕ) (found : Option Kept) (whole : Bool) (last : Step) → n ≡ (rows_of r).last_stamp → found ≡ None → Reads a b (Ok found) (IsNext n)
     → Reads b d (Ok whole) (λ (c : Content) (found : Bool). Decides found (IsEnd c (rows_of r))) → last ≡ cond whole step.Ended step.Differs
     → Reads a d (Ok last) (λ (c : Content) (found : Step). IsStep c r found)
 step_last a b d r n found whole last from_last is_next one two is =
     then_read_ok (λ (c : Content) (found : Step). IsStep c r found) a b d found whole last one two
     (λ c holds whole_holds. subst (IsStep c r) (sym is) (last_is c r (next_at c n (rows_of r).last_stamp found None from_last is_next holds) whole whole_holds))
 
-pub counts_one : (s : Rows) (k : Kept) (played : Option Course) (next : Course) → played ≡ Some next → StepsOn s k played → CountsOne s (step.Replayed next)
+pub counts_one : (s : Rows) (k : Kept) (played : Option Replay) (next : Replay) → played ≡ Some next → StepsOn s k played → CountsOne s (step.Replayed next)
 counts_one s k played next is_played goes =
     let is : rows_of next ≡ (stepped s (again k)).rows = subst (StepsOn s k) is_played goes in (
       ap (λ (r : Rows). r.limits) is ∙ step_limits s (again k).moment (again k).request.command,
@@ -103,7 +103,7 @@ all_whole a b d s n found whole from_last is_next one two =
     (λ c holds w whole_holds. all_is c s (next_at c n s.last_stamp found None from_last is_next holds) w whole_holds)
 
 -- a replay that has come to the limit of executed requests
-pub seen_all : (a b d : BookState) (r : Course) (s : Rows) (all : Bool) → s ≡ rows_of r → all ≡ true → Reads a b (Ok tt) (Seen r) → Reads b d (Ok all) (λ (c : Content) (found : Bool). IsAll c s found)
+pub seen_all : (a b d : BookState) (r : Replay) (s : Rows) (all : Bool) → s ≡ rows_of r → all ≡ true → Reads a b (Ok tt) (Seen r) → Reads b d (Ok all) (λ (c : Content) (found : Bool). IsAll c s found)
     → Reads a d (Ok Sound) (λ (c : Content) (found : Audit). IsOrdered c → IsAudit c found)
 seen_all a b d r s all same is seen read =
     then_read_ok (λ (c : Content) (found : Audit). IsOrdered c → IsAudit c found) a b d tt all Sound seen read
@@ -111,7 +111,7 @@ seen_all a b d r s all same is seen read =
     let whole : IsAll c (rows_of r) true = subst (λ (x : Rows). IsAll c x true) same (subst (IsAll c s) is holds) in
     replay_sound c (rows_of r) (before ordered).replays whole.0 whole.1)
 
-pub seen_rest : (a b d : BookState) (r : Course) (s : Rows) (most : ℕ) (all : Bool) → s ≡ rows_of r → (rows_of r).last_stamp ≡ most → (rows_of r).limits.requests ≡ most → all ≡ false → Reads a b (Ok tt) (Seen r)
+pub seen_rest : (a b d : BookState) (r : Replay) (s : Rows) (most : ℕ) (all : Bool) → s ≡ rows_of r → (rows_of r).last_stamp ≡ most → (rows_of r).limits.requests ≡ most → all ≡ false → Reads a b (Ok tt) (Seen r)
     → Reads b d (Ok all) (λ (c : Content) (found : Bool). IsAll c s found) → Reads a d (Ok (Differs (most + 1))) (λ (c : Content) (found : Audit). IsOrdered c → IsAudit c found)
 seen_rest a b d r s most all same stamp limit is seen read =
     then_read_ok (λ (c : Content) (found : Audit). IsOrdered c → IsAudit c found) a b d tt all (Differs (most + 1)) seen read
@@ -129,10 +129,10 @@ seen_rest a b d r s most all same stamp limit is seen read =
 
 -- ---- the beginning ----
 
-pub begins_fitting : (a b : BookState) (limits : Limits) (first : Course) → Reads a b (Ok limits) (λ (c : Content) (found : Limits). found ≡ c.rows.limits) → limits_fit limits ≡ true
-    → rows_of first ≡ empty_rows limits → ((c : Content) → IsPageOf c first.page) → Reads a b (Ok (Some first)) (λ (c : Content) (found : Option Course). BeginsReplay c found)
+pub begins_fitting : (a b : BookState) (limits : Limits) (first : Replay) → Reads a b (Ok limits) (λ (c : Content) (found : Limits). found ≡ c.rows.limits) → limits_fit limits ≡ true
+    → rows_of first ≡ empty_rows limits → ((c : Content) → IsPageOf c first.page) → Reads a b (Ok (Some first)) (λ (c : Content) (found : Option Replay). BeginsReplay c found)
 begins_fitting a b limits first r fits is page =
-    then_ok (λ (c : Content) (found : Option Course). BeginsReplay c found) a b limits (Some first) r
+    then_ok (λ (c : Content) (found : Option Replay). BeginsReplay c found) a b limits (Some first) r
     (λ c same ordered. record {
       replays = subst (Replays c) (ap empty_rows (sym same) ∙ sym is) (starts_replay c (ap limits_fit (sym same) ∙ fits) ordered);
       seen = subst (λ (s : Rows). Every (λ (k : Kept). IsSeenKey first.keys k.request) (take s.last_stamp c.kept)) (sym is) tt;
@@ -144,7 +144,7 @@ begins_empty limits s fits is = subst (λ (r : Rows). (r.last_stamp ≡ 0) × (r
 
 -- ---- step by step ----
 
-pub seen_more : (a b d : BookState) (r : Course) (taken : Step) (next : Course) → taken ≡ step.Replayed next → Reads a b (Ok tt) (Seen r) → Reads b d (Ok taken) (λ (c : Content) (found : Step). IsStep c r found)
+pub seen_more : (a b d : BookState) (r : Replay) (taken : Step) (next : Replay) → taken ≡ step.Replayed next → Reads a b (Ok tt) (Seen r) → Reads b d (Ok taken) (λ (c : Content) (found : Step). IsStep c r found)
     → Reads a d (Ok tt) (Seen next)
 seen_more a b d r taken next is seen read = then_read_ok (Seen next) a b d tt taken tt seen read (λ c before goes_on ordered. subst (IsStep c r) is goes_on (before ordered))
 

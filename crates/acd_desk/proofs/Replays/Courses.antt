@@ -10,7 +10,7 @@ use Rattle.acd_book.specs.Content.{Content, kept_of, is_key, IsKeptAfter}
 use Rattle.acd_book.specs.Memory.{stamp_of}
 use Rattle.acd_book.proofs.Keys.{key_itself, key_same}
 use Rattle.acd_desk.specs.declared.seen.SeenKeys.{SeenKeys}
-use Rattle.acd_desk.specs.declared.replay.Course.{Course}
+use Rattle.acd_desk.specs.declared.replay.Replay.{Replay}
 use Rattle.acd_desk.specs.Firsts.{stepped}
 use Rattle.acd_desk.specs.KeyPlaces.{IsSeenKey}
 use Rattle.acd_desk.specs.Replay.{again, rows_of, Splits, Replays, IsFirstOfKey, Matches, Knows, Goes, GoesOn}
@@ -52,7 +52,7 @@ first_of_key c s keys k p at seen new =
     ap (option_map stamp_of) found
 
 -- so much is known of the next record
-pub knows_next : (c : Content) (r : Course) (k : Kept) → Goes c r → IsKeptAfter c.kept (rows_of r).last_stamp (Some k) → Knows c r.keys r.page k
+pub knows_next : (c : Content) (r : Replay) (k : Kept) → Goes c r → IsKeptAfter c.kept (rows_of r).last_stamp (Some k) → Knows c r.keys r.page k
 knows_next c r k g at = record {
   finds = first_of_key c (rows_of r) r.keys k g.replays at g.seen;
   page = g.page;
@@ -72,7 +72,7 @@ next_front c s k p at =
     ap (λ (x : Rows). take (x.last_stamp + 1) c.kept) p.rows ∙ (replayed_next c p.ran k left.0 p.events_left splits).0 ∙ ap (λ (l : List Kept). l ++ k ∷ []) (sym front)
 
 -- a replay goes on after a record that matches
-pub goes_next : (c : Content) (r next : Course) (k : Kept) → Goes c r → IsKeptAfter c.kept (rows_of r).last_stamp (Some k) → Matches c (rows_of r) k → GoesOn c r k next
+pub goes_next : (c : Content) (r next : Replay) (k : Kept) → Goes c r → IsKeptAfter c.kept (rows_of r).last_stamp (Some k) → Matches c (rows_of r) k → GoesOn c r k next
     → rows_of next ≡ (stepped (rows_of r) (again k)).rows → (rows_of r).last_stamp < (rows_of r).limits.requests → Goes c next
 goes_next c r next k g at matches goes is room =
     let s : Rows = rows_of r in

@@ -16,7 +16,7 @@ loop-init g c = record {
 
 pub loop-preserved : goal.loop-preserved
 loop-preserved g c =
-    let counts = subst (CountsOneWith c.loop.newer.course.loaded.switch.value) c.in-Replayed.is c.in_ok-next.ensures.counts in
+    let counts = subst (CountsOneWith c.loop.newer.replay.loaded.switch.value) c.in-Replayed.is c.in_ok-next.ensures.counts in
     record {
       same = (c.in_ok-next.ensures.same.0 ∙ c.loop.invariant.same.0, c.in_ok-next.ensures.same.1 ∙ c.loop.invariant.same.1);
       stamp = counts.1 ∙ ap (λ (n : ℕ). n + 1) c.loop.invariant.stamp;
@@ -49,5 +49,5 @@ pub returns-clause-read : goal.returns-clause-read
 returns-clause-read g c =
     newer_left (g.A.Book.state c.args.self.now.archive.now) (g.A.Book.state c.loop.self.archive.now) (g.A.Book.state c.loop.self.archive.now) (g.B.Book.state c.args.self.now.book.now) (g.B.Book.state c.loop.self.book.now) (g.B.Book.state c.is_all.new.book)
     c.args.first c.loop.newer _ c.in_ok-all.all c.answer_at_end.result c.deref-3.ensures c.answer_at_end.ensures
-    (at_limit c.loop.newer.course.loaded.switch.value c.loop.counter _ c.loop.invariant.stamp c.loop.invariant.limit c.loop-test.false) c.loop.invariant.seen
+    (at_limit c.loop.newer.replay.loaded.switch.value c.loop.counter _ c.loop.invariant.stamp c.loop.invariant.limit c.loop-test.false) c.loop.invariant.seen
     (current_read (g.A.Book.state c.loop.self.archive.now) (g.B.Book.state c.loop.self.book.now) (g.B.Book.state c.is_all.new.book) c.is_all.result (Ok c.in_ok-all.all) (Ok c.in_ok-all.all) c.is_all.ensures c.in_ok-all.ensures refl)

@@ -20,7 +20,7 @@ returns-in-Some-2-clause-read g c =
     c.in_ok-newer.ensures.read c.in_ok-newer.ensures.stepped c.requires
 
 pub returns-in-Some-2-clause-counts : goal.returns-in-Some-2-clause-counts
-returns-in-Some-2-clause-counts g c = counts_one_with c.args.newer.course.loaded.switch.value c.in-Some.kept c.in_ok-newer.field-0 c.in-Some-2.newer c.in-Some-2.is c.in_ok-newer.ensures.stepped
+returns-in-Some-2-clause-counts g c = counts_one_with c.args.newer.replay.loaded.switch.value c.in-Some.kept c.in_ok-newer.field-0 c.in-Some-2.newer c.in-Some-2.is c.in_ok-newer.ensures.stepped
 
 pub returns-clause-read : goal.returns-clause-read
 returns-clause-read g c =

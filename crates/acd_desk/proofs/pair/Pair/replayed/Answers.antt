@@ -22,11 +22,11 @@ returns-in_err-played-clause-read g c =
 pub returns-clause-read : goal.returns-clause-read
 returns-clause-read g c =
     replayed_both (g.A.Book.state c.args.self.now.archive.now) (g.A.Book.state c.is_known.new.archive) (g.A.Book.state c.is_known.new.archive) (g.B.Book.state c.args.self.now.book.now) (g.B.Book.state c.args.self.now.book.now) (g.B.Book.state c.replayed.new.book)
-    c.args.newer c.noted-course.result c.args.kept.now c.in_ok-known.known c.first_of_both.result c.in_ok-played.played c.with_first.result c.noted-course.ensures c.first_of_both.ensures c.with_first.ensures
+    c.args.newer c.noted-replay.result c.args.kept.now c.in_ok-known.known c.first_of_both.result c.in_ok-played.played c.with_first.result c.noted-replay.ensures c.first_of_both.ensures c.with_first.ensures
     (archive_read (g.A.Book.state c.args.self.now.archive.now) (g.A.Book.state c.is_known.new.archive) (g.B.Book.state c.args.self.now.book.now) c.is_known.result (Ok c.in_ok-known.known) (Ok c.in_ok-known.known) c.is_known.ensures c.in_ok-known.ensures refl)
     (current_if_open (g.A.Book.state c.is_known.new.archive) (g.B.Book.state c.args.self.now.book.now) (g.B.Book.state c.replayed.new.book) c.replayed.result (Ok c.in_ok-played.played) (Ok c.in_ok-played.played) c.replayed.ensures.read c.in_ok-played.ensures refl)
 
 pub returns-clause-stepped : goal.returns-clause-stepped
 returns-clause-stepped g c =
-    steps_with c.args.newer.course.loaded.switch.value c.args.kept.now c.noted-course.result c.first_of_both.result c.in_ok-played.played c.with_first.result c.noted-course.ensures.rows c.with_first.ensures
-    (if_current (StepsOn (rows_of c.noted-course.result) c.args.kept.now) c.replayed.result (Ok c.in_ok-played.played) c.in_ok-played.ensures c.replayed.ensures.stepped)
+    steps_with c.args.newer.replay.loaded.switch.value c.args.kept.now c.noted-replay.result c.first_of_both.result c.in_ok-played.played c.with_first.result c.noted-replay.ensures.rows c.with_first.ensures
+    (if_current (StepsOn (rows_of c.noted-replay.result) c.args.kept.now) c.replayed.result (Ok c.in_ok-played.played) c.in_ok-played.ensures c.replayed.ensures.stepped)
