@@ -11,17 +11,15 @@ use Rattle.acd_desk.specs.Carried.{Archive, no_archive, together}
 use Rattle.acd_desk.specs.Standing.{Standing, Starts, StartsWith}
 use Rattle.acd_desk.specs.Stands.{IsSound}
 use Rattle.acd_desk.specs.declared.fault.DeskFault.{DeskFault}
-use Rattle.acd_desk.specs.declared.open_fault.OpenFault.{OpenFault}
-use Rattle.acd_desk.specs.Opening.{Opened, Refused}
+use Rattle.acd_desk.specs.Opening.{Opened}
 use Rattle.acd_desk.specs.ReadDone.{ReadDone}
 use Rattle.acd_desk.proofs.Replays.AuditLaws.{one_audit}
 use Rattle.acd_desk.proofs.Pages.ReadsDone.{read_nothing, read_twice}
 use Rattle.acd_program.specs.declared.auditing.Finding.{Finding}
 use Rattle.acd_program.specs.declared.auditing.Finding.TheVariants.{Sound, Counted, SentAgain, SentAgainCounted, Differs}
-use Rattle.acd_program.specs.Ended.{OnlyAsked}
 use Rattle.acd_program.specs.Found.{IsFinding, IsFindingOf}
 use Rattle.acd_program.specs.Work.{WasAsked, IsFindingIfOrdered}
-use Rattle.acd_program.specs.Taking.{IsOf}
+use Rattle.acd_sessions.specs.Taking.{IsOf}
 use Rattle.acd_terms.proofs.Results.{ok_err}
 
 -- a desk that was opened was asked; of a content that is sound, by itself or with an archive, the answer is that of the read
@@ -40,34 +38,11 @@ asked_by old d e x P o t =
       stops = λ clean sound c at. o.stops (t.step.clean clean) sound c (t.unchanged.stops clean (o.step.sound (t.step.clean clean) sound) c at);
     }
 
--- nothing was asked of it where it makes no desk
-pub only_refused : (old new : BookState) (why : OpenFault) → Refused old why new → OnlyAsked old new
-only_refused old new why r = record { clean = r.step.clean; sound = r.step.sound; stops = r.unchanged.stops }
-
--- whatever a desk read
-pub only_asked : {A : Type 0} (d e : Standing) (r : Result A DeskFault) (P : Content → A → Type 0) → ReadDone d e r P → OnlyAsked d.book e.book
-only_asked d e r P t = record { clean = t.step.clean; sound = t.step.sound; stops = t.unchanged.stops }
-
 -- a fault ended a read after another one
 pub read_fault : {A B C : Type 0} (old mid new : Standing) (x : A) (f : DeskFault) (r : Result C DeskFault) (P : Content → A → Type 0) (Q : Content → B → Type 0) (R : Content → C → Type 0)
     → ReadDone old mid (Ok x) P → ReadDone mid new (Err f) Q → r ≡ Err f → ReadDone old new r R
 read_fault {C = C} old mid new x f r P Q R first second is =
     subst (λ (y : Result C DeskFault). ReadDone old new y R) (sym is) (read_twice old mid new x (Err f) P R R (λ c y before after. after) first (read_nothing mid new f Q R second))
-
--- nothing was asked of it
-pub only_left : (s : BookState) → OnlyAsked s s
-only_left s = record { clean = λ clean. clean; sound = λ clean sound. sound; stops = λ clean sound c at. at }
-
--- over the book that it was opened over
-pub only_opened : (old : BookState) (d : Standing) (now : BookState) → Opened old d → OnlyAsked d.book now → OnlyAsked old now
-only_opened old d now o asked = record {
-  clean = λ clean. o.step.clean (asked.clean clean);
-  sound = λ clean sound. asked.sound clean (o.step.sound (asked.clean clean) sound);
-  stops = λ clean sound c at. o.stops (asked.clean clean) sound c (asked.stops clean (o.step.sound (asked.clean clean) sound) c at);
-}
-
-pub only_read : {A : Type 0} (old : BookState) (d e : Standing) (r : Result A DeskFault) (P : Content → A → Type 0) → Opened old d → ReadDone d e r P → OnlyAsked old e.book
-only_read old d e r P o t = only_opened old d e.book o (only_asked d e r P t)
 
 -- whatever follows from an answer is an answer
 pub asked_so : {A B : Type 0} (old new : BookState) (x : A) (y : B) (P : Content → A → Type 0) (Q : Content → B → Type 0) → ((c : Content) → P c x → Q c y) → WasAsked old P x new → WasAsked old Q y new

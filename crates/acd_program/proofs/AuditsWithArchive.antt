@@ -36,22 +36,21 @@ use Rattle.acd_program.specs.declared.desk.Done.TheVariants as left
 use Rattle.acd_program.specs.WithArchive.{uncounted_with, counted_with, IsFindingWith, IsDeskFindingWith, IsFindingIn, IsFindingInOrder, IsFoundWithArchive, FindsWithArchive, WasRead, WereAsked, AskedOver, AskedIn, InArchive, AskedWithArchive, BookAskedWithArchive, AuditsWithArchive, AuditedWithArchive, LeavesBeside}
 use Rattle.acd_program.specs.Found.{HasCount, finding_line}
 use Rattle.acd_io.specs.Sent.{Begins}
-use Rattle.acd_program.specs.Ended.{IsShut, OnlyAsked}
-use Rattle.acd_program.specs.Over.{LeavesBooks, Unserved, before}
+use Rattle.acd_files.specs.Connections.{IsShut, IsLaidIn, IsOpenedFrom}
+use Rattle.acd_sessions.specs.Over.{OnlyAsked, LeavesBooks, Unserved, before}
 use Rattle.acd_program.specs.TasksEnded.{AuditCut, AuditWithArchiveEnded}
 use Rattle.acd_program.specs.declared.fault.Fault.{Fault}
 use Rattle.acd_program.specs.declared.fault.Fault.TheVariants as ended_by
-use Rattle.acd_program.specs.InFiles.{IsLaidIn, IsOpenedFrom}
 use Rattle.acd_program.specs.declared.status.Status.{Status}
 use Rattle.acd_program.specs.Statuses.{finding_status}
-use Rattle.acd_program.specs.Taking.{IsOf, IsTaken}
+use Rattle.acd_sessions.specs.Taking.{IsOf, IsTaken}
 use Rattle.acd_program.specs.Tasks.{AuditedWith, IsReadEnding}
 use Rattle.acd_program.specs.Work.{IsPrinted, text_left}
 use Rattle.acd_program.proofs.Asking.{asked_by, asked_of, asked_so}
-use Rattle.acd_program.proofs.Called.{called, leaves_books, asked_called}
-use Rattle.acd_program.proofs.InFiles.{over_fact, over_so}
-use Rattle.acd_program.proofs.Over.{over_connection}
-use Rattle.acd_program.proofs.Tasks.{ok_so}
+use Rattle.acd_sessions.proofs.Called.{called, leaves_books}
+use Rattle.acd_program.proofs.Called.{asked_called}
+use Rattle.acd_sessions.proofs.Over.{over_fact, over_so, over_connection}
+use Rattle.acd_files.proofs.Ends.{ok_so}
 use Rattle.acd_terms.proofs.Results.{ok_err}
 
 -- ---- the archive ----

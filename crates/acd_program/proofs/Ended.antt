@@ -22,22 +22,22 @@ use Rattle.acd_desk.proofs.Desks.Sessions.{session_ran}
 use Rattle.acd_io.specs.Sent.{Breaks}
 use Rattle.acd_lines.specs.Lines.{LinesAnswered, FirstRequests, RequestsAnswered, Streams}
 use Rattle.acd_lines.proofs.Weaker.{requests_so}
-use Rattle.acd_program.specs.Ended.{OnlyReads, IsBegunPlan, IsBegun, StoppedOver, WorkStopped, IsShut, WorkEnded}
+use Rattle.acd_program.specs.Ended.{OnlyReads, IsBegunPlan, IsBegun, StoppedOver, WorkStopped, WorkEnded}
+use Rattle.acd_files.specs.Connections.{IsShut}
 use Rattle.acd_program.specs.Found.{IsFindingOf}
-use Rattle.acd_program.specs.LinesOver.{NoneMade}
-use Rattle.acd_program.specs.Over.{IsSession, LeavesBooks, OverConnection, Unserved}
-use Rattle.acd_program.specs.Sessions.{SessionEnded, DatabaseEnded}
-use Rattle.acd_program.specs.Taking.{IsOf, IsTaken}
+use Rattle.acd_sessions.specs.LinesOver.{NoneMade}
+use Rattle.acd_sessions.specs.Over.{IsSession, LeavesBooks, OverConnection, Unserved}
+use Rattle.acd_sessions.specs.Sessions.{SessionEnded, DatabaseEnded}
+use Rattle.acd_sessions.specs.Taking.{IsOf, IsTaken}
 use Rattle.acd_program.specs.Work.{WorkDone}
-use Rattle.acd_program.specs.declared.fault.WorkFault.{WorkFault}
-use Rattle.acd_program.specs.declared.desk.Work.{Work}
-use Rattle.acd_program.specs.declared.desk.Work.TheVariants.{Import, Print, Audit}
+use Rattle.acd_sessions.specs.declared.fault.WorkFault.{WorkFault}
+use Rattle.acd_command.specs.declared.asked.Work.{Work}
+use Rattle.acd_command.specs.declared.asked.Work.TheVariants.{Import, Print, Audit}
 use Rattle.acd_program.specs.declared.desk.Done.{Done}
-use Rattle.acd_program.proofs.InFiles.{over_makes}
-use Rattle.acd_program.proofs.Called.{called, leaves_books, session_called}
-use Rattle.acd_program.proofs.Over.{session_of, over_connection}
-use Rattle.acd_program.proofs.Seen.{seen_made}
-use Rattle.acd_program.proofs.Taking.{unserved_asked, unserved_makes}
+use Rattle.acd_sessions.proofs.Over.{over_makes, session_of, over_connection}
+use Rattle.acd_sessions.proofs.Called.{called, leaves_books, session_called}
+use Rattle.acd_sessions.proofs.Seen.{seen_made}
+use Rattle.acd_sessions.proofs.Taking.{unserved_asked, unserved_makes}
 
 -- ---- the requests of a plan
 

@@ -19,11 +19,10 @@ use Rattle.acd_book.proofs.ReadsAhead.{by_read, read_no_memory, read_nothing, re
 use Rattle.acd_sqlbook.specs.declared.cache.Cache.{Cache}
 use Rattle.acd_sqlbook.specs.Caching.{followed}
 use Rattle.acd_sqlbook.specs.State.{book_state}
-use Rattle.acd_program.specs.Ended.{IsShut, OnlyAsked}
+use Rattle.acd_files.specs.Connections.{IsShut, IsLaidIn, IsOpenedFrom}
+use Rattle.acd_sessions.specs.Over.{OnlyAsked, LeavesBooks, OverConnection, Unserved, before}
 use Rattle.acd_program.specs.Exporting.{AddsEvents, IsAdded, AddsArchive, AddsArchives, MakesTable, LeavesExport}
-use Rattle.acd_program.specs.InFiles.{IsLaidIn, IsOpenedFrom}
-use Rattle.acd_program.specs.Over.{LeavesBooks, OverConnection, Unserved, before}
-use Rattle.acd_program.specs.Taking.{IsOf, IsTaken}
+use Rattle.acd_sessions.specs.Taking.{IsOf, IsTaken}
 use Rattle.acd_program.specs.Tasks.{Exported}
 use Rattle.acd_program.specs.TasksEnded.{ExportEnded}
 use Rattle.acd_program.specs.WithArchive.{OverArchive}
@@ -34,8 +33,9 @@ use Rattle.acd_program.specs.declared.fault.Fault.{Fault}
 use Rattle.acd_program.specs.declared.fault.Fault.TheVariants as ended_by
 use Rattle.acd_program.specs.declared.status.Status.{Status}
 use Rattle.acd_program.proofs.AuditsWithArchive.{archive_read}
-use Rattle.acd_program.proofs.Called.{leaves_books, asked_called}
-use Rattle.acd_program.proofs.Over.{over_connection}
+use Rattle.acd_sessions.proofs.Called.{leaves_books}
+use Rattle.acd_program.proofs.Called.{asked_called}
+use Rattle.acd_sessions.proofs.Over.{over_connection}
 
 -- ---- of a book
 

@@ -42,22 +42,22 @@ use Rattle.acd_program.specs.declared.fault.Fault.TheVariants as ended_by
 use Rattle.acd_program.specs.declared.outcome.Pruning.{Pruning}
 use Rattle.acd_program.specs.declared.outcome.Pruning.TheVariants as prune
 use Rattle.acd_program.specs.declared.status.Status.{Status}
-use Rattle.acd_program.specs.Ended.{IsShut, OnlyAsked}
+use Rattle.acd_files.specs.Connections.{IsShut, IsLaidIn, IsOpenedFrom}
+use Rattle.acd_sessions.specs.Over.{OnlyAsked, LeavesBooks, OverConnection, Unserved}
 use Rattle.acd_program.specs.Found.{pruning_line}
-use Rattle.acd_program.specs.InFiles.{IsLaidIn, IsOpenedFrom}
-use Rattle.acd_program.specs.Over.{LeavesBooks, OverConnection, Unserved}
 use Rattle.acd_program.specs.Pruning.{is_well, goes_on, MayGoOn, IsPruningOf, IsPruningInOrder, DecidesPlace, IsPrunedTo, IsPruningDone, WasLeft, AskedBoth, IsDecision, WasDecided, CarriesOut, OnlyPruned, WasPruned, BookPruned, BookLeft, LeavesPruned, LeftOver}
-use Rattle.acd_program.specs.Taking.{IsOf, IsTaken}
-use Rattle.acd_program.specs.Tasks.{IsSomeEnding, PrunedWith}
+use Rattle.acd_sessions.specs.Taking.{IsOf, IsTaken}
+use Rattle.acd_files.specs.Logs.{IsSomeEnding}
+use Rattle.acd_program.specs.Tasks.{PrunedWith}
 use Rattle.acd_program.specs.TasksEnded.{PruneCut, PruneEnded, PruneShut}
 use Rattle.acd_program.specs.WithArchive.{IsFindingWith, IsFindingInOrder, IsFoundWithArchive, InArchive, BookAskedWithArchive, LeavesBeside, OverArchive, WasRead, WereAsked}
 use Rattle.acd_program.specs.Work.{IsPrinted, WasAsked}
 use Rattle.acd_io.specs.Sent.{Begins}
 use Rattle.acd_program.proofs.Asking.{asked_by, asked_of, asked_so}
 use Rattle.acd_program.proofs.AuditsWithArchive.{archive_read, asked_clean, in_archive_so, plainly}
-use Rattle.acd_program.proofs.Called.{called, leaves_books, asked_called}
-use Rattle.acd_program.proofs.InFiles.{over_so}
-use Rattle.acd_program.proofs.Over.{over_connection}
+use Rattle.acd_sessions.proofs.Called.{called, leaves_books}
+use Rattle.acd_program.proofs.Called.{asked_called}
+use Rattle.acd_sessions.proofs.Over.{over_so, over_connection}
 use Rattle.acd_program.proofs.ReadsOn.{left_alone, left_if, left_by, left_twice, only_if, only_then, only_was}
 
 -- ---- what is to go ----

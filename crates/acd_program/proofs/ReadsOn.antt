@@ -9,7 +9,7 @@ use Rattle.acd_desk.specs.AuditWith.{StandsInTime}
 use Rattle.acd_book.specs.BookReading.{Anything, ReadsIfOpen}
 use Rattle.acd_desk.specs.Overlap.{IsCleanCut}
 use Rattle.acd_book.proofs.ReadsAhead.{by_read, known, read_nothing, read_ok, read_twice}
-use Rattle.acd_program.specs.Ended.{OnlyAsked}
+use Rattle.acd_sessions.specs.Over.{OnlyAsked}
 use Rattle.acd_program.specs.Pruning.{DecidesPlace, WasLeft}
 use Rattle.acd_program.specs.Work.{WasAsked}
 

@@ -1,5 +1,5 @@
 -- A task was done, by the work over a connection to files.
-use Rattle.std.proofs.Common.{◌≡◌, ℕ, Bool, true, false, List, [], Option, Result, Ok, Err, IfOk, IfErr, OnOk, sym, ap, subst, ◌∙◌}
+use Rattle.std.proofs.Common.{◌≡◌, ℕ, Bool, true, false, List, [], Option, Result, OnOk, ap, subst, ◌∙◌}
 use Rattle.std.specs.Io.KnownBytes.{Appends}
 use Rattle.sqlite_disk.specs.declared.Disk.{Ghosts}
 use Rattle.sqlite_store.specs.declared.store.FileStore.{FileStore}
@@ -10,9 +10,9 @@ use Rattle.acd_terms.specs.declared.command.Request.{Request}
 use Rattle.acd_book.specs.State.{BookState}
 use Rattle.acd_log.specs.declared.ending.Ending.{Ending}
 use Rattle.acd_program.specs.declared.auditing.Finding.{Finding}
-use Rattle.acd_program.specs.declared.desk.Printout.{Printout}
-use Rattle.acd_program.specs.declared.desk.Work.{Work}
-use Rattle.acd_program.specs.declared.desk.Work.TheVariants as book
+use Rattle.acd_command.specs.declared.asked.Printout.{Printout}
+use Rattle.acd_command.specs.declared.asked.Work.{Work}
+use Rattle.acd_command.specs.declared.asked.Work.TheVariants as book
 use Rattle.acd_program.specs.declared.desk.Done.{Done}
 use Rattle.acd_program.specs.declared.desk.Done.TheVariants.{Nothing, Text, Audited, Pruned}
 use Rattle.acd_program.specs.declared.status.Status.{Status}
@@ -20,13 +20,14 @@ use Rattle.acd_program.specs.declared.status.Status.TheVariants.{Success}
 use Rattle.acd_program.specs.Found.{IsFindingOf, HasCount, finding_line}
 use Rattle.acd_lines.specs.Lines.{AllRequests, RequestsAnswered, Streams}
 use Rattle.acd_lines.proofs.Weaker.{out_so}
-use Rattle.acd_program.specs.Over.{IsSession, OverConnection}
+use Rattle.acd_sessions.specs.Over.{IsSession, OverConnection}
 use Rattle.acd_program.specs.Work.{WasAsked, IsTextOf, ImportsOver, AuditsOver, WorkDone, IsPrinted, text_left, status_left}
-use Rattle.acd_program.specs.InFiles.{IsLaidIn, WorkedOver, InFile}
+use Rattle.acd_files.specs.Connections.{IsLaidIn}
+use Rattle.acd_program.specs.InFiles.{WorkedOver, InFile}
 use Rattle.acd_program.specs.Tasks.{WorkedIn, AuditedIn, WholeAudit, TaskDone}
-use Rattle.acd_program.specs.declared.asked.Task.{Task}
-use Rattle.acd_program.specs.declared.asked.Task.TheVariants as task
-use Rattle.acd_program.proofs.InFiles.{over_so, over_fact, over_makes, appends_nothing}
+use Rattle.acd_command.specs.declared.asked.Task.TheVariants as task
+use Rattle.acd_sessions.proofs.Over.{over_so, over_fact, over_makes}
+use Rattle.acd_program.proofs.InFiles.{appends_nothing}
 
 imports_printed : (requests : List Request) (old new : BookState) (old_output between new_output : Option (List ℕ)) → Appends between new_output [] → ImportsOver requests old old_output between new → ImportsOver requests old old_output new_output new
 imports_printed requests old new old_output between new_output none h =
@@ -135,14 +136,6 @@ worked_over {F = F} status work makes conn last left closed old_output between n
   printed = p.printed;
   outcome = p.outcome;
 }
-
--- a statement on an error that was handed on
-pub err_from : {A E : Type 0} (r : Result A E) (e : E) (P : E → Type 0) → r ≡ Err e → P e → IfErr r P
-err_from {A} {E} r e P is h = subst (λ (x : Result A E). IfErr x P) (sym is) h
-
-pub ok_so : {A F : Type 0} (r : Result A F) (P Q : A → Type 0) → ((x : A) → P x → Q x) → IfOk r P → IfOk r Q
-ok_so (Ok x) P Q follows h = follows x h
-ok_so (Err e) P Q follows h = tt
 
 -- ---- by what the command line asks for
 

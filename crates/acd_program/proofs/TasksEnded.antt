@@ -7,15 +7,15 @@ use Rattle.acd_book.specs.declared.fault.BookFault.{BookFault}
 use Rattle.acd_book.specs.declared.fault.BookFault.TheVariants as book
 use Rattle.acd_lines.specs.Lines.{Streams}
 use Rattle.acd_program.specs.Ended.{IsOfClosing}
-use Rattle.acd_program.specs.Faults.{book_fault}
+use Rattle.acd_sessions.specs.Faults.{book_fault}
 use Rattle.acd_program.specs.Statuses.{fault_exit}
 use Rattle.acd_program.specs.Tasks.{TaskDone}
 use Rattle.acd_program.specs.TasksEnded.{EndedIn, InputEnded, AuditWithArchiveEnded, PruneEnded, ExportEnded, TaskEnded}
 use Rattle.acd_program.specs.declared.fault.Fault.{Fault}
 use Rattle.acd_program.specs.declared.fault.Fault.TheVariants as ended_by
-use Rattle.acd_program.specs.declared.fault.WorkFault.{WorkFault}
-use Rattle.acd_program.specs.declared.asked.Task.{Task}
-use Rattle.acd_program.specs.declared.asked.Task.TheVariants as task
+use Rattle.acd_sessions.specs.declared.fault.WorkFault.{WorkFault}
+use Rattle.acd_command.specs.declared.asked.Task.{Task}
+use Rattle.acd_command.specs.declared.asked.Task.TheVariants as task
 use Rattle.acd_program.specs.declared.status.Status.{Status}
 use Rattle.acd_program.specs.declared.status.Exit.{Exit}
 use Rattle.acd_program.specs.declared.status.Exit.TheVariants as exit

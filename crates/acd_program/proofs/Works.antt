@@ -22,18 +22,19 @@ use Rattle.acd_desk.specs.Ran.{Ran, IsFault}
 use Rattle.acd_desk.proofs.Desks.Sessions.{session_ran}
 use Rattle.acd_lines.specs.Lines.{LinesAnswered, AllRequests, RequestsAnswered}
 use Rattle.acd_lines.proofs.Weaker.{requests_so}
-use Rattle.acd_program.specs.declared.desk.Printout.TheVariants.{Export}
-use Rattle.acd_program.specs.declared.desk.Work.{Work}
-use Rattle.acd_program.specs.declared.desk.Work.TheVariants.{Import, Print, Audit}
+use Rattle.acd_command.specs.declared.asked.Printout.TheVariants.{Export}
+use Rattle.acd_command.specs.declared.asked.Work.{Work}
+use Rattle.acd_command.specs.declared.asked.Work.TheVariants.{Import, Print, Audit}
 use Rattle.acd_program.specs.declared.desk.Done.{Done}
 use Rattle.acd_program.specs.declared.desk.Done.TheVariants as left
 use Rattle.acd_program.specs.Found.{IsFindingOf}
 use Rattle.acd_program.specs.Work.{ImportsOver, IsFindingIfOrdered, IsTextOf, AuditsOver, WorkDone, printout_text}
-use Rattle.acd_program.specs.Over.{IsSession, LeavesBooks, OverConnection}
-use Rattle.acd_program.specs.Taking.{IsOf, IsTaken}
-use Rattle.acd_program.proofs.Over.{session_of, over_connection}
+use Rattle.acd_sessions.specs.Over.{IsSession, LeavesBooks, OverConnection}
+use Rattle.acd_sessions.specs.Taking.{IsOf, IsTaken}
+use Rattle.acd_sessions.proofs.Over.{session_of, over_connection}
 use Rattle.acd_program.proofs.Asking.{asked_of, asked_in_order}
-use Rattle.acd_program.proofs.Called.{called, leaves_books, session_called, asked_called}
+use Rattle.acd_sessions.proofs.Called.{called, leaves_books, session_called}
+use Rattle.acd_program.proofs.Called.{asked_called}
 
 pub imports_over : (old : BookState) (d e : Standing) (requests : List Request) (old_output new_output : Option (List ℕ)) → Opened old d
     → LinesAnswered (AllRequests requests) (RequestsAnswered (λ (l : List Arrival) (ts : List Taken). Ran d l ts e)) (Appends old_output new_output) → ImportsOver requests old old_output new_output e.book

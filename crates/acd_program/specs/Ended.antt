@@ -5,25 +5,25 @@ use Rattle.sqlite_disk.specs.declared.Disk.{Ghosts}
 use Rattle.sqlite_store.specs.declared.store.FileStore.{FileStore}
 use Rattle.sqlite.specs.Held.{Held, state}
 use Rattle.sqlite.specs.State.{State}
-use Rattle.sqlite.specs.Files.{file_state, IsClosed}
+use Rattle.sqlite.specs.Files.{file_state}
 use Rattle.acd_terms.specs.declared.command.Request.{Request}
 use Rattle.acd_book.specs.declared.book.Book as book
-use Rattle.acd_book.specs.Content.{Within}
-use Rattle.acd_book.specs.State.{BookState, IfHonest}
+use Rattle.acd_book.specs.State.{BookState}
 use Rattle.acd_io.specs.Sent.{Begins, Breaks}
 use Rattle.acd_lines.specs.Lines.{LinesAnswered, FirstRequests, RequestsAnswered}
 use Rattle.acd_reports.specs.Plan.{plan_requests}
 use Rattle.acd_program.specs.Found.{IsFindingOf}
 use Rattle.acd_program.specs.InFiles.{WorkedOver}
-use Rattle.acd_program.specs.Output.{Output}
-use Rattle.acd_program.specs.Over.{IsSession, Database, OverCall, OverConnection, Unserved}
+use Rattle.acd_sessions.specs.Output.{Output}
+use Rattle.acd_sessions.specs.Over.{IsSession, Database, OverCall, OverConnection, Unserved, OnlyAsked}
 use Rattle.acd_program.specs.Work.{ImportsOver, IsFindingIfOrdered, WorkDone, text_left}
 use Rattle.acd_program.specs.declared.status.Status.{Status}
-use Rattle.acd_program.specs.declared.fault.WorkFault.{WorkFault}
-use Rattle.acd_program.specs.declared.fault.WorkFault.TheVariants.{NoMemory, Store}
-use Rattle.acd_program.specs.declared.desk.Work.{Work}
-use Rattle.acd_program.specs.declared.desk.Work.TheVariants.{Import, Print, Audit}
+use Rattle.acd_sessions.specs.declared.fault.WorkFault.{WorkFault}
+use Rattle.acd_sessions.specs.declared.fault.WorkFault.TheVariants.{NoMemory, Store}
+use Rattle.acd_command.specs.declared.asked.Work.{Work}
+use Rattle.acd_command.specs.declared.asked.Work.TheVariants.{Import, Print, Audit}
 use Rattle.acd_program.specs.declared.desk.Done.{Done}
+use Rattle.acd_files.specs.Connections.{IsShut}
 
 -- ---- faults
 
@@ -40,12 +40,6 @@ abbrev pub EndsBoth : {F : Type 0} → Result (Unit {0}) WorkFault → Result (U
 EndsBoth ended closed result = MatchResult result (λ (done : Unit {0}). (ended ≡ Ok tt) × (closed ≡ Ok tt)) (EndsBy ended)
 
 -- ---- over a book
-
--- a desk over the book was asked, or there was none: whatever it answered, a reopening finds nothing new
-pub record OnlyAsked (old new : BookState) : Type 0 where
-  pub clean : new.is_clean → old.is_clean
-  pub sound : IfHonest old new new.is_sound
-  pub stops : IfHonest old new (Within new.stops old.stops)
 
 -- the work only reads
 abbrev pub OnlyReads : Work → Type 0
@@ -114,10 +108,6 @@ abbrev pub EndsInDatabase : {S F : Type 0} → Database S → Result Done F × H
 EndsInDatabase db result work out = MatchResult result.0 (λ done. WorksInDatabase db result.1 work out done) (λ fault. StopsInDatabase db result.1 work out)
 
 module _ {D : Type 0} {g : Ghosts D} where
-  -- the connection was closed, or that failed: a crash leaves nothing then that it didn't leave before
-  abbrev pub IsShut : Held (FileStore D g) → Type 0
-  IsShut conn = (store : FileStore D g) × IsClosed conn store
-
   -- the work was done, and a beginning of what was left of it was printed
   pub record WasCut (makes : Bool) (work : Work) (conn last : Held (FileStore D g)) (old_output new_output : Option (List ℕ)) : Type 0 where
     pub left : Done

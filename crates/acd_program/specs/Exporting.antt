@@ -13,7 +13,7 @@ use Rattle.acd_program.specs.declared.export.EventTable.{EventTable}
 use Rattle.acd_program.specs.declared.fault.ArchiveFault.{ArchiveFault}
 use Rattle.acd_program.specs.declared.fault.Fault.{Fault}
 use Rattle.acd_program.specs.declared.fault.Fault.TheVariants as fault
-use Rattle.acd_program.specs.Over.{Database, OverCall, OverConnection}
+use Rattle.acd_sessions.specs.Over.{Database, OverCall, OverConnection}
 use Rattle.acd_program.specs.WithArchive.{OverArchive, InArchive, LeavesArchive}
 use Rattle.acd_program.specs.Work.{WasAsked}
 

@@ -16,21 +16,21 @@ use Rattle.acd_desk.specs.declared.desk.Desk.{Desk}
 use Rattle.acd_desk.specs.Standing.{standing}
 use Rattle.acd_lines.specs.Lines.{Streams, Untouched}
 use Rattle.acd_log.specs.declared.ending.Ending.{Ending}
-use Rattle.acd_program.specs.CommandLine.{IsTaskOf, IsUntaken}
-use Rattle.acd_program.specs.Output.{Output}
-use Rattle.acd_program.specs.Over.{OverConnection}
+use Rattle.acd_command.specs.CommandLine.{IsTaskOf, IsUntaken}
+use Rattle.acd_sessions.specs.Output.{Output}
+use Rattle.acd_sessions.specs.Over.{OverConnection}
 use Rattle.acd_program.specs.Pruning.{IsPruningInOrder, BookPruned, LeavesPruned}
-use Rattle.acd_program.specs.Serving.{Service}
+use Rattle.acd_sessions.specs.Serving.{Service}
 use Rattle.acd_program.specs.Statuses.{IsDone, status_number, exit_number, fault_exit}
 use Rattle.acd_program.specs.Tasks.{WorkedIn, ImportedIn, ServeDoneIn, StandbyDoneIn, FileAnswered, InputAnswered, WholeAudit, AuditedWith, PrunedWith, Exported, TaskDone}
 use Rattle.acd_program.specs.TasksEnded.{EndedIn, LinesLeft, WorkEndedIn, PlanEnded, AuditEnded, AuditWithArchiveEnded, PruneEnded, ExportEnded, ServiceEnded, StandbyTaskEnded, InputEnded, TaskEnded}
 use Rattle.acd_program.specs.WithArchive.{AskedWithArchive, AuditsWithArchive, AuditedWithArchive, BookAskedWithArchive}
 use Rattle.acd_http.specs.declared.serving.Span.{Span}
-use Rattle.acd_program.specs.declared.asked.Address.{Address}
-use Rattle.acd_program.specs.declared.asked.Task.{Task}
+use Rattle.acd_command.specs.declared.asked.Address.{Address}
+use Rattle.acd_command.specs.declared.asked.Task.{Task}
 use Rattle.acd_program.specs.declared.auditing.Finding.{Finding}
 use Rattle.acd_program.specs.declared.desk.Done.{Done}
-use Rattle.acd_program.specs.declared.desk.Work.{Work}
+use Rattle.acd_command.specs.declared.asked.Work.{Work}
 use Rattle.acd_program.specs.declared.fault.Fault.{Fault}
 use Rattle.acd_program.specs.declared.outcome.Pruning.{Pruning}
 use Rattle.acd_program.specs.declared.status.Exit.{Exit}

@@ -17,6 +17,7 @@ use Rattle.acd_program.specs.declared.auditing.Finding.TheVariants.{Sound, Count
 use Rattle.acd_program.specs.declared.outcome.Cut.{Cut}
 use Rattle.acd_program.specs.declared.outcome.Pruning.{Pruning}
 use Rattle.acd_program.specs.declared.outcome.Pruning.TheVariants as prune
+use Rattle.acd_sessions.specs.Output.{number_between, number_line}
 
 -- an audit, without a count
 abbrev pub uncounted : Audit → Finding
@@ -57,10 +58,6 @@ sound_line Plain = codes "sound\n"
 sound_line Early = codes "sound, but its log ends early\n"
 sound_line Headless = codes "sound, but the head of its log can't be read\n"
 
--- a number between two texts
-abbrev pub number_between : List ℕ → ℕ → List ℕ → List ℕ
-number_between front number back = front ++ (decimal number ++ back)
-
 -- the line of a content that is sound but for a request that was sent again; a log that ends early comes first
 abbrev pub again_line : Ending → ℕ → List ℕ
 again_line Plain stamp = number_between (codes "sound, but request ") stamp (codes " was sent again\n")
@@ -74,13 +71,6 @@ finding_line ending (Counted count) = sound_line ending ++ (codes "executed " ++
 finding_line ending (SentAgain stamp) = again_line ending stamp
 finding_line ending (SentAgainCounted stamp count) = again_line ending stamp ++ (codes "executed " ++ (decimal count ++ 10 ∷ []))
 finding_line ending (Differs place) = codes "differs at request " ++ (decimal place ++ 10 ∷ [])
-
--- a line that ends in a number
-abbrev pub number_line : List ℕ → ℕ → List ℕ
-number_line front number = front ++ (decimal number ++ 10 ∷ [])
-
-abbrev pub text_line : List ℕ → List ℕ → List ℕ
-text_line front text = front ++ (text ++ 10 ∷ [])
 
 -- the lines of a sound content of which so many requests were executed
 abbrev pub counted_line : Ending → ℕ → List ℕ

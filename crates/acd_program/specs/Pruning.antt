@@ -23,8 +23,7 @@ use Rattle.acd_program.specs.declared.fault.Fault.{Fault}
 use Rattle.acd_program.specs.declared.fault.Fault.TheVariants as fault
 use Rattle.acd_program.specs.declared.outcome.Pruning.{Pruning}
 use Rattle.acd_program.specs.declared.outcome.Pruning.TheVariants as prune
-use Rattle.acd_program.specs.Ended.{OnlyAsked}
-use Rattle.acd_program.specs.Over.{OverConnection, Unserved}
+use Rattle.acd_sessions.specs.Over.{OnlyAsked, OverConnection, Unserved}
 use Rattle.acd_program.specs.WithArchive.{IsFindingWith, WasRead, WereAsked, OverArchive, InArchive, LeavesArchive}
 use Rattle.acd_program.specs.Work.{WasAsked}
 

@@ -4,9 +4,9 @@ use Rattle.std.specs.List.{starts_with}
 use Rattle.std.specs.Borrow.{Bor}
 use Rattle.std.specs.declared.io.ErrorKind.{ErrorKind}
 use Rattle.std.specs.declared.io.ErrorKind.TheVariants as kind
-use Rattle.acd_program.specs.Files.{new_page}
-use Rattle.acd_program.specs.declared.asked.Task.{Task}
-use Rattle.acd_program.specs.declared.asked.Task.TheVariants.{Lines, Serve, Standby, Import, AuditWhole, AuditWithArchive, Prune, ExportWithArchives, Read}
+use Rattle.acd_files.specs.Files.{new_page}
+use Rattle.acd_command.specs.declared.asked.Task.{Task}
+use Rattle.acd_command.specs.declared.asked.Task.TheVariants.{Lines, Serve, Standby, Import, AuditWhole, AuditWithArchive, Prune, ExportWithArchives, Read}
 use Rattle.acd_program.specs.declared.reason.Reason.{Reason}
 use Rattle.acd_program.specs.declared.reason.Reason.TheVariants.{Absent, BelowNoFolder, NoPermission, AnotherProgram, NoDatabase, NoDesk, NoVersion}
 use Rattle.acd_program.specs.declared.reasons.Owner.{Owner}

@@ -1,8 +1,7 @@
 -- Exit statuses and their causes.
-use Rattle.std.specs.Prelude.{◌≡◌, ◌≢◌, ◌⊎◌, ℕ, List, Option}
+use Rattle.std.specs.Prelude.{◌≡◌, ◌≢◌, ◌⊎◌, ℕ}
 use Rattle.clap.specs.declared.error.kind.ErrorKind.{ErrorKind}
-use Rattle.clap.specs.declared.error.kind.ErrorKind.TheVariants.{DisplayHelp, DisplayVersion, OutOfMemory}
-use Rattle.acd_io.specs.Sent.{Begins}
+use Rattle.clap.specs.declared.error.kind.ErrorKind.TheVariants.{OutOfMemory}
 use Rattle.acd_log.specs.declared.ending.Ending.{Ending}
 use Rattle.acd_log.specs.declared.ending.Ending.TheVariants as log
 use Rattle.acd_program.specs.declared.auditing.Finding.{Finding}
@@ -10,10 +9,10 @@ use Rattle.acd_program.specs.declared.auditing.Finding.TheVariants.{Sound, Count
 use Rattle.acd_program.specs.declared.auditing.Finding.TheVariants as finding
 use Rattle.acd_program.specs.declared.outcome.Pruning.{Pruning}
 use Rattle.acd_program.specs.declared.outcome.Pruning.TheVariants as prune
-use Rattle.acd_program.specs.declared.fault.LookFault.{LookFault}
-use Rattle.acd_program.specs.declared.fault.LookFault.TheVariants as look
-use Rattle.acd_program.specs.declared.fault.OpeningFault.{OpeningFault}
-use Rattle.acd_program.specs.declared.fault.OpeningFault.TheVariants as opening
+use Rattle.acd_files.specs.declared.fault.LookFault.{LookFault}
+use Rattle.acd_files.specs.declared.fault.LookFault.TheVariants as look
+use Rattle.acd_files.specs.declared.fault.OpeningFault.{OpeningFault}
+use Rattle.acd_files.specs.declared.fault.OpeningFault.TheVariants as opening
 use Rattle.acd_program.specs.declared.fault.ArchiveFault.{ArchiveFault}
 use Rattle.acd_program.specs.declared.fault.ArchiveFault.TheVariants as archive
 use Rattle.acd_program.specs.declared.fault.Fault.{Fault}
@@ -22,12 +21,9 @@ use Rattle.acd_program.specs.declared.status.Status.{Status}
 use Rattle.acd_program.specs.declared.status.Status.TheVariants.{Success, Differs, EndsEarly, SentAgain}
 use Rattle.acd_program.specs.declared.status.Exit.{Exit}
 use Rattle.acd_program.specs.declared.status.Exit.TheVariants as exit
-use Rattle.acd_http.specs.Turns.{Turn, turn_lines}
-use Rattle.acd_program.specs.Output.{Output}
-
--- help or the version was asked for
-abbrev pub IsHelp : ErrorKind → Type 0
-IsHelp kind = (kind ≡ DisplayHelp) ⊎ (kind ≡ DisplayVersion)
+use Rattle.acd_sessions.specs.Output.{Output}
+use Rattle.acd_command.specs.CommandLine.{IsHelp}
+use Rattle.acd_sessions.specs.Serving.{PrintsServiceFaults}
 
 -- no fault: success, the difference that an audit found, that a sound desk's log ends early, or that requests were sent again to one
 abbrev pub IsDone : ℕ → Type 0
@@ -92,10 +88,6 @@ abbrev pub fault_exit : Fault → Exit
 fault_exit (fault.Opening why) = opening_exit why
 fault_exit (fault.Work why) = exit.Failed
 fault_exit (fault.Archive why) = archive_exit why
-
--- the lines of the faults of connections and ticks were written, or a beginning of them
-abbrev pub PrintsServiceFaults : Option (List ℕ) → Option (List ℕ) → Type 0
-PrintsServiceFaults old_output new_output = (turns : List Turn) × Begins old_output new_output (turn_lines 1 turns)
 
 -- nothing was printed on the stream of errors but these, if anything
 abbrev pub PrintsAtMostFaults : Output → Type 0

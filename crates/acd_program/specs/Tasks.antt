@@ -9,42 +9,39 @@ use Rattle.acd_reports.specs.Plan.{plan_requests}
 use Rattle.acd_lines.specs.Lines.{Streams}
 use Rattle.acd_log.specs.declared.ending.Ending.{Ending}
 use Rattle.acd_log.specs.declared.ending.Ending.TheVariants.{Plain}
-use Rattle.acd_log.specs.Ending.{IsEndingOf}
 use Rattle.acd_program.specs.WithArchive.{IsFindingIn, BookAskedWithArchive}
-use Rattle.acd_program.specs.Answered.{AnswersAll}
+use Rattle.acd_sessions.specs.Answered.{AnswersAll}
 use Rattle.acd_desk.specs.Standing.{Standing}
-use Rattle.acd_program.specs.LinesOver.{in_turn, DatabaseAnswered, Whole}
-use Rattle.acd_program.specs.Seen.{Seen, SeenNew, InDatabase, SeenIn}
+use Rattle.acd_sessions.specs.LinesOver.{in_turn, DatabaseAnswered, Whole}
+use Rattle.acd_sessions.specs.Seen.{Seen, SeenNew, InDatabase, SeenIn}
 use Rattle.acd_program.specs.Found.{IsFindingOf, HasCount, finding_line, pruning_line}
 use Rattle.acd_program.specs.Statuses.{finding_status, pruning_status}
 use Rattle.acd_program.specs.Work.{WasAsked, IsTextOf, ImportsOver}
-use Rattle.acd_program.specs.InFiles.{OfFiles, IsLaidIn, WorkedOver, IsOpenedFrom, InFile}
+use Rattle.acd_files.specs.Connections.{OfFiles, IsLaidIn, IsOpenedFrom}
+use Rattle.acd_program.specs.InFiles.{WorkedOver, InFile}
 use Rattle.acd_http.specs.declared.serving.Span.{Span}
-use Rattle.acd_program.specs.Serving.{ServeDone}
-use Rattle.acd_program.specs.Standby.{StandbyServed, upon_order}
-use Rattle.acd_program.specs.declared.asked.Address.{Address}
+use Rattle.acd_sessions.specs.Serving.{ServeDone}
+use Rattle.acd_sessions.specs.Standby.{StandbyServed, upon_order}
+use Rattle.acd_command.specs.declared.asked.Address.{Address}
 use Rattle.std.specs.declared.time.Duration.{Duration}
 use Rattle.acd_program.specs.declared.auditing.Finding.{Finding}
-use Rattle.acd_program.specs.declared.desk.Work.{Work}
-use Rattle.acd_program.specs.declared.desk.Work.TheVariants as kind
+use Rattle.acd_command.specs.declared.asked.Work.{Work}
+use Rattle.acd_command.specs.declared.asked.Work.TheVariants as kind
 use Rattle.acd_program.specs.Exporting.{IsNewTable, AddsEvents, AddsArchives}
 use Rattle.acd_program.specs.declared.export.EventTable.{EventTable}
 use Rattle.acd_program.specs.Pruning.{BookPruned}
 use Rattle.acd_program.specs.declared.outcome.Pruning.{Pruning}
 use Rattle.acd_program.specs.declared.status.Status.{Status}
 use Rattle.acd_program.specs.declared.status.Status.TheVariants.{Success}
-use Rattle.acd_program.specs.declared.asked.Task.{Task}
-use Rattle.acd_program.specs.declared.asked.Task.TheVariants.{Lines, Serve, Standby, Import, AuditWhole, AuditWithArchive, Prune, ExportWithArchives, Read}
+use Rattle.acd_command.specs.declared.asked.Task.{Task}
+use Rattle.acd_command.specs.declared.asked.Task.TheVariants.{Lines, Serve, Standby, Import, AuditWhole, AuditWithArchive, Prune, ExportWithArchives, Read}
+use Rattle.acd_files.specs.Logs.{IsSomeEnding}
 
 -- Each line of the input was answered, over a desk in memory: the answers to the requests among them are the abstract desk's or, where lines may be reads too, each line was answered by the desk that
 -- the lines before it left
 abbrev pub MemoryAnswered : Bool → Streams → Type 0
 MemoryAnswered false io = AnswersAll io.old_input io.old_output io.new_output
 MemoryAnswered true io = SeenNew (λ stands. Whole stands (in_turn true stands) false io)
-
--- some log ends so
-abbrev pub IsSomeEnding : Ending → Type 0
-IsSomeEnding ending = (log : List ℕ) × IsEndingOf log ending
 
 -- it was printed so where a log was looked at, else plainly
 abbrev pub IsReadEnding : Bool → Ending → Type 0

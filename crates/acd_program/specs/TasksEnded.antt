@@ -7,30 +7,31 @@ use Rattle.acd_lines.specs.declared.fault.LinesFault.{LinesFault}
 use Rattle.acd_log.specs.declared.ending.Ending.{Ending}
 use Rattle.acd_io.specs.Sent.{Begins}
 use Rattle.acd_program.specs.WithArchive.{IsFindingIn, BookAskedWithArchive, LeavesArchive}
-use Rattle.acd_program.specs.Ended.{EndsBy, TakesPlan, IsShut, WorkEnded}
+use Rattle.acd_program.specs.Ended.{EndsBy, TakesPlan, WorkEnded}
+use Rattle.acd_files.specs.Connections.{IsShut, OfFiles, IsOpenedFrom, LeavesUnopened}
 use Rattle.acd_program.specs.Exporting.{MakesTable, LeavesArchives}
-use Rattle.acd_program.specs.Faults.{lines_fault}
+use Rattle.acd_sessions.specs.Faults.{lines_fault}
 use Rattle.acd_program.specs.Found.{HasCount, finding_line, pruning_line}
-use Rattle.acd_program.specs.InFiles.{OfFiles, IsOpenedFrom, LeavesUnopened}
-use Rattle.acd_program.specs.Over.{OverConnection, Unserved}
+use Rattle.acd_sessions.specs.Over.{OverConnection, Unserved}
 use Rattle.acd_http.specs.declared.serving.Span.{Span}
-use Rattle.acd_program.specs.Serving.{ServeIn}
-use Rattle.acd_program.specs.Standby.{StandbyIn, upon_order}
-use Rattle.acd_program.specs.Sessions.{DatabaseEnded, MemoryEnded}
-use Rattle.acd_program.specs.Tasks.{IsSomeEnding, IsReadEnding, endless}
+use Rattle.acd_sessions.specs.Serving.{ServeIn}
+use Rattle.acd_sessions.specs.Standby.{StandbyIn, upon_order}
+use Rattle.acd_sessions.specs.Sessions.{DatabaseEnded, MemoryEnded}
+use Rattle.acd_files.specs.Logs.{IsSomeEnding}
+use Rattle.acd_program.specs.Tasks.{IsReadEnding, endless}
 use Rattle.acd_program.specs.Pruning.{BookPruned, LeftOver}
 use Rattle.acd_program.specs.declared.auditing.Finding.{Finding}
 use Rattle.acd_program.specs.declared.export.EventTable.{EventTable}
 use Rattle.acd_program.specs.declared.fault.Fault.{Fault}
 use Rattle.acd_program.specs.declared.fault.Fault.TheVariants.{Opening, Archive}
 use Rattle.acd_program.specs.declared.fault.Fault.TheVariants as ended_by
-use Rattle.acd_program.specs.declared.fault.WorkFault.{WorkFault}
-use Rattle.acd_program.specs.declared.desk.Work.{Work}
-use Rattle.acd_program.specs.declared.desk.Work.TheVariants as kind
+use Rattle.acd_sessions.specs.declared.fault.WorkFault.{WorkFault}
+use Rattle.acd_command.specs.declared.asked.Work.{Work}
+use Rattle.acd_command.specs.declared.asked.Work.TheVariants as kind
 use Rattle.acd_program.specs.declared.outcome.Pruning.{Pruning}
-use Rattle.acd_program.specs.declared.asked.Address.{Address}
-use Rattle.acd_program.specs.declared.asked.Task.{Task}
-use Rattle.acd_program.specs.declared.asked.Task.TheVariants.{Lines, Serve, Standby, Import, AuditWhole, AuditWithArchive, Prune, ExportWithArchives, Read}
+use Rattle.acd_command.specs.declared.asked.Address.{Address}
+use Rattle.acd_command.specs.declared.asked.Task.{Task}
+use Rattle.acd_command.specs.declared.asked.Task.TheVariants.{Lines, Serve, Standby, Import, AuditWhole, AuditWithArchive, Prune, ExportWithArchives, Read}
 
 -- `IsFresh is_log file` says that a file is a log, or a database file, that was just opened
 module _ {D : Type 0} (disk : Ghosts D) (IsFresh : Bool → D → Type 0) where

@@ -28,9 +28,8 @@ use Rattle.acd_program.specs.declared.fault.ArchiveFault.TheVariants as archive
 use Rattle.acd_program.specs.declared.fault.Fault.{Fault}
 use Rattle.acd_program.specs.declared.fault.Fault.TheVariants as fault
 use Rattle.acd_program.specs.Found.{HasCount}
-use Rattle.acd_program.specs.Ended.{IsShut}
-use Rattle.acd_program.specs.InFiles.{OfFiles, IsLaidIn, IsOpenedFrom, LeavesUnopened}
-use Rattle.acd_program.specs.Over.{Database, OverConnection, Unserved}
+use Rattle.acd_files.specs.Connections.{IsShut, OfFiles, IsLaidIn, IsOpenedFrom, LeavesUnopened}
+use Rattle.acd_sessions.specs.Over.{Database, OverConnection, Unserved}
 use Rattle.acd_program.specs.Work.{WasAsked}
 
 -- an audit with an archive, without a count, and with one

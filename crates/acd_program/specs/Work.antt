@@ -15,14 +15,14 @@ use Rattle.acd_io.specs.Sent.{Begins, Breaks}
 use Rattle.acd_lines.specs.Lines.{LinesAnswered, AllRequests, RequestsAnswered}
 use Rattle.acd_program.specs.Found.{IsFindingOf, HasCount, finding_line, pruning_line}
 use Rattle.acd_program.specs.Statuses.{finding_status, pruning_status}
-use Rattle.acd_program.specs.Output.{Output}
-use Rattle.acd_program.specs.Over.{IsSession}
+use Rattle.acd_sessions.specs.Output.{Output}
+use Rattle.acd_sessions.specs.Over.{IsSession}
 use Rattle.acd_log.specs.declared.ending.Ending.{Ending}
 use Rattle.acd_program.specs.declared.auditing.Finding.{Finding}
-use Rattle.acd_program.specs.declared.desk.Printout.{Printout}
-use Rattle.acd_program.specs.declared.desk.Printout.TheVariants.{Report, Export}
-use Rattle.acd_program.specs.declared.desk.Work.{Work}
-use Rattle.acd_program.specs.declared.desk.Work.TheVariants.{Import, Print, Audit}
+use Rattle.acd_command.specs.declared.asked.Printout.{Printout}
+use Rattle.acd_command.specs.declared.asked.Printout.TheVariants.{Report, Export}
+use Rattle.acd_command.specs.declared.asked.Work.{Work}
+use Rattle.acd_command.specs.declared.asked.Work.TheVariants.{Import, Print, Audit}
 use Rattle.acd_program.specs.declared.desk.Done.{Done}
 use Rattle.acd_program.specs.declared.desk.Done.TheVariants.{Nothing, Text, Audited, Pruned}
 use Rattle.acd_program.specs.declared.status.Status.{Status}

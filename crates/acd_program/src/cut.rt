@@ -8,9 +8,9 @@ ghost use Rattle.acd_book.specs.BookReading.{Anything, MayRead};
 ghost use Rattle.acd_desk.specs.Overlap.{DecidesCleanCut, IsBefore};
 ghost use Rattle.acd_program.specs.Pruning.{DecidesPlace};
 
-use crate::asked::Retention;
 use crate::outcome::Cut;
 use acd_book::{Book, BookFault, Kept};
+use acd_command::Retention;
 use acd_terms::{Event, Rows};
 
 // So many records stay, whatever is asked for, and those of so many seconds before the last moment.

@@ -4,46 +4,26 @@ ghost use Rattle.std.specs.Prelude.{◌≡◌, false, [], IfOk, unwrap_or};
 ghost use Rattle.sqlite.specs.Held.{state};
 ghost use Rattle.acd_desk.specs.ReadDone.{DeskRead};
 ghost use Rattle.acd_desk.specs.ReadAnswers.{text_read};
-ghost use Rattle.acd_program.specs.Ended.{OnlyAsked, OnlyReads, EndsImport, EndsWork, EndsInDatabase};
-ghost use Rattle.acd_program.specs.Output.{output};
-ghost use Rattle.acd_program.specs.Over.{database, Unserved};
+ghost use Rattle.acd_sessions.specs.Over.{OnlyAsked};
+ghost use Rattle.acd_program.specs.Ended.{OnlyReads, EndsImport, EndsWork, EndsInDatabase};
+ghost use Rattle.acd_sessions.specs.Output.{output};
+ghost use Rattle.acd_sessions.specs.Over.{database, Unserved};
 ghost use Rattle.acd_program.specs.Work.{text_left, status_left, IsPrintoutOf, PrintsOver, AuditsBook};
 
 use crate::auditing::{Finding, audited};
-use crate::connection::book_over;
-use crate::fault::WorkFault;
 use crate::outcome::Pruning;
 use crate::progress::{Progress, Watched};
 use crate::status::Status;
 use acd_book::Book;
+use acd_command::{Printout, Work};
 use acd_desk::{Desk, DeskFault};
 use acd_lines::import;
 use acd_log::Ending;
+use acd_sessions::{WorkFault, book_over};
 use acd_terms::Request;
 use sqlite::{Alter, Connection};
 use std::alloc::Global;
 use std::io::Write;
-
-/// Work over a book.
-#[derive(Clone, Copy)]
-pub(crate) enum Work<'w> {
-    /// Take the requests of a plan.
-    Import(&'w [Request]),
-    /// Print a text of its desk.
-    Print(Printout),
-    /// Run the kept requests again, and compare what they give with the book. How the log of its file ended before is
-    /// printed beside that; where nobody looked, plainly.
-    Audit { counts: bool, ending: Ending },
-}
-
-/// A desk printed as one text.
-#[derive(Clone, Copy)]
-pub(crate) enum Printout {
-    /// The report of the queues. No moment is before 0, so it is that of the last executed request.
-    Report,
-    /// All events.
-    Export,
-}
 
 /// The rest that is printed of it, once the file is closed.
 #[derive(Drop)]

@@ -2,61 +2,22 @@
 
 ghost use Rattle.std.specs.Prelude.{◌≡◌, OnOk, OnErr, IfOk};
 ghost use Rattle.acd_io.specs.Sent.{Sends};
-ghost use Rattle.acd_program.specs.Found.{number_between, sound_line, number_line, text_line, counted_line, again_line, again_counted_line, finding_line, cut_line, nothing_line, pruning_line};
-ghost use Rattle.acd_program.specs.Output.{output};
+ghost use Rattle.acd_program.specs.Found.{sound_line, counted_line, again_line, again_counted_line, finding_line, cut_line, nothing_line, pruning_line};
+ghost use Rattle.acd_sessions.specs.Output.{output};
 ghost use Rattle.acd_program.specs.Statuses.{sound_status, again_status, finding_status, pruning_status};
 ghost use Rattle.acd_program.specs.Work.{text_left, status_left, PrintsAll, PrintsPart};
 
 use crate::auditing::Finding;
 use crate::desk::Done;
-use crate::fault::WorkFault;
 use crate::outcome::{Cut, Pruning};
 use crate::status::Status;
 use acd_io::{Stopped, send};
 use acd_log::Ending;
-use itoa::Buffer;
+use acd_sessions::{WorkFault, send_between, send_number};
 use std::io::Write;
 
 // How often the writer is called at most.
 const CALLS: u64 = u64::MAX;
-
-// Writes a number between two texts.
-fn send_between<W: Write>(
-    writer: &mut W,
-    front: &[u8],
-    number: u64,
-    back: &[u8],
-) -> Result<(), Stopped>
-    ensures { Sends W.contents writer.old writer.new result
-        (number_between front.now number back.now) }
-{
-    let mut calls = CALLS;
-    let mut digits = Buffer::new();
-    send(writer, &mut calls, front)?;
-    send(writer, &mut calls, digits.format(number).as_bytes())?;
-    send(writer, &mut calls, back)
-}
-
-/// Writes a line that ends in a number.
-pub(crate) fn send_number<W: Write>(
-    writer: &mut W,
-    front: &[u8],
-    number: u64,
-) -> Result<(), Stopped>
-    ensures { Sends W.contents writer.old writer.new result (number_line front.now number) }
-{
-    send_between(writer, front, number, b"\n")
-}
-
-/// Writes a line that ends in a text.
-pub(crate) fn send_text<W: Write>(writer: &mut W, front: &[u8], text: &str) -> Result<(), Stopped>
-    ensures { Sends W.contents writer.old writer.new result (text_line front.now text.now) }
-{
-    let mut calls = CALLS;
-    send(writer, &mut calls, front)?;
-    send(writer, &mut calls, text.as_bytes())?;
-    send(writer, &mut calls, b"\n")
-}
 
 // The line of a sound desk, of whose file the log ended so.
 fn sound_line(ending: Ending) -> &'static str

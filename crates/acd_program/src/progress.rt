@@ -4,37 +4,13 @@ ghost use Rattle.std.specs.Prelude.{◌≡◌};
 ghost use Rattle.std.specs.Option.{option_map_or};
 
 use acd_book::{Book, BookFault, Kept};
-use acd_log::Ending;
 use acd_model::Change;
 use acd_terms::{Event, Invoke, Limits, Requester, Rows};
 use std::io::IsTerminal;
 use std::time::Instant;
 
-// How many bytes of a file take about a second to look through.
-const LONG: u64 = 24_000_000;
-
 // After so many seconds the line of a replay is shown anew.
 const PAUSE: u64 = 1;
-
-/// Says that a file of so many bytes is opened, where that takes a while.
-pub(crate) fn announce(rt: &HostRuntime, path: &str, len: u64) {
-    if len >= LONG && rt.stderr().is_terminal() {
-        let _ = eprintln!(rt; "acd: opening {path}");
-    }
-}
-
-/// Says what is missing of a file whose log ended so.
-pub(crate) fn warn(rt: &HostRuntime, path: &str, ending: Ending) {
-    let _ = match ending {
-        Ending::Plain => Ok(()),
-        Ending::Early => eprintln!(rt;
-            "acd: the log of {path} ends early: it is damaged in its middle, and what was answered behind that is missing"
-        ),
-        Ending::Headless => eprintln!(rt;
-            "acd: the head of the log of {path} can't be read, and what was answered in it is missing"
-        ),
-    };
-}
 
 /// A line that prints once a second how many requests were replayed. It is erased at the end.
 #[derive(Drop)]

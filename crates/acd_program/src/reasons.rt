@@ -5,15 +5,15 @@
 ghost use Rattle.std.specs.Prelude.{◌≡◌};
 ghost use Rattle.acd_program.specs.Reasons.{kind_reason, owner_reason, version_reason, plan_of, archive_of, file_of, database_reason, writes_wide, list_owner, occurs};
 
-use crate::asked::Task;
-use crate::fault::{ArchiveFault, Fault, LookFault, OpeningFault, PathFault, WorkFault};
-use crate::file::{holds_log, log_path};
-use crate::looking::Looks;
-use crate::plan::bytes_from;
-use crate::plan_lines::{first_line, form_of, line_of};
+use crate::fault::{ArchiveFault, Fault};
 use crate::reason::Reason;
-use crate::rights::{is_forbidden, is_read_only};
+use acd_command::Task;
+use acd_files::{
+    LookFault, Looks, OpeningFault, PathFault, bytes_from, first_line, form_of, holds_log,
+    is_forbidden, is_read_only, line_of, log_path,
+};
 use acd_reports::PlanFault;
+use acd_sessions::WorkFault;
 use std::alloc::Global;
 use std::fs::Metadata;
 use std::io::{self, ErrorKind, IsTerminal, Read};

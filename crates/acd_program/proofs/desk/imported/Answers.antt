@@ -2,7 +2,7 @@ use Rattle.std.proofs.Common.{inl, inr, refl, sym, subst}
 use Rattle.acd_desk.specs.Standing.{standing}
 use Rattle.acd_program.specs.Ended.{IsBegunPlan}
 use Rattle.acd_program.specs.Work.{ImportsOver}
-use Rattle.acd_program.proofs.Asking.{only_refused}
+use Rattle.acd_sessions.proofs.Asking.{only_refused}
 use Rattle.acd_program.proofs.Ended.{begun_by}
 use Rattle.acd_program.proofs.Works.{imports_over}
 use Rattle.acd_program.proofs.desk.imported.Goals as goal

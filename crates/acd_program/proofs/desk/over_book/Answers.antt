@@ -1,9 +1,10 @@
 use Rattle.std.proofs.Common.{inl, refl, sym, subst, MatchResult}
 use Rattle.std.proofs.lemmas.Result.{IfOk-weaker}
-use Rattle.acd_program.specs.Ended.{OnlyAsked, StoppedOver}
+use Rattle.acd_sessions.specs.Over.{OnlyAsked}
+use Rattle.acd_program.specs.Ended.{StoppedOver}
 use Rattle.acd_program.specs.Work.{IsFindingIfOrdered, AuditsOver, WorkDone}
-use Rattle.acd_program.specs.declared.desk.Work.{Work}
-use Rattle.acd_program.proofs.Ends.{match_of, match_with}
+use Rattle.acd_command.specs.declared.asked.Work.{Work}
+use Rattle.acd_files.proofs.Ends.{match_of, match_with}
 use Rattle.acd_program.proofs.desk.over_book.Goals as goal
 
 pub returns-in-Import-clause-result : goal.returns-in-Import-clause-result

@@ -5,11 +5,11 @@ use Rattle.acd_sqlbook.specs.Caching.{followed}
 use Rattle.acd_sqlbook.specs.State.{book_state}
 use Rattle.acd_program.specs.Ended.{WorkStopped}
 use Rattle.acd_program.specs.Found.{IsFindingOf}
-use Rattle.acd_program.specs.Over.{OverConnection, Unserved}
+use Rattle.acd_sessions.specs.Over.{OverConnection, Unserved}
 use Rattle.acd_program.specs.Work.{WorkDone}
 use Rattle.acd_program.proofs.Ended.{stopped_in}
-use Rattle.acd_program.proofs.Ends.{match_so}
-use Rattle.acd_program.proofs.Taking.{unserved_asked}
+use Rattle.acd_files.proofs.Ends.{match_so}
+use Rattle.acd_sessions.proofs.Taking.{unserved_asked}
 use Rattle.acd_program.proofs.Works.{database_done}
 use Rattle.acd_program.proofs.desk.over_database.Goals as goal
 

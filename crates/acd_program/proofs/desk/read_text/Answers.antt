@@ -1,6 +1,6 @@
 use Rattle.std.proofs.Common.{sym, subst}
-use Rattle.acd_program.specs.Ended.{OnlyAsked}
-use Rattle.acd_program.proofs.Asking.{only_refused, only_read}
+use Rattle.acd_sessions.specs.Over.{OnlyAsked}
+use Rattle.acd_sessions.proofs.Asking.{only_refused, only_read}
 use Rattle.acd_program.proofs.desk.read_text.Goals as goal
 
 pub returns-in-Err-clause-kept : goal.returns-in-Err-clause-kept

@@ -6,7 +6,7 @@ use Rattle.acd_desk.specs.Carried.{Archive, together}
 use Rattle.acd_desk.specs.ReadDone.{ReadDone}
 use Rattle.acd_desk.specs.ReadAnswers.{text_read}
 use Rattle.acd_desk.proofs.Pages.ReadsDone.{read_follows}
-use Rattle.acd_program.specs.declared.desk.Printout.{Printout}
+use Rattle.acd_command.specs.declared.asked.Printout.{Printout}
 use Rattle.acd_program.specs.Work.{printout_text}
 use Rattle.acd_program.proofs.Works.{export_text}
 use Rattle.acd_program.proofs.desk.text_of.Goals as goal

@@ -1,4 +1,4 @@
-use Rattle.acd_program.proofs.Ends.{err_made}
+use Rattle.acd_files.proofs.Ends.{err_made}
 use Rattle.acd_program.proofs.export.add_archive.Goals as goal
 
 pub returns-in-Ok-clause-added : goal.returns-in-Ok-clause-added

@@ -3,10 +3,10 @@ use Rattle.sqlite.specs.Held.{state}
 use Rattle.acd_sqlbook.specs.Caching.{followed}
 use Rattle.acd_sqlbook.specs.State.{book_state}
 use Rattle.acd_program.specs.Exporting.{IsAdded}
-use Rattle.acd_program.specs.Over.{OverConnection, Unserved}
+use Rattle.acd_sessions.specs.Over.{OverConnection, Unserved}
 use Rattle.acd_program.proofs.AuditsWithArchive.{unserved_untouched}
 use Rattle.acd_program.proofs.Exports.{added_over, table_read}
-use Rattle.acd_program.proofs.Taking.{unserved_asked}
+use Rattle.acd_sessions.proofs.Taking.{unserved_asked}
 use Rattle.acd_program.proofs.export.add_archived.Goals as goal
 
 pub returns-in-Err-clause-spared : goal.returns-in-Err-clause-spared

@@ -1,8 +1,8 @@
 use Rattle.std.proofs.Common.{ap, sym, subst, ◌∙◌}
-use Rattle.acd_program.specs.Ended.{OnlyAsked}
+use Rattle.acd_sessions.specs.Over.{OnlyAsked}
 use Rattle.acd_program.specs.Pruning.{AskedBoth}
 use Rattle.acd_program.specs.WithArchive.{IsFindingInOrder}
-use Rattle.acd_program.proofs.Asking.{only_left, only_refused, only_read}
+use Rattle.acd_sessions.proofs.Asking.{only_left, only_refused, only_read}
 use Rattle.acd_program.proofs.Prunes.{audited_both}
 use Rattle.acd_program.proofs.ReadsOn.{only_if}
 use Rattle.acd_program.proofs.pruning.audited_beside.Goals as goal

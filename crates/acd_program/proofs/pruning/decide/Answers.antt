@@ -1,6 +1,6 @@
 use Rattle.std.proofs.Common.{sym, ◌∙◌}
-use Rattle.acd_program.proofs.Asking.{only_left}
-use Rattle.acd_program.proofs.Ends.{match_from}
+use Rattle.acd_sessions.proofs.Asking.{only_left}
+use Rattle.acd_files.proofs.Ends.{match_from}
 use Rattle.acd_program.proofs.Prunes.{decided_refused, decided_nothing, decided_cut}
 use Rattle.acd_program.proofs.ReadsOn.{only_by, only_if, only_then}
 use Rattle.acd_program.proofs.pruning.decide.Goals as goal

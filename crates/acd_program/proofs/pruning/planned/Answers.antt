@@ -1,9 +1,9 @@
 use Rattle.std.proofs.Common.{Err, subst}
-use Rattle.acd_program.specs.declared.fault.WorkFault.{WorkFault}
+use Rattle.acd_sessions.specs.declared.fault.WorkFault.{WorkFault}
 use Rattle.acd_program.specs.declared.outcome.Pruning.{Pruning}
 use Rattle.acd_desk.specs.Pairs.{across}
 use Rattle.acd_program.specs.Pruning.{EndsAsking, IsPruningInOrder}
-use Rattle.acd_program.proofs.Ends.{match_err, match_is_err, match_is_ok, match_so}
+use Rattle.acd_files.proofs.Ends.{match_err, match_is_err, match_is_ok, match_so}
 use Rattle.acd_program.proofs.Prunes.{asked_decided, only_decided}
 use Rattle.acd_program.proofs.pruning.planned.Goals as goal
 

@@ -1,5 +1,5 @@
-use Rattle.acd_program.proofs.Asking.{only_left}
-use Rattle.acd_program.proofs.Ends.{if_is_ok}
+use Rattle.acd_sessions.proofs.Asking.{only_left}
+use Rattle.acd_files.proofs.Ends.{if_is_ok}
 use Rattle.acd_program.proofs.pruning.planned_with_archive.Goals as goal
 
 pub returns-in-Err-clause-kept : goal.returns-in-Err-clause-kept

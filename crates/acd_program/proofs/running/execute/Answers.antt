@@ -1,10 +1,9 @@
 use Rattle.std.proofs.Common.{refl, inr, Err, Ok}
 use Rattle.sqlite_std_file.specs.File.{IsFresh}
 use Rattle.acd_lines.specs.Lines.{streams}
-use Rattle.acd_program.specs.declared.asked.Task.TheVariants as task
-use Rattle.acd_program.proofs.Ends.{match_so}
-use Rattle.acd_program.proofs.ServeDone.{file_prints}
-use Rattle.acd_program.proofs.StandingBy.{standby_prints}
+use Rattle.acd_command.specs.declared.asked.Task.TheVariants as task
+use Rattle.acd_files.proofs.Ends.{match_so}
+use Rattle.acd_program.proofs.Printed.{file_prints, standby_prints}
 use Rattle.acd_program.specs.Tasks.{endless}
 use Rattle.acd_program.proofs.Tasks.{read_done, whole_done}
 use Rattle.acd_program.proofs.TasksEnded.{task_ends, err_elsewhere}

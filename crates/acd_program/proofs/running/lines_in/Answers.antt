@@ -2,12 +2,12 @@ use Rattle.std.proofs.Common.{Result, true, refl, subst}
 use Rattle.sqlite.specs.Files.{over_files, file_state}
 use Rattle.sqlite_std_file.specs.File.{IsFresh}
 use Rattle.acd_lines.specs.Lines.{streams}
-use Rattle.acd_program.specs.InFiles.{IsLaidIn}
-use Rattle.acd_program.specs.Sessions.{DatabaseEnded}
-use Rattle.acd_program.specs.declared.fault.WorkFault.{WorkFault}
+use Rattle.acd_files.specs.Connections.{IsLaidIn}
+use Rattle.acd_sessions.specs.Sessions.{DatabaseEnded}
+use Rattle.acd_sessions.specs.declared.fault.WorkFault.{WorkFault}
 use Rattle.acd_program.proofs.Ended.{ended_made}
-use Rattle.acd_program.proofs.Ends.{match_from, on_ok}
-use Rattle.acd_program.proofs.LinesOver.{answered_in, answered_made}
+use Rattle.acd_files.proofs.Ends.{match_from, on_ok}
+use Rattle.acd_sessions.proofs.LinesOver.{answered_in, answered_made}
 use Rattle.acd_program.proofs.running.lines_in.Goals as goal
 
 pub returns-in_err-conn : goal.returns-in_err-conn

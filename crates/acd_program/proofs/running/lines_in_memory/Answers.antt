@@ -1,6 +1,6 @@
 use Rattle.std.proofs.Common.{true, false, MatchResult}
 use Rattle.acd_lines.specs.Lines.{streams}
-use Rattle.acd_program.proofs.Inputs.{memory_ends}
+use Rattle.acd_sessions.proofs.Inputs.{memory_ends}
 use Rattle.acd_program.proofs.running.lines_in_memory.Goals as goal
 
 pub returns-then-reads : goal.returns-then-reads

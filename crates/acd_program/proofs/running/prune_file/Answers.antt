@@ -1,6 +1,6 @@
 use Rattle.std.proofs.Common.{rules, refl}
 use Rattle.sqlite_std_file.specs.File.{IsFresh}
-use Rattle.acd_program.proofs.Ends.{match_err, match_from, match_is_err, match_is_ok}
+use Rattle.acd_files.proofs.Ends.{match_err, match_from, match_is_err, match_is_ok}
 use Rattle.acd_program.proofs.Prunes.{prune_cut, prune_printed, prune_stopped}
 use Rattle.acd_program.proofs.running.prune_file.Goals as goal
 

@@ -3,10 +3,10 @@ use Rattle.sqlite.specs.Files.{over_files, file_state}
 use Rattle.sqlite_std_file.specs.File.{IsFresh}
 use Rattle.acd_lines.specs.Lines.{streams}
 use Rattle.acd_io.specs.Left.{left_of}
-use Rattle.acd_program.specs.InFiles.{IsLaidIn}
-use Rattle.acd_program.specs.Standby.{upon_order}
-use Rattle.acd_program.proofs.Ends.{match_from, on_ok}
-use Rattle.acd_program.proofs.StandingBy.{standby_of_reader, standby_done_in}
+use Rattle.acd_files.specs.Connections.{IsLaidIn}
+use Rattle.acd_sessions.specs.Standby.{upon_order}
+use Rattle.acd_files.proofs.Ends.{match_from, on_ok}
+use Rattle.acd_sessions.proofs.StandingBy.{standby_of_reader, standby_done_in}
 use Rattle.acd_program.proofs.running.stand_by_file.Goals as goal
 
 pub returns-in_err-conn : goal.returns-in_err-conn

@@ -1,5 +1,5 @@
 use Rattle.std.proofs.Common.{rules, inl, inr}
-use Rattle.acd_program.proofs.Ends.{match_err, match_is_err, match_is_ok, match_so}
+use Rattle.acd_files.proofs.Ends.{match_err, match_is_err, match_is_ok, match_so}
 use Rattle.acd_program.proofs.Tasks.{worked_over}
 use Rattle.acd_program.proofs.running.work_over.Goals as goal
 

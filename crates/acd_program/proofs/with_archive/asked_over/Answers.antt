@@ -3,11 +3,11 @@ use Rattle.sqlite.specs.Held.{state}
 use Rattle.acd_desk.specs.Standing.{standing}
 use Rattle.acd_sqlbook.specs.Caching.{followed}
 use Rattle.acd_sqlbook.specs.State.{book_state}
-use Rattle.acd_program.specs.Over.{Unserved}
+use Rattle.acd_sessions.specs.Over.{Unserved}
 use Rattle.acd_program.specs.WithArchive.{AskedOver}
-use Rattle.acd_program.proofs.Asking.{only_asked, only_left}
+use Rattle.acd_sessions.proofs.Asking.{only_asked, only_left}
 use Rattle.acd_program.proofs.AuditsWithArchive.{archive_asked, asked_over, unserved_untouched}
-use Rattle.acd_program.proofs.Taking.{unserved_asked}
+use Rattle.acd_sessions.proofs.Taking.{unserved_asked}
 use Rattle.acd_program.proofs.with_archive.asked_over.Goals as goal
 
 pub returns-in-Err-clause-spared : goal.returns-in-Err-clause-spared

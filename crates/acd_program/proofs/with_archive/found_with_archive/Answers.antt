@@ -1,6 +1,6 @@
 use Rattle.acd_desk.specs.Standing.{standing}
-use Rattle.acd_program.proofs.Asking.{only_left}
-use Rattle.acd_program.proofs.Ends.{err_made}
+use Rattle.acd_sessions.proofs.Asking.{only_left}
+use Rattle.acd_files.proofs.Ends.{err_made}
 use Rattle.acd_program.proofs.with_archive.found_with_archive.Goals as goal
 
 pub returns-in-Ok-clause-asked : goal.returns-in-Ok-clause-asked

@@ -1,0 +1,22 @@
+-- What the bytes of a log say, before anything is opened.
+use Rattle.std.specs.Prelude.{◌⊎◌, ◌≤◌, ℕ, List, Option}
+use Rattle.acd_io.specs.Read.{IsInput}
+use Rattle.acd_log.specs.declared.ending.Ending.{Ending}
+use Rattle.acd_log.specs.Ending.{IsDamaged, IsHeadless, IsEndingOf}
+use Rattle.acd_files.specs.Files.{new_page, HoldsCommit}
+
+-- the log that the reader holds ends so
+abbrev pub IsEndingFrom : Option (List ℕ) → Ending → Type 0
+IsEndingFrom known ending = (log : List ℕ) × IsInput known log × IsEndingOf log ending
+
+-- it ends before a commit that was on the disk, or its head can't be read
+abbrev pub IsSpoiled : List ℕ → Type 0
+IsSpoiled log = IsDamaged log ⊎ IsHeadless log
+
+-- an opening would change a byte of a file of so many, with this log beside it: it ends what a stop left of a first page, lays in what the log holds, or empties a spoiled one
+abbrev pub IsUnfinished : ℕ → List ℕ → Type 0
+IsUnfinished len log = (len ≤ new_page) ⊎ (HoldsCommit log ⊎ IsSpoiled log)
+
+-- some log ends so
+abbrev pub IsSomeEnding : Ending → Type 0
+IsSomeEnding ending = (log : List ℕ) × IsEndingOf log ending

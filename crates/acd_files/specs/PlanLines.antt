@@ -1,0 +1,58 @@
+-- The lines of a plan, as whoever wrote it sees them.
+use Rattle.std.specs.Prelude.{ℕ, [], ◌∷◌, Option, Some, None, ◌+◌, Bool, true, false, not, ◌&&◌, ◌||◌, nat_eq, nat_le, List, codes, if◌then◌else◌}
+use Rattle.acd_files.specs.declared.plan_lines.Place.{Place}
+use Rattle.acd_reports.specs.declared.fault.PlanMember.{PlanMember}
+use Rattle.acd_reports.specs.declared.fault.PlanMember.TheVariants as member
+
+-- a count goes on to the greatest number of 64 bits
+abbrev pub one_more : ℕ → ℕ
+one_more n = if nat_le 18446744073709551615 n then n else n + 1
+
+-- the place is in a record
+abbrev pub begun_at : Place → Place
+begun_at place = if place.is_begun then place else record place { records = one_more place.records; is_begun = true }
+
+-- a line ends there, and a record with it, but within quotes
+abbrev pub ended_at : Place → Place
+ended_at place = record place { line = one_more place.line; is_begun = place.is_begun && place.is_quoted }
+
+-- quotes begin or end there
+abbrev pub quoted_at : Place → Place
+quoted_at place = record (begun_at place) { is_quoted = not place.is_quoted }
+
+-- a byte stands there: CR or LF, a quote, or another
+abbrev pub byte_at : Place → ℕ → Place
+byte_at place byte = if nat_eq byte 10 || nat_eq byte 13 then ended_at place else (if nat_eq byte 34 then quoted_at place else begun_at place)
+
+-- the place after a byte: CR and LF together end one line
+abbrev pub place_after : Place → ℕ → Place
+place_after place byte = if nat_eq byte 10 && nat_eq place.last 13 then record place { last = byte } else byte_at (record place { last = byte }) byte
+
+-- a byte that is shown as it is
+abbrev pub is_printable : ℕ → Bool
+is_printable byte = nat_le 32 byte && nat_le byte 126
+
+-- how many characters show a byte: itself, or \\x and two digits
+abbrev pub shown_width : ℕ → ℕ
+shown_width byte = if is_printable byte then 1 else 4
+
+-- the form of a member of a row
+abbrev pub form_text : PlanMember → List ℕ
+form_text member.Fields = codes "a row has five fields, parted by commas, in UTF-8"
+form_text member.Kind = codes "a kind is group, station or agent"
+form_text member.Number = codes "a number is 1 to 15 digits, an agent's 1 to 9"
+form_text member.Name = codes "a name is 1 to 40 characters from space to ~; a station has none"
+form_text member.Ring = codes "a group's ring is 0 to 3600; others have none"
+form_text member.Wrap = codes "a group's wrap is 0 to 3600; others have none"
+
+-- the line in which this record begins, from a place on
+unfoldable pub line_from : Place → ℕ → List ℕ → Option ℕ
+line_from place wanted [] = None
+line_from place wanted (byte ∷ rest) = if nat_eq (place_after place byte).records wanted then Some place.line else line_from (place_after place byte) wanted rest
+
+-- the place before a plan
+abbrev pub first_place : Place
+first_place = record { line = 1; records = 0; is_begun = false; is_quoted = false; last = 0 }
+
+abbrev pub line_of : List ℕ → ℕ → Option ℕ
+line_of plan wanted = line_from first_place wanted plan

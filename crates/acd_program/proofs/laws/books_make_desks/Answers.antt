@@ -1,5 +1,0 @@
-use Rattle.acd_program.proofs.Reopening.{books_make_desks}
-use Rattle.acd_program.proofs.laws.books_make_desks.Goals as goal
-
-pub returns : goal.returns
-returns g c conn content over = books_make_desks g.S.Store conn content over

@@ -1,6 +1,0 @@
-use Rattle.std.proofs.Common.{◌≡◌, drop}
-use Rattle.acd_program.specs.PlanLines.{line_from, line_of}
-use Rattle.acd_program.proofs.plan_lines.line_of.Given as goal
-
-abbrev pub invariant-loop-byte : goal.invariant-loop-byte
-invariant-loop-byte l = line_of l.plan l.wanted ≡ line_from l.place l.wanted (drop l.byte-index l.plan)

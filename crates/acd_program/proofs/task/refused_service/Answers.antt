@@ -1,8 +1,0 @@
-use Rattle.std.proofs.Common.{sym, subst}
-use Rattle.std.proofs.lemmas.Result.{IfOk-weaker}
-use Rattle.clap.specs.Words.{kind_of}
-use Rattle.acd_program.specs.Statuses.{IsHelp}
-use Rattle.acd_program.proofs.task.refused_service.Goals as goal
-
-pub returns : goal.returns
-returns c = IfOk-weaker c.error.result _ _ (λ e is. subst (λ k. ¬ IsHelp k) (sym is) c.refusal-kind.ensures) c.error.ensures.kind

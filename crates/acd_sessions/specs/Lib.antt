@@ -1,0 +1,13 @@
+pub mod Output
+pub mod Faults
+pub mod Answered
+pub mod Over
+pub mod Taking
+pub mod Desks
+pub mod Seen
+pub mod Serving
+pub mod Standby
+pub mod LinesOver
+pub mod Sessions
+pub mod Names
+pub mod Reopening

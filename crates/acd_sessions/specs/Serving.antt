@@ -1,0 +1,132 @@
+-- Answering connections over the book of a database: what it leaves, and how that ended.
+use Rattle.std.specs.Prelude.{◌≡◌, ◌⊎◌, ℕ, Bool, false, List, codes, Option, Some, None, is_some, Result, Ok, Err}
+use Rattle.std.specs.Io.KnownBytes.{Appends}
+use Rattle.sqlite.specs.State.{State}
+use Rattle.sqlite.specs.Held.{Held, state}
+use Rattle.sqlite_trees.specs.declared.store.Store.{Ghosts as Stores}
+use Rattle.acd_book.specs.declared.book.Book.{Ghosts}
+use Rattle.acd_book.specs.State.{BookState}
+use Rattle.acd_desk.specs.declared.desk.Desk.{Desk}
+use Rattle.acd_desk.specs.declared.open_fault.OpenFault.{OpenFault}
+use Rattle.acd_desk.specs.Opening.{Refused}
+use Rattle.acd_desk.specs.Standing.{Standing, standing}
+use Rattle.acd_io.specs.Sent.{Begins}
+use Rattle.acd_http.specs.declared.serving.Span.{Span}
+use Rattle.acd_http.specs.Turns.{TurnsUntil, Turn, turn_lines}
+use Rattle.acd_sessions.specs.Desks.{OverDesk}
+use Rattle.acd_sessions.specs.Output.{number_line, text_line, Output}
+use Rattle.acd_command.specs.declared.asked.Address.{Address}
+use Rattle.acd_command.specs.declared.asked.Address.TheVariants.{Port, Socket}
+use Rattle.acd_sessions.specs.Faults.{open_fault, command_result}
+use Rattle.acd_sessions.specs.Over.{Database, Unserved}
+use Rattle.acd_sessions.specs.Seen.{Seen, InDatabase, SeenIn}
+use Rattle.acd_sessions.specs.declared.fault.WorkFault.{WorkFault}
+
+-- turns were taken, one after another, with looks between connections where there is a step: so many connections, or until the desk failed
+abbrev pub TurnsOf : {D : Type 0} → (D → Standing) → Span → D → D → (List ℕ → Type 0) → Type 0
+TurnsOf stands span d e WentOut = TurnsUntil stands (is_some span.step) span.connections d e WentOut
+
+-- they were; the lines of their faults were written, or a beginning of them
+pub record ServeDone {D : Type 0} (stands : D → Standing) (span : Span) (old_output new_output : Option (List ℕ)) (d e : D) : Type 0 where
+  pub taken : TurnsOf stands span d e (Begins old_output new_output)
+  -- an endless service doesn't end so where its store has failed
+  pub well : span.connections ≡ None → (stands e).failed ≡ false
+
+-- the line that says where the program waits for connections
+abbrev pub listening_line : Address → List ℕ
+listening_line (Port n) = number_line (codes "listening on 127.0.0.1:") n
+listening_line (Socket path) = text_line (codes "listening on ") path.now
+
+-- a failed desk is a fault of an endless service alone
+abbrev pub ends_failed : Option ℕ → Bool → Bool
+ends_failed (Some many) failed = false
+ends_failed None failed = failed
+
+-- `old_errors` was written of the faults of connections before, and `new_errors` is written after
+module _ (span : Span) (old_errors new_errors : Option (List ℕ)) where
+  module _ {D : Type 0} (stands : D → Standing) where
+    -- nothing was asked of the desk
+    pub record Unasked (result : Result (Unit {0}) WorkFault) (d e : D) : Type 0 where
+      pub why : WorkFault
+      pub ended : result ≡ Err why
+      pub same : e ≡ d
+      pub quiet : new_errors ≡ old_errors
+
+    -- so many connections were answered, or until the desk failed
+    pub record Answered (result : Result (Unit {0}) WorkFault) (d e : D) : Type 0 where
+      pub taken : TurnsOf stands span d e (Begins old_errors new_errors)
+      pub ended : result ≡ command_result (Ok tt) (ends_failed span.connections (stands e).failed)
+
+    -- what answering connections left, and the command gets how it ended
+    abbrev pub ListenEnded : Result (Unit {0}) WorkFault → D → D → Type 0
+    ListenEnded result d e = Unasked result d e ⊎ Answered result d e
+
+  -- `old_output` was written on the output before, and `new_output` is written after
+  module _ (address : Address) (old_output new_output : Option (List ℕ)) where
+    -- connections are answered only after the whole line
+    abbrev pub ServeEnded : {D : Type 0} → (D → Standing) → Result (Unit {0}) WorkFault → D → D → Type 0
+    ServeEnded stands result d e =
+        (Unasked stands result d e × Begins old_output new_output (listening_line address))
+        ⊎ (Answered stands result d e × Appends old_output new_output (listening_line address))
+
+    module _ {B : Type 0} (says : Ghosts B) where
+      -- the book made no desk, and nothing was written
+      pub record NoDesk (old : BookState) (result : Result (Unit {0}) WorkFault) (last : B) : Type 0 where
+        pub why : OpenFault
+        pub ended : result ≡ Err (open_fault why)
+        pub refused : Refused old why (says.state last)
+        pub quiet : new_errors ≡ old_errors
+        pub unsaid : new_output ≡ old_output
+
+      -- answering connections over the book
+      abbrev pub ServeOver : BookState → Result (Unit {0}) WorkFault → B → Type 0
+      ServeOver old result last = NoDesk old result last ⊎ OverDesk says (ServeEnded (standing says) result) old last
+
+    -- there was no desk: nothing was written, and a crash leaves what it left before, or a new book
+    pub record NoneMade {S : Type 0} (store : Stores S) (makes : Bool) (old : State) (result : Result (Unit {0}) WorkFault) (new : Held S) : Type 0 where
+      pub why : WorkFault
+      pub ended : result ≡ Err why
+      pub unserved : Unserved makes old (state store new)
+      pub quiet : new_errors ≡ old_errors
+      pub unsaid : new_output ≡ old_output
+
+    -- answering connections over the book of the database
+    abbrev pub ServeIn : {S : Type 0} → Stores S → Bool → State → Result (Unit {0}) WorkFault → Held S → Type 0
+    ServeIn {S} store makes old result new =
+        NoneMade store makes old result new ⊎ SeenIn store (λ (stands : Seen (InDatabase S) → Standing). ServeEnded stands result) makes old new
+
+-- ---- of a call
+
+-- what a service is to do, and where it writes: how long it lasts and waits, an address, the output, and the stream of errors
+pub record Service : Type 1 where
+  pub span : Span
+  pub address : Address
+  pub said : Output
+  pub errors : Output
+
+-- it is made of these
+abbrev pub service : Span → Address → Output → Output → Service
+service span address said errors = record { span = span; address = address; said = said; errors = errors }
+
+-- a desk answered connections, from what it was to what it is then
+abbrev pub EndsListening : {B : Type 0} → Ghosts B → Desk B × Desk B → Result (Unit {0}) WorkFault → Span → Output → Type 0
+EndsListening books desks result span errors = ListenEnded span errors.before errors.after (standing books) result desks.0 desks.1
+
+-- it did after the line that says where was written
+abbrev pub EndsService : {B : Type 0} → Ghosts B → Desk B × Desk B → Result (Unit {0}) WorkFault → Service → Type 0
+EndsService books desks result to_do =
+    ServeEnded to_do.span to_do.errors.before to_do.errors.after to_do.address to_do.said.before to_do.said.after (standing books) result desks.0 desks.1
+
+-- a desk over a book did, with the book that came back
+abbrev pub EndsServiceOver : {B : Type 0} → Ghosts B → B → Result (Unit {0}) WorkFault × B → Service → Type 0
+EndsServiceOver books given result to_do =
+    ServeOver to_do.span to_do.errors.before to_do.errors.after to_do.address to_do.said.before to_do.said.after books (books.state given) result.0 result.1
+
+-- a desk over a database that was handed in did, with the connection that came back
+abbrev pub EndsServiceIn : {S : Type 0} → Database S → Result (Unit {0}) WorkFault × Held S → Service → Type 0
+EndsServiceIn db result to_do =
+    ServeIn to_do.span to_do.errors.before to_do.errors.after to_do.address to_do.said.before to_do.said.after db.store db.makes (state db.store db.conn) result.0 result.1
+
+-- the lines of the faults of connections and ticks were written, or a beginning of them
+abbrev pub PrintsServiceFaults : Option (List ℕ) → Option (List ℕ) → Type 0
+PrintsServiceFaults old_output new_output = (turns : List Turn) × Begins old_output new_output (turn_lines 1 turns)

@@ -1,0 +1,177 @@
+//! The desk of a database, over HTTP.
+
+ghost use Rattle.std.specs.Prelude.{◌≡◌, false, Ok};
+ghost use Rattle.acd_io.specs.Sent.{Sends};
+ghost use Rattle.acd_desk.specs.Standing.{standing};
+ghost use Rattle.acd_sessions.specs.Faults.{command_result};
+ghost use Rattle.acd_sessions.specs.Output.{output};
+ghost use Rattle.acd_sessions.specs.Over.{database};
+ghost use Rattle.acd_sessions.specs.Serving.{ends_failed, listening_line, service, EndsListening, EndsService, EndsServiceOver, EndsServiceIn};
+
+use crate::connection::book_over;
+use crate::fault::WorkFault;
+use crate::sending::{send_number, send_text};
+use crate::session::unless_failed;
+use acd_book::Book;
+use acd_command::Address;
+use acd_desk::Desk;
+use acd_http::{Door, Polled, ServeFault, Span};
+use sqlite::{Alter, Connection};
+use std::io::{self, ErrorKind, Write};
+
+/// The listener, where there is one.
+pub(crate) fn listening<D>(door: io::Result<D>) -> Result<D, WorkFault> {
+    match door {
+        Ok(door) => Ok(door),
+        Err(error) if error.kind() == ErrorKind::OutOfMemory => Err(WorkFault::NoMemory),
+        Err(_) => Err(WorkFault::CannotListen),
+    }
+}
+
+// Says that connections are waited for.
+fn say<W: Write>(address: Address<'_>, writer: &mut W) -> Result<(), WorkFault>
+    ensures { Sends W.contents writer.old writer.new result (listening_line address.entry) }
+{
+    match address {
+        Address::Port(port) => { send_number(writer, b"listening on 127.0.0.1:", u64::from(port))? }
+        Address::Socket(path) => send_text(writer, b"listening on ", path)?,
+    }
+    Ok(())
+}
+
+// A store that has failed is a fault of a service that has no other end, so that whoever started the command may start
+// it again.
+fn unless_endless<B: Book>(desk: &Desk<B>, connections: Option<u64>) -> Result<(), WorkFault>
+    ensures { result ≡ command_result (Ok tt)
+        (ends_failed connections (standing B.Book desk.now).failed) }
+{
+    match connections {
+        Some(_) => Ok(()),
+        None => unless_failed(desk),
+    }
+}
+
+// Answers connections. A line of one of them that could not be written is no fault of the command.
+fn answer<D: Door, B: Book, E: Write>(
+    rt: &HostRuntime,
+    door: &mut D,
+    desk: &mut Desk<B>,
+    span: Span,
+    errors: &mut E,
+) -> Result<(), WorkFault>
+    ensures { EndsListening B.Book (desk.old, desk.new) result span
+        (output E.contents errors.old errors.new) }
+{
+    match acd_http::serve(rt, rt.alloc(), door, desk, span, errors) {
+        Ok(()) => unless_endless(desk, span.connections),
+        Err(ServeFault::Write) => unless_endless(desk, span.connections),
+        Err(ServeFault::NoMemory) => Err(WorkFault::NoMemory),
+    }
+}
+
+/// The same, after the line that says where.
+pub(crate) fn say_and_answer<D: Door, B: Book, W: Write, E: Write>(
+    rt: &HostRuntime,
+    door: &mut D,
+    desk: &mut Desk<B>,
+    address: Address<'_>,
+    span: Span,
+    writer: &mut W,
+    errors: &mut E,
+) -> Result<(), WorkFault>
+    ensures { EndsService B.Book (desk.old, desk.new) result
+        (service span address.entry (output W.contents writer.old writer.new)
+        (output E.contents errors.old errors.new)) }
+{
+    say(address, writer)?;
+    answer(rt, door, desk, span, errors)
+}
+
+// Answers connections at a listener, where there is one.
+fn serve_at<D: Door + Drop, B: Book, W: Write, E: Write>(
+    rt: &HostRuntime,
+    door: io::Result<D>,
+    desk: &mut Desk<B>,
+    address: Address<'_>,
+    span: Span,
+    writer: &mut W,
+    errors: &mut E,
+) -> Result<(), WorkFault>
+    ensures { EndsService B.Book (desk.old, desk.new) result
+        (service span address.entry (output W.contents writer.old writer.new)
+        (output E.contents errors.old errors.new)) }
+{
+    let mut door = listening(door)?;
+    say_and_answer(rt, &mut door, desk, address, span, writer, errors)
+}
+
+fn serve_desk<B: Book, W: Write, E: Write>(
+    rt: &HostRuntime,
+    desk: &mut Desk<B>,
+    address: Address<'_>,
+    span: Span,
+    writer: &mut W,
+    errors: &mut E,
+) -> Result<(), WorkFault>
+    ensures { EndsService B.Book (desk.old, desk.new) result
+        (service span address.entry (output W.contents writer.old writer.new)
+        (output E.contents errors.old errors.new)) }
+{
+    let alloc = rt.alloc();
+    match address {
+        Address::Port(port) => {
+            let door = Polled::at_port(rt, alloc, port);
+            serve_at(rt, door, desk, address, span, writer, errors)
+        }
+        Address::Socket(path) => {
+            let door = Polled::at_path(rt, alloc, path);
+            serve_at(rt, door, desk, address, span, writer, errors)
+        }
+    }
+}
+
+fn serve_book<B: Book, W: Write, E: Write>(
+    rt: &HostRuntime,
+    book: B,
+    address: Address<'_>,
+    span: Span,
+    writer: &mut W,
+    errors: &mut E,
+) -> (Result<(), WorkFault>, B)
+    ensures { EndsServiceOver B.Book book result
+        (service span address.entry (output W.contents writer.old writer.new)
+        (output E.contents errors.old errors.new)) }
+{
+    let mut desk = match Desk::open(rt.alloc(), book) {
+        Ok(desk) => desk,
+        Err((fault, book)) => return (Err(WorkFault::from(fault)), book),
+    };
+    let done = serve_desk(rt, &mut desk, address, span, writer, errors);
+    (done, desk.close())
+}
+
+/// Answers connections, so many or until the store has failed, and ticks between them where that is asked for. The desk
+/// is that of a database, which is made where there is none and one is to be made. The faults of connections are lines
+/// on `errors`.
+pub fn serve<S: Alter, W: Write, E: Write>(
+    rt: &HostRuntime,
+    conn: Connection<S>,
+    makes: bool,
+    address: Address<'_>,
+    span: Span,
+    writer: &mut W,
+    errors: &mut E,
+) -> (Result<(), WorkFault>, Connection<S>)
+    requires { conn.in_transaction ≡ false }
+    ensures idle { result.1.in_transaction ≡ false }
+    ensures ended { EndsServiceIn (database S.Store makes conn) result
+        (service span address.entry (output W.contents writer.old writer.new)
+        (output E.contents errors.old errors.new)) }
+{
+    let book = match book_over(rt.alloc(), conn, makes) {
+        Ok(book) => book,
+        Err((fault, conn)) => return (Err(WorkFault::from(fault)), conn),
+    };
+    let (done, book) = serve_book(rt, book, address, span, writer, errors);
+    (done, book.into_connection())
+}
