@@ -151,6 +151,7 @@ impl<'a, B: Book> Book for Watched<'a, B> {
     }
 
     fn requests_after(&mut self, stamp: u64, limit: usize) -> Result<Vec<Kept>, BookFault> {
+        self.progress.step(stamp);
         self.inner.requests_after(stamp, limit)
     }
 
