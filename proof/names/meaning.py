@@ -31,7 +31,7 @@ class World:
     def walk(self, path, where):
         """What a whole path stands for, library first: a module, a definition, a type, or the kit's."""
         if path[0] != "Rattle" or path[1] not in self.crates:
-            if path[0] in ("Rattle", "mathlib", "base", "Prim", "lib"):
+            if path[0] in ("Rattle", "mathlib", "base", "denote", "Prim", "lib"):
                 return KIT
             raise Unclear(f"{where}: no library {path[0]}")
         crate, kind, rest = path[1], path[2], tuple(path[3:])
@@ -135,7 +135,7 @@ class World:
             return self.walk(path[1:], module.where)
         if path[0] in module.children:
             return self.within(("module", module.crate, module.path + (path[0],)), path[1:], module.where)
-        if path[0] not in ("Rattle", "mathlib", "base", "Prim", "lib"):
+        if path[0] not in ("Rattle", "mathlib", "base", "denote", "Prim", "lib"):
             for text, _ in module.uses:
                 if text not in seen and not text.startswith(path[0] + "."):
                     for name, target in self.bound(module, text, seen + (text,)):

@@ -33,12 +33,12 @@ use Rattle.acd_program.specs.declared.auditing.Finding.{Finding}
 use Rattle.acd_program.specs.declared.auditing.Finding.TheVariants.{Sound, Counted, SentAgain, SentAgainCounted, Differs}
 use Rattle.acd_program.specs.declared.desk.Done.{Done}
 use Rattle.acd_program.specs.declared.desk.Done.TheVariants as left
-use Rattle.acd_program.specs.WithArchive.{uncounted_with, counted_with, IsFindingWith, IsDeskFindingWith, IsFindingIn, IsFindingInOrder, IsFoundWithArchive, FindsWithArchive, WasRead, WereAsked, AskedOver, AskedIn, InArchive, AskedWithArchive, BookAskedWithArchive, AuditsWithArchive, AuditedWithArchive, LeavesBeside}
+use Rattle.acd_program.specs.WithArchive.{uncounted_with, counted_with, IsFindingWith, IsDeskFindingWith, IsFindingIn, IsFindingInOrder, IsFoundWithArchive, FindsWithArchive, WasRead, WereAsked, AskedOver, AskedIn, InArchive, AskedWithArchive, BookAskedWithArchive, AuditsWithArchive, AuditedWithArchive, LeavesArchive, LeavesBeside}
 use Rattle.acd_program.specs.Found.{HasCount, finding_line}
 use Rattle.acd_io.specs.Sent.{Begins}
 use Rattle.acd_files.specs.Connections.{IsShut, IsLaidIn, IsOpenedFrom}
 use Rattle.acd_sessions.specs.Over.{OnlyAsked, LeavesBooks, Unserved, before}
-use Rattle.acd_program.specs.TasksEnded.{AuditCut, AuditWithArchiveEnded}
+use Rattle.acd_program.specs.TasksEnded.{AuditCut, LeftWithArchive}
 use Rattle.acd_program.specs.declared.fault.Fault.{Fault}
 use Rattle.acd_program.specs.declared.fault.Fault.TheVariants as ended_by
 use Rattle.acd_program.specs.declared.status.Status.{Status}
@@ -273,7 +273,7 @@ module _ {D : Type 0} (disk : Ghosts D) (IsFresh : Bool → D → Type 0) where
 
   -- before anything was printed
   pub audit_stopped : (fault : Fault) (counts whole : Bool) (conn last : Held (FileStore D disk)) (old_output new_output : Option (List ℕ)) (Unwritten : Type 0) → IsOpenedFrom disk IsFresh conn → IsShut last
-      → Unserved false (file_state conn) (file_state last) → Unwritten → LeavesBeside disk IsFresh fault → AuditWithArchiveEnded disk IsFresh counts whole old_output new_output Unwritten fault
+      → Unserved false (file_state conn) (file_state last) → Unwritten → LeavesBeside disk IsFresh fault → LeftWithArchive disk IsFresh Unwritten (Unserved false) (AuditCut disk IsFresh counts whole old_output new_output) (LeavesArchive disk IsFresh) fault
   audit_stopped (ended_by.Opening why) counts whole conn last old_output new_output Unwritten opened shut kept none beside = absurd beside
-  audit_stopped (ended_by.Work why) counts whole conn last old_output new_output Unwritten opened shut kept none beside = (conn, opened, record { last = last; shut = shut; kept = kept }, inl none)
+  audit_stopped (ended_by.Work why) counts whole conn last old_output new_output Unwritten opened shut kept none beside = (conn, opened, (record { last = last; shut = shut; kept = kept }, inl none))
   audit_stopped (ended_by.Archive why) counts whole conn last old_output new_output Unwritten opened shut kept none beside = (conn, opened, record { last = last; shut = shut; kept = kept }, none, beside)

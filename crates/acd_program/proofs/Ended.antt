@@ -22,12 +22,12 @@ use Rattle.acd_desk.proofs.Desks.Sessions.{session_ran}
 use Rattle.acd_io.specs.Sent.{Breaks}
 use Rattle.acd_lines.specs.Lines.{LinesAnswered, FirstRequests, RequestsAnswered, Streams}
 use Rattle.acd_lines.proofs.Weaker.{requests_so}
-use Rattle.acd_program.specs.Ended.{OnlyReads, IsBegunPlan, IsBegun, StoppedOver, WorkStopped, WorkEnded}
+use Rattle.acd_program.specs.Ended.{OnlyReads, IsBegunPlan, IsBegun, StoppedOver, WorkStopped, WorkLeft}
 use Rattle.acd_files.specs.Connections.{IsShut}
 use Rattle.acd_program.specs.Found.{IsFindingOf}
 use Rattle.acd_sessions.specs.LinesOver.{NoneMade}
 use Rattle.acd_sessions.specs.Over.{IsSession, LeavesBooks, OverConnection, Unserved}
-use Rattle.acd_sessions.specs.Sessions.{SessionEnded, DatabaseEnded}
+use Rattle.acd_sessions.specs.Sessions.{SessionLeaves, DatabaseLeaves}
 use Rattle.acd_sessions.specs.Taking.{IsOf, IsTaken}
 use Rattle.acd_program.specs.Work.{WorkDone}
 use Rattle.acd_sessions.specs.declared.fault.WorkFault.{WorkFault}
@@ -83,7 +83,7 @@ stopped_in work makes s t mid cache failures old_output new_output settles taken
 module _ {D : Type 0} {g : Ghosts D} where
   -- where it was known whether the file was new
   pub work_makes : (is_new makes : Bool) (work : Work) (conn : Held (FileStore D g)) (old_output new_output : Option (List ℕ)) → (is_new ≡ true → makes ≡ true)
-      → WorkEnded is_new work conn old_output new_output → WorkEnded makes work conn old_output new_output
+      → WorkLeft is_new work conn old_output new_output → WorkLeft makes work conn old_output new_output
   work_makes is_new makes work conn old_output new_output may h = record {
     last = h.last;
     shut = h.shut;
@@ -108,8 +108,8 @@ module _ {S : Type 0} (store : Stores S) (is_new makes ends : Bool) (io : Stream
   none_made : NoneMade store is_new io s r conn → NoneMade store makes io s r conn
   none_made none = record { why = none.why; outcome = none.outcome; unserved = unserved_makes is_new makes s (state store conn) may none.unserved; untouched = none.untouched }
 
-  pub ended_made : (reads : Bool) → DatabaseEnded store is_new reads ends io s r conn → DatabaseEnded store makes reads ends io s r conn
+  pub ended_made : (reads : Bool) → DatabaseLeaves store is_new reads ends io s r conn → DatabaseLeaves store makes reads ends io s r conn
   ended_made true (inl none) = inl (none_made none)
   ended_made true (inr some) = inr (seen_made store _ is_new makes s conn may some)
   ended_made false (inl none) = inl (none_made none)
-  ended_made false (inr some) = inr (over_makes (SessionEnded ends io r) is_new makes s (state store conn) may some)
+  ended_made false (inr some) = inr (over_makes (SessionLeaves ends io r) is_new makes s (state store conn) may some)

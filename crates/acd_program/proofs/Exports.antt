@@ -21,10 +21,10 @@ use Rattle.acd_sqlbook.specs.Caching.{followed}
 use Rattle.acd_sqlbook.specs.State.{book_state}
 use Rattle.acd_files.specs.Connections.{IsShut, IsLaidIn, IsOpenedFrom}
 use Rattle.acd_sessions.specs.Over.{OnlyAsked, LeavesBooks, OverConnection, Unserved, before}
-use Rattle.acd_program.specs.Exporting.{AddsEvents, IsAdded, AddsArchive, AddsArchives, MakesTable, LeavesExport}
+use Rattle.acd_program.specs.Exporting.{AddsEvents, IsAdded, AddsArchive, AddsArchives, MakesTable, LeavesArchives, LeavesExport}
 use Rattle.acd_sessions.specs.Taking.{IsOf, IsTaken}
 use Rattle.acd_program.specs.Tasks.{Exported}
-use Rattle.acd_program.specs.TasksEnded.{ExportEnded}
+use Rattle.acd_program.specs.TasksEnded.{ExportCut, LeftWithArchive}
 use Rattle.acd_program.specs.WithArchive.{OverArchive}
 use Rattle.acd_program.specs.Work.{IsPrinted}
 use Rattle.acd_program.specs.declared.desk.Done.TheVariants.{Text}
@@ -163,7 +163,7 @@ module _ {D : Type 0} (disk : Ghosts D) (IsFresh : Bool → D → Type 0) where
   }
 
   pub table_stopped : (fault : Fault) (count : ℕ) (conn last : Held (FileStore D disk)) (old_output new_output : Option (List ℕ)) (Unwritten : Type 0) → IsOpenedFrom disk IsFresh conn → IsShut last
-      → Unserved false (file_state conn) (file_state last) → Unwritten → LeavesExport disk IsFresh fault → ExportEnded disk IsFresh count old_output new_output Unwritten fault
+      → Unserved false (file_state conn) (file_state last) → Unwritten → LeavesExport disk IsFresh fault → LeftWithArchive disk IsFresh Unwritten (Unserved false) (ExportCut disk IsFresh count old_output new_output) (LeavesArchives disk IsFresh) fault
   table_stopped (ended_by.Opening why) count conn last old_output new_output Unwritten opened shut kept none left = absurd left
-  table_stopped (ended_by.Work why) count conn last old_output new_output Unwritten opened shut kept none left = (conn, opened, record { last = last; shut = shut; kept = kept }, inl none)
+  table_stopped (ended_by.Work why) count conn last old_output new_output Unwritten opened shut kept none left = (conn, opened, (record { last = last; shut = shut; kept = kept }, inl none))
   table_stopped (ended_by.Archive why) count conn last old_output new_output Unwritten opened shut kept none left = (conn, opened, record { last = last; shut = shut; kept = kept }, none, left)

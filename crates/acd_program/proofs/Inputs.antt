@@ -12,9 +12,9 @@ use Rattle.acd_sessions.specs.Answered.{in_memory}
 use Rattle.acd_sessions.specs.LinesOver.{Whole, NewAnswered, in_turn}
 use Rattle.acd_sessions.specs.Faults.{lines_fault}
 use Rattle.acd_sessions.specs.Seen.{Seen, seen}
-use Rattle.acd_sessions.specs.Sessions.{MemoryEnded}
+use Rattle.acd_sessions.specs.Sessions.{MemoryLeft}
 use Rattle.acd_program.specs.Tasks.{MemoryAnswered, FileAnswered, InputAnswered}
-use Rattle.acd_program.specs.TasksEnded.{EndedIn, InputEnded, LinesLeft}
+use Rattle.acd_program.specs.TasksEnded.{LeftIn, InputLeft, LinesLeft}
 use Rattle.acd_program.specs.declared.fault.Fault.{Fault}
 use Rattle.acd_program.specs.declared.fault.Fault.TheVariants as ended_by
 use Rattle.acd_sessions.specs.declared.fault.WorkFault.{WorkFault}
@@ -33,11 +33,11 @@ module _ {Name D : Type 0} (disk : Ghosts D) (IsFresh : Bool → D → Type 0) (
   pub memory_input : RequestsRun in_memory → named ≡ None → NewAnswered reads io → InputAnswered disk IsFresh named reads ends io Success
   memory_input runs is h = subst (λ (n : Option Name). InputAnswered disk IsFresh n reads ends io Success) (sym is) (memory_answered runs reads io h, refl)
 
-  pub memory_fault : (why : LinesFault) (fault : WorkFault) → named ≡ None → fault ≡ lines_fault why → MemoryEnded reads io why → InputEnded disk IsFresh named reads ends io (ended_by.Work fault)
-  memory_fault why fault is same h = subst (λ (n : Option Name). InputEnded disk IsFresh n reads ends io (ended_by.Work fault)) (sym is) (why, ap ended_by.Work same, h)
+  pub memory_fault : (why : LinesFault) (fault : WorkFault) → named ≡ None → fault ≡ lines_fault why → MemoryLeft reads io why → InputLeft disk IsFresh named reads ends io (ended_by.Work fault)
+  memory_fault why fault is same h = subst (λ (n : Option Name). InputLeft disk IsFresh n reads ends io (ended_by.Work fault)) (sym is) (why, ap ended_by.Work same, h)
 
   pub file_input : (file : Name) → named ≡ Some file → FileAnswered disk IsFresh reads ends io → InputAnswered disk IsFresh named reads ends io Success
   file_input file is h = subst (λ (n : Option Name). InputAnswered disk IsFresh n reads ends io Success) (sym is) (h, refl)
 
-  pub file_fault : (file : Name) (fault : Fault) → named ≡ Some file → EndedIn disk IsFresh fault (Untouched io) (LinesLeft disk IsFresh reads ends io) → InputEnded disk IsFresh named reads ends io fault
-  file_fault file fault is h = subst (λ (n : Option Name). InputEnded disk IsFresh n reads ends io fault) (sym is) h
+  pub file_fault : (file : Name) (fault : Fault) → named ≡ Some file → LeftIn disk IsFresh (Untouched io) (LinesLeft disk IsFresh reads ends io) fault → InputLeft disk IsFresh named reads ends io fault
+  file_fault file fault is h = subst (λ (n : Option Name). InputLeft disk IsFresh n reads ends io fault) (sym is) h

@@ -49,8 +49,8 @@ use Rattle.acd_program.specs.Pruning.{is_well, goes_on, MayGoOn, IsPruningOf, Is
 use Rattle.acd_sessions.specs.Taking.{IsOf, IsTaken}
 use Rattle.acd_files.specs.Logs.{IsSomeEnding}
 use Rattle.acd_program.specs.Tasks.{PrunedWith}
-use Rattle.acd_program.specs.TasksEnded.{PruneCut, PruneEnded, PruneShut}
-use Rattle.acd_program.specs.WithArchive.{IsFindingWith, IsFindingInOrder, IsFoundWithArchive, InArchive, BookAskedWithArchive, LeavesBeside, OverArchive, WasRead, WereAsked}
+use Rattle.acd_program.specs.TasksEnded.{PruneCut, LeftWithArchive}
+use Rattle.acd_program.specs.WithArchive.{IsFindingWith, IsFindingInOrder, IsFoundWithArchive, InArchive, BookAskedWithArchive, IsShutWith, LeavesArchive, LeavesBeside, OverArchive, WasRead, WereAsked}
 use Rattle.acd_program.specs.Work.{IsPrinted, WasAsked}
 use Rattle.acd_io.specs.Sent.{Begins}
 use Rattle.acd_program.proofs.Asking.{asked_by, asked_of, asked_so}
@@ -352,7 +352,7 @@ module _ {D : Type 0} (disk : Ghosts D) (IsFresh : Bool → D → Type 0) where
         inr (subst (λ (x : State). OverConnection (BookLeft disk IsFresh) false s x) same (left_over ending p r s t mid m cache failures taken asked done))
 
   -- a prune that was done leaves no more
-  left_done : (ending : Ending) (p : Pruning) (s t : State) → OverConnection (λ (old new : BookState). BookPruned disk IsFresh ending old new p) false s t → OverConnection (BookLeft disk IsFresh) false s t
+  pub left_done : (ending : Ending) (p : Pruning) (s t : State) → OverConnection (λ (old new : BookState). BookPruned disk IsFresh ending old new p) false s t → OverConnection (BookLeft disk IsFresh) false s t
   left_done ending p s t h =
       over_so (λ (old new : BookState). BookPruned disk IsFresh ending old new p) (BookLeft disk IsFresh) false s t
       (λ old new done. in_archive_so disk IsFresh (λ (a b : BookState). WasPruned ending a b old new p) (λ (a b : BookState). WasRead a b × OnlyPruned a b old new) (λ a b w. (w.archive, w.only)) done) h
@@ -372,19 +372,9 @@ module _ {D : Type 0} (disk : Ghosts D) (IsFresh : Bool → D → Type 0) where
       outcome = printed.outcome;
     }
 
-    -- a beginning of it was
-    pub prune_cut : (Unwritten : Type 0) → IsShut last → Begins old_output new_output (pruning_line quiet p)
-        → (conn : Held (FileStore D disk)) × IsOpenedFrom disk IsFresh conn × (rest : PruneShut disk IsFresh conn) × (Unwritten ⊎ PruneCut disk IsFresh quiet old_output new_output conn rest.last)
-    prune_cut Unwritten shut begins = (
-      conn,
-      opened,
-      record { last = last; shut = shut; kept = inr (left_done ending p (file_state conn) (file_state last) done) },
-      inr (record { pruning = p; ending = ending; read = is; done = done; printed = begins }),
-    )
-
   -- nothing was
   pub prune_stopped : (fault : Fault) (quiet : Bool) (conn last : Held (FileStore D disk)) (old_output new_output : Option (List ℕ)) (Unwritten : Type 0) → IsOpenedFrom disk IsFresh conn → IsShut last
-      → LeavesPruned disk IsFresh (file_state conn) (file_state last) fault → Unwritten → PruneEnded disk IsFresh quiet old_output new_output Unwritten fault
+      → LeavesPruned disk IsFresh (file_state conn) (file_state last) fault → Unwritten → LeftWithArchive disk IsFresh Unwritten (LeftOver disk IsFresh) (PruneCut disk IsFresh quiet old_output new_output) (LeavesArchive disk IsFresh) fault
   prune_stopped (ended_by.Opening why) quiet conn last old_output new_output Unwritten opened shut after none = absurd after
-  prune_stopped (ended_by.Work why) quiet conn last old_output new_output Unwritten opened shut after none = (conn, opened, record { last = last; shut = shut; kept = after }, inl none)
+  prune_stopped (ended_by.Work why) quiet conn last old_output new_output Unwritten opened shut after none = (conn, opened, (record { last = last; shut = shut; kept = after }, inl none))
   prune_stopped (ended_by.Archive why) quiet conn last old_output new_output Unwritten opened shut after none = (conn, opened, record { last = last; shut = shut; kept = after.0 }, none, after.1)

@@ -24,7 +24,8 @@ use Rattle.acd_sessions.specs.Over.{IsSession, OverConnection}
 use Rattle.acd_program.specs.Work.{WasAsked, IsTextOf, ImportsOver, AuditsOver, WorkDone, IsPrinted, text_left, status_left}
 use Rattle.acd_files.specs.Connections.{IsLaidIn}
 use Rattle.acd_program.specs.InFiles.{WorkedOver, InFile}
-use Rattle.acd_program.specs.Tasks.{WorkedIn, AuditedIn, WholeAudit, TaskDone}
+use Rattle.acd_program.specs.Tasks.{WorkedIn, AuditedIn, WholeAudit}
+use Rattle.acd_program.specs.TasksEnded.{TaskDone}
 use Rattle.acd_command.specs.declared.asked.Task.TheVariants as task
 use Rattle.acd_sessions.proofs.Over.{over_so, over_fact, over_makes}
 use Rattle.acd_program.proofs.InFiles.{appends_nothing}

@@ -1,5 +1,5 @@
 -- A fault that ended a task, by its parts: what is left.
-use Rattle.std.proofs.Common.{◌≡◌, ◌⊎◌, inl, inr, ℕ, Bool, List, length, Option, Some, None, Result, Ok, Err, IfErr, MatchResult, refl, sym, subst}
+use Rattle.std.proofs.Common.{◌≡◌, ◌⊎◌, inl, inr, ℕ, Bool, List, Option, Some, None, Result, Ok, Err, IfErr, MatchResult, refl, sym, subst}
 use Rattle.sqlite_disk.specs.declared.Disk.{Ghosts}
 use Rattle.sqlite_store.specs.declared.store.FileStore.{FileStore}
 use Rattle.sqlite.specs.Held.{Held}
@@ -9,8 +9,8 @@ use Rattle.acd_lines.specs.Lines.{Streams}
 use Rattle.acd_program.specs.Ended.{IsOfClosing}
 use Rattle.acd_sessions.specs.Faults.{book_fault}
 use Rattle.acd_program.specs.Statuses.{fault_exit}
-use Rattle.acd_program.specs.Tasks.{TaskDone}
-use Rattle.acd_program.specs.TasksEnded.{EndedIn, InputEnded, AuditWithArchiveEnded, PruneEnded, ExportEnded, TaskEnded}
+use Rattle.acd_program.specs.TasksEnded.{LeftBeside, LeftIn, InputLeft, TaskDone, TaskEnded}
+use Rattle.acd_program.specs.declared.fault.ArchiveFault.{ArchiveFault}
 use Rattle.acd_program.specs.declared.fault.Fault.{Fault}
 use Rattle.acd_program.specs.declared.fault.Fault.TheVariants as ended_by
 use Rattle.acd_sessions.specs.declared.fault.WorkFault.{WorkFault}
@@ -28,7 +28,7 @@ closes book.Store = inr refl
 module _ {D : Type 0} (disk : Ghosts D) (IsFresh : Bool → D → Type 0) where
   -- whatever follows from what was left
   pub ended_so : (fault : Fault) (Untouched : Type 0) (P Q : WorkFault → Held (FileStore D disk) → Type 0) → ((why : WorkFault) (conn : Held (FileStore D disk)) → P why conn → Q why conn)
-      → EndedIn disk IsFresh fault Untouched P → EndedIn disk IsFresh fault Untouched Q
+      → LeftIn disk IsFresh Untouched P fault → LeftIn disk IsFresh Untouched Q fault
   ended_so (ended_by.Opening why) Untouched P Q follows h = h
   ended_so (ended_by.Work why) Untouched P Q follows h = (h.0, h.1, follows why h.0 h.2)
   ended_so (ended_by.Archive why) Untouched P Q follows h = h
@@ -47,31 +47,16 @@ module _ {D : Type 0} (disk : Ghosts D) (IsFresh : Bool → D → Type 0) where
   other_exit : ◌≡◌ {A = Exit} exit.Failed exit.OpenElsewhere → ⊥
   other_exit is = cc
 
-  opened_elsewhere : (fault : Fault) (Untouched : Type 0) (Left : WorkFault → Held (FileStore D disk) → Type 0) → fault_exit fault ≡ exit.OpenElsewhere → EndedIn disk IsFresh fault Untouched Left → Untouched
-  opened_elsewhere (ended_by.Opening why) Untouched Left is h = h.0
-  opened_elsewhere (ended_by.Work why) Untouched Left is h = absurd (other_exit is)
-  opened_elsewhere (ended_by.Archive why) Untouched Left is h = absurd h
+  beside_elsewhere : (Untouched : Type 0) (Left : WorkFault → Held (FileStore D disk) → Type 0) (ByArchive : ArchiveFault → Type 0) (fault : Fault) → fault_exit fault ≡ exit.OpenElsewhere
+      → LeftBeside disk IsFresh Untouched Left ByArchive fault → ((why : ArchiveFault) → ByArchive why → Untouched) → Untouched
+  beside_elsewhere Untouched Left ByArchive (ended_by.Opening why) is h or = h.0
+  beside_elsewhere Untouched Left ByArchive (ended_by.Work why) is h or = absurd (other_exit is)
+  beside_elsewhere Untouched Left ByArchive (ended_by.Archive why) is h or = or why h
 
-  -- or has the archive
-  audited_elsewhere : (counts whole : Bool) (old_output new_output : Option (List ℕ)) (Unwritten : Type 0) (fault : Fault) → fault_exit fault ≡ exit.OpenElsewhere
-      → AuditWithArchiveEnded disk IsFresh counts whole old_output new_output Unwritten fault → Unwritten
-  audited_elsewhere counts whole old_output new_output Unwritten (ended_by.Opening why) is h = h.0
-  audited_elsewhere counts whole old_output new_output Unwritten (ended_by.Work why) is h = absurd (other_exit is)
-  audited_elsewhere counts whole old_output new_output Unwritten (ended_by.Archive why) is h = h.3
+  opened_elsewhere : (fault : Fault) (Untouched : Type 0) (Left : WorkFault → Held (FileStore D disk) → Type 0) → fault_exit fault ≡ exit.OpenElsewhere → LeftIn disk IsFresh Untouched Left fault → Untouched
+  opened_elsewhere fault Untouched Left is h = beside_elsewhere Untouched Left (λ why. ⊥) fault is h (λ why none. absurd none)
 
-  pruned_elsewhere : (quiet : Bool) (old_output new_output : Option (List ℕ)) (Unwritten : Type 0) (fault : Fault) → fault_exit fault ≡ exit.OpenElsewhere → PruneEnded disk IsFresh quiet old_output new_output Unwritten fault
-      → Unwritten
-  pruned_elsewhere quiet old_output new_output Unwritten (ended_by.Opening why) is h = h.0
-  pruned_elsewhere quiet old_output new_output Unwritten (ended_by.Work why) is h = absurd (other_exit is)
-  pruned_elsewhere quiet old_output new_output Unwritten (ended_by.Archive why) is h = h.3
-
-  exported_elsewhere : (count : ℕ) (old_output new_output : Option (List ℕ)) (Unwritten : Type 0) (fault : Fault) → fault_exit fault ≡ exit.OpenElsewhere → ExportEnded disk IsFresh count old_output new_output Unwritten fault
-      → Unwritten
-  exported_elsewhere count old_output new_output Unwritten (ended_by.Opening why) is h = h.0
-  exported_elsewhere count old_output new_output Unwritten (ended_by.Work why) is h = absurd (other_exit is)
-  exported_elsewhere count old_output new_output Unwritten (ended_by.Archive why) is h = h.3
-
-  input_elsewhere : {Name : Type 0} (named : Option Name) (reads ends : Bool) (io : Streams) (fault : Fault) → InputEnded disk IsFresh named reads ends io fault → fault_exit fault ≡ exit.OpenElsewhere → io.unread × io.unwritten
+  input_elsewhere : {Name : Type 0} (named : Option Name) (reads ends : Bool) (io : Streams) (fault : Fault) → InputLeft disk IsFresh named reads ends io fault → fault_exit fault ≡ exit.OpenElsewhere → io.unread × io.unwritten
   input_elsewhere None reads ends io fault h is = absurd (other_exit (subst (λ (x : Fault). fault_exit x ≡ exit.OpenElsewhere) h.1 is))
   input_elsewhere (Some file) reads ends io fault h is = opened_elsewhere fault (io.unread × io.unwritten) _ is h
 
@@ -81,9 +66,9 @@ module _ {D : Type 0} (disk : Ghosts D) (IsFresh : Bool → D → Type 0) where
   elsewhere (task.Standby file address step patience) io old_errors new_errors fault h is = (opened_elsewhere fault ((io.unread × io.unwritten) × (new_errors ≡ old_errors)) _ is h).0
   elsewhere (task.Import file plan) io old_errors new_errors fault h is = (h.0, opened_elsewhere fault io.unwritten _ is h.2)
   elsewhere (task.Read file work) io old_errors new_errors fault h is = (h.0, opened_elsewhere fault io.unwritten _ is h.2)
-  elsewhere (task.AuditWithArchive file archive counts whole) io old_errors new_errors fault h is = (h.0, audited_elsewhere counts whole io.old_output io.new_output io.unwritten fault is h.2)
-  elsewhere (task.Prune file archive retention quiet) io old_errors new_errors fault h is = (h.0, pruned_elsewhere quiet io.old_output io.new_output io.unwritten fault is h.2)
-  elsewhere (task.ExportWithArchives file archives) io old_errors new_errors fault h is = (h.0, exported_elsewhere (length archives.now) io.old_output io.new_output io.unwritten fault is h.2)
+  elsewhere (task.AuditWithArchive file archive counts whole) io old_errors new_errors fault h is = (h.0, beside_elsewhere io.unwritten _ _ fault is h.2 (λ why left. left.3))
+  elsewhere (task.Prune file archive retention quiet) io old_errors new_errors fault h is = (h.0, beside_elsewhere io.unwritten _ _ fault is h.2 (λ why left. left.3))
+  elsewhere (task.ExportWithArchives file archives) io old_errors new_errors fault h is = (h.0, beside_elsewhere io.unwritten _ _ fault is h.2 (λ why left. left.3))
   elsewhere (task.AuditWhole file counts) io old_errors new_errors fault h is = (h.0, opened_elsewhere fault io.unwritten _ is h.2)
 
   pub err_elsewhere : (r : Result Status Fault) (asked : Task) (io : Streams) (old_errors new_errors : Option (List ℕ))

@@ -1,6 +1,6 @@
 -- A fault ended a command, and what is left: a reopening may find (a) what it could find at the start, or (b) that with the first of the requests. `Unserved` says (a) of a connection;
 -- sessions and desks over its book say (b).
-use Rattle.std.specs.Prelude.{◌≡◌, ◌⊎◌, ℕ, Bool, List, Option, Result, Ok, Err, MatchResult}
+use Rattle.std.specs.Prelude.{◌≡◌, ◌⊎◌, ℕ, Bool, List, Option, Result, Ok, Err}
 use Rattle.sqlite_disk.specs.declared.Disk.{Ghosts}
 use Rattle.sqlite_store.specs.declared.store.FileStore.{FileStore}
 use Rattle.sqlite.specs.Held.{Held, state}
@@ -16,6 +16,7 @@ use Rattle.acd_program.specs.Found.{IsFindingOf}
 use Rattle.acd_program.specs.InFiles.{WorkedOver}
 use Rattle.acd_sessions.specs.Output.{Output}
 use Rattle.acd_sessions.specs.Over.{IsSession, Database, OverCall, OverConnection, Unserved, OnlyAsked}
+use Rattle.acd_sessions.specs.ToDo.{ToDo}
 use Rattle.acd_program.specs.Work.{ImportsOver, IsFindingIfOrdered, WorkDone, text_left}
 use Rattle.acd_program.specs.declared.status.Status.{Status}
 use Rattle.acd_sessions.specs.declared.fault.WorkFault.{WorkFault}
@@ -32,12 +33,12 @@ abbrev pub IsOfClosing : WorkFault → Type 0
 IsOfClosing fault = (fault ≡ NoMemory) ⊎ (fault ≡ Store)
 
 -- the fault of a command: the one that ended its work or, where none did, the one of closing its file
-abbrev pub EndsBy : Result (Unit {0}) WorkFault → WorkFault → Type 0
-EndsBy ended fault = (ended ≡ Err fault) ⊎ ((ended ≡ Ok tt) × IsOfClosing fault)
+abbrev pub IsFaultOf : Result (Unit {0}) WorkFault → WorkFault → Type 0
+IsFaultOf ended fault = (ended ≡ Err fault) ⊎ ((ended ≡ Ok tt) × IsOfClosing fault)
 
--- the work ended, and then the closing of its file did: both without a fault or, where one came of them, so
-abbrev pub EndsBoth : {F : Type 0} → Result (Unit {0}) WorkFault → Result (Unit {0}) F → Result (Unit {0}) WorkFault → Type 0
-EndsBoth ended closed result = MatchResult result (λ (done : Unit {0}). (ended ≡ Ok tt) × (closed ≡ Ok tt)) (EndsBy ended)
+-- work that ended so, and the closing of its file
+abbrev pub then_closed : {F : Type 0} → Result (Unit {0}) WorkFault → Result (Unit {0}) F → ToDo (Unit {0}) WorkFault
+then_closed ended closed = record { Done = λ done. (ended ≡ Ok tt) × (closed ≡ Ok tt); Left = IsFaultOf ended }
 
 -- ---- over a book
 
@@ -71,25 +72,19 @@ StoppedPlan requests old_output new_output old new = (OnlyAsked old new × (new_
 abbrev pub StoppedOver : Work → Option (List ℕ) → Option (List ℕ) → BookState → BookState → Type 0
 StoppedOver work old_output new_output old new = (OnlyAsked old new × (new_output ≡ old_output)) ⊎ IsBegun work old_output new_output old new
 
--- so the requests of a plan were executed over a book that was handed in, with the one that came back: all of them or, where a fault ended that, so
-abbrev pub TakesAll : {B : Type 0} → book.Ghosts B → B → B → List Request → Output → Type 0
-TakesAll books old new requests out = ImportsOver requests (books.state old) out.before out.after (books.state new)
+-- over a book that was handed in, with the one that came back: the requests of a plan
+abbrev pub plan_over : {B F : Type 0} → book.Ghosts B → B → List Request → Output → B → ToDo Done F
+plan_over books old requests out new = record {
+  Done = λ done. ImportsOver requests (books.state old) out.before out.after (books.state new);
+  Left = λ fault. StoppedPlan requests out.before out.after (books.state old) (books.state new);
+}
 
-abbrev pub TakesSome : {B : Type 0} → book.Ghosts B → B → B → List Request → Output → Type 0
-TakesSome books old new requests out = StoppedPlan requests out.before out.after (books.state old) (books.state new)
-
-abbrev pub EndsImport : {B F : Type 0} → book.Ghosts B → B → Result Done F × B → List Request → Output → Type 0
-EndsImport books given result requests out = MatchResult result.0 (λ done. TakesAll books given result.1 requests out) (λ fault. TakesSome books given result.1 requests out)
-
--- so any work was done over it
-abbrev pub WorksBy : {B : Type 0} → book.Ghosts B → B → B → Work → Output → Done → Type 0
-WorksBy books old new work out done = WorkDone IsFindingIfOrdered work (books.state old) out.before out.after done (books.state new)
-
-abbrev pub StopsBy : {B : Type 0} → book.Ghosts B → B → B → Work → Output → Type 0
-StopsBy books old new work out = StoppedOver work out.before out.after (books.state old) (books.state new)
-
-abbrev pub EndsWork : {B F : Type 0} → book.Ghosts B → B → Result Done F × B → Work → Output → Type 0
-EndsWork books given result work out = MatchResult result.0 (λ done. WorksBy books given result.1 work out done) (λ fault. StopsBy books given result.1 work out)
+-- and any work
+abbrev pub work_over : {B F : Type 0} → book.Ghosts B → B → Work → Output → B → ToDo Done F
+work_over books old work out new = record {
+  Done = λ done. WorkDone IsFindingIfOrdered work (books.state old) out.before out.after done (books.state new);
+  Left = λ fault. StoppedOver work out.before out.after (books.state old) (books.state new);
+}
 
 -- ---- over a connection
 
@@ -97,15 +92,12 @@ EndsWork books given result work out = MatchResult result.0 (λ done. WorksBy bo
 abbrev pub WorkStopped : Work → Bool → State → State → Option (List ℕ) → Option (List ℕ) → Type 0
 WorkStopped work makes old new old_output new_output = (Unserved makes old new × (new_output ≡ old_output)) ⊎ OverConnection (IsBegun work old_output new_output) makes old new
 
--- so the work was done over a database that was handed in, with the connection that came back; or, where a fault ended it, so
-abbrev pub WorksInDatabase : {S : Type 0} → Database S → Held S → Work → Output → Done → Type 0
-WorksInDatabase db last work out done = OverCall db (λ (old new : BookState). WorkDone IsFindingOf work old out.before out.after done new) last
-
-abbrev pub StopsInDatabase : {S : Type 0} → Database S → Held S → Work → Output → Type 0
-StopsInDatabase db last work out = WorkStopped work db.makes (state db.store db.conn) (state db.store last) out.before out.after
-
-abbrev pub EndsInDatabase : {S F : Type 0} → Database S → Result Done F × Held S → Work → Output → Type 0
-EndsInDatabase db result work out = MatchResult result.0 (λ done. WorksInDatabase db result.1 work out done) (λ fault. StopsInDatabase db result.1 work out)
+-- over a database that was handed in, with the connection that came back
+abbrev pub work_in : {S F : Type 0} → Database S → Work → Output → Held S → ToDo Done F
+work_in db work out last = record {
+  Done = λ done. OverCall db (λ (old new : BookState). WorkDone IsFindingOf work old out.before out.after done new) last;
+  Left = λ fault. WorkStopped work db.makes (state db.store db.conn) (state db.store last) out.before out.after;
+}
 
 module _ {D : Type 0} {g : Ghosts D} where
   -- the work was done, and a beginning of what was left of it was printed
@@ -116,13 +108,12 @@ module _ {D : Type 0} {g : Ghosts D} where
     pub printed : Begins between new_output (text_left left)
 
   -- Work over a connection ended by a fault, and the connection was shut. Work that only reads leaves (a) alone, whatever was printed.
-  pub record WorkEnded (makes : Bool) (work : Work) (conn : Held (FileStore D g)) (old_output new_output : Option (List ℕ)) : Type 0 where
+  pub record WorkLeft (makes : Bool) (work : Work) (conn : Held (FileStore D g)) (old_output new_output : Option (List ℕ)) : Type 0 where
     pub last : Held (FileStore D g)
     pub shut : IsShut last
     pub kept : OnlyReads work → Unserved makes (file_state conn) (file_state last)
     pub left : WorkStopped work makes (file_state conn) (file_state last) old_output new_output ⊎ WasCut makes work conn last old_output new_output
 
-  -- so the work over a connection was done, with this status; or, where a fault ended it, so
-  abbrev pub EndsWorkOn : {F : Type 0} → Held (FileStore D g) → Result Status F → Bool → Work → Output → Type 0
-  EndsWorkOn conn result makes work out =
-      MatchResult result (λ status. WorkedOver makes work conn out.before out.after status) (λ fault. WorkEnded makes work conn out.before out.after)
+  -- over a connection to files, and then printed
+  abbrev pub work_on : {F : Type 0} → Held (FileStore D g) → Bool → Work → Output → ToDo Status F
+  work_on conn makes work out = record { Done = WorkedOver makes work conn out.before out.after; Left = λ fault. WorkLeft makes work conn out.before out.after }

@@ -1,5 +1,5 @@
--- What is promised of a call over files that were just opened, by their disk: what it did where no fault came of it, and what it left where one did.
-use Rattle.std.specs.Prelude.{◌≡◌, ◌⊎◌, ℕ, Bool, false, List, Option, Result, IfOk, MatchResult}
+-- What a call did over files that were just opened, by their disk, and how a command ended.
+use Rattle.std.specs.Prelude.{◌≡◌, ◌⊎◌, ℕ, Bool, false, List, Option, Result, IfOk}
 use Rattle.sqlite_disk.specs.declared.Disk.{Ghosts}
 use Rattle.sqlite_disk.specs.declared.calls.Calls as calls
 use Rattle.sqlite_disk.specs.declared.start.Start as start
@@ -7,30 +7,25 @@ use Rattle.sqlite_disk.specs.declared.modelled.Modelled.{Modelled}
 use Rattle.sqlite_std_file.specs.declared.host.Host.{Host}
 use Rattle.sqlite_std_file.specs.File.{IsFresh}
 use Rattle.sqlite.specs.Held.{Held, state}
-use Rattle.sqlite.specs.State.{State}
 use Rattle.sqlite_trees.specs.declared.store.Store.{Ghosts as Stores}
 use Rattle.clap.specs.Words.{Text}
 use Rattle.acd_book.specs.declared.book.Book as book
 use Rattle.acd_desk.specs.Pairs.{BookCall}
 use Rattle.acd_desk.specs.declared.desk.Desk.{Desk}
 use Rattle.acd_desk.specs.Standing.{standing}
-use Rattle.acd_lines.specs.Lines.{Streams, Untouched}
+use Rattle.acd_lines.specs.Lines.{Streams}
 use Rattle.acd_log.specs.declared.ending.Ending.{Ending}
 use Rattle.acd_command.specs.CommandLine.{IsTaskOf, IsUntaken}
 use Rattle.acd_sessions.specs.Output.{Output}
 use Rattle.acd_sessions.specs.Over.{OverConnection}
 use Rattle.acd_program.specs.Pruning.{IsPruningInOrder, BookPruned, LeavesPruned}
-use Rattle.acd_sessions.specs.Serving.{Service}
 use Rattle.acd_program.specs.Statuses.{IsDone, status_number, exit_number, fault_exit}
-use Rattle.acd_program.specs.Tasks.{WorkedIn, ImportedIn, ServeDoneIn, StandbyDoneIn, FileAnswered, InputAnswered, WholeAudit, AuditedWith, PrunedWith, Exported, TaskDone}
-use Rattle.acd_program.specs.TasksEnded.{EndedIn, LinesLeft, WorkEndedIn, PlanEnded, AuditEnded, AuditWithArchiveEnded, PruneEnded, ExportEnded, ServiceEnded, StandbyTaskEnded, InputEnded, TaskEnded}
+use Rattle.acd_program.specs.TasksEnded.{TaskDone, TaskEnded}
+use Rattle.acd_sessions.specs.ToDo.{ToDo}
 use Rattle.acd_program.specs.WithArchive.{AskedWithArchive, AuditsWithArchive, AuditedWithArchive, BookAskedWithArchive}
-use Rattle.acd_http.specs.declared.serving.Span.{Span}
-use Rattle.acd_command.specs.declared.asked.Address.{Address}
 use Rattle.acd_command.specs.declared.asked.Task.{Task}
 use Rattle.acd_program.specs.declared.auditing.Finding.{Finding}
 use Rattle.acd_program.specs.declared.desk.Done.{Done}
-use Rattle.acd_command.specs.declared.asked.Work.{Work}
 use Rattle.acd_program.specs.declared.fault.Fault.{Fault}
 use Rattle.acd_program.specs.declared.outcome.Pruning.{Pruning}
 use Rattle.acd_program.specs.declared.status.Exit.{Exit}
@@ -43,29 +38,7 @@ IsNoTask words io = io.unread × (io.unwritten ⊎ IsUntaken words)
 
 -- the files are those of the host, of whose bytes `known` is known at the start
 module _ {S : Type 0} {host : calls.Ghosts Host} {known : start.Ghosts S} (disk : Ghosts (Modelled Host S host known)) where
-  -- ---- work
-
-  -- so the work was done over a connection to them, with this status; or, where a fault ended it, so
-  abbrev pub EndsWorkIn : Bool → Work → Output → Result Status Fault → Type 0
-  EndsWorkIn makes work out result =
-      MatchResult result (WorkedIn disk IsFresh makes work out.before out.after) (WorkEndedIn disk IsFresh makes work out.before out.after out.unwritten)
-
-  -- the same of the requests of a plan, by a writer as it was and as it is then
-  abbrev pub EndsImportIn : {W : Type 0} → (W → Option (List ℕ)) → W → W → Result Status Fault → Type 0
-  EndsImportIn contents old new result =
-      MatchResult result (ImportedIn disk IsFresh (contents old) (contents new)) (PlanEnded disk IsFresh (contents old) (contents new) (new ≡ old))
-
-  -- ---- audits
-
-  -- of an audit that prints how the log of the desk's file ended before
-  abbrev pub EndsWholeAudit : Bool → Output → Result Status Fault → Type 0
-  EndsWholeAudit counts out result =
-      MatchResult result (WholeAudit disk IsFresh counts out.before out.after) (AuditEnded disk IsFresh counts out.before out.after out.unwritten)
-
-  -- of one with an archive
-  abbrev pub EndsAudit : Bool → Bool → Output → Result Status Fault → Type 0
-  EndsAudit counts whole out result =
-      MatchResult result (AuditedWith disk IsFresh counts whole out.before out.after) (AuditWithArchiveEnded disk IsFresh counts whole out.before out.after out.unwritten)
+  -- ---- with an archive
 
   -- the desk was asked while the archive was open
   abbrev pub AsksWithArchive : {B F : Type 0} → book.Ghosts B → Desk B → Desk B → Result Finding F → Type 0
@@ -79,63 +52,18 @@ module _ {S : Type 0} {host : calls.Ghosts Host} {known : start.Ghosts S} (disk 
   abbrev pub AuditsDatabase : {C F : Type 0} → Bool × Ending → Stores C → Held C → Result Done F × Held C → Type 0
   AuditsDatabase asked store conn result = IfOk result.0 (AuditedWithArchive disk IsFresh asked.0 asked.1 (state store conn) (state store result.1))
 
-  -- ---- prunes
-
   -- a book was asked what may go of it while the archive was open
   abbrev pub AsksToPrune : {F : Type 0} → Ending → BookCall → Result Pruning F → Type 0
   AsksToPrune ending current result = IfOk result (BookAskedWithArchive disk IsFresh (IsPruningInOrder ending) current.old current.new)
 
-  -- so the book that a database held was pruned; or, where a fault ended it, so
-  abbrev pub EndsPruneOver : Ending → State → State → Result Pruning Fault → Type 0
-  EndsPruneOver ending s t result =
-      MatchResult result (λ (pruning : Pruning). OverConnection (λ old new. BookPruned disk IsFresh ending old new pruning) false s t) (LeavesPruned disk IsFresh s t)
-
-  -- and that of a file
-  abbrev pub EndsPrune : Bool → Output → Result Status Fault → Type 0
-  EndsPrune quiet out result = MatchResult result (PrunedWith disk IsFresh quiet out.before out.after) (PruneEnded disk IsFresh quiet out.before out.after out.unwritten)
-
-  -- ---- exports
-
-  -- so the events of so many archives and of a file were printed; or, where a fault ended that, so
-  abbrev pub EndsExport : ℕ → Output → Result Status Fault → Type 0
-  EndsExport count out result = MatchResult result (Exported disk IsFresh count out.before out.after) (ExportEnded disk IsFresh count out.before out.after out.unwritten)
-
-  -- ---- lines
-
-  -- so the lines of the input were answered by the desk of the files that were named; or, where a fault ended it, so
-  abbrev pub EndsFileLines : Bool → Bool → Streams → Result (Unit {0}) Fault → Type 0
-  EndsFileLines reads ends io result =
-      MatchResult result (λ done. FileAnswered disk IsFresh reads ends io) (λ fault. EndedIn disk IsFresh fault (Untouched io) (LinesLeft disk IsFresh reads ends io))
-
-  -- the same, or by a desk in memory where none were named
-  abbrev pub EndsInput : {Name : Type 0} → Option Name × Bool × Bool → Streams → Result Status Fault → Type 0
-  EndsInput input io result =
-      MatchResult result (λ status. InputAnswered disk IsFresh input.0 input.1 input.2 io status) (λ fault. InputEnded disk IsFresh input.0 input.1 input.2 io fault)
-
-  -- ---- connections
-
-  -- a fault ended a service of so many
-  abbrev pub EndsService : Service → Fault → Type 0
-  EndsService to_do fault =
-      ServiceEnded disk IsFresh to_do.span to_do.address to_do.said.before to_do.said.after to_do.errors.before to_do.errors.after to_do.said.unwritten fault
-
-  -- so a desk of the files answered so many connections, or answered them until it failed; or, where a fault ended it, so
-  abbrev pub EndsFileService : Service → Result (Unit {0}) Fault → Type 0
-  EndsFileService to_do result = MatchResult result (λ done. ServeDoneIn disk IsFresh to_do.span to_do.errors.before to_do.errors.after) (λ fault. EndsService to_do fault)
-
-  -- so a desk of the files answered the lines of an input up to the order, and then connections at an address; or, where a fault ended it, so
-  abbrev pub StoodBy : Span × Address → Streams → Output → Type 0
-  StoodBy service io errors = StandbyDoneIn disk IsFresh service.0 service.1 io errors.before errors.after
-
-  abbrev pub StandsOver : Span × Address → Streams → Output → Result (Unit {0}) Fault → Type 0
-  StandsOver service io errors result = MatchResult result (λ done. StoodBy service io errors) (StandbyTaskEnded disk IsFresh service io (errors.before, errors.after))
+  -- the prune of the book that a database held, with the connection that came back
+  abbrev pub prune_over : {C : Type 0} → Ending → Stores C → Held C → Held C → ToDo Pruning Fault
+  prune_over ending store conn last = record {
+    Done = λ (pruning : Pruning). OverConnection (λ old new. BookPruned disk IsFresh ending old new pruning) false (state store conn) (state store last);
+    Left = LeavesPruned disk IsFresh (state store conn) (state store last);
+  }
 
   -- ---- tasks
-
-  -- so the task was done, by what was read and written, and by what the stream of errors held before and holds then; or, where a fault ended it, so
-  abbrev pub EndsTask : Task → Streams → Output → Result Status Fault → Type 0
-  EndsTask task io errors result =
-      MatchResult result (TaskDone disk IsFresh task io errors.before errors.after) (λ fault. TaskEnded disk IsFresh task io errors.before errors.after fault)
 
   -- the task was done, and the command ended with its status
   abbrev pub ExitsDone : Task → Streams → Output → Exit → Type 0

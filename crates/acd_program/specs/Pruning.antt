@@ -1,6 +1,7 @@
 -- A prune: what may go of a content by its archive; and what a prune does and leaves, from the two books on to their files.
-use Rattle.std.specs.Prelude.{◌≡◌, ◌⊎◌, ⊤, ℕ, Bool, true, false, Result, Ok, IfOk, MatchResult}
+use Rattle.std.specs.Prelude.{◌≡◌, ◌⊎◌, ⊤, ℕ, Bool, true, false, Result, Ok, IfOk}
 use Rattle.std.specs.Bool.{Decides}
+use Rattle.std.specs.Borrow.{MutBor}
 use Rattle.sqlite.specs.State.{State}
 use Rattle.sqlite.specs.Held.{Held}
 use Rattle.sqlite_disk.specs.declared.Disk.{Ghosts}
@@ -13,7 +14,7 @@ use Rattle.acd_book.specs.declared.fault.BookFault.{BookFault}
 use Rattle.acd_desk.specs.AuditWith.{StandsInTime}
 use Rattle.acd_book.specs.BookReading.{Anything, ReadsIfOpen}
 use Rattle.acd_desk.specs.Carried.{Archive}
-use Rattle.acd_desk.specs.Pairs.{BookCall}
+use Rattle.acd_desk.specs.Pairs.{BookCall, across}
 use Rattle.acd_desk.specs.Pruning.{IsPlace, IsGone}
 use Rattle.acd_log.specs.declared.ending.Ending.{Ending}
 use Rattle.acd_log.specs.declared.ending.Ending.TheVariants.{Plain, Early, Headless}
@@ -24,8 +25,10 @@ use Rattle.acd_program.specs.declared.fault.Fault.TheVariants as fault
 use Rattle.acd_program.specs.declared.outcome.Pruning.{Pruning}
 use Rattle.acd_program.specs.declared.outcome.Pruning.TheVariants as prune
 use Rattle.acd_sessions.specs.Over.{OnlyAsked, OverConnection, Unserved}
+use Rattle.acd_sessions.specs.ToDo.{ToDo}
 use Rattle.acd_program.specs.WithArchive.{IsFindingWith, WasRead, WereAsked, OverArchive, InArchive, LeavesArchive}
 use Rattle.acd_program.specs.Work.{WasAsked}
+use denote.Triple.Both.{Both}
 
 -- ---- what may go
 
@@ -95,10 +98,16 @@ pub record AskedBoth {A : Type 0} (IsAnswer : Content → Content → A → Type
 abbrev pub OnlyAskedBoth : BookCall → BookCall → Type 0
 OnlyAskedBoth archive current = OnlyAsked archive.old archive.new × OnlyAsked current.old current.new
 
--- so it is left, if there is no answer
-abbrev pub EndsAsking : {A F : Type 0} → (Content → Content → A → Type 0) → BookCall → BookCall → Result A F → Type 0
-EndsAsking IsAnswer archive current result =
-    MatchResult result (AskedBoth IsAnswer archive.old archive.new current.old current.new) (λ fault. OnlyAskedBoth archive current)
+-- a book by the name of a parameter, which has both values
+abbrev pub book_across : {B : Type 0} → (B → BookState) → Both (MutBor B) (MutBor B) → BookCall
+book_across state book = across state book.entry.now book.exit.now
+
+-- the asking of an archive's book, and of another one with that which came back
+abbrev pub asking : {A B F : Type 0} → (Content → Content → A → Type 0) → BookCall → (B → BookState) → B → B → ToDo A F
+asking IsAnswer archive state old new = record {
+  Done = AskedBoth IsAnswer archive.old archive.new (state old) (state new);
+  Left = λ fault. OnlyAskedBoth archive (across state old new);
+}
 
 -- by the archive's content and a finding this is to go
 abbrev pub IsDecision : Ending → Finding → Content → Pruning → Type 0
@@ -112,9 +121,11 @@ pub record WasDecided (ending : Ending) (found : Finding) (old_archive new_archi
   pub current : WasLeft old new
   pub decision : IfHonest old_archive new_archive (old_archive.is_open → StandsInTime old_archive.content → IsDecision ending found old_archive.content pruning)
 
-abbrev pub EndsDeciding : {F : Type 0} → Ending → Finding → BookCall → BookCall → Result Pruning F → Type 0
-EndsDeciding ending found archive current result =
-    MatchResult result (WasDecided ending found archive.old archive.new current.old current.new) (λ fault. OnlyAskedBoth archive current)
+abbrev pub deciding : {F : Type 0} → Ending → Finding → BookCall → BookCall → ToDo Pruning F
+deciding ending found archive current = record {
+  Done = WasDecided ending found archive.old archive.new current.old current.new;
+  Left = λ fault. OnlyAskedBoth archive current;
+}
 
 -- what is to go goes, all or none
 abbrev pub CarriesOut : BookState → BookState → Result (Unit {0}) BookFault → Pruning → Type 0

@@ -1,5 +1,5 @@
 -- The work done, by what a command line asked for.
-use Rattle.std.specs.Prelude.{◌≡◌, ℕ, Bool, true, false, List, length, Option, Some, None, Ok, string_bytes}
+use Rattle.std.specs.Prelude.{◌≡◌, ℕ, Bool, true, false, List, Option, Some, None, Ok, string_bytes}
 use Rattle.std.specs.Io.KnownBytes.{Appends}
 use Rattle.sqlite_disk.specs.declared.Disk.{Ghosts}
 use Rattle.sqlite_store.specs.declared.store.FileStore.{FileStore}
@@ -16,7 +16,7 @@ use Rattle.acd_sessions.specs.LinesOver.{in_turn, DatabaseAnswered, Whole}
 use Rattle.acd_sessions.specs.Seen.{Seen, SeenNew, InDatabase, SeenIn}
 use Rattle.acd_program.specs.Found.{IsFindingOf, HasCount, finding_line, pruning_line}
 use Rattle.acd_program.specs.Statuses.{finding_status, pruning_status}
-use Rattle.acd_program.specs.Work.{WasAsked, IsTextOf, ImportsOver}
+use Rattle.acd_program.specs.Work.{WasAsked, ImportsOver}
 use Rattle.acd_files.specs.Connections.{OfFiles, IsLaidIn, IsOpenedFrom}
 use Rattle.acd_program.specs.InFiles.{WorkedOver, InFile}
 use Rattle.acd_http.specs.declared.serving.Span.{Span}
@@ -33,8 +33,6 @@ use Rattle.acd_program.specs.Pruning.{BookPruned}
 use Rattle.acd_program.specs.declared.outcome.Pruning.{Pruning}
 use Rattle.acd_program.specs.declared.status.Status.{Status}
 use Rattle.acd_program.specs.declared.status.Status.TheVariants.{Success}
-use Rattle.acd_command.specs.declared.asked.Task.{Task}
-use Rattle.acd_command.specs.declared.asked.Task.TheVariants.{Lines, Serve, Standby, Import, AuditWhole, AuditWithArchive, Prune, ExportWithArchives, Read}
 use Rattle.acd_files.specs.Logs.{IsSomeEnding}
 
 -- Each line of the input was answered, over a desk in memory: the answers to the requests among them are the abstract desk's or, where lines may be reads too, each line was answered by the desk that
@@ -134,19 +132,3 @@ module _ {D : Type 0} (disk : Ghosts D) (IsFresh : Bool → D → Type 0) where
     pub done : InFile disk IsFresh (λ old new. WasAsked old (AddsEvents before whole) (tt {0}) new) false
     pub printed : Appends old_output new_output (string_bytes whole.text)
     pub outcome : status ≡ Success
-
-  -- the task was done, from what was read to what was written, to what was printed on the stream of errors, and to the exit
-  -- status
-  abbrev pub TaskDone : Task → Streams → Option (List ℕ) → Option (List ℕ) → Status → Type 0
-  TaskDone (Lines file reads ends) io old_errors new_errors status = InputAnswered file reads ends io status
-  TaskDone (Serve file address span) io old_errors new_errors status = ServeDoneIn span old_errors new_errors × (status ≡ Success)
-  TaskDone (Standby file address step patience) io old_errors new_errors status = StandbyDoneIn (endless step patience) address io old_errors new_errors × (status ≡ Success)
-  TaskDone (Import file plan) io old_errors new_errors status = ImportedIn io.old_output io.new_output status
-  TaskDone (Read file (kind.Import requests)) io old_errors new_errors status = InFile disk IsFresh (λ old new. ImportsOver requests.now old io.old_output io.new_output new) false × (status ≡ Success)
-  TaskDone (Read file (kind.Print printout)) io old_errors new_errors status =
-      (text : List ℕ) × InFile disk IsFresh (λ old new. WasAsked old (IsTextOf printout) text new) false × Appends io.old_output io.new_output text × (status ≡ Success)
-  TaskDone (Read file (kind.Audit counts ending)) io old_errors new_errors status = AuditedIn counts ending io.old_output io.new_output status
-  TaskDone (AuditWithArchive file archive counts whole) io old_errors new_errors status = AuditedWith counts whole io.old_output io.new_output status
-  TaskDone (Prune file archive retention quiet) io old_errors new_errors status = PrunedWith quiet io.old_output io.new_output status
-  TaskDone (ExportWithArchives file archives) io old_errors new_errors status = Exported (length archives.now) io.old_output io.new_output status
-  TaskDone (AuditWhole file counts) io old_errors new_errors status = (ending : Ending) × IsSomeEnding ending × AuditedIn counts ending io.old_output io.new_output status

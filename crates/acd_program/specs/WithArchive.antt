@@ -112,11 +112,11 @@ module _ {D : Type 0} {g : Ghosts D} where
     pub closed : IsLaidIn last
     pub kept : Unserved false (file_state conn) (file_state last)
 
-  -- whatever was done over it, the connection was shut, and a reopening finds there what it could find before
-  pub record IsSparedIn (conn : Held (FileStore D g)) : Type 0 where
+  -- whatever was done over it, the connection was shut, and what it held was kept so
+  pub record IsShutWith (IsKept : State → State → Type 0) (conn : Held (FileStore D g)) : Type 0 where
     pub last : Held (FileStore D g)
     pub shut : IsShut last
-    pub kept : Unserved false (file_state conn) (file_state last)
+    pub kept : IsKept (file_state conn) (file_state last)
 
   -- the same, of an archive in files
   pub record AskedIn (conn : Held (FileStore D g)) (d e : Standing) (found : Finding) : Type 0 where
@@ -160,7 +160,7 @@ module _ {D : Type 0} (disk : Ghosts D) (IsFresh : Bool → D → Type 0) where
   -- this is left of the archive: what an opening leaves where there was no connection, and else what a reopening could find before
   abbrev pub LeavesArchive : ArchiveFault → Type 0
   LeavesArchive (archive.Opening why) = LeavesUnopened disk IsFresh why
-  LeavesArchive (archive.Work why) = (conn : OfFiles disk) × IsOpenedFrom disk IsFresh conn × IsSparedIn conn
+  LeavesArchive (archive.Work why) = (conn : OfFiles disk) × IsOpenedFrom disk IsFresh conn × IsShutWith (Unserved false) conn
 
   -- the same, where a fault of the desk may be what ended it: then the archive wasn't opened
   abbrev pub LeavesBeside : Fault → Type 0

@@ -1,5 +1,5 @@
 -- Work over a book, and what is left to print of it.
-use Rattle.std.specs.Prelude.{◌≡◌, ℕ, Bool, List, [], Option, Some, Result, Ok, IfOk, MatchResult, String, string_bytes}
+use Rattle.std.specs.Prelude.{◌≡◌, ℕ, Bool, List, [], Option, Some, Result, Ok, IfOk, String, string_bytes}
 use Rattle.std.specs.Io.KnownBytes.{Appends}
 use Rattle.acd_terms.specs.declared.command.Request.{Request}
 use Rattle.acd_book.specs.Content.{Content, Within}
@@ -17,6 +17,7 @@ use Rattle.acd_program.specs.Found.{IsFindingOf, HasCount, finding_line, pruning
 use Rattle.acd_program.specs.Statuses.{finding_status, pruning_status}
 use Rattle.acd_sessions.specs.Output.{Output}
 use Rattle.acd_sessions.specs.Over.{IsSession}
+use Rattle.acd_sessions.specs.ToDo.{ToDo}
 use Rattle.acd_log.specs.declared.ending.Ending.{Ending}
 use Rattle.acd_program.specs.declared.auditing.Finding.{Finding}
 use Rattle.acd_command.specs.declared.asked.Printout.{Printout}
@@ -115,7 +116,9 @@ pub record IsPrinted {F : Type 0} (left : Done) (closed : Result (Unit {0}) F) (
   pub printed : Appends old_output new_output (text_left left)
   pub outcome : status ≡ status_left left
 
--- so it was printed, with this status; or, where a fault ended that, a beginning of it
-abbrev pub EndsPrinting : {F G : Type 0} → Done → Result (Unit {0}) F → Output → Result Status G → Type 0
-EndsPrinting {G = G} left closed out result =
-    MatchResult result (λ (status : Status). IsPrinted left closed out.before out.after status) (λ (fault : G). Begins out.before out.after (text_left left))
+-- the printing of what was left; after a fault a beginning of it is written
+abbrev pub printing : {F G : Type 0} → Done → Result (Unit {0}) F → Output → ToDo Status G
+printing left closed out = record {
+  Done = IsPrinted left closed out.before out.after;
+  Left = λ fault. Begins out.before out.after (text_left left);
+}

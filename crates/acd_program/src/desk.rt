@@ -5,9 +5,10 @@ ghost use Rattle.sqlite.specs.Held.{state};
 ghost use Rattle.acd_desk.specs.ReadDone.{DeskRead};
 ghost use Rattle.acd_desk.specs.ReadAnswers.{text_read};
 ghost use Rattle.acd_sessions.specs.Over.{OnlyAsked};
-ghost use Rattle.acd_program.specs.Ended.{OnlyReads, EndsImport, EndsWork, EndsInDatabase};
-ghost use Rattle.acd_sessions.specs.Output.{output};
+ghost use Rattle.acd_program.specs.Ended.{OnlyReads, plan_over, work_over, work_in};
+ghost use Rattle.acd_sessions.specs.Output.{written};
 ghost use Rattle.acd_sessions.specs.Over.{database, Unserved};
+ghost use Rattle.acd_sessions.specs.ToDo.{EndedWith};
 ghost use Rattle.acd_program.specs.Work.{text_left, status_left, IsPrintoutOf, PrintsOver, AuditsBook};
 
 use crate::auditing::{Finding, audited};
@@ -41,8 +42,8 @@ fn imported<B: Book, W: Write>(
     requests: &[Request],
     writer: &mut W,
 ) -> (Result<Done, WorkFault>, B)
-    ensures result { EndsImport B.Book book result requests.now
-        (output W.contents writer.old writer.new) }
+    ensures result { EndedWith (plan_over B.Book book requests.now
+        (written W.Write writer)) result }
     ensures nothing { IfOk result.0 (λ done. done ≡ Done.Nothing) }
 {
     let mut desk = match Desk::open(alloc, book) {
@@ -129,8 +130,8 @@ fn over_book<B: Book, W: Write>(
     work: Work<'_>,
     writer: &mut W,
 ) -> (Result<Done, WorkFault>, B)
-    ensures result { EndsWork B.Book book result work.entry
-        (output W.contents writer.old writer.new) }
+    ensures result { EndedWith (work_over B.Book book work.entry
+        (written W.Write writer)) result }
     // work that only reads changes nothing, whatever comes of it, and writes nothing
     ensures kept { OnlyReads work.entry → OnlyAsked (B.state book) (B.state result.1) }
     ensures silent { OnlyReads work.entry → writer.new ≡ writer.old }
@@ -154,8 +155,8 @@ pub(crate) fn over_database<S: Alter, W: Write>(
     writer: &mut W,
 ) -> (Result<Done, WorkFault>, Connection<S>)
     requires { conn.in_transaction ≡ false }
-    ensures result { EndsInDatabase (database S.Store makes conn) result work.entry
-        (output W.contents writer.old writer.new) }
+    ensures result { EndedWith (work_in (database S.Store makes conn) work.entry
+        (written W.Write writer)) result }
     ensures kept { OnlyReads work.entry
         → Unserved makes (state S.Store conn) (state S.Store result.1) }
     ensures silent { OnlyReads work.entry → writer.new ≡ writer.old }

@@ -7,7 +7,7 @@ ghost use Rattle.acd_book.specs.BookReading.{MayRead, IfOrdered};
 ghost use Rattle.acd_desk.specs.ReadAnswers.{WritesPage};
 ghost use Rattle.acd_program.specs.Exporting.{WritesRows, AddsEvents, AddsOver, AddsIn, AddsArchive, AddsArchives, IsNewTable, MakesTable, LeavesArchives, LeavesExport};
 ghost use Rattle.acd_sessions.specs.Over.{database, Unserved};
-ghost use Rattle.acd_program.specs.WithArchive.{IsSparedIn, LeavesArchive};
+ghost use Rattle.acd_program.specs.WithArchive.{IsShutWith, LeavesArchive};
 
 use crate::fault::{ArchiveFault, Fault};
 use crate::with_archive::found_and_closed;
@@ -161,7 +161,7 @@ fn add_files<D: Disk + Drop>(
 ) -> Result<(), WorkFault>
     requires { conn.in_transaction ≡ false }
     ensures added { AddsIn conn table.old table.new result }
-    ensures spared { IsSparedIn conn }
+    ensures spared { IsShutWith (Unserved false) conn }
 {
     let (added, conn) = add_archived(alloc, conn, table);
     found_and_closed(added, close_connection(conn))

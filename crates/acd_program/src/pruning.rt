@@ -6,10 +6,11 @@ ghost use Rattle.sqlite_std_file.specs.File.{IsFresh};
 ghost use Rattle.acd_sqlbook.specs.View.{book_of};
 ghost use Rattle.acd_desk.specs.Pairs.{across};
 ghost use Rattle.acd_sessions.specs.Over.{OnlyAsked};
-ghost use Rattle.acd_program.specs.FileTasks.{AsksToPrune, EndsPruneOver};
+ghost use Rattle.acd_program.specs.FileTasks.{AsksToPrune, prune_over};
 ghost use Rattle.acd_sessions.specs.Over.{Unserved};
-ghost use Rattle.acd_program.specs.Pruning.{is_well, goes_on, CarriesOut, EndsAsking, EndsDeciding, IsPruningInOrder, PlansOver, PlansIn};
-ghost use Rattle.acd_program.specs.WithArchive.{IsFindingInOrder, IsSparedIn, LeavesBeside};
+ghost use Rattle.acd_program.specs.Pruning.{is_well, goes_on, asking, book_across, deciding, CarriesOut, IsPruningInOrder, PlansOver, PlansIn};
+ghost use Rattle.acd_sessions.specs.ToDo.{Ended, EndedWith};
+ghost use Rattle.acd_program.specs.WithArchive.{IsFindingInOrder, IsShutWith, LeavesBeside};
 
 use crate::auditing::{Finding, audited_with_archive};
 use crate::cut::{find_cut, is_place};
@@ -61,8 +62,8 @@ fn decide<A: Book, B: Book>(
     ending: Ending,
     retention: Retention,
 ) -> Result<Pruning, WorkFault>
-    ensures { EndsDeciding ending found (across A.state archive.old archive.new)
-        (across B.state book.old book.new) result }
+    ensures { Ended (deciding ending found (book_across A.state archive)
+        (book_across B.state book)) result }
 {
     if !goes_on(ending, found) {
         return Ok(Pruning::Refused(found, ending));
@@ -87,8 +88,8 @@ fn audited_beside<A: Book, B: Book>(
     book: Watched<'_, B>,
     archive: &mut A,
 ) -> (Result<Finding, WorkFault>, B)
-    ensures { EndsAsking IsFindingInOrder (across A.state archive.old archive.new)
-        (across B.state book.entry.inner result.1) result.0 }
+    ensures { EndedWith (asking IsFindingInOrder (book_across A.state archive)
+        B.state book.entry.inner) result }
 {
     let mut desk = match Desk::open(alloc, book) {
         Ok(desk) => desk,
@@ -108,8 +109,8 @@ fn planned<A: Book, B: Book>(
     ending: Ending,
     retention: Retention,
 ) -> (Result<Pruning, WorkFault>, B)
-    ensures { EndsAsking (IsPruningInOrder ending) (across A.state archive.old archive.new)
-        (across B.state book result.1) result.0 }
+    ensures { EndedWith (asking (IsPruningInOrder ending) (book_across A.state archive)
+        B.state book) result }
 {
     let watched = Watched::new(book, Progress::new(rt));
     let (asked, mut book) = audited_beside(rt.alloc(), watched, archive);
@@ -157,7 +158,7 @@ fn planned_in<D: Disk + Drop, B: Book>(
 ) -> (Result<Pruning, WorkFault>, B)
     requires { conn.in_transaction ≡ false }
     ensures asked { PlansIn ending conn (across B.state book result.1) result.0 }
-    ensures spared { IsSparedIn conn }
+    ensures spared { IsShutWith (Unserved false) conn }
     ensures kept { OnlyAsked (B.state book) (B.state result.1) }
 {
     let (planned, conn) = planned_over(rt, book, conn, ending, retention);
@@ -213,8 +214,7 @@ pub(crate) fn prune_over<'a, C: Alter, S: Start>(
     retention: Retention,
 ) -> (Result<Pruning, Fault<'a>>, Connection<C>)
     requires { conn.in_transaction ≡ false }
-    ensures { EndsPruneOver ⟦<FileFrom<S> as Disk>⟧ ending
-        (state C.Store conn) (state C.Store result.1) result.0 }
+    ensures { EndedWith (prune_over ⟦<FileFrom<S> as Disk>⟧ ending C.Store conn) result }
 {
     let book = match book_over(rt.alloc(), conn, false) {
         Ok(book) => book,

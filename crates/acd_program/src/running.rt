@@ -2,17 +2,17 @@
 
 ghost use Rattle.std.specs.Prelude.{◌≡◌, ◌≤◌, ◌⊎◌, false, length, map, IfOk, IfErr};
 ghost use Rattle.sqlite_std_file.specs.File.{IsFresh};
-ghost use Rattle.acd_lines.specs.Lines.{streams};
 ghost use Rattle.clap.specs.Words.{kind_of};
 ghost use Rattle.acd_command.specs.CommandLine.{IsRefused};
-ghost use Rattle.acd_program.specs.Ended.{EndsBoth, EndsWorkOn};
-ghost use Rattle.acd_program.specs.FileTasks.{EndsWorkIn, EndsImportIn, EndsWholeAudit, EndsAudit, EndsFileLines, EndsInput, EndsFileService, EndsPrune, EndsExport, StandsOver, EndsTask, ExitsTask, DoneOrHelp, FaultEnded};
-ghost use Rattle.acd_sessions.specs.Output.{output};
-ghost use Rattle.acd_sessions.specs.Serving.{service};
-ghost use Rattle.acd_sessions.specs.Sessions.{EndsNewLines};
+ghost use Rattle.acd_program.specs.Ended.{then_closed, work_on};
+ghost use Rattle.acd_program.specs.FileTasks.{ExitsTask, DoneOrHelp, FaultEnded};
+ghost use Rattle.acd_sessions.specs.Output.{written, streamed};
+ghost use Rattle.acd_sessions.specs.Sessions.{memory_lines};
 ghost use Rattle.acd_program.specs.Statuses.{ExitsWithoutTask, IfDone, fault_exit, PrintsAtMostFaults, PrintsOnSuccess, UntouchedElsewhere};
 ghost use Rattle.acd_program.specs.Tasks.{IsReadEnding};
-ghost use Rattle.acd_program.specs.Work.{EndsPrinting};
+ghost use Rattle.acd_program.specs.TasksEnded.{audit_with_archive, export_with_archives, file_import, file_lines, file_service, file_standby, file_work, input, prune, to_do, whole_audit};
+ghost use Rattle.acd_sessions.specs.ToDo.{Ended};
+ghost use Rattle.acd_program.specs.Work.{printing};
 
 use crate::desk::{Done, over_database};
 use crate::export::{Starts, UnknownStarts, table_over};
@@ -33,7 +33,7 @@ use acd_lines::laws::requests_run;
 use acd_lines::{LinesFault, Requests};
 use acd_log::Ending;
 use acd_sessions::laws::lines_are_from_nothing;
-use acd_sessions::{WorkFault, database_lines, lines_over_memory, serve, stand_by};
+use acd_sessions::{Serving, WorkFault, database_lines, lines_over_memory, serve, stand_by};
 use clap::Error;
 use clap::error::ErrorKind;
 use sqlite::{Connection, File, FileFrom, FileStore};
@@ -47,7 +47,7 @@ fn done_and_closed(
     done: Result<(), WorkFault>,
     closed: Result<(), BookFault>,
 ) -> Result<(), WorkFault>
-    ensures { EndsBoth done closed result }
+    ensures { Ended (then_closed done closed) result }
 {
     done?;
     closed?;
@@ -60,7 +60,7 @@ fn print_done<W: Write>(
     closed: Result<(), BookFault>,
     writer: &mut W,
 ) -> Result<Status, WorkFault>
-    ensures { EndsPrinting left.now closed (output W.contents writer.old writer.new) result }
+    ensures { Ended (printing left.now closed (written W.Write writer)) result }
 {
     let status = print(left, writer)?;
     closed?;
@@ -76,8 +76,7 @@ fn work_over<D: Disk + Drop, W: Write>(
     writer: &mut W,
 ) -> Result<Status, WorkFault>
     requires { conn.in_transaction ≡ false }
-    ensures { EndsWorkOn conn result makes work.entry
-        (output W.contents writer.old writer.new) }
+    ensures { Ended (work_on conn makes work.entry (written W.Write writer)) result }
 {
     let (done, conn) = over_database(rt, conn, makes, work, writer);
     let closed = close_connection(conn);
@@ -94,8 +93,8 @@ fn work_in<'a, S: Start, W: Write>(
     work: Work<'_>,
     writer: &mut W,
 ) -> Result<Status, Fault<'a>>
-    ensures { EndsWorkIn ⟦<FileFrom<S> as Disk>⟧ makes work.entry
-        (output W.contents writer.old writer.new) result }
+    ensures { Ended (file_work ⟦<FileFrom<S> as Disk>⟧ IsFresh makes work.entry
+        (written W.Write writer)) result }
 {
     let (conn, is_new) = connect(rt, file, makes, start)?;
     match work_over(rt, conn, is_new, work, writer) {
@@ -114,9 +113,8 @@ fn lines_in<'a, S: Start, R: Read, W: Write>(
     reader: &mut R,
     writer: &mut W,
 ) -> Result<(), Fault<'a>>
-    ensures { EndsFileLines ⟦<FileFrom<S> as Disk>⟧ reads ends
-        (streams R.remaining W.contents (reader.old, reader.new) (writer.old, writer.new))
-        result }
+    ensures { Ended (file_lines ⟦<FileFrom<S> as Disk>⟧ IsFresh reads ends
+        (streamed R.Read W.Write reader writer)) result }
 {
     let (conn, is_new) = connect(rt, file, true, start)?;
     let (done, conn) = database_lines(rt.alloc(), conn, is_new, reads, ends, reader, writer);
@@ -133,9 +131,7 @@ fn lines_in_memory<R: Read, W: Write>(
     reader: &mut R,
     writer: &mut W,
 ) -> Result<(), LinesFault>
-    ensures { EndsNewLines reads
-        (streams R.remaining W.contents (reader.old, reader.new) (writer.old, writer.new))
-        result }
+    ensures { Ended (memory_lines reads (streamed R.Read W.Write reader writer)) result }
 {
     lines_are_from_nothing::<R, W>();
     if reads {
@@ -155,9 +151,8 @@ fn answer_lines<'a, S: Start, R: Read, W: Write>(
     reader: &mut R,
     writer: &mut W,
 ) -> Result<Status, Fault<'a>>
-    ensures { EndsInput ⟦<FileFrom<S> as Disk>⟧ (file.entry, reads, ends)
-        (streams R.remaining W.contents (reader.old, reader.new) (writer.old, writer.new))
-        result }
+    ensures { Ended (input ⟦<FileFrom<S> as Disk>⟧ IsFresh file.entry (reads, ends)
+        (streamed R.Read W.Write reader writer)) result }
 {
     match file {
         None => {
@@ -181,7 +176,7 @@ fn import_plan<'a, S: Start, W: Write>(
     plan: &'a str,
     writer: &mut W,
 ) -> Result<Status, Fault<'a>>
-    ensures { EndsImportIn ⟦<FileFrom<S> as Disk>⟧ W.contents writer.old writer.new result }
+    ensures { Ended (file_import ⟦<FileFrom<S> as Disk>⟧ IsFresh (written W.Write writer)) result }
 {
     let requests = read_plan(rt, plan)?;
     work_in(rt, start, file, true, Work::Import(&requests), writer)
@@ -195,8 +190,8 @@ fn audit_whole<'a, S: Start, W: Write>(
     counts: bool,
     writer: &mut W,
 ) -> Result<Status, Fault<'a>>
-    ensures { EndsWholeAudit ⟦<FileFrom<S> as Disk>⟧ counts
-        (output W.contents writer.old writer.new) result }
+    ensures { Ended (whole_audit ⟦<FileFrom<S> as Disk>⟧ IsFresh counts
+        (written W.Write writer)) result }
 {
     let ending = log_ending(Looks::new(rt), file)?;
     work_in(
@@ -219,20 +214,31 @@ fn read_ending<'a>(rt: &HostRuntime, file: &'a str, whole: bool) -> Result<Endin
     Ok(Ending::Plain)
 }
 
+// A desk's file, an archive that is opened beside it, and how the files of each start.
+struct Files<'a, S: Start> {
+    start: S,
+    file: &'a str,
+    beside: S,
+    archive: &'a str,
+}
+
 // Audits the desk in a file with the archive that it goes on from. Of the two logs, it looks only at the file's.
 fn audit_with_archive<'a, S: Start, W: Write>(
     rt: &HostRuntime,
-    start: S,
-    beside: S,
-    file: &'a str,
-    archive: &'a str,
+    files: Files<'a, S>,
     counts: bool,
     whole: bool,
     writer: &mut W,
 ) -> Result<Status, Fault<'a>>
-    ensures { EndsAudit ⟦<FileFrom<S> as Disk>⟧ counts whole
-        (output W.contents writer.old writer.new) result }
+    ensures { Ended (audit_with_archive ⟦<FileFrom<S> as Disk>⟧ IsFresh counts whole
+        (written W.Write writer)) result }
 {
+    let Files {
+        start,
+        file,
+        beside,
+        archive,
+    } = files;
     let ending = read_ending(rt, file, whole)?;
     let (conn, _) = connect(rt, file, false, start)?;
     let (done, conn) = over_archive(rt, conn, beside, archive, counts, ending);
@@ -247,17 +253,19 @@ fn audit_with_archive<'a, S: Start, W: Write>(
 // Prunes the desk in a file by its archive. An opening empties the log, so it is looked at first.
 fn prune_file<'a, S: Start, W: Write>(
     rt: &HostRuntime,
-    start: S,
-    beside: S,
-    file: &'a str,
-    archive: &'a str,
+    files: Files<'a, S>,
     retention: Retention,
     quiet: bool,
     writer: &mut W,
 ) -> Result<Status, Fault<'a>>
-    ensures { EndsPrune ⟦<FileFrom<S> as Disk>⟧ quiet
-        (output W.contents writer.old writer.new) result }
+    ensures { Ended (prune ⟦<FileFrom<S> as Disk>⟧ IsFresh quiet (written W.Write writer)) result }
 {
+    let Files {
+        start,
+        file,
+        beside,
+        archive,
+    } = files;
     let ending = log_ending(Looks::new(rt), file)?;
     let (conn, _) = connect(rt, file, false, start)?;
     let (done, conn) = prune_over(rt, conn, beside, archive, ending, retention);
@@ -280,8 +288,8 @@ fn export_with_archives<'a, S: Start, O: Starts<S>, W: Write>(
     archives: &[&'a str],
     writer: &mut W,
 ) -> Result<Status, Fault<'a>>
-    ensures { EndsExport ⟦<FileFrom<S> as Disk>⟧ (length archives.now)
-        (output W.contents writer.old writer.new) result }
+    ensures { Ended (export_with_archives ⟦<FileFrom<S> as Disk>⟧ IsFresh (length archives.now)
+        (written W.Write writer)) result }
 {
     let (conn, _) = connect(rt, file, false, start)?;
     let (made, conn) = table_over(rt, conn, beside, archives);
@@ -298,17 +306,15 @@ fn serve_file<'a, S: Start, W: Write, E: Write>(
     rt: &HostRuntime,
     start: S,
     file: &'a str,
-    address: Address<'_>,
-    span: Span,
+    serving: Serving<'_>,
     writer: &mut W,
     errors: &mut E,
 ) -> Result<(), Fault<'a>>
-    ensures { EndsFileService ⟦<FileFrom<S> as Disk>⟧
-        (service span address.entry (output W.contents writer.old writer.new)
-        (output E.contents errors.old errors.new)) result }
+    ensures { Ended (file_service ⟦<FileFrom<S> as Disk>⟧ IsFresh serving.entry
+        (written W.Write writer) (written E.Write errors)) result }
 {
     let (conn, is_new) = connect(rt, file, true, start)?;
-    let (done, conn) = serve(rt, conn, is_new, address, span, writer, errors);
+    let (done, conn) = serve(rt, conn, is_new, serving, writer, errors);
     match done_and_closed(done, close_connection(conn)) {
         Ok(()) => Ok(()),
         Err(fault) => Err(Fault::Work(fault)),
@@ -320,22 +326,20 @@ fn stand_by_file<'a, S: Start, R: Read, W: Write, E: Write>(
     rt: &HostRuntime,
     start: S,
     file: &'a str,
-    address: Address<'_>,
-    span: Span,
+    serving: Serving<'_>,
     reader: &mut R,
     writer: &mut W,
     errors: &mut E,
 ) -> Result<(), Fault<'a>>
-    ensures { StandsOver ⟦<FileFrom<S> as Disk>⟧ (span, address.entry)
-        (streams R.remaining W.contents (reader.old, reader.new) (writer.old, writer.new))
-        (output E.contents errors.old errors.new) result }
+    ensures { Ended (file_standby ⟦<FileFrom<S> as Disk>⟧ IsFresh serving.entry
+        (streamed R.Read W.Write reader writer) (written E.Write errors)) result }
 {
     let Ok(pending) = Pending::new(rt.alloc()) else {
         return Err(Fault::Opening(OpeningFault::Look(LookFault::Path(PathFault::NoMemory))));
     };
     let (conn, is_new) = connect(rt, file, true, start)?;
     let mut lines = UntilOrder::new(pending, reader);
-    let (done, conn) = stand_by(rt, conn, is_new, address, span, &mut lines, writer, errors);
+    let (done, conn) = stand_by(rt, conn, is_new, serving, &mut lines, writer, errors);
     match done_and_closed(done, close_connection(conn)) {
         Ok(()) => Ok(()),
         Err(fault) => Err(Fault::Work(fault)),
@@ -352,10 +356,9 @@ fn execute<'a, S: Start, O: Starts<S>, R: Read, W: Write, E: Write>(
     writer: &mut W,
     errors: &mut E,
 ) -> Result<Status, Fault<'a>>
-    ensures result { EndsTask ⟦<FileFrom<S> as Disk>⟧ task.entry
-        (streams R.remaining W.contents (reader.old, reader.new) (writer.old, writer.new))
-        (output E.contents errors.old errors.new) result }
-    ensures printed { IfOk result (PrintsOnSuccess (output E.contents errors.old errors.new)) }
+    ensures result { Ended (to_do ⟦<FileFrom<S> as Disk>⟧ IsFresh task.entry
+        (streamed R.Read W.Write reader writer) (written E.Write errors)) result }
+    ensures printed { IfOk result (PrintsOnSuccess (written E.Write errors)) }
     // before anything is read or written the program finds that another one has the file
     ensures elsewhere { IfErr result
         (UntouchedElsewhere reader.old reader.new writer.old writer.new) }
@@ -368,7 +371,7 @@ fn execute<'a, S: Start, O: Starts<S>, R: Read, W: Write, E: Write>(
             file,
             address,
             span,
-        } => match serve_file(rt, start, file, address, span, writer, errors) {
+        } => match serve_file(rt, start, file, Serving { address, span }, writer, errors) {
             Ok(()) => Ok(Status::Success),
             Err(fault) => Err(fault),
         },
@@ -383,7 +386,8 @@ fn execute<'a, S: Start, O: Starts<S>, R: Read, W: Write, E: Write>(
                 step,
                 patience,
             };
-            match stand_by_file(rt, start, file, address, span, reader, writer, errors) {
+            let serving = Serving { address, span };
+            match stand_by_file(rt, start, file, serving, reader, writer, errors) {
                 Ok(()) => Ok(Status::Success),
                 Err(fault) => Err(fault),
             }
@@ -395,31 +399,29 @@ fn execute<'a, S: Start, O: Starts<S>, R: Read, W: Write, E: Write>(
             archive,
             counts,
             whole,
-        } => audit_with_archive(
-            rt,
-            start,
-            beside.start(),
-            file,
-            archive,
-            counts,
-            whole,
-            writer,
-        ),
+        } => {
+            let files = Files {
+                start,
+                file,
+                beside: beside.start(),
+                archive,
+            };
+            audit_with_archive(rt, files, counts, whole, writer)
+        }
         Task::Prune {
             file,
             archive,
             retention,
             quiet,
-        } => prune_file(
-            rt,
-            start,
-            beside.start(),
-            file,
-            archive,
-            retention,
-            quiet,
-            writer,
-        ),
+        } => {
+            let files = Files {
+                start,
+                file,
+                beside: beside.start(),
+                archive,
+            };
+            prune_file(rt, files, retention, quiet, writer)
+        }
         Task::ExportWithArchives { file, archives } => {
             export_with_archives(rt, start, beside, file, archives, writer)
         }
@@ -472,9 +474,8 @@ fn run<S: Start, O: Starts<S>, R: Read, W: Write, E: Write>(
     errors: &mut E,
 ) -> Exit
     ensures exits { ExitsTask ⟦<FileFrom<S> as Disk>⟧ task.entry
-        (streams R.remaining W.contents (reader.old, reader.new) (writer.old, writer.new))
-        (output E.contents errors.old errors.new) result }
-    ensures printed { IfDone result (PrintsOnSuccess (output E.contents errors.old errors.new)) }
+        (streamed R.Read W.Write reader writer) (written E.Write errors) result }
+    ensures printed { IfDone result (PrintsOnSuccess (written E.Write errors)) }
     ensures elsewhere { result ≡ Exit.OpenElsewhere
         → (reader.new ≡ reader.old) × (writer.new ≡ writer.old) }
 {
@@ -495,8 +496,8 @@ fn print_error<W: Write, E: Write>(
     writer: &mut W,
     errors: &mut E,
 ) -> Exit
-    ensures { ExitsWithoutTask (kind_of error.now) (output W.contents writer.old writer.new)
-        (output E.contents errors.old errors.new) result }
+    ensures { ExitsWithoutTask (kind_of error.now) (written W.Write writer)
+        (written E.Write errors) result }
 {
     if error.kind() == ErrorKind::OutOfMemory {
         return fail(Fault::Work(WorkFault::NoMemory), errors);
@@ -526,8 +527,7 @@ pub fn program<S: AsStr, R: Read, W: Write, E: Write>(
     errors: &mut E,
 ) -> u8
     // success says nothing on the stream of errors but the lines of connections' faults, or a beginning of them
-    ensures success { result ≡ 0
-        → PrintsAtMostFaults (output E.contents errors.old errors.new) }
+    ensures success { result ≡ 0 → PrintsAtMostFaults (written E.Write errors) }
     // a difference that an audit finds prints nothing there
     ensures differs { result ≡ 3 → errors.new ≡ errors.old }
     // nor does a log that ends early
@@ -541,12 +541,10 @@ pub fn program<S: AsStr, R: Read, W: Write, E: Write>(
     ensures known { result ≤ 6 }
     // such a status is that of the task which the words name, done so, or help was asked for, and nothing was read
     ensures done { DoneOrHelp ⟦<File as Disk>⟧ (map S.text words.now)
-        (streams R.remaining W.contents (reader.old, reader.new) (writer.old, writer.new))
-        (output E.contents errors.old errors.new) result }
+        (streamed R.Read W.Write reader writer) (written E.Write errors) result }
     // a fault ended the task that they name; or it came before there was one, and nothing was read or written but help
     ensures ended { FaultEnded ⟦<File as Disk>⟧ (map S.text words.now)
-        (streams R.remaining W.contents (reader.old, reader.new) (writer.old, writer.new))
-        (E.contents errors.old) result }
+        (streamed R.Read W.Write reader writer) (E.contents errors.old) result }
     // nothing was read or written where another program has the file
     ensures elsewhere { result ≡ 4
         → (reader.new ≡ reader.old) × (writer.new ≡ writer.old) }

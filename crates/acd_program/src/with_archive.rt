@@ -5,7 +5,7 @@ ghost use Rattle.sqlite.specs.Held.{state};
 ghost use Rattle.sqlite_std_file.specs.File.{IsFresh};
 ghost use Rattle.acd_desk.specs.Standing.{standing};
 ghost use Rattle.acd_program.specs.FileTasks.{AsksWithArchive, AuditsWith, AuditsDatabase};
-ghost use Rattle.acd_program.specs.WithArchive.{AsksIn, AsksOver, IsSparedIn, LeavesArchive, LeavesBeside};
+ghost use Rattle.acd_program.specs.WithArchive.{AsksIn, AsksOver, IsShutWith, LeavesArchive, LeavesBeside};
 ghost use Rattle.acd_sessions.specs.Over.{OnlyAsked};
 ghost use Rattle.acd_program.specs.Found.{HasCount};
 ghost use Rattle.acd_sessions.specs.Over.{database, Unserved};
@@ -69,7 +69,7 @@ fn found_in<D: Disk + Drop, B: Book>(
     requires { conn.in_transaction ≡ false }
     ensures counted { IfOk result (HasCount counts) }
     ensures asked { AsksIn conn B.Book desk.old desk.new result }
-    ensures spared { IsSparedIn conn }
+    ensures spared { IsShutWith (Unserved false) conn }
     ensures kept { OnlyAsked (standing B.Book desk.old).book (standing B.Book desk.new).book }
 {
     let (found, conn) = asked_over(alloc, desk, conn, counts);

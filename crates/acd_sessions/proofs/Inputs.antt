@@ -18,7 +18,8 @@ use Rattle.acd_sessions.specs.Answered.{in_memory, IsNewDesk, AnsweredFromNothin
 use Rattle.acd_sessions.specs.Desks.{OverNewDesk}
 use Rattle.acd_sessions.specs.LinesOver.{Whole, LinesInMemory, in_turn}
 use Rattle.acd_sessions.specs.Seen.{Seen, seen}
-use Rattle.acd_sessions.specs.Sessions.{LinesAreFromNothing, EndsNewLines}
+use Rattle.acd_sessions.specs.Sessions.{LinesAreFromNothing, memory_lines}
+use Rattle.acd_sessions.specs.ToDo.{Ended}
 use Rattle.acd_sessions.proofs.Seen.{new_view, new_views, done_seen, seen_new}
 use Rattle.acd_sessions.proofs.Answering.{in_memory_quiet, lines_from_nothing, answers_none}
 
@@ -54,7 +55,7 @@ memory_whole T io (Ok u) (inr some) = record {
 
 -- all of them were answered or, after a fault, so
 memory_ends_by : {R W : Type 0} (remaining : R → Option (List ℕ)) (contents : W → Option (List ℕ)) → LinesAreFromNothing remaining contents → (reads : Bool) (reader : R × R) (writer : W × W) (r : Result (Unit {0}) LinesFault)
-    → LinesInMemory (in_turn reads (standing in_memory)) (streams remaining contents reader writer) r → EndsNewLines reads (streams remaining contents reader writer) r
+    → LinesInMemory (in_turn reads (standing in_memory)) (streams remaining contents reader writer) r → Ended (memory_lines reads (streams remaining contents reader writer)) r
 memory_ends_by remaining contents law reads reader writer (Ok u) h = memory_whole (in_turn reads (standing in_memory)) (streams remaining contents reader writer) (Ok u) h
 memory_ends_by remaining contents law true reader writer (Err why) (inl none) = inl (same_error none.0, none.1)
 memory_ends_by remaining contents law true reader writer (Err why) (inr some) =
@@ -64,6 +65,6 @@ memory_ends_by remaining contents law true reader writer (Err why) (inr some) =
 memory_ends_by remaining contents law false reader writer (Err why) h = law reader writer (Err why) h
 
 pub memory_ends : {R W : Type 0} (remaining : R → Option (List ℕ)) (contents : W → Option (List ℕ)) → LinesAreFromNothing remaining contents → (reads is_so : Bool) (reader : R × R) (writer : W × W) (r : Result (Unit {0}) LinesFault) → reads ≡ is_so
-    → LinesInMemory (in_turn is_so (standing in_memory)) (streams remaining contents reader writer) r → EndsNewLines reads (streams remaining contents reader writer) r
+    → LinesInMemory (in_turn is_so (standing in_memory)) (streams remaining contents reader writer) r → Ended (memory_lines reads (streams remaining contents reader writer)) r
 memory_ends remaining contents law reads is_so reader writer r is h =
-    subst (λ (b : Bool). EndsNewLines b (streams remaining contents reader writer) r) (sym is) (memory_ends_by remaining contents law is_so reader writer r h)
+    subst (λ (b : Bool). Ended (memory_lines b (streams remaining contents reader writer)) r) (sym is) (memory_ends_by remaining contents law is_so reader writer r h)

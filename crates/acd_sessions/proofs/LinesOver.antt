@@ -22,10 +22,10 @@ use Rattle.acd_lines.specs.declared.fault.LinesFault.{LinesFault}
 use Rattle.acd_lines.proofs.Weaker.{answered_so, arrivals_so}
 use Rattle.acd_sessions.specs.Faults.{lines_fault, open_fault, command_result}
 use Rattle.acd_sessions.specs.Desks.{OverDesk, in_database}
-use Rattle.acd_sessions.specs.LinesOver.{in_turn, Whole, LinesEnded, LinesOver, LinesIn, DatabaseAnswered}
+use Rattle.acd_sessions.specs.LinesOver.{in_turn, Whole, LinesLeave, LinesOver, LinesIn, DatabaseAnswered}
 use Rattle.acd_sessions.specs.Over.{IsSession, IsSessionTo, IsFailedSession, AnswersOver, LeavesBooks, OverConnection, Unserved}
 use Rattle.acd_sessions.specs.Seen.{Seen, seen, InDatabase, left_of}
-use Rattle.acd_sessions.specs.Sessions.{SessionEnded, DatabaseEnded, LinesAreSessions}
+use Rattle.acd_sessions.specs.Sessions.{SessionLeaves, DatabaseLeaves, LinesAreSessions}
 use Rattle.acd_sessions.specs.Taking.{IsOf, IsTaken}
 use Rattle.acd_sessions.specs.declared.fault.WorkFault.{WorkFault}
 use Rattle.acd_sessions.proofs.Over.{lines_over, lines_well, lines_failed, lines_since, well_lines_since, failed_lines_since, over_connection, over_makes}
@@ -43,7 +43,7 @@ command_whole u v false b h is = absurd (true≢false (sym is))
 
 module _ {D : Type 0} (stands : D → Standing) (T : D → D → List (List ℕ) → List (List ℕ) → Type 0) (ends : Bool) (io : Streams) where
   -- a fault of lines is the command's
-  pub lines_ended_fault : (r : Result (Unit {0}) WorkFault) (why : LinesFault) (d e : D) → IsErrAnd r (λ (y : WorkFault). y ≡ lines_fault why) → LinesDone stands T ends io d e (Err why) → LinesEnded stands T ends io r d e
+  pub lines_ended_fault : (r : Result (Unit {0}) WorkFault) (why : LinesFault) (d e : D) → IsErrAnd r (λ (y : WorkFault). y ≡ lines_fault why) → LinesDone stands T ends io d e (Err why) → LinesLeave stands T ends io r d e
   lines_ended_fault r why d e is h = let p = err_from_is_err_and r is in record { ended = Err why; lines = h; outcome = p.1 ∙ ap Err p.2 }
 
   -- without a fault the whole input was answered
@@ -53,7 +53,7 @@ module _ {D : Type 0} (stands : D → Standing) (T : D → D → List (List ℕ)
       let well : ends ≡ true → (stands e).failed ≡ false = command_whole u v ends (stands e).failed outcome in
       record { answered = h.all well; well = well }
 
-  whole_lines : (u : Unit {0}) (d e : D) → LinesEnded stands T ends io (Ok u) d e → Whole stands T ends io d e
+  whole_lines : (u : Unit {0}) (d e : D) → LinesLeave stands T ends io (Ok u) d e → Whole stands T ends io d e
   whole_lines u d e h = whole_by u d e h.ended h.outcome h.lines
 
 -- ---- over a database
@@ -73,30 +73,30 @@ module _ {S : Type 0} (store : Ghosts S) where
     lines_in s taken last r conn settles of back (inr some) = inr (record { taken = taken; last = last; of_old = of; over = some; back = back })
 
   -- reads among them, as the desk is seen
-  pub seen_lines : (makes ends : Bool) (io : Streams) (s : State) (r : Result (Unit {0}) WorkFault) (conn : Held S) → LinesIn store (in_turn true (standing (in_database store))) makes ends io s r conn → DatabaseEnded store makes true ends io s r conn
+  pub seen_lines : (makes ends : Bool) (io : Streams) (s : State) (r : Result (Unit {0}) WorkFault) (conn : Held S) → LinesIn store (in_turn true (standing (in_database store))) makes ends io s r conn → DatabaseLeaves store makes true ends io s r conn
   seen_lines makes ends io s r conn (inl none) = inl none
   seen_lines makes ends io s r conn (inr some) =
-      inr (seen_in store (LinesEnded (standing (in_database store)) (in_turn true (standing (in_database store))) ends io r) (λ (stands : Seen (InDatabase S) → Standing). LinesEnded stands (in_turn true stands) ends io r)
+      inr (seen_in store (LinesLeave (standing (in_database store)) (in_turn true (standing (in_database store))) ends io r) (λ (stands : Seen (InDatabase S) → Standing). LinesLeave stands (in_turn true stands) ends io r)
       (λ Clean began d e k h. lines_ended_seen (standing (in_database store)) (seen (left_of store began)) (view store) (IsKept store Clean began) (views store Clean began) d e k ends io r h) makes s conn some)
 
   -- without a fault the whole input was answered
-  pub whole_in : (makes ends : Bool) (io : Streams) (s : State) (r : Result (Unit {0}) WorkFault) (conn : Held S) → DatabaseEnded store makes true ends io s r conn → OnOk r (DatabaseAnswered store makes true ends io s conn)
+  pub whole_in : (makes ends : Bool) (io : Streams) (s : State) (r : Result (Unit {0}) WorkFault) (conn : Held S) → DatabaseLeaves store makes true ends io s r conn → OnOk r (DatabaseAnswered store makes true ends io s conn)
   whole_in makes ends io s (Err why) conn h = tt
   whole_in makes ends io s (Ok u) conn (inl none) = absurd (ok_err none.outcome)
   whole_in makes ends io s (Ok u) conn (inr some) =
-      seen_so store (λ (stands : Seen (InDatabase S) → Standing). LinesEnded stands (in_turn true stands) ends io (Ok u)) (λ (stands : Seen (InDatabase S) → Standing). Whole stands (in_turn true stands) ends io)
+      seen_so store (λ (stands : Seen (InDatabase S) → Standing). LinesLeave stands (in_turn true stands) ends io (Ok u)) (λ (stands : Seen (InDatabase S) → Standing). Whole stands (in_turn true stands) ends io)
       (λ stands d e h. whole_lines stands (in_turn true stands) ends io u d e h) makes s conn some
 
 -- ---- requests alone
 
 -- the session over a book that came of another
-ended_since : (ends : Bool) (io : Streams) (r : Result (Unit {0}) WorkFault) (old mid new : BookState) → IsOf old mid → SessionEnded ends io r mid new → SessionEnded ends io r old new
+ended_since : (ends : Bool) (io : Streams) (r : Result (Unit {0}) WorkFault) (old mid new : BookState) → IsOf old mid → SessionLeaves ends io r mid new → SessionLeaves ends io r old new
 ended_since ends io (Ok u) old mid new of h = well_lines_since (AllLines io.old_input) (Appends io.old_output io.new_output) ends old mid new of h
 ended_since ends io (Err fault) old mid new of (inl h) = inl (record { why = h.why; outcome = h.outcome; session = lines_since (FirstLines io.old_input) (Begins io.old_output io.new_output) old mid new of h.session })
 ended_since ends io (Err fault) old mid new of (inr h) = inr (record { outcome = h.outcome; asked = h.asked; session = failed_lines_since (FirstLines io.old_input) (Appends io.old_output io.new_output) old mid new of h.session })
 
 -- and as one of the database that it left
-ended_left : (Sound : Type 0) (new : BookState) → (new.is_sound → Sound) → (ends : Bool) (io : Streams) (r : Result (Unit {0}) WorkFault) (old : BookState) → SessionEnded ends io r old new → SessionEnded ends io r old (called new Sound)
+ended_left : (Sound : Type 0) (new : BookState) → (new.is_sound → Sound) → (ends : Bool) (io : Streams) (r : Result (Unit {0}) WorkFault) (old : BookState) → SessionLeaves ends io r old new → SessionLeaves ends io r old (called new Sound)
 ended_left Sound new so ends io (Ok u) old h =
     arrivals_so (AllLines io.old_input) (IsSessionTo ends old new) (IsSessionTo ends old (called new Sound)) (Appends io.old_output io.new_output) (λ l ts s. (session_called Sound new so IsFault old l ts s.0, s.1)) h
 ended_left Sound new so ends io (Err fault) old (inl h) = inl (record {
@@ -111,7 +111,7 @@ ended_left Sound new so ends io (Err fault) old (inr h) = inr (record {
 })
 
 -- a disk that is clean then was so before
-ended_clean : (ends : Bool) (io : Streams) (r : Result (Unit {0}) WorkFault) (old new : BookState) → SessionEnded ends io r old new → new.is_clean → old.is_clean
+ended_clean : (ends : Bool) (io : Streams) (r : Result (Unit {0}) WorkFault) (old new : BookState) → SessionLeaves ends io r old new → new.is_clean → old.is_clean
 ended_clean ends io (Ok u) old new h = h.answered.2.0.step.clean
 ended_clean ends io (Err fault) old new (inl h) = h.session.answered.2.step.clean
 ended_clean ends io (Err fault) old new (inr h) = h.session.answered.2.0.step.clean
@@ -130,7 +130,7 @@ module _ {B : Type 0} (says : book.Ghosts B) (runs : RequestsRun says) (ends : B
 
   -- by how the lines ended, and whether the desk has failed where that was to end them
   session_of_lines : (r : Result (Unit {0}) WorkFault) (ended : Result (Unit {0}) LinesFault) (failed : Bool) (old : BookState) (d e : Desk B) → (ends && (standing says e).failed) ≡ failed → r ≡ command_result ended failed
-      → Opened old (standing says d) → LinesDone (standing says) Asks ends io d e ended → SessionEnded ends io r old (standing says e).book
+      → Opened old (standing says d) → LinesDone (standing says) Asks ends io d e ended → SessionLeaves ends io r old (standing says e).book
   session_of_lines (Ok u) (Err why) failed old d e is outcome o h = absurd (ok_err outcome)
   session_of_lines (Ok u) (Ok v) true old d e is outcome o h = absurd (ok_err outcome)
   session_of_lines (Ok u) (Ok v) false old d e is outcome o h =
@@ -149,9 +149,9 @@ module _ {B : Type 0} (says : book.Ghosts B) (runs : RequestsRun says) (ends : B
   })
   session_of_lines (Err fault) (Ok v) false old d e is outcome o h = absurd (ok_err (sym outcome))
 
-  session_of_desk : (r : Result (Unit {0}) WorkFault) (old : BookState) (last : B) → OverDesk says (LinesEnded (standing says) Asks ends io r) old last → SessionEnded ends io r old (says.state last)
+  session_of_desk : (r : Result (Unit {0}) WorkFault) (old : BookState) (last : B) → OverDesk says (LinesLeave (standing says) Asks ends io r) old last → SessionLeaves ends io r old (says.state last)
   session_of_desk r old last h =
-      subst (λ (b : B). SessionEnded ends io r old (says.state b)) (sym h.back)
+      subst (λ (b : B). SessionLeaves ends io r old (says.state b)) (sym h.back)
       (session_of_lines r h.did.ended (ends && (standing says h.final).failed) old h.first h.final refl h.did.outcome h.opened h.did.lines)
 
 pub lines_are_sessions : {S R W : Type 0} (store : Ghosts S) (remaining : R → Option (List ℕ)) (contents : W → Option (List ℕ)) → RequestsRun (in_database store) → LinesAreSessions store remaining contents
@@ -159,20 +159,20 @@ lines_are_sessions {S} store remaining contents runs makes ends reader writer r 
     let s : State = state store given in
     let io : Streams = streams remaining contents reader writer in
     let new : BookState = book_of store h.last in
-    subst (λ (x : Held S). OverConnection (SessionEnded ends io r) makes s (state store x)) (sym h.back)
-    (over_connection (SessionEnded ends io r) (SessionEnded ends io r) makes s (state store h.last.conn) (book_of store h.taken) h.last.cache h.last.failures (λ old of ended. ended_since ends io r old (book_of store h.taken) new of ended)
+    subst (λ (x : Held S). OverConnection (SessionLeaves ends io r) makes s (state store x)) (sym h.back)
+    (over_connection (SessionLeaves ends io r) (SessionLeaves ends io r) makes s (state store h.last.conn) (book_of store h.taken) h.last.cache h.last.failures (λ old of ended. ended_since ends io r old (book_of store h.taken) new of ended)
     (λ old ended. ended_left (LeavesBooks (state store h.last.conn)) new (leaves_books (state store h.last.conn) h.last.cache h.last.failures) ends io r old ended) (ended_clean ends io r (book_of store h.taken) new) h.of_old
     (session_of_desk (in_database store) runs ends io r (book_of store h.taken) h.last h.over))
 
 -- whole, or its beginning
 pub ended_in : {S R W : Type 0} (store : Ghosts S) (remaining : R → Option (List ℕ)) (contents : W → Option (List ℕ)) → LinesAreSessions store remaining contents → (makes ends : Bool) (reader : R × R) (writer : W × W) (given : Held S) (r : Result (Unit {0}) WorkFault) (conn : Held S)
     → LinesIn store (in_turn false (standing (in_database store))) makes ends (streams remaining contents reader writer) (state store given) r conn
-    → DatabaseEnded store makes false ends (streams remaining contents reader writer) (state store given) r conn
+    → DatabaseLeaves store makes false ends (streams remaining contents reader writer) (state store given) r conn
 ended_in store remaining contents law makes ends reader writer given r conn (inl none) = inl none
 ended_in store remaining contents law makes ends reader writer given r conn (inr some) = inr (law makes ends reader writer r given conn some)
 
 -- without a fault the whole input was answered
-pub answered_in : {S : Type 0} (store : Ghosts S) (makes reads ends : Bool) (io : Streams) (s : State) (u : Unit {0}) (conn : Held S) → DatabaseEnded store makes reads ends io s (Ok u) conn → DatabaseAnswered store makes reads ends io s conn
+pub answered_in : {S : Type 0} (store : Ghosts S) (makes reads ends : Bool) (io : Streams) (s : State) (u : Unit {0}) (conn : Held S) → DatabaseLeaves store makes reads ends io s (Ok u) conn → DatabaseAnswered store makes reads ends io s conn
 answered_in store makes true ends io s u conn h = whole_in store makes ends io s (Ok u) conn h
 answered_in store makes false ends io s u conn (inl none) = absurd (ok_err none.outcome)
 answered_in store makes false ends io s u conn (inr some) = some

@@ -42,10 +42,10 @@ use Rattle.acd_sessions.specs.Answered.{in_memory}
 use Rattle.acd_sessions.specs.Desks.{OverDatabase, OverNewDesk, in_database}
 use Rattle.acd_sessions.specs.Faults.{command_result}
 use Rattle.acd_sessions.specs.Over.{held, unmade, LeavesBooks}
-use Rattle.acd_sessions.specs.LinesOver.{in_turn, Whole, LinesEnded}
+use Rattle.acd_sessions.specs.LinesOver.{in_turn, Whole, LinesLeave}
 use Rattle.acd_sessions.specs.Seen.{Seen, seen, SeenNew, InDatabase, left_of, SeenOver, SeenIn}
-use Rattle.acd_sessions.specs.Serving.{TurnsOf, ServeEnded, ends_failed}
-use Rattle.acd_sessions.specs.Standby.{OrderedService, StandbyEnded}
+use Rattle.acd_sessions.specs.Serving.{TurnsOf, ServiceLeaves, ends_failed}
+use Rattle.acd_sessions.specs.Standby.{OrderedService, StandbyLeaves}
 use Rattle.acd_sessions.specs.Taking.{IsOf}
 use Rattle.acd_sessions.specs.declared.fault.WorkFault.{WorkFault}
 use Rattle.acd_command.specs.declared.asked.Address.{Address}
@@ -234,7 +234,7 @@ module _ {D T : Type 0} (stands : D → Standing) (stood : T → Standing) (view
     )
     done_seen ends io (Err why) h = (kept_after (FirstLines io.old_input) _ h.begun, record { all = tt; first = tt; begun = lines_seen _ _ h.begun; cause = ended_seen io why h.cause })
 
-    pub lines_ended_seen : (ends : Bool) (io : Streams) (r : Result (Unit {0}) WorkFault) → LinesEnded stands (in_turn true stands) ends io r d e → Kept e × LinesEnded stood (in_turn true stood) ends io r (view d) (view e)
+    pub lines_ended_seen : (ends : Bool) (io : Streams) (r : Result (Unit {0}) WorkFault) → LinesLeave stands (in_turn true stands) ends io r d e → Kept e × LinesLeave stood (in_turn true stood) ends io r (view d) (view e)
     lines_ended_seen ends io r h =
         let done = done_seen ends io h.ended h.lines in
         (done.0, record { ended = h.ended; lines = done.1; outcome = h.outcome ∙ ap (λ (b : Bool). command_result h.ended (ends && b)) (sym (v.failed e)) })
@@ -308,8 +308,8 @@ module _ {D T : Type 0} (stands : D → Standing) (stood : T → Standing) (view
           ),
         )
 
-    pub serve_seen : (span : Span) (old_errors new_errors : Option (List ℕ)) (address : Address) (old_output new_output : Option (List ℕ)) (r : Result (Unit {0}) WorkFault) → ServeEnded span old_errors new_errors address old_output new_output stands r d e
-        → Kept e × ServeEnded span old_errors new_errors address old_output new_output stood r (view d) (view e)
+    pub serve_seen : (span : Span) (old_errors new_errors : Option (List ℕ)) (address : Address) (old_output new_output : Option (List ℕ)) (r : Result (Unit {0}) WorkFault) → ServiceLeaves span old_errors new_errors address old_output new_output stands r d e
+        → Kept e × ServiceLeaves span old_errors new_errors address old_output new_output stood r (view d) (view e)
     serve_seen span old_errors new_errors address old_output new_output r (inl h) =
         (same_kept d e h.0.same k, inl (record { why = h.0.why; ended = h.0.ended; same = ap view h.0.same; quiet = h.0.quiet }, h.1))
     serve_seen span old_errors new_errors address old_output new_output r (inr h) =
@@ -318,7 +318,7 @@ module _ {D T : Type 0} (stands : D → Standing) (stood : T → Standing) (view
 
   -- ---- lines up to the order, and then connections
 
-  pub standby_seen : (d e : D) → Kept d → (to_do : OrderedService) (r : Result (Unit {0}) WorkFault) → StandbyEnded stands to_do r d e → Kept e × StandbyEnded stood to_do r (view d) (view e)
+  pub standby_seen : (d e : D) → Kept d → (to_do : OrderedService) (r : Result (Unit {0}) WorkFault) → StandbyLeaves stands to_do r d e → Kept e × StandbyLeaves stood to_do r (view d) (view e)
   standby_seen d e k to_do r (inl h) =
       (same_kept d e h.same k, inl (record { why = h.why; ended = h.ended; same = ap view h.same; quiet = h.quiet; unsaid = h.unsaid }))
   standby_seen d e k to_do r (inr (inl h)) =

@@ -18,7 +18,7 @@ use Rattle.acd_sessions.specs.Faults.{open_fault, command_result}
 use Rattle.acd_sessions.specs.Over.{Unserved}
 use Rattle.acd_sessions.specs.Seen.{Seen, seen, InDatabase, left_of, SeenIn}
 use Rattle.acd_sessions.specs.Taking.{IsTaken}
-use Rattle.acd_sessions.specs.Serving.{PrintsServiceFaults, TurnsOf, ServeDone, listening_line, ends_failed, ListenEnded, ServeEnded, ServeOver, ServeIn}
+use Rattle.acd_sessions.specs.Serving.{PrintsServiceFaults, TurnsOf, ServeDone, listening_line, ends_failed, ListeningLeaves, ServiceLeaves, ServeOver, ServeIn}
 use Rattle.acd_sessions.specs.declared.fault.WorkFault.{WorkFault}
 use Rattle.acd_command.specs.declared.asked.Address.{Address}
 use Rattle.acd_sessions.proofs.Seen.{view, views, IsKept, serve_seen, seen_in, seen_made, seen_so}
@@ -53,12 +53,12 @@ well_for u (Some many) true outcome is = absurd (cc is)
 module _ (span : Span) (a b : Option (List ℕ)) (address : Address) (old_output new_output : Option (List ℕ)) where
   module _ {D : Type 0} (stands : D → Standing) where
     -- connections are waited for once the whole line is written
-    pub serve_ended : (r : Result (Unit {0}) WorkFault) (d e : D) → Appends old_output new_output (listening_line address) → ListenEnded span a b stands r d e → ServeEnded span a b address old_output new_output stands r d e
+    pub serve_ended : (r : Result (Unit {0}) WorkFault) (d e : D) → Appends old_output new_output (listening_line address) → ListeningLeaves span a b stands r d e → ServiceLeaves span a b address old_output new_output stands r d e
     serve_ended r d e line (inl none) = inl (none, begins_whole old_output new_output (listening_line address) line)
     serve_ended r d e line (inr some) = inr (some, line)
 
     -- without a fault the connections were answered as was asked for
-    pub serve_done : (u : Unit {0}) (d e : D) → ServeEnded span a b address old_output new_output stands (Ok u) d e → ServeDone stands span a b d e
+    pub serve_done : (u : Unit {0}) (d e : D) → ServiceLeaves span a b address old_output new_output stands (Ok u) d e → ServeDone stands span a b d e
     serve_done u d e (inl none) = absurd (ok_err none.0.ended)
     serve_done u d e (inr some) = record { taken = some.0.taken; well = well_for u span.connections (stands e).failed some.0.ended }
 
@@ -75,7 +75,7 @@ module _ (span : Span) (a b : Option (List ℕ)) (address : Address) (old_output
       unsaid = none.unsaid;
     })
     serve_in makes taken last settles of back (inr some) =
-        inr (seen_in store (ServeEnded span a b address old_output new_output (standing (in_database store)) r) (λ (stands : Seen (InDatabase S) → Standing). ServeEnded span a b address old_output new_output stands r)
+        inr (seen_in store (ServiceLeaves span a b address old_output new_output (standing (in_database store)) r) (λ (stands : Seen (InDatabase S) → Standing). ServiceLeaves span a b address old_output new_output stands r)
         (λ Clean began d e k h. serve_seen (standing (in_database store)) (seen (left_of store began)) (view store) (IsKept store Clean began) (views store Clean began) d e k span a b address old_output new_output r h) makes s conn (record { taken = taken; last = last; of_old = of; over = some; back = back }))
 
     -- where it was known whether a new book may be made
@@ -90,5 +90,5 @@ module _ (span : Span) (a b : Option (List ℕ)) (address : Address) (old_output
   serve_done_in store s (Err e) conn makes h = tt
   serve_done_in store s (Ok u) conn makes (inl none) = absurd (ok_err none.ended)
   serve_done_in {S} store s (Ok u) conn makes (inr some) =
-      seen_so store (λ (stands : Seen (InDatabase S) → Standing). ServeEnded span a b address old_output new_output stands (Ok u)) (λ (stands : Seen (InDatabase S) → Standing). ServeDone stands span a b)
+      seen_so store (λ (stands : Seen (InDatabase S) → Standing). ServiceLeaves span a b address old_output new_output stands (Ok u)) (λ (stands : Seen (InDatabase S) → Standing). ServeDone stands span a b)
       (λ stands d e h. serve_done stands u d e h) makes s conn some

@@ -33,8 +33,8 @@ use Rattle.acd_sessions.specs.LinesOver.{in_turn}
 use Rattle.acd_sessions.specs.Output.{output}
 use Rattle.acd_sessions.specs.Over.{Unserved}
 use Rattle.acd_sessions.specs.Seen.{Seen, seen, InDatabase, left_of, SeenIn}
-use Rattle.acd_sessions.specs.Serving.{ServeEnded}
-use Rattle.acd_sessions.specs.Standby.{EndAtOrder, LinesToOrder, until_order, fed, upon, upon_order, OrderedService, StandbyEnded, StandbyDone, StandbyOver, StandbyIn, StandbyLeadsToTheRun}
+use Rattle.acd_sessions.specs.Serving.{ServiceLeaves}
+use Rattle.acd_sessions.specs.Standby.{UpToOrder, LinesToOrder, until_order, upon, upon_order, OrderedService, StandbyLeaves, StandbyDone, StandbyOver, StandbyIn, StandbyLeadsToTheRun}
 use Rattle.acd_sessions.specs.Taking.{IsTaken}
 use Rattle.acd_command.specs.declared.asked.Address.{Address}
 use Rattle.acd_sessions.specs.declared.fault.WorkFault.{WorkFault}
@@ -76,18 +76,18 @@ module _ (known given left a b : Option (List ℕ)) (U V : Type 0) where
       by (Some input) None read order = absurd read
       by (Some input) (Some ys) read order = told_by input bytes (read ∙ ap (λ (l : List ℕ). bytes ++ l) order)
 
-  ordered_up : (ls : List (List ℕ)) → given ≡ until_order known → EndAtOrder of_reader ls → LinesToOrder known ls
+  ordered_up : (ls : List (List ℕ)) → given ≡ until_order known → UpToOrder of_reader ls → LinesToOrder known ls
   ordered_up ls is h = (h.0.0, h.0.2, came_to h.0.0 is h.0.1 h.1)
 
 module _ (span : Span) (address : Address) (known given left a b old_errors new_errors : Option (List ℕ)) (U V : Type 0) where
   abbrev pub by_reader : OrderedService
-  by_reader = record { span = span; address = address; io = of_reader known given left a b U V; IsOrdered = EndAtOrder (of_reader known given left a b U V); old_errors = old_errors; new_errors = new_errors }
+  by_reader = record { span = span; address = address; io = of_reader known given left a b U V; IsOrdered = UpToOrder (of_reader known given left a b U V); old_errors = old_errors; new_errors = new_errors }
 
   abbrev pub by_input : OrderedService
   by_input = record { span = span; address = address; io = of_input known given left a b U V; IsOrdered = LinesToOrder known; old_errors = old_errors; new_errors = new_errors }
 
   module _ (unread : U → left ≡ given) (unwritten : V → b ≡ a) (is : given ≡ until_order known) where
-    ended_up : {D : Type 0} (stands : D → Standing) (r : Result (Unit {0}) WorkFault) (d e : D) → StandbyEnded stands by_reader r d e → StandbyEnded stands by_input r d e
+    ended_up : {D : Type 0} (stands : D → Standing) (r : Result (Unit {0}) WorkFault) (d e : D) → StandbyLeaves stands by_reader r d e → StandbyLeaves stands by_input r d e
     ended_up stands r d e (inl h) = inl (record { why = h.why; ended = h.ended; same = h.same; quiet = h.quiet; unsaid = h.unsaid })
     ended_up stands r d e (inr (inl h)) =
         inr (inl (record { ended = h.ended; lines = lines_up known given left a b U V unread unwritten stands (in_turn true stands) d e h.ended is h.lines; outcome = h.outcome; quiet = h.quiet }))
@@ -101,7 +101,7 @@ module _ (span : Span) (address : Address) (known given left a b old_errors new_
     pub standby_up : {S : Type 0} (store : Ghosts S) (makes : Bool) (s : State) (r : Result (Unit {0}) WorkFault) (conn : Held S) → StandbyIn store makes s by_reader r conn → StandbyIn store makes s by_input r conn
     standby_up store makes s r conn (inl none) = inl none
     standby_up {S} store makes s r conn (inr some) =
-        inr (seen_so store (λ (stands : Seen (InDatabase S) → Standing). StandbyEnded stands by_reader r) (λ (stands : Seen (InDatabase S) → Standing). StandbyEnded stands by_input r)
+        inr (seen_so store (λ (stands : Seen (InDatabase S) → Standing). StandbyLeaves stands by_reader r) (λ (stands : Seen (InDatabase S) → Standing). StandbyLeaves stands by_input r)
         (λ stands d e h. ended_up stands r d e h) makes s conn some)
 
 -- ---- over a database
@@ -120,7 +120,7 @@ module _ (to_do : OrderedService) where
       unsaid = none.unsaid;
     })
     standby_in makes taken last settles of back (inr some) =
-        inr (seen_in store (StandbyEnded (standing (in_database store)) to_do r) (λ (stands : Seen (InDatabase S) → Standing). StandbyEnded stands to_do r)
+        inr (seen_in store (StandbyLeaves (standing (in_database store)) to_do r) (λ (stands : Seen (InDatabase S) → Standing). StandbyLeaves stands to_do r)
         (λ Clean began d e k h. standby_seen (standing (in_database store)) (seen (left_of store began)) (view store) (IsKept store Clean began) (views store Clean began) d e k to_do r h) makes s conn (record { taken = taken; last = last; of_old = of; over = some; back = back }))
 
     -- where it was known whether a new book may be made
@@ -130,12 +130,12 @@ module _ (to_do : OrderedService) where
     standby_made is_new makes may (inr some) = inr (seen_made store _ is_new makes s conn may some)
 
   -- without a fault it was told, and served
-  standby_done : {D : Type 0} (stands : D → Standing) (u : Unit {0}) (d e : D) → StandbyEnded stands to_do (Ok u) d e → StandbyDone stands to_do d e
+  standby_done : {D : Type 0} (stands : D → Standing) (u : Unit {0}) (d e : D) → StandbyLeaves stands to_do (Ok u) d e → StandbyDone stands to_do d e
   standby_done stands u d e (inl h) = absurd (ok_err h.ended)
   standby_done stands u d e (inr (inl h)) = absurd (ok_err h.outcome)
   standby_done stands u d e (inr (inr h)) = by h.served
     where
-      by : ServeEnded to_do.span to_do.old_errors to_do.new_errors to_do.address h.answered to_do.io.new_output stands (Ok u) h.between e → StandbyDone stands to_do d e
+      by : ServiceLeaves to_do.span to_do.old_errors to_do.new_errors to_do.address h.answered to_do.io.new_output stands (Ok u) h.between e → StandbyDone stands to_do d e
       by (inl none) = absurd (ok_err none.0.ended)
       by (inr some) = record {
         between = h.between;
@@ -150,13 +150,13 @@ module _ (to_do : OrderedService) where
   standby_done_in store s (Err e) conn makes h = tt
   standby_done_in store s (Ok u) conn makes (inl none) = absurd (ok_err none.ended)
   standby_done_in {S} store s (Ok u) conn makes (inr some) =
-      seen_so store (λ (stands : Seen (InDatabase S) → Standing). StandbyEnded stands to_do (Ok u)) (λ (stands : Seen (InDatabase S) → Standing). StandbyDone stands to_do)
+      seen_so store (λ (stands : Seen (InDatabase S) → Standing). StandbyLeaves stands to_do (Ok u)) (λ (stands : Seen (InDatabase S) → Standing). StandbyDone stands to_do)
       (λ stands d e h. standby_done stands u d e h) makes s conn some
 
 -- by the reader that the standby's reader reads
 pub standby_of_reader : {Q R W E : Type 0} (rest : Q → Option (List ℕ)) (remaining : R → Option (List ℕ)) (contents : W → Option (List ℕ)) (errors : E → Option (List ℕ)) (q : Q × Q) (l : UntilOrder R × UntilOrder R) (w : W × W) (e : E × E) (span : Span) (address : Address)
     → order.left_of remaining l.0 ≡ until_order (rest q.0) → {S : Type 0} (store : Ghosts S) (is_new : Bool) → (is_new ≡ true → true ≡ true) → (s : State) (r : Result (Unit {0}) WorkFault) (conn : Held S)
-    → StandbyIn store is_new s (upon span address (fed remaining contents l w) (output errors e.0 e.1)) r conn → StandbyIn store true s (upon_order span address (streams rest contents q w) (order.left_of remaining l.1) (errors e.0, errors e.1)) r conn
+    → StandbyIn store is_new s (upon (record { span = span; address = address }) (streams (order.left_of remaining) contents l w) (output errors e.0 e.1)) r conn → StandbyIn store true s (upon_order span address (streams rest contents q w) (order.left_of remaining l.1) (errors e.0, errors e.1)) r conn
 standby_of_reader rest remaining contents errors q l w e span address is store is_new may s r conn h =
     standby_made (upon_order span address (streams rest contents q w) (order.left_of remaining l.1) (errors e.0, errors e.1)) store s r conn is_new true may
     (standby_up span address (rest q.0) (order.left_of remaining l.0) (order.left_of remaining l.1) (contents w.0) (contents w.1) (errors e.0) (errors e.1) (l.1 ≡ l.0) (w.1 ≡ w.0)

@@ -1,3 +1,4 @@
+pub mod ToDo
 pub mod Output
 pub mod Faults
 pub mod Answered

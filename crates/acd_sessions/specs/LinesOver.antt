@@ -1,6 +1,7 @@
 -- How lines over a book ended: over that of a database, of a file, or over a new one in memory. `InTurn d e` says how lines were answered from the desk d to the desk e.
 use Rattle.std.specs.Prelude.{◌≡◌, ◌⊎◌, ℕ, Bool, true, false, ◌&&◌, List, Result, Err}
 use Rattle.std.specs.Io.KnownBytes.{Appends}
+use Rattle.std.specs.Borrow.{MutBor}
 use Rattle.sqlite.specs.State.{State}
 use Rattle.sqlite.specs.Held.{Held, state}
 use Rattle.sqlite_trees.specs.declared.store.Store.{Ghosts}
@@ -25,6 +26,7 @@ use Rattle.acd_sessions.specs.Faults.{open_fault, command_result}
 use Rattle.acd_sessions.specs.Over.{AnswersOver, Database, OverConnection, Unserved}
 use Rattle.acd_sessions.specs.Seen.{SeenIn}
 use Rattle.acd_sessions.specs.declared.fault.WorkFault.{WorkFault}
+use denote.Triple.Both.{Both}
 
 -- how the lines of a command are answered: requests alone or, where it `reads`, these and the reads among them
 abbrev pub in_turn : {D : Type 0} → Bool → (D → Standing) → D → D → List (List ℕ) → List (List ℕ) → Type 0
@@ -38,7 +40,7 @@ module _ {D : Type 0} (stands : D → Standing) (AnsweredInTurn : D → D → Li
     pub well : ends ≡ true → (stands e).failed ≡ false
 
   -- lines were answered, and the command gets how that ended
-  pub record LinesEnded (result : Result (Unit {0}) WorkFault) (d e : D) : Type 0 where
+  pub record LinesLeave (result : Result (Unit {0}) WorkFault) (d e : D) : Type 0 where
     pub ended : Result (Unit {0}) LinesFault
     pub lines : LinesDone stands AnsweredInTurn ends io d e ended
     pub outcome : result ≡ command_result ended (ends && (stands e).failed)
@@ -53,15 +55,15 @@ module _ {B : Type 0} (says : book.Ghosts B) (AnsweredInTurn : Desk B → Desk B
 
   -- lines over the book
   abbrev pub LinesOver : BookState → Result (Unit {0}) WorkFault → B → Type 0
-  LinesOver old result last = NoDesk old result last ⊎ OverDesk says (LinesEnded (standing says) AnsweredInTurn ends io result) old last
+  LinesOver old result last = NoDesk old result last ⊎ OverDesk says (LinesLeave (standing says) AnsweredInTurn ends io result) old last
 
 -- lines over a desk ended so, where they are answered in this manner
-abbrev pub EndsOnDesk : {D : Type 0} → Manner D → Streams → D → D → Result (Unit {0}) WorkFault → Type 0
-EndsOnDesk manner io old new result = LinesEnded manner.stands manner.Answered manner.ends io result old new
+abbrev pub LinesLeaveDesk : {D : Type 0} → Manner D → Streams → Both (MutBor D) (MutBor D) → Result (Unit {0}) WorkFault → Type 0
+LinesLeaveDesk manner io desk result = LinesLeave manner.stands manner.Answered manner.ends io result desk.entry.now desk.exit.now
 
 -- lines over a book did, with the book that came back
-abbrev pub EndsOnBook : {B : Type 0} → book.Ghosts B → B → Manner (Desk B) → Streams → Result (Unit {0}) WorkFault × B → Type 0
-EndsOnBook books given manner io result = LinesOver books manner.Answered manner.ends io (books.state given) result.0 result.1
+abbrev pub LinesLeaveBook : {B : Type 0} → book.Ghosts B → B → Manner (Desk B) → Streams → Result (Unit {0}) WorkFault × B → Type 0
+LinesLeaveBook books given manner io result = LinesOver books manner.Answered manner.ends io (books.state given) result.0 result.1
 
 module _ {S : Type 0} (store : Ghosts S) (makes : Bool) (io : Streams) where
   -- there was no desk: nothing was read or written, and a crash leaves what it left before, or a new book
@@ -74,11 +76,11 @@ module _ {S : Type 0} (store : Ghosts S) (makes : Bool) (io : Streams) where
 -- lines over the book of the database
 abbrev pub LinesIn : {S : Type 0} → (store : Ghosts S) → (Desk (BookView S) → Desk (BookView S) → List (List ℕ) → List (List ℕ) → Type 0) → Bool → Bool → Streams → State → Result (Unit {0}) WorkFault → Held S → Type 0
 LinesIn store AnsweredInTurn makes ends io old result new =
-    NoneMade store makes io old result new ⊎ OverDatabase store makes (LinesEnded (standing (in_database store)) AnsweredInTurn ends io result) old new
+    NoneMade store makes io old result new ⊎ OverDatabase store makes (LinesLeave (standing (in_database store)) AnsweredInTurn ends io result) old new
 
 -- lines over a database that was handed in ended so, with the connection that came back, where a line leads from one desk to another so
-abbrev pub EndsEach : {S : Type 0} → Database S → (Desk (BookView S) → Desk (BookView S) → List (List ℕ) → List (List ℕ) → Type 0) → Bool → Streams → Result (Unit {0}) WorkFault × Held S → Type 0
-EndsEach db AnsweredInTurn ends io result = LinesIn db.store AnsweredInTurn db.makes ends io (state db.store db.conn) result.0 result.1
+abbrev pub LinesLeaveEach : {S : Type 0} → Database S → (Desk (BookView S) → Desk (BookView S) → List (List ℕ) → List (List ℕ) → Type 0) → Bool → Streams → Result (Unit {0}) WorkFault × Held S → Type 0
+LinesLeaveEach db AnsweredInTurn ends io result = LinesIn db.store AnsweredInTurn db.makes ends io (state db.store db.conn) result.0 result.1
 
 -- the whole input was answered over the book of the database: where lines are requests alone, by a session; else each by the desk that the lines before it left
 abbrev pub DatabaseAnswered : {S : Type 0} → Ghosts S → Bool → Bool → Bool → Streams → State → Held S → Type 0

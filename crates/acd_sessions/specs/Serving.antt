@@ -1,6 +1,8 @@
 -- Answering connections over the book of a database: what it leaves, and how that ended.
 use Rattle.std.specs.Prelude.{◌≡◌, ◌⊎◌, ℕ, Bool, false, List, codes, Option, Some, None, is_some, Result, Ok, Err}
 use Rattle.std.specs.Io.KnownBytes.{Appends}
+use Rattle.std.specs.Borrow.{MutBor}
+use Rattle.std.specs.declared.io.Write as write
 use Rattle.sqlite.specs.State.{State}
 use Rattle.sqlite.specs.Held.{Held, state}
 use Rattle.sqlite_trees.specs.declared.store.Store.{Ghosts as Stores}
@@ -14,13 +16,15 @@ use Rattle.acd_io.specs.Sent.{Begins}
 use Rattle.acd_http.specs.declared.serving.Span.{Span}
 use Rattle.acd_http.specs.Turns.{TurnsUntil, Turn, turn_lines}
 use Rattle.acd_sessions.specs.Desks.{OverDesk}
-use Rattle.acd_sessions.specs.Output.{number_line, text_line, Output}
+use Rattle.acd_sessions.specs.Output.{number_line, text_line, Output, written}
 use Rattle.acd_command.specs.declared.asked.Address.{Address}
 use Rattle.acd_command.specs.declared.asked.Address.TheVariants.{Port, Socket}
 use Rattle.acd_sessions.specs.Faults.{open_fault, command_result}
 use Rattle.acd_sessions.specs.Over.{Database, Unserved}
 use Rattle.acd_sessions.specs.Seen.{Seen, InDatabase, SeenIn}
 use Rattle.acd_sessions.specs.declared.fault.WorkFault.{WorkFault}
+use Rattle.acd_sessions.specs.declared.serving.Serving.{Serving}
+use denote.Triple.Both.{Both}
 
 -- turns were taken, one after another, with looks between connections where there is a step: so many connections, or until the desk failed
 abbrev pub TurnsOf : {D : Type 0} → (D → Standing) → Span → D → D → (List ℕ → Type 0) → Type 0
@@ -58,14 +62,14 @@ module _ (span : Span) (old_errors new_errors : Option (List ℕ)) where
       pub ended : result ≡ command_result (Ok tt) (ends_failed span.connections (stands e).failed)
 
     -- what answering connections left, and the command gets how it ended
-    abbrev pub ListenEnded : Result (Unit {0}) WorkFault → D → D → Type 0
-    ListenEnded result d e = Unasked result d e ⊎ Answered result d e
+    abbrev pub ListeningLeaves : Result (Unit {0}) WorkFault → D → D → Type 0
+    ListeningLeaves result d e = Unasked result d e ⊎ Answered result d e
 
   -- `old_output` was written on the output before, and `new_output` is written after
   module _ (address : Address) (old_output new_output : Option (List ℕ)) where
     -- connections are answered only after the whole line
-    abbrev pub ServeEnded : {D : Type 0} → (D → Standing) → Result (Unit {0}) WorkFault → D → D → Type 0
-    ServeEnded stands result d e =
+    abbrev pub ServiceLeaves : {D : Type 0} → (D → Standing) → Result (Unit {0}) WorkFault → D → D → Type 0
+    ServiceLeaves stands result d e =
         (Unasked stands result d e × Begins old_output new_output (listening_line address))
         ⊎ (Answered stands result d e × Appends old_output new_output (listening_line address))
 
@@ -80,7 +84,7 @@ module _ (span : Span) (old_errors new_errors : Option (List ℕ)) where
 
       -- answering connections over the book
       abbrev pub ServeOver : BookState → Result (Unit {0}) WorkFault → B → Type 0
-      ServeOver old result last = NoDesk old result last ⊎ OverDesk says (ServeEnded (standing says) result) old last
+      ServeOver old result last = NoDesk old result last ⊎ OverDesk says (ServiceLeaves (standing says) result) old last
 
     -- there was no desk: nothing was written, and a crash leaves what it left before, or a new book
     pub record NoneMade {S : Type 0} (store : Stores S) (makes : Bool) (old : State) (result : Result (Unit {0}) WorkFault) (new : Held S) : Type 0 where
@@ -93,7 +97,7 @@ module _ (span : Span) (old_errors new_errors : Option (List ℕ)) where
     -- answering connections over the book of the database
     abbrev pub ServeIn : {S : Type 0} → Stores S → Bool → State → Result (Unit {0}) WorkFault → Held S → Type 0
     ServeIn {S} store makes old result new =
-        NoneMade store makes old result new ⊎ SeenIn store (λ (stands : Seen (InDatabase S) → Standing). ServeEnded stands result) makes old new
+        NoneMade store makes old result new ⊎ SeenIn store (λ (stands : Seen (InDatabase S) → Standing). ServiceLeaves stands result) makes old new
 
 -- ---- of a call
 
@@ -104,27 +108,27 @@ pub record Service : Type 1 where
   pub said : Output
   pub errors : Output
 
--- it is made of these
-abbrev pub service : Span → Address → Output → Output → Service
-service span address said errors = record { span = span; address = address; said = said; errors = errors }
+-- with two writers by the names of their parameters, which have both values
+abbrev pub service : {W E : Type 0} → Serving → write.Ghosts W → write.Ghosts E → Both (MutBor W) (MutBor W) → Both (MutBor E) (MutBor E) → Service
+service serving says faults writer errors = record { span = serving.span; address = serving.address; said = written says writer; errors = written faults errors }
 
 -- a desk answered connections, from what it was to what it is then
-abbrev pub EndsListening : {B : Type 0} → Ghosts B → Desk B × Desk B → Result (Unit {0}) WorkFault → Span → Output → Type 0
-EndsListening books desks result span errors = ListenEnded span errors.before errors.after (standing books) result desks.0 desks.1
+abbrev pub ListensBy : {B : Type 0} → Ghosts B → Both (MutBor (Desk B)) (MutBor (Desk B)) → Result (Unit {0}) WorkFault → Span → Output → Type 0
+ListensBy books desk result span errors = ListeningLeaves span errors.before errors.after (standing books) result desk.entry.now desk.exit.now
 
 -- it did after the line that says where was written
-abbrev pub EndsService : {B : Type 0} → Ghosts B → Desk B × Desk B → Result (Unit {0}) WorkFault → Service → Type 0
-EndsService books desks result to_do =
-    ServeEnded to_do.span to_do.errors.before to_do.errors.after to_do.address to_do.said.before to_do.said.after (standing books) result desks.0 desks.1
+abbrev pub ServesBy : {B : Type 0} → Ghosts B → Both (MutBor (Desk B)) (MutBor (Desk B)) → Result (Unit {0}) WorkFault → Service → Type 0
+ServesBy books desk result to_do =
+    ServiceLeaves to_do.span to_do.errors.before to_do.errors.after to_do.address to_do.said.before to_do.said.after (standing books) result desk.entry.now desk.exit.now
 
 -- a desk over a book did, with the book that came back
-abbrev pub EndsServiceOver : {B : Type 0} → Ghosts B → B → Result (Unit {0}) WorkFault × B → Service → Type 0
-EndsServiceOver books given result to_do =
+abbrev pub ServesOver : {B : Type 0} → Ghosts B → B → Result (Unit {0}) WorkFault × B → Service → Type 0
+ServesOver books given result to_do =
     ServeOver to_do.span to_do.errors.before to_do.errors.after to_do.address to_do.said.before to_do.said.after books (books.state given) result.0 result.1
 
 -- a desk over a database that was handed in did, with the connection that came back
-abbrev pub EndsServiceIn : {S : Type 0} → Database S → Result (Unit {0}) WorkFault × Held S → Service → Type 0
-EndsServiceIn db result to_do =
+abbrev pub ServesIn : {S : Type 0} → Database S → Result (Unit {0}) WorkFault × Held S → Service → Type 0
+ServesIn db result to_do =
     ServeIn to_do.span to_do.errors.before to_do.errors.after to_do.address to_do.said.before to_do.said.after db.store db.makes (state db.store db.conn) result.0 result.1
 
 -- the lines of the faults of connections and ticks were written, or a beginning of them

@@ -1,5 +1,5 @@
 -- Lines that ask for services alone: as a session over a database, and as what the abstract desk answers over a new desk in memory.
-use Rattle.std.specs.Prelude.{◌≡◌, ◌⊎◌, ℕ, Bool, true, false, List, Option, Result, Ok, Err, MatchResult}
+use Rattle.std.specs.Prelude.{◌≡◌, ◌⊎◌, ℕ, Bool, true, false, List, Option, Result, Ok, Err}
 use Rattle.std.specs.Io.KnownBytes.{Appends}
 use Rattle.sqlite.specs.State.{State}
 use Rattle.sqlite.specs.Held.{Held, state}
@@ -16,9 +16,10 @@ use Rattle.acd_sqlbook.specs.View.{BookView}
 use Rattle.acd_sessions.specs.Answered.{in_memory, AnsweredFromNothing, AnswersAll}
 use Rattle.acd_sessions.specs.Faults.{lines_fault}
 use Rattle.acd_sessions.specs.Desks.{OverDatabase, in_database}
-use Rattle.acd_sessions.specs.LinesOver.{in_turn, LinesEnded, LinesInMemory, NewAnswered, NoneMade}
+use Rattle.acd_sessions.specs.LinesOver.{in_turn, LinesLeave, LinesInMemory, NewAnswered, NoneMade}
 use Rattle.acd_sessions.specs.Over.{IsSession, IsFailedSession, AnswersOver, Database, OverConnection}
 use Rattle.acd_sessions.specs.Seen.{Seen, SeenNew, SeenIn}
+use Rattle.acd_sessions.specs.ToDo.{ToDo}
 use Rattle.acd_sessions.specs.declared.fault.WorkFault.{WorkFault}
 use Rattle.acd_sessions.specs.declared.fault.WorkFault.TheVariants.{Store}
 
@@ -35,53 +36,53 @@ module _ (ends : Bool) (io : Streams) where
     pub asked : ends ≡ true
     pub session : LinesAnswered (FirstLines io.old_input) (ArrivalsAnswered (IsFailedSession old new)) (Appends io.old_output io.new_output)
 
-  abbrev pub SessionEnded : Result (Unit {0}) WorkFault → BookState → BookState → Type 0
-  SessionEnded (Ok done) old new = AnswersOver ends io old new
-  SessionEnded (Err fault) old new = Stopped old new fault ⊎ Failed old new fault
+  abbrev pub SessionLeaves : Result (Unit {0}) WorkFault → BookState → BookState → Type 0
+  SessionLeaves (Ok done) old new = AnswersOver ends io old new
+  SessionLeaves (Err fault) old new = Stopped old new fault ⊎ Failed old new fault
 
 -- lines that are requests alone ended so, by a desk of the database
-abbrev pub RequestsEnded : {S : Type 0} → Ghosts S → Bool → Streams → Result (Unit {0}) WorkFault → Desk (BookView S) → Desk (BookView S) → Type 0
-RequestsEnded store ends io result = LinesEnded (standing (in_database store)) (in_turn false (standing (in_database store))) ends io result
+abbrev pub RequestsLeave : {S : Type 0} → Ghosts S → Bool → Streams → Result (Unit {0}) WorkFault → Desk (BookView S) → Desk (BookView S) → Type 0
+RequestsLeave store ends io result = LinesLeave (standing (in_database store)) (in_turn false (standing (in_database store))) ends io result
 
 -- they ended as a session does
-abbrev pub EndAsSession : {S : Type 0} → Ghosts S → Bool → Bool → Streams → Type 0
-EndAsSession {S} store makes ends io = (result : Result (Unit {0}) WorkFault) (old new : Held S)
-    → OverDatabase store makes (RequestsEnded store ends io result) (state store old) new → OverConnection (SessionEnded ends io result) makes (state store old) (state store new)
+abbrev pub AreASession : {S : Type 0} → Ghosts S → Bool → Bool → Streams → Type 0
+AreASession {S} store makes ends io = (result : Result (Unit {0}) WorkFault) (old new : Held S)
+    → OverDatabase store makes (RequestsLeave store ends io result) (state store old) new → OverConnection (SessionLeaves ends io result) makes (state store old) (state store new)
 
 -- over any reader and any writer
 abbrev pub LinesAreSessions : {S R W : Type 0} → Ghosts S → (R → Option (List ℕ)) → (W → Option (List ℕ)) → Type 0
-LinesAreSessions {R = R} {W = W} store remaining contents = (makes ends : Bool) (reader : R × R) (writer : W × W) → EndAsSession store makes ends (streams remaining contents reader writer)
+LinesAreSessions {R = R} {W = W} store remaining contents = (makes ends : Bool) (reader : R × R) (writer : W × W) → AreASession store makes ends (streams remaining contents reader writer)
 
 -- how lines over the database ended: where they are requests alone, by a session, whole or begun; else each of them by the desk that the lines before it left
-abbrev pub DatabaseEnded : {S : Type 0} → Ghosts S → Bool → Bool → Bool → Streams → State → Result (Unit {0}) WorkFault → Held S → Type 0
-DatabaseEnded store makes false ends io old result new = NoneMade store makes io old result new ⊎ OverConnection (SessionEnded ends io result) makes old (state store new)
-DatabaseEnded store makes true ends io old result new =
-    NoneMade store makes io old result new ⊎ SeenIn store (λ stands. LinesEnded stands (in_turn true stands) ends io result) makes old new
+abbrev pub DatabaseLeaves : {S : Type 0} → Ghosts S → Bool → Bool → Bool → Streams → State → Result (Unit {0}) WorkFault → Held S → Type 0
+DatabaseLeaves store makes false ends io old result new = NoneMade store makes io old result new ⊎ OverConnection (SessionLeaves ends io result) makes old (state store new)
+DatabaseLeaves store makes true ends io old result new =
+    NoneMade store makes io old result new ⊎ SeenIn store (λ stands. LinesLeave stands (in_turn true stands) ends io result) makes old new
 
 -- lines over a database that was handed in ended so, with the connection that came back
-abbrev pub EndsLines : {S : Type 0} → Database S → Bool → Bool → Streams → Result (Unit {0}) WorkFault × Held S → Type 0
-EndsLines db reads ends io result = DatabaseEnded db.store db.makes reads ends io (state db.store db.conn) result.0 result.1
+abbrev pub LinesLeaveIn : {S : Type 0} → Database S → Bool → Bool → Streams → Result (Unit {0}) WorkFault × Held S → Type 0
+LinesLeaveIn db reads ends io result = DatabaseLeaves db.store db.makes reads ends io (state db.store db.conn) result.0 result.1
 
 -- ---- in memory
 
 -- all lines are answered so, or after any fault a beginning of them
-abbrev pub AnswersEnded : Streams → Result (Unit {0}) LinesFault → Type 0
-AnswersEnded io (Ok done) = AnswersAll io.old_input io.old_output io.new_output
-AnswersEnded io (Err why) = LinesAnswered (FirstLines io.old_input) (ArrivalsAnswered AnsweredFromNothing) (Begins io.old_output io.new_output)
+abbrev pub AnswersLeave : Streams → Result (Unit {0}) LinesFault → Type 0
+AnswersLeave io (Ok done) = AnswersAll io.old_input io.old_output io.new_output
+AnswersLeave io (Err why) = LinesAnswered (FirstLines io.old_input) (ArrivalsAnswered AnsweredFromNothing) (Begins io.old_output io.new_output)
 
 -- lines over a new desk that are requests alone ended so
-abbrev pub EndsFromNothing : Streams → Result (Unit {0}) LinesFault → Type 0
-EndsFromNothing io result = LinesInMemory (in_turn false (standing in_memory)) io result → AnswersEnded io result
+abbrev pub AreFromNothing : Streams → Result (Unit {0}) LinesFault → Type 0
+AreFromNothing io result = LinesInMemory (in_turn false (standing in_memory)) io result → AnswersLeave io result
 
 -- over any reader and any writer
 abbrev pub LinesAreFromNothing : {R W : Type 0} → (R → Option (List ℕ)) → (W → Option (List ℕ)) → Type 0
-LinesAreFromNothing {R} {W} remaining contents = (reader : R × R) (writer : W × W) (result : Result (Unit {0}) LinesFault) → EndsFromNothing (streams remaining contents reader writer) result
+LinesAreFromNothing {R} {W} remaining contents = (reader : R × R) (writer : W × W) (result : Result (Unit {0}) LinesFault) → AreFromNothing (streams remaining contents reader writer) result
 
 -- how lines over a new desk in memory ended by a fault: where they are requests alone, as the abstract desk answers a beginning of them; else each by the desk that the lines before it left
-abbrev pub MemoryEnded : Bool → Streams → LinesFault → Type 0
-MemoryEnded false io why = AnswersEnded io (Err why)
-MemoryEnded true io why = ((why ≡ NoMemory) × Untouched io) ⊎ SeenNew (λ (stands : Seen Content → Standing) (d e : Seen Content). LinesDone stands (in_turn true stands) false io d e (Err why))
+abbrev pub MemoryLeft : Bool → Streams → LinesFault → Type 0
+MemoryLeft false io why = AnswersLeave io (Err why)
+MemoryLeft true io why = ((why ≡ NoMemory) × Untouched io) ⊎ SeenNew (λ (stands : Seen Content → Standing) (d e : Seen Content). LinesDone stands (in_turn true stands) false io d e (Err why))
 
--- so lines over a new desk in memory ended: all of them were answered or, where a fault ended that, so
-abbrev pub EndsNewLines : Bool → Streams → Result (Unit {0}) LinesFault → Type 0
-EndsNewLines reads io result = MatchResult result (λ (done : Unit {0}). NewAnswered reads io) (λ (why : LinesFault). MemoryEnded reads io why)
+-- lines over a new desk in memory
+abbrev pub memory_lines : Bool → Streams → ToDo (Unit {0}) LinesFault
+memory_lines reads io = record { Done = λ done. NewAnswered reads io; Left = MemoryLeft reads io }

@@ -1,6 +1,9 @@
 -- A standby: lines up to the order to serve, and then connections, over one desk.
-use Rattle.std.specs.Prelude.{◌≡◌, ◌⊎◌, ℕ, Bool, true, false, List, ◌++◌, Option, None, option_map, IfSome, Result, Ok, Err, MatchResult}
+use Rattle.std.specs.Prelude.{◌≡◌, ◌⊎◌, ℕ, Bool, true, false, List, ◌++◌, Option, None, option_map, IfSome, Result, Ok, Err}
 use Rattle.std.specs.Io.KnownBytes.{Appends}
+use Rattle.std.specs.Borrow.{MutBor}
+use Rattle.std.specs.declared.io.Read as read
+use Rattle.std.specs.declared.io.Write as write
 use Rattle.sqlite.specs.State.{State}
 use Rattle.sqlite.specs.Held.{Held, state}
 use Rattle.sqlite_trees.specs.declared.store.Store.{Ghosts as Stores}
@@ -25,11 +28,15 @@ use Rattle.acd_sessions.specs.Desks.{OverDesk}
 use Rattle.acd_sessions.specs.Faults.{lines_fault}
 use Rattle.acd_sessions.specs.LinesOver.{in_turn}
 use Rattle.acd_sessions.specs.Output.{Output}
+use Rattle.acd_sessions.specs.Over.{Database}
+use Rattle.acd_sessions.specs.ToDo.{ToDo}
 use Rattle.acd_sessions.specs.Seen.{Seen, InDatabase, SeenIn}
-use Rattle.acd_sessions.specs.Serving.{ServeDone, ServeEnded, NoDesk, NoneMade, listening_line}
+use Rattle.acd_sessions.specs.Serving.{ServeDone, ServiceLeaves, NoDesk, NoneMade, listening_line}
 use Rattle.acd_command.specs.declared.asked.Address.{Address}
 use Rattle.acd_sessions.specs.declared.fault.WorkFault.{WorkFault}
+use Rattle.acd_sessions.specs.declared.serving.Serving.{Serving}
 use Rattle.acd_sessions.specs.declared.fault.WorkFault.TheVariants.{NotTold}
+use denote.Triple.Both.{Both}
 
 -- ---- the lines
 
@@ -38,8 +45,8 @@ abbrev pub until_order : Option (List ℕ) → Option (List ℕ)
 until_order known = option_map marked known
 
 -- the lines that had ended when the reader came to the order
-abbrev pub EndAtOrder : Streams → List (List ℕ) → Type 0
-EndAtOrder io lines = EndedLines io.old_input io.left lines × IfSome io.left (λ xs. xs ≡ mark)
+abbrev pub UpToOrder : Streams → List (List ℕ) → Type 0
+UpToOrder io lines = EndedLines io.old_input io.left lines × IfSome io.left (λ xs. xs ≡ mark)
 
 -- the lines before the order, which the input has where it is known
 abbrev pub LinesToOrder : Option (List ℕ) → List (List ℕ) → Type 0
@@ -82,11 +89,11 @@ module _ {D : Type 0} (stands : D → Standing) (to_do : OrderedService) where
     pub between : D
     pub answered : Option (List ℕ)
     pub lines : LinesAnswered to_do.IsOrdered (in_turn true stands d between) (Appends to_do.io.old_output answered)
-    pub served : ServeEnded to_do.span to_do.old_errors to_do.new_errors to_do.address answered to_do.io.new_output stands result between e
+    pub served : ServiceLeaves to_do.span to_do.old_errors to_do.new_errors to_do.address answered to_do.io.new_output stands result between e
 
   -- what a standby left, and the command gets how it ended
-  abbrev pub StandbyEnded : Result (Unit {0}) WorkFault → D → D → Type 0
-  StandbyEnded result d e = Unheard result d e ⊎ (Untold result d e ⊎ Told result d e)
+  abbrev pub StandbyLeaves : Result (Unit {0}) WorkFault → D → D → Type 0
+  StandbyLeaves result d e = Unheard result d e ⊎ (Untold result d e ⊎ Told result d e)
 
   -- it was told, and served without a fault
   pub record StandbyDone (d e : D) : Type 0 where
@@ -100,13 +107,13 @@ module _ {D : Type 0} (stands : D → Standing) (to_do : OrderedService) where
 abbrev pub StandbyOver : {B : Type 0} → Ghosts B → BookState → OrderedService → Result (Unit {0}) WorkFault → B → Type 0
 StandbyOver says old to_do result last =
     NoDesk to_do.span to_do.old_errors to_do.new_errors to_do.address to_do.io.old_output to_do.io.new_output says old result last
-    ⊎ OverDesk says (StandbyEnded (standing says) to_do result) old last
+    ⊎ OverDesk says (StandbyLeaves (standing says) to_do result) old last
 
 -- over the book of a database
 abbrev pub StandbyIn : {S : Type 0} → Stores S → Bool → State → OrderedService → Result (Unit {0}) WorkFault → Held S → Type 0
 StandbyIn {S} store makes old to_do result new =
     NoneMade to_do.span to_do.old_errors to_do.new_errors to_do.address to_do.io.old_output to_do.io.new_output store makes old result new
-    ⊎ SeenIn store (λ (stands : Seen (InDatabase S) → Standing). StandbyEnded stands to_do result) makes old new
+    ⊎ SeenIn store (λ (stands : Seen (InDatabase S) → Standing). StandbyLeaves stands to_do result) makes old new
 
 -- it was told, and served without a fault, over the book of a database, or of a new one
 abbrev pub StandbyServed : {S : Type 0} → Stores S → OrderedService → State → Held S → Type 0
@@ -115,12 +122,12 @@ StandbyServed {S} store to_do old new = SeenIn store (λ (stands : Seen (InDatab
 -- ---- of a call
 
 -- a standby's reader, which is fed lines, and its writer, over a call
-abbrev pub fed : {R W : Type 0} → (R → Option (List ℕ)) → (W → Option (List ℕ)) → UntilOrder R × UntilOrder R → W × W → Streams
-fed remaining contents reader writer = streams (left_of remaining) contents reader writer
+abbrev pub fed : {R W : Type 0} → read.Ghosts R → write.Ghosts W → Both (MutBor (UntilOrder R)) (MutBor (UntilOrder R)) → Both (MutBor W) (MutBor W) → Streams
+fed holds says reader writer = streams (left_of holds.remaining) says.contents (reader.entry.now, reader.exit.now) (writer.entry.now, writer.exit.now)
 
 -- a service upon its order, by these streams
-abbrev pub upon : Span → Address → Streams → Output → OrderedService
-upon span address io errors = record { span = span; address = address; io = io; IsOrdered = EndAtOrder io; old_errors = errors.before; new_errors = errors.after }
+abbrev pub upon : Serving → Streams → Output → OrderedService
+upon serving io errors = record { span = serving.span; address = serving.address; io = io; IsOrdered = UpToOrder io; old_errors = errors.before; new_errors = errors.after }
 
 -- the streams of lines up to the order, of which so much is left
 abbrev pub up_to_order : Streams → Option (List ℕ) → Streams
@@ -140,27 +147,30 @@ upon_order span address io left errors =
 
 -- lines were answered up to the order
 abbrev pub AnsweredToOrder : {D : Type 0} → (D → Standing) → Streams → D → D → Type 0
-AnsweredToOrder stands io d e = LinesAnswered (EndAtOrder io) (in_turn true stands d e) (Appends io.old_output io.new_output)
+AnsweredToOrder stands io d e = LinesAnswered (UpToOrder io) (in_turn true stands d e) (Appends io.old_output io.new_output)
 
 -- the order didn't come: lines ended so, and that is the fault
-abbrev pub EndsUntold : {D : Type 0} → (D → Standing) → Streams → D → D → WorkFault → Type 0
-EndsUntold stands io d e fault = (ended : Result (Unit {0}) LinesFault) × LinesDone stands (in_turn true stands) false io d e ended × (fault ≡ untold_fault ended)
+abbrev pub IsUntold : {D : Type 0} → (D → Standing) → Streams → D → D → WorkFault → Type 0
+IsUntold stands io d e fault = (ended : Result (Unit {0}) LinesFault) × LinesDone stands (in_turn true stands) false io d e ended × (fault ≡ untold_fault ended)
 
--- the one or the other
-abbrev pub EndsAtOrder : {B : Type 0} → Ghosts B → Desk B × Desk B → Streams → Result (Unit {0}) WorkFault → Type 0
-EndsAtOrder books desks io result = MatchResult result (λ done. AnsweredToOrder (standing books) io desks.0 desks.1) (EndsUntold (standing books) io desks.0 desks.1)
+-- both
+abbrev pub lines_to_order : {B : Type 0} → Ghosts B → Both (MutBor (Desk B)) (MutBor (Desk B)) → Streams → ToDo (Unit {0}) WorkFault
+lines_to_order books desk io = record {
+  Done = λ done. AnsweredToOrder (standing books) io desk.entry.now desk.exit.now;
+  Left = IsUntold (standing books) io desk.entry.now desk.exit.now;
+}
 
 -- a desk stood by, from what it was to what it is then
-abbrev pub StandsBy : {B : Type 0} → Ghosts B → Desk B × Desk B → Result (Unit {0}) WorkFault → OrderedService → Type 0
-StandsBy books desks result to_do = StandbyEnded (standing books) to_do result desks.0 desks.1
+abbrev pub StandsBy : {B : Type 0} → Ghosts B → Both (MutBor (Desk B)) (MutBor (Desk B)) → Result (Unit {0}) WorkFault → OrderedService → Type 0
+StandsBy books desk result to_do = StandbyLeaves (standing books) to_do result desk.entry.now desk.exit.now
 
 -- a desk over a book did, with the book that came back
 abbrev pub StandsByOver : {B : Type 0} → Ghosts B → B → Result (Unit {0}) WorkFault × B → OrderedService → Type 0
 StandsByOver books given result to_do = StandbyOver books (books.state given) to_do result.0 result.1
 
 -- a desk over a database that was handed in did, with the connection that came back
-abbrev pub StandsByIn : {S : Type 0} → Stores S → Bool × Held S → Result (Unit {0}) WorkFault × Held S → OrderedService → Type 0
-StandsByIn store given result to_do = StandbyIn store given.0 (state store given.1) to_do result.0 result.1
+abbrev pub StandsByIn : {S : Type 0} → Database S → Result (Unit {0}) WorkFault × Held S → OrderedService → Type 0
+StandsByIn db result to_do = StandbyIn db.store db.makes (state db.store db.conn) to_do result.0 result.1
 
 -- ---- the run
 

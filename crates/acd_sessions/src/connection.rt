@@ -6,12 +6,12 @@ ghost use Rattle.acd_sql_schema.specs.SettingUp.{IfClean};
 ghost use Rattle.acd_sqlbook.specs.Adopting.{IsUntouched};
 ghost use Rattle.acd_sqlbook.specs.Opening.{IfOpened, IfHandedBack};
 ghost use Rattle.acd_sqlbook.specs.View.{book_of};
-ghost use Rattle.acd_lines.specs.Lines.{streams};
 ghost use Rattle.acd_lines.specs.Questions.{TakesTurns};
 ghost use Rattle.acd_sessions.specs.Faults.{unmade_fault};
-ghost use Rattle.acd_sessions.specs.LinesOver.{EndsEach};
+ghost use Rattle.acd_sessions.specs.LinesOver.{LinesLeaveEach};
+ghost use Rattle.acd_sessions.specs.Output.{streamed};
 ghost use Rattle.acd_sessions.specs.Over.{database, Unserved, unmade};
-ghost use Rattle.acd_sessions.specs.Sessions.{EndsLines};
+ghost use Rattle.acd_sessions.specs.Sessions.{LinesLeaveIn};
 ghost use Rattle.acd_sessions.specs.Taking.{IsOf, IsTaken, MayMakeIn};
 
 use crate::fault::WorkFault;
@@ -114,8 +114,8 @@ pub fn lines_over_connection<S: Alter, A: Answering<SqlBook<S>>, R: Read, W: Wri
     writer: &mut W,
 ) -> (Result<(), WorkFault>, Connection<S>)
     requires { conn.in_transaction ≡ false }
-    ensures done { EndsEach (database S.Store makes conn) (TakesTurns A.Answering) ends
-        (streams R.remaining W.contents (reader.old, reader.new) (writer.old, writer.new)) result }
+    ensures done { LinesLeaveEach (database S.Store makes conn) (TakesTurns A.Answering) ends
+        (streamed R.Read W.Write reader writer) result }
     ensures idle { result.1.in_transaction ≡ false }
 {
     let book = match book_over(alloc, conn, makes) {
@@ -136,8 +136,8 @@ fn with_reads<S: Alter, R: Read, W: Write>(
     writer: &mut W,
 ) -> (Result<(), WorkFault>, Connection<S>)
     requires { conn.in_transaction ≡ false }
-    ensures ended { EndsLines (database S.Store makes conn) true ends
-        (streams R.remaining W.contents (reader.old, reader.new) (writer.old, writer.new)) result }
+    ensures ended { LinesLeaveIn (database S.Store makes conn) true ends
+        (streamed R.Read W.Write reader writer) result }
     ensures idle { result.1.in_transaction ≡ false }
 {
     match RequestsAndReads::new(alloc) {
@@ -159,8 +159,8 @@ pub fn database_lines<S: Alter, R: Read, W: Write>(
     writer: &mut W,
 ) -> (Result<(), WorkFault>, Connection<S>)
     requires { conn.in_transaction ≡ false }
-    ensures ended { EndsLines (database S.Store makes conn) reads ends
-        (streams R.remaining W.contents (reader.old, reader.new) (writer.old, writer.new)) result }
+    ensures ended { LinesLeaveIn (database S.Store makes conn) reads ends
+        (streamed R.Read W.Write reader writer) result }
     ensures idle { result.1.in_transaction ≡ false }
 {
     if reads {

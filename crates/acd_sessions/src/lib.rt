@@ -14,6 +14,6 @@ pub use connection::{archive_over, book_over, database_lines, lines_over_connect
 pub use fault::WorkFault;
 pub use memory::{lines_over_memory, new_desk};
 pub use sending::{send_between, send_number};
-pub use serving::serve;
+pub use serving::{Serving, serve};
 pub use session::lines_over_book;
 pub use standby::stand_by;

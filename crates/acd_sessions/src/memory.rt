@@ -2,10 +2,10 @@
 
 ghost use Rattle.std.specs.Prelude.{IfOk};
 ghost use Rattle.acd_desk.specs.Ran.{standing};
-ghost use Rattle.acd_lines.specs.Lines.{streams};
 ghost use Rattle.acd_sessions.specs.Answered.{in_memory, IsNewDesk};
 ghost use Rattle.acd_lines.specs.Questions.{TakesTurns};
 ghost use Rattle.acd_sessions.specs.LinesOver.{LinesInMemory};
+ghost use Rattle.acd_sessions.specs.Output.{streamed};
 
 use acd_book::MemoryBook;
 use acd_desk::{Desk, OpenFault};
@@ -37,8 +37,7 @@ pub fn lines_over_memory<A: Answering<MemoryBook>, R: Read, W: Write>(
     writer: &mut W,
 ) -> Result<(), LinesFault>
     ensures { LinesInMemory (TakesTurns A.Answering)
-        (streams R.remaining W.contents (reader.old, reader.new) (writer.old, writer.new))
-        result }
+        (streamed R.Read W.Write reader writer) result }
 {
     let mut desk = new_desk(alloc)?;
     answer_lines(alloc, lines, &mut desk, false, reader, writer)

@@ -4,9 +4,9 @@ ghost use Rattle.std.specs.Prelude.{◌≡◌, false, Ok};
 ghost use Rattle.acd_io.specs.Sent.{Sends};
 ghost use Rattle.acd_desk.specs.Standing.{standing};
 ghost use Rattle.acd_sessions.specs.Faults.{command_result};
-ghost use Rattle.acd_sessions.specs.Output.{output};
+ghost use Rattle.acd_sessions.specs.Output.{written};
 ghost use Rattle.acd_sessions.specs.Over.{database};
-ghost use Rattle.acd_sessions.specs.Serving.{ends_failed, listening_line, service, EndsListening, EndsService, EndsServiceOver, EndsServiceIn};
+ghost use Rattle.acd_sessions.specs.Serving.{ends_failed, listening_line, service, ListensBy, ServesBy, ServesOver, ServesIn};
 
 use crate::connection::book_over;
 use crate::fault::WorkFault;
@@ -18,6 +18,13 @@ use acd_desk::Desk;
 use acd_http::{Door, Polled, ServeFault, Span};
 use sqlite::{Alter, Connection};
 use std::io::{self, ErrorKind, Write};
+
+/// Where a service listens, and how long it lasts and waits.
+#[derive(Clone, Copy)]
+pub struct Serving<'a> {
+    pub address: Address<'a>,
+    pub span: Span,
+}
 
 /// The listener, where there is one.
 pub(crate) fn listening<D>(door: io::Result<D>) -> Result<D, WorkFault> {
@@ -59,8 +66,7 @@ fn answer<D: Door, B: Book, E: Write>(
     span: Span,
     errors: &mut E,
 ) -> Result<(), WorkFault>
-    ensures { EndsListening B.Book (desk.old, desk.new) result span
-        (output E.contents errors.old errors.new) }
+    ensures { ListensBy B.Book desk result span (written E.Write errors) }
 {
     match acd_http::serve(rt, rt.alloc(), door, desk, span, errors) {
         Ok(()) => unless_endless(desk, span.connections),
@@ -74,17 +80,15 @@ pub(crate) fn say_and_answer<D: Door, B: Book, W: Write, E: Write>(
     rt: &HostRuntime,
     door: &mut D,
     desk: &mut Desk<B>,
-    address: Address<'_>,
-    span: Span,
+    serving: Serving<'_>,
     writer: &mut W,
     errors: &mut E,
 ) -> Result<(), WorkFault>
-    ensures { EndsService B.Book (desk.old, desk.new) result
-        (service span address.entry (output W.contents writer.old writer.new)
-        (output E.contents errors.old errors.new)) }
+    ensures { ServesBy B.Book desk result
+        (service serving.entry W.Write E.Write writer errors) }
 {
-    say(address, writer)?;
-    answer(rt, door, desk, span, errors)
+    say(serving.address, writer)?;
+    answer(rt, door, desk, serving.span, errors)
 }
 
 // Answers connections at a listener, where there is one.
@@ -92,40 +96,36 @@ fn serve_at<D: Door + Drop, B: Book, W: Write, E: Write>(
     rt: &HostRuntime,
     door: io::Result<D>,
     desk: &mut Desk<B>,
-    address: Address<'_>,
-    span: Span,
+    serving: Serving<'_>,
     writer: &mut W,
     errors: &mut E,
 ) -> Result<(), WorkFault>
-    ensures { EndsService B.Book (desk.old, desk.new) result
-        (service span address.entry (output W.contents writer.old writer.new)
-        (output E.contents errors.old errors.new)) }
+    ensures { ServesBy B.Book desk result
+        (service serving.entry W.Write E.Write writer errors) }
 {
     let mut door = listening(door)?;
-    say_and_answer(rt, &mut door, desk, address, span, writer, errors)
+    say_and_answer(rt, &mut door, desk, serving, writer, errors)
 }
 
 fn serve_desk<B: Book, W: Write, E: Write>(
     rt: &HostRuntime,
     desk: &mut Desk<B>,
-    address: Address<'_>,
-    span: Span,
+    serving: Serving<'_>,
     writer: &mut W,
     errors: &mut E,
 ) -> Result<(), WorkFault>
-    ensures { EndsService B.Book (desk.old, desk.new) result
-        (service span address.entry (output W.contents writer.old writer.new)
-        (output E.contents errors.old errors.new)) }
+    ensures { ServesBy B.Book desk result
+        (service serving.entry W.Write E.Write writer errors) }
 {
     let alloc = rt.alloc();
-    match address {
+    match serving.address {
         Address::Port(port) => {
             let door = Polled::at_port(rt, alloc, port);
-            serve_at(rt, door, desk, address, span, writer, errors)
+            serve_at(rt, door, desk, serving, writer, errors)
         }
         Address::Socket(path) => {
             let door = Polled::at_path(rt, alloc, path);
-            serve_at(rt, door, desk, address, span, writer, errors)
+            serve_at(rt, door, desk, serving, writer, errors)
         }
     }
 }
@@ -133,20 +133,18 @@ fn serve_desk<B: Book, W: Write, E: Write>(
 fn serve_book<B: Book, W: Write, E: Write>(
     rt: &HostRuntime,
     book: B,
-    address: Address<'_>,
-    span: Span,
+    serving: Serving<'_>,
     writer: &mut W,
     errors: &mut E,
 ) -> (Result<(), WorkFault>, B)
-    ensures { EndsServiceOver B.Book book result
-        (service span address.entry (output W.contents writer.old writer.new)
-        (output E.contents errors.old errors.new)) }
+    ensures { ServesOver B.Book book result
+        (service serving.entry W.Write E.Write writer errors) }
 {
     let mut desk = match Desk::open(rt.alloc(), book) {
         Ok(desk) => desk,
         Err((fault, book)) => return (Err(WorkFault::from(fault)), book),
     };
-    let done = serve_desk(rt, &mut desk, address, span, writer, errors);
+    let done = serve_desk(rt, &mut desk, serving, writer, errors);
     (done, desk.close())
 }
 
@@ -157,21 +155,19 @@ pub fn serve<S: Alter, W: Write, E: Write>(
     rt: &HostRuntime,
     conn: Connection<S>,
     makes: bool,
-    address: Address<'_>,
-    span: Span,
+    serving: Serving<'_>,
     writer: &mut W,
     errors: &mut E,
 ) -> (Result<(), WorkFault>, Connection<S>)
     requires { conn.in_transaction ≡ false }
     ensures idle { result.1.in_transaction ≡ false }
-    ensures ended { EndsServiceIn (database S.Store makes conn) result
-        (service span address.entry (output W.contents writer.old writer.new)
-        (output E.contents errors.old errors.new)) }
+    ensures ended { ServesIn (database S.Store makes conn) result
+        (service serving.entry W.Write E.Write writer errors) }
 {
     let book = match book_over(rt.alloc(), conn, makes) {
         Ok(book) => book,
         Err((fault, conn)) => return (Err(WorkFault::from(fault)), conn),
     };
-    let (done, book) = serve_book(rt, book, address, span, writer, errors);
+    let (done, book) = serve_book(rt, book, serving, writer, errors);
     (done, book.into_connection())
 }

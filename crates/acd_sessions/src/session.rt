@@ -2,10 +2,10 @@
 
 ghost use Rattle.std.specs.Prelude.{◌≡◌, ◌&&◌, false, Ok, OnOk};
 ghost use Rattle.acd_desk.specs.Standing.{standing};
-ghost use Rattle.acd_lines.specs.Lines.{streams};
 ghost use Rattle.acd_lines.specs.Questions.{by_questions};
 ghost use Rattle.acd_sessions.specs.Faults.{command_result};
-ghost use Rattle.acd_sessions.specs.LinesOver.{EndsOnDesk, EndsOnBook};
+ghost use Rattle.acd_sessions.specs.LinesOver.{LinesLeaveDesk, LinesLeaveBook};
+ghost use Rattle.acd_sessions.specs.Output.{streamed};
 
 use crate::fault::WorkFault;
 use acd_book::Book;
@@ -44,9 +44,8 @@ fn answer<B: Book, A: Answering<B>, R: Read, W: Write>(
     reader: &mut R,
     writer: &mut W,
 ) -> Result<(), WorkFault>
-    ensures { EndsOnDesk (by_questions A.Answering B.Book ends)
-        (streams R.remaining W.contents (reader.old, reader.new) (writer.old, writer.new))
-        desk.old desk.new result }
+    ensures { LinesLeaveDesk (by_questions A.Answering B.Book ends)
+        (streamed R.Read W.Write reader writer) desk result }
 {
     answer_lines(alloc, lines, desk, ends, reader, writer)?;
     ended(desk, ends)
@@ -62,8 +61,8 @@ pub fn lines_over_book<B: Book, A: Answering<B>, R: Read, W: Write>(
     reader: &mut R,
     writer: &mut W,
 ) -> (Result<(), WorkFault>, B)
-    ensures { EndsOnBook B.Book book (by_questions A.Answering B.Book ends)
-        (streams R.remaining W.contents (reader.old, reader.new) (writer.old, writer.new)) result }
+    ensures { LinesLeaveBook B.Book book (by_questions A.Answering B.Book ends)
+        (streamed R.Read W.Write reader writer) result }
 {
     let mut desk = match Desk::open(alloc, book) {
         Ok(desk) => desk,

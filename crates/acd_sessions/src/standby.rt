@@ -1,17 +1,19 @@
 //! A standby: lines over the desk of a database and, once they say so, connections over the same desk.
 
 ghost use Rattle.std.specs.Prelude.{false};
-ghost use Rattle.acd_sessions.specs.Output.{output};
-ghost use Rattle.acd_sessions.specs.Standby.{upon, fed, EndsAtOrder, StandsBy, StandsByOver, StandsByIn};
+ghost use Rattle.acd_sessions.specs.Output.{written};
+ghost use Rattle.acd_sessions.specs.Over.{database};
+ghost use Rattle.acd_sessions.specs.Standby.{upon, fed, lines_to_order, StandsBy, StandsByOver, StandsByIn};
+ghost use Rattle.acd_sessions.specs.ToDo.{Ended};
 ghost use Rattle.std.specs.Prelude.{◌≡◌};
 
 use crate::connection::book_over;
 use crate::fault::WorkFault;
-use crate::serving::{listening, say_and_answer};
+use crate::serving::{Serving, listening, say_and_answer};
 use acd_book::Book;
 use acd_command::Address;
 use acd_desk::Desk;
-use acd_http::{Door, Polled, Span, lines_with_reads};
+use acd_http::{Door, Polled, lines_with_reads};
 use acd_io::UntilOrder;
 use acd_lines::LinesFault;
 use sqlite::{Alter, Connection};
@@ -25,9 +27,7 @@ fn follow<B: Book, R: Read, W: Write>(
     feed: &mut UntilOrder<R>,
     writer: &mut W,
 ) -> Result<(), WorkFault>
-    ensures { EndsAtOrder B.Book (desk.old, desk.new)
-        (fed R.remaining W.contents (feed.old, feed.new) (writer.old, writer.new))
-        result }
+    ensures { Ended (lines_to_order B.Book desk (fed R.Read W.Write feed writer)) result }
 {
     match lines_with_reads(alloc, desk, false, feed, writer) {
         Ok(()) => Err(WorkFault::NotTold),
@@ -41,45 +41,39 @@ fn stand_by_at<D: Door + Drop, B: Book, R: Read, W: Write, E: Write>(
     rt: &HostRuntime,
     door: io::Result<D>,
     desk: &mut Desk<B>,
-    address: Address<'_>,
-    span: Span,
+    serving: Serving<'_>,
     feed: &mut UntilOrder<R>,
     writer: &mut W,
     errors: &mut E,
 ) -> Result<(), WorkFault>
-    ensures { StandsBy B.Book (desk.old, desk.new) result
-        (upon span address.entry
-        (fed R.remaining W.contents (feed.old, feed.new) (writer.old, writer.new))
-        (output E.contents errors.old errors.new)) }
+    ensures { StandsBy B.Book desk result (upon serving.entry
+        (fed R.Read W.Write feed writer) (written E.Write errors)) }
 {
     let mut door = listening(door)?;
     follow(rt.alloc(), desk, feed, writer)?;
-    say_and_answer(rt, &mut door, desk, address, span, writer, errors)
+    say_and_answer(rt, &mut door, desk, serving, writer, errors)
 }
 
 fn stand_by_desk<B: Book, R: Read, W: Write, E: Write>(
     rt: &HostRuntime,
     desk: &mut Desk<B>,
-    address: Address<'_>,
-    span: Span,
+    serving: Serving<'_>,
     feed: &mut UntilOrder<R>,
     writer: &mut W,
     errors: &mut E,
 ) -> Result<(), WorkFault>
-    ensures { StandsBy B.Book (desk.old, desk.new) result
-        (upon span address.entry
-        (fed R.remaining W.contents (feed.old, feed.new) (writer.old, writer.new))
-        (output E.contents errors.old errors.new)) }
+    ensures { StandsBy B.Book desk result (upon serving.entry
+        (fed R.Read W.Write feed writer) (written E.Write errors)) }
 {
     let alloc = rt.alloc();
-    match address {
+    match serving.address {
         Address::Port(port) => {
             let door = Polled::at_port(rt, alloc, port);
-            stand_by_at(rt, door, desk, address, span, feed, writer, errors)
+            stand_by_at(rt, door, desk, serving, feed, writer, errors)
         }
         Address::Socket(path) => {
             let door = Polled::at_path(rt, alloc, path);
-            stand_by_at(rt, door, desk, address, span, feed, writer, errors)
+            stand_by_at(rt, door, desk, serving, feed, writer, errors)
         }
     }
 }
@@ -87,22 +81,19 @@ fn stand_by_desk<B: Book, R: Read, W: Write, E: Write>(
 fn stand_by_book<B: Book, R: Read, W: Write, E: Write>(
     rt: &HostRuntime,
     book: B,
-    address: Address<'_>,
-    span: Span,
+    serving: Serving<'_>,
     feed: &mut UntilOrder<R>,
     writer: &mut W,
     errors: &mut E,
 ) -> (Result<(), WorkFault>, B)
-    ensures { StandsByOver B.Book book result
-        (upon span address.entry
-        (fed R.remaining W.contents (feed.old, feed.new) (writer.old, writer.new))
-        (output E.contents errors.old errors.new)) }
+    ensures { StandsByOver B.Book book result (upon serving.entry
+        (fed R.Read W.Write feed writer) (written E.Write errors)) }
 {
     let mut desk = match Desk::open(rt.alloc(), book) {
         Ok(desk) => desk,
         Err((fault, book)) => return (Err(WorkFault::from(fault)), book),
     };
-    let done = stand_by_desk(rt, &mut desk, address, span, feed, writer, errors);
+    let done = stand_by_desk(rt, &mut desk, serving, feed, writer, errors);
     (done, desk.close())
 }
 
@@ -113,23 +104,20 @@ pub fn stand_by<S: Alter, R: Read, W: Write, E: Write>(
     rt: &HostRuntime,
     conn: Connection<S>,
     makes: bool,
-    address: Address<'_>,
-    span: Span,
+    serving: Serving<'_>,
     feed: &mut UntilOrder<R>,
     writer: &mut W,
     errors: &mut E,
 ) -> (Result<(), WorkFault>, Connection<S>)
     requires { conn.in_transaction ≡ false }
     ensures idle { result.1.in_transaction ≡ false }
-    ensures ended { StandsByIn S.Store (makes, conn) result
-        (upon span address.entry
-        (fed R.remaining W.contents (feed.old, feed.new) (writer.old, writer.new))
-        (output E.contents errors.old errors.new)) }
+    ensures ended { StandsByIn (database S.Store makes conn) result (upon serving.entry
+        (fed R.Read W.Write feed writer) (written E.Write errors)) }
 {
     let book = match book_over(rt.alloc(), conn, makes) {
         Ok(book) => book,
         Err((fault, conn)) => return (Err(WorkFault::from(fault)), conn),
     };
-    let (done, book) = stand_by_book(rt, book, address, span, feed, writer, errors);
+    let (done, book) = stand_by_book(rt, book, serving, feed, writer, errors);
     (done, book.into_connection())
 }

@@ -27,7 +27,9 @@ returns g c =
     let audited = if_is_ok c.over_archive-done.result.0 c.in_ok-left.left _ c.in_ok-left.was c.over_archive-done.ensures.over in (
       c.in_ok-conn.conn,
       c.in_ok-conn.ensures.opened,
-      record { last = c.over_archive-done.result.1; shut = c.close_connection-closed.ensures.shut; kept = c.over_archive-done.ensures.kept },
-      inr (audit_cut _ IsFresh c.args.counts c.args.whole c.in_ok-ending.ending c.in_ok-conn.conn c.over_archive-done.result.1 (g.W.Write.contents c.args.writer.now) (g.W.Write.contents c.print_done.new.writer) c.in_ok-left.left
-          c.in_ok-ending.ensures audited c.in-Err.ensures),
+      (
+        record { last = c.over_archive-done.result.1; shut = c.close_connection-closed.ensures.shut; kept = c.over_archive-done.ensures.kept },
+        inr (audit_cut _ IsFresh c.args.counts c.args.whole c.in_ok-ending.ending c.in_ok-conn.conn c.over_archive-done.result.1 (g.W.Write.contents c.args.writer.now) (g.W.Write.contents c.print_done.new.writer) c.in_ok-left.left
+            c.in_ok-ending.ensures audited c.in-Err.ensures),
+      ),
     )

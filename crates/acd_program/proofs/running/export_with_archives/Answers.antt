@@ -24,6 +24,5 @@ returns g c =
     let made = if_is_ok c.table_over-made.result.0 c.in_ok-table.table _ c.in_ok-table.was c.table_over-made.ensures.made in (
       c.in_ok-conn.conn,
       c.in_ok-conn.ensures.opened,
-      record { last = c.table_over-made.result.1; shut = c.close_connection-closed.ensures.shut; kept = c.table_over-made.ensures.kept },
-      inr (record { whole = c.in_ok-table.table; made = made; printed = c.in-Err.ensures }),
+      (record { last = c.table_over-made.result.1; shut = c.close_connection-closed.ensures.shut; kept = c.table_over-made.ensures.kept }, inr (record { whole = c.in_ok-table.table; made = made; printed = c.in-Err.ensures })),
     )

@@ -3,7 +3,7 @@ use Rattle.sqlite.specs.Files.{over_files, file_state}
 use Rattle.sqlite_std_file.specs.File.{IsFresh}
 use Rattle.acd_lines.specs.Lines.{streams}
 use Rattle.acd_files.specs.Connections.{IsLaidIn}
-use Rattle.acd_sessions.specs.Sessions.{DatabaseEnded}
+use Rattle.acd_sessions.specs.Sessions.{DatabaseLeaves}
 use Rattle.acd_sessions.specs.declared.fault.WorkFault.{WorkFault}
 use Rattle.acd_program.proofs.Ended.{ended_made}
 use Rattle.acd_files.proofs.Ends.{match_from, on_ok}
@@ -23,7 +23,7 @@ returns-in-Ok g c =
       last = last;
       opened = c.in_ok-conn.ensures.opened;
       answered = answered_made over_files c.in_ok-conn.is_new true c.args.reads c.args.ends io s last c.in_ok-conn.ensures.makes
-          (answered_in over_files c.in_ok-conn.is_new c.args.reads c.args.ends io s tt last (subst (λ (r : Result (Unit {0}) WorkFault). DatabaseEnded over_files c.in_ok-conn.is_new c.args.reads c.args.ends io s r last) c.in-Ok.ensures.0 c.database_lines-done.ensures.ended));
+          (answered_in over_files c.in_ok-conn.is_new c.args.reads c.args.ends io s tt last (subst (λ (r : Result (Unit {0}) WorkFault). DatabaseLeaves over_files c.in_ok-conn.is_new c.args.reads c.args.ends io s r last) c.in-Ok.ensures.0 c.database_lines-done.ensures.ended));
       closed = on_ok c.close_connection.result tt (IsLaidIn last) c.in-Ok.ensures.1 c.close_connection.ensures.laid;
     }
 

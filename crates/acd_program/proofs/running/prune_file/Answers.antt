@@ -1,7 +1,8 @@
-use Rattle.std.proofs.Common.{rules, refl}
+use Rattle.std.proofs.Common.{rules, inr, refl}
+use Rattle.sqlite.specs.Files.{file_state}
 use Rattle.sqlite_std_file.specs.File.{IsFresh}
 use Rattle.acd_files.proofs.Ends.{match_err, match_from, match_is_err, match_is_ok}
-use Rattle.acd_program.proofs.Prunes.{prune_cut, prune_printed, prune_stopped}
+use Rattle.acd_program.proofs.Prunes.{left_done, prune_printed, prune_stopped}
 use Rattle.acd_program.proofs.running.prune_file.Goals as goal
 
 pub returns-in_err-ending : goal.returns-in_err-ending
@@ -26,5 +27,12 @@ returns-in-Ok g c =
 pub returns : goal.returns
 returns g c =
     let done = match_is_ok c.prune_over-conn.result.0 c.in_ok-pruning.pruning _ _ c.in_ok-pruning.was c.prune_over-conn.ensures in
-    prune_cut _ IsFresh c.args.quiet c.in_ok-ending.ending c.in_ok-pruning.pruning c.in_ok-conn.conn c.prune_over-conn.result.1
-    (g.W.Write.contents c.args.writer.now) (g.W.Write.contents c.print_done.new.writer) c.in_ok-conn.ensures.opened c.in_ok-ending.ensures done _ c.close_connection-closed.ensures.shut c.in-Err.ensures
+    let last = c.prune_over-conn.result.1 in
+    let left = left_done _ IsFresh c.in_ok-ending.ending c.in_ok-pruning.pruning (file_state c.in_ok-conn.conn) (file_state last) done in (
+      c.in_ok-conn.conn,
+      c.in_ok-conn.ensures.opened,
+      (
+        record { last = last; shut = c.close_connection-closed.ensures.shut; kept = inr left },
+        inr (record { pruning = c.in_ok-pruning.pruning; ending = c.in_ok-ending.ending; read = c.in_ok-ending.ensures; done = done; printed = c.in-Err.ensures }),
+      ),
+    )

@@ -22,7 +22,7 @@ returns-in-Ok g c =
       opened = c.in_ok-conn.ensures.opened;
       answered = seen_made over_files _ c.in_ok-conn.is_new true s last c.in_ok-conn.ensures.makes
           (on_ok c.serve-done.result.0 tt _ c.in-Ok.ensures.0
-          (serve_done_in c.args.span a b c.args.address (g.W.Write.contents c.args.writer.now) (g.W.Write.contents c.serve-done.new.writer) over_files s c.serve-done.result.0 last c.in_ok-conn.is_new c.serve-done.ensures.ended));
+          (serve_done_in c.args.serving.span a b c.args.serving.address (g.W.Write.contents c.args.writer.now) (g.W.Write.contents c.serve-done.new.writer) over_files s c.serve-done.result.0 last c.in_ok-conn.is_new c.serve-done.ensures.ended));
       closed = on_ok c.close_connection.result tt (IsLaidIn last) c.in-Ok.ensures.1 c.close_connection.ensures.laid;
     }
 
@@ -38,7 +38,7 @@ returns-in-Err g c =
         last = last;
         shut = c.close_connection.ensures.shut;
         ended = c.serve-done.result.0;
-        answered = serve_made c.args.span a b c.args.address (g.W.Write.contents c.args.writer.now) (g.W.Write.contents c.serve-done.new.writer) over_files s c.serve-done.result.0 last c.in_ok-conn.is_new true
+        answered = serve_made c.args.serving.span a b c.args.serving.address (g.W.Write.contents c.args.writer.now) (g.W.Write.contents c.serve-done.new.writer) over_files s c.serve-done.result.0 last c.in_ok-conn.is_new true
             c.in_ok-conn.ensures.makes c.serve-done.ensures.ended;
         why = c.in-Err.ensures;
       },

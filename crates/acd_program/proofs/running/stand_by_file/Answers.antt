@@ -23,10 +23,10 @@ returns-in-Ok-done_and_closed g c =
       left = left;
       opened = c.in_ok-conn.ensures.opened;
       answered = on_ok c.stand_by-done.result.0 tt _ c.in-Ok-done_and_closed.ensures.0
-          (standby_done_in (upon_order c.args.span c.args.address (streams g.R.Read.remaining g.W.Write.contents (c.args.reader.now, c.args.reader.now) (c.args.writer.now, c.stand_by-done.new.writer)) left (g.E.Write.contents c.args.errors.now, g.E.Write.contents c.stand_by-done.new.errors))
+          (standby_done_in (upon_order c.args.serving.span c.args.serving.address (streams g.R.Read.remaining g.W.Write.contents (c.args.reader.now, c.args.reader.now) (c.args.writer.now, c.stand_by-done.new.writer)) left (g.E.Write.contents c.args.errors.now, g.E.Write.contents c.stand_by-done.new.errors))
           over_files s c.stand_by-done.result.0 last true
           (standby_of_reader g.R.Read.remaining (λ (r : MutBor g.row.R.Denot). g.R.Read.remaining r.now) g.W.Write.contents g.E.Write.contents (c.args.reader.now, c.args.reader.now) (c.new-lines.result, c.stand_by-done.new.feed)
-          (c.args.writer.now, c.stand_by-done.new.writer) (c.args.errors.now, c.stand_by-done.new.errors) c.args.span c.args.address c.new-lines.ensures over_files c.in_ok-conn.is_new c.in_ok-conn.ensures.makes s c.stand_by-done.result.0 last
+          (c.args.writer.now, c.stand_by-done.new.writer) (c.args.errors.now, c.stand_by-done.new.errors) c.args.serving.span c.args.serving.address c.new-lines.ensures over_files c.in_ok-conn.is_new c.in_ok-conn.ensures.makes s c.stand_by-done.result.0 last
           c.stand_by-done.ensures.ended));
       closed = on_ok c.close_connection.result tt (IsLaidIn last) c.in-Ok-done_and_closed.ensures.1 c.close_connection.ensures.laid;
     }
@@ -43,7 +43,7 @@ returns g c =
         shut = c.close_connection.ensures.shut;
         ended = c.stand_by-done.result.0;
         answered = standby_of_reader g.R.Read.remaining (λ (r : MutBor g.row.R.Denot). g.R.Read.remaining r.now) g.W.Write.contents g.E.Write.contents (c.args.reader.now, c.args.reader.now) (c.new-lines.result, c.stand_by-done.new.feed)
-            (c.args.writer.now, c.stand_by-done.new.writer) (c.args.errors.now, c.stand_by-done.new.errors) c.args.span c.args.address c.new-lines.ensures over_files c.in_ok-conn.is_new c.in_ok-conn.ensures.makes s c.stand_by-done.result.0 last
+            (c.args.writer.now, c.stand_by-done.new.writer) (c.args.errors.now, c.stand_by-done.new.errors) c.args.serving.span c.args.serving.address c.new-lines.ensures over_files c.in_ok-conn.is_new c.in_ok-conn.ensures.makes s c.stand_by-done.result.0 last
             c.stand_by-done.ensures.ended;
         why = c.in-Err.ensures;
       },
