@@ -7,7 +7,9 @@ use Rattle.std.proofs.lemmas.Bool.{cases_lt}
 use Rattle.std.specs.Cmp.Derive.{both_true}
 use Rattle.std.specs.Bool.{if◌then◌else◌}
 use Rattle.std.specs.Io.BufRead.{ends_with_byte, strip_last}
+use Rattle.acd_lines.specs.declared.answering.Answering.{Ghosts}
 use Rattle.acd_lines.specs.Input.{has_none, number_of, asked_at, asked}
+use Rattle.acd_lines.specs.Questions.{question}
 use Rattle.acd_lines.proofs.Splits.{divides}
 use Rattle.acd_lines.proofs.Moments.{number_long, moment_none, moment_split}
 
@@ -82,6 +84,10 @@ module _ {L : Type 0} (unmarked long : L) (read : ℕ → List ℕ → L) where
         let at = λ (w : List ℕ). ap (λ (l : List ℕ). asked unmarked long read (l ++ w)) one.2 ∙ ap (asked unmarked long read) (append_assoc one.0 (32 ∷ one.1) w) ∙ line_of_front one.0 one.1 w big one.3 in
         at u ∙ sym (at v)
   ]
+
+-- it decides what a line asks for
+pub front_decides : {A B : Type 0} (lines : Ghosts A B) → ByFront (question lines)
+front_decides lines = by_front lines.unmarked lines.long lines.read
 
 -- a line and a long line's beginning
 long_strip : (m : ℕ) (xs : List ℕ) → m < length xs → (u : List ℕ) × (strip_last 13 xs ≡ take m xs ++ u)

@@ -83,6 +83,7 @@ module _ {D : Type 0} (stands : D → Standing) (settles : (d : D) → Settles (
     out = subst (Breaks a c) (sym (text_more h.answers stopped.0)) (breaks_then a b c [] waiting (concat h.answers) stopped.0 h.out stopped.2);
   }
 
+module _ {D : Type 0} (stands : D → Standing) where
   -- all were executed, and the waiting bytes were written
   pub imports_out : (d e : D) (rs all : List Request) (a b c : Option (List ℕ)) (waiting : List ℕ) → rs ≡ all → Imports stands d rs e a b waiting → Passes b c [] waiting → Imports stands d all e a c []
   imports_out d e rs all a b c waiting is h out = record {

@@ -4,5 +4,6 @@ pub mod Output
 pub mod Outgoing
 pub mod Lines
 pub mod Parts
+pub mod Conversing
 pub mod Questions
 pub mod Laws

@@ -20,10 +20,6 @@ pub record Step (S : Type 0) : Type 0 where
   pub new : S
   pub out : Outgoing
 
--- by each of the three as it was before the call, and as it is after
-abbrev pub step : {S W : Type 0} → (W → Option (List ℕ)) → S × Outbox × W → S × Outbox × W → Step S
-step contents first last = record { old = first.0; new = last.0; out = outgoing contents first.2 last.2 first.1 last.1 }
-
 -- what waited, and then this text, was written but for what waits or, where the writer stopped, a beginning of it and not all
 abbrev pub Pushed : Result (Unit {0}) Stopped → Outgoing → List ℕ → Type 0
 Pushed result out text = MatchResult result (λ _. Passes out.old_output out.new_output out.waits (out.waited ++ text)) (λ _. Breaks out.old_output out.new_output (out.waited ++ text))

@@ -8,7 +8,8 @@ use Rattle.acd_lines.specs.declared.answering.Answering.{Ghosts}
 use Rattle.acd_lines.specs.Input.{asked}
 use Rattle.acd_lines.specs.Lines.{Manner}
 use Rattle.acd_lines.specs.Outgoing.{Step}
-use Rattle.acd_lines.specs.Parts.{AnswerPushed, InTurn, Feeds, FeedStops, Finishes, FinishStops}
+use Rattle.acd_lines.specs.Conversing.{Turn}
+use Rattle.acd_lines.specs.Parts.{AnswerPushed, InTurn, Feeds, FeedStops, Finishes, FinishStops, text_kept}
 
 module _ {A B : Type 0} (lines : Ghosts A B) where
   -- the question of a line's text
@@ -27,26 +28,34 @@ module _ {A B : Type 0} (lines : Ghosts A B) where
   abbrev pub LineAnswered : List ℕ → Step (Desk B) → Result (Unit {0}) Stopped → Type 0
   LineAnswered text over result = AnswerPushed lines.answers (question text) over result
 
-  -- Of a line a part was kept before these bytes, and a part is kept after them: they were used, and nothing waits.
-  abbrev pub FedWhole : List ℕ × List ℕ → List ℕ → Step (Desk B) → Type 0
-  FedWhole kept bytes over = (over.out.waits ≡ []) × Feeds question lines.answers over.old over.new kept.0 kept.1 bytes over.out.old_output over.out.new_output over.out.waited over.out.waits
+  -- a line that ended in these bytes was, of which a part was kept
+  abbrev pub LineEnded : List ℕ → Turn (Desk B) → Result (Unit {0}) Stopped → Type 0
+  LineEnded end turn result = LineAnswered (text_kept turn.kept end) turn.over result
+
+  -- Of a line a part was kept before these bytes, and a part is kept after them: they were used,
+  abbrev pub FedTo : List ℕ → Turn (Desk B) → Type 0
+  FedTo bytes turn = let over = turn.over in Feeds question lines.answers over.old over.new turn.kept turn.keeps bytes over.out.old_output over.out.new_output over.out.waited over.out.waits
+
+  -- and nothing waits
+  abbrev pub FedWhole : List ℕ → Turn (Desk B) → Type 0
+  FedWhole bytes turn = (turn.over.out.waits ≡ []) × FedTo bytes turn
 
   -- the writer stopped in them
-  abbrev pub FedPart : List ℕ → List ℕ → Step (Desk B) → Type 0
-  FedPart kept bytes over = FeedStops question lines.answers over.old over.new kept bytes over.out.old_output over.out.new_output over.out.waited
+  abbrev pub FedPart : List ℕ → Turn (Desk B) → Type 0
+  FedPart bytes turn = let over = turn.over in FeedStops question lines.answers over.old over.new turn.kept bytes over.out.old_output over.out.new_output over.out.waited
 
   -- the one or the other
-  abbrev pub Fed : List ℕ × List ℕ → List ℕ → Step (Desk B) → Result (Unit {0}) Stopped → Type 0
-  Fed kept bytes over result = MatchResult result (λ _. FedWhole kept bytes over) (λ _. FedPart kept.0 bytes over)
+  abbrev pub Fed : List ℕ → Turn (Desk B) → Result (Unit {0}) Stopped → Type 0
+  Fed bytes turn result = MatchResult result (λ _. FedWhole bytes turn) (λ _. FedPart bytes turn)
 
   -- the input is at its end, and was answered to it
-  abbrev pub FinishedWhole : List ℕ → Step (Desk B) → Type 0
-  FinishedWhole kept over = Finishes question lines.answers over.old over.new kept over.out.old_output over.out.new_output over.out.waited
+  abbrev pub FinishedWhole : Turn (Desk B) → Type 0
+  FinishedWhole turn = let over = turn.over in Finishes question lines.answers over.old over.new turn.kept over.out.old_output over.out.new_output over.out.waited
 
   -- the writer stopped there
-  abbrev pub FinishedPart : List ℕ → Step (Desk B) → Type 0
-  FinishedPart kept over = FinishStops question lines.answers over.old over.new kept over.out.old_output over.out.new_output over.out.waited
+  abbrev pub FinishedPart : Turn (Desk B) → Type 0
+  FinishedPart turn = let over = turn.over in FinishStops question lines.answers over.old over.new turn.kept over.out.old_output over.out.new_output over.out.waited
 
   -- the one or the other
-  abbrev pub Finished : List ℕ → Step (Desk B) → Result (Unit {0}) Stopped → Type 0
-  Finished kept over result = MatchResult result (λ _. FinishedWhole kept over) (λ _. FinishedPart kept over)
+  abbrev pub Finished : Turn (Desk B) → Result (Unit {0}) Stopped → Type 0
+  Finished turn result = MatchResult result (λ _. FinishedWhole turn) (λ _. FinishedPart turn)

@@ -11,13 +11,13 @@
 
 mod answer;
 mod answering;
+mod conversation;
 mod fault;
 mod importing;
 pub mod laws;
 mod moment;
 mod outbox;
 mod partial;
-mod respond;
 mod session;
 mod split;
 

@@ -5,13 +5,12 @@ ghost use Rattle.acd_lines.specs.Lines.{LinesDoneBy, by_requests, streams};
 ghost use Rattle.acd_lines.specs.Questions.{by_questions};
 
 use crate::answering::{Answering, Requests};
+use crate::conversation::{Conversation, Replies};
 use crate::fault::LinesFault;
 use crate::outbox::Outbox;
 use crate::partial::Partial;
-use crate::respond::{feed, finish};
 use acd_book::Book;
 use acd_desk::Desk;
-use acd_io::{most_calls, retried};
 use std::alloc::Global;
 use std::io::{Read, Write};
 
@@ -35,28 +34,12 @@ pub fn answer_lines<B: Book, A: Answering<B>, R: Read, W: Write>(
     let mut chunk = vec![in alloc; 0u8; CHUNK]?;
     let mut partial = Partial::new(alloc)?;
     let mut outbox = Outbox::new(alloc)?;
-    for _ in 0..most_calls() {
-        if ends && desk.has_failed() {
-            return Ok(());
-        }
-        match reader.read(chunk.as_mut_slice()) {
-            Ok(0) => {
-                finish(alloc, lines, desk, &partial, &mut outbox, writer)?;
-                return Ok(());
-            }
-            Ok(n) => feed(
-                alloc,
-                lines,
-                desk,
-                &mut partial,
-                &mut outbox,
-                writer,
-                &chunk[..n],
-            )?,
-            Err(e) => retried(e, LinesFault::Read)?,
-        }
-    }
-    Err(LinesFault::Read)
+    let replies = Replies::new(alloc, lines, desk, &mut outbox, writer);
+    let mut conversation = Conversation {
+        replies,
+        partial: &mut partial,
+    };
+    conversation.answer_all(ends, reader, chunk.as_mut_slice())
 }
 
 /// Writes one answer line for each line that is read. The answers to the lines that have ended are written before more

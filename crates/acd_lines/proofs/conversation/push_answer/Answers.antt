@@ -2,7 +2,7 @@ use Rattle.std.proofs.Common.{◌≡◌, ℕ, List, [], ◌∷◌, ◌++◌, ref
 use Rattle.acd_lines.specs.Answers.{line_text}
 use Rattle.acd_desk.specs.AnswerTexts.{Said, said}
 use Rattle.acd_io.proofs.Sends.{breaks_same, passes_same, breaks_more, breaks_then, passes_then, stopped, so_of}
-use Rattle.acd_lines.proofs.respond.push_answer.Goals as goal
+use Rattle.acd_lines.proofs.conversation.push_answer.Goals as goal
 
 -- the line, in the parts that are pushed
 in_parts : (s : Said) (bytes part : List ℕ) (n : ℕ) → n ≡ s.status → bytes ≡ decimal n → part ≡ s.body → line_text s ≡ bytes ++ (32 ∷ (part ++ 10 ∷ []))

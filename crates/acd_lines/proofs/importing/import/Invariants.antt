@@ -1,7 +1,7 @@
 use Rattle.std.proofs.Common.{take}
 use Rattle.acd_desk.specs.Ran.{standing}
 use Rattle.acd_lines.specs.Parts.{Imports}
-use Rattle.acd_lines.proofs.importing.answer_requests.Given as goal
+use Rattle.acd_lines.proofs.importing.import.Given as goal
 
 abbrev pub invariant-loop-request : goal.invariant-loop-request
 invariant-loop-request g l =
