@@ -1,5 +1,5 @@
 -- Two files before the store has them, step by step.
-use Rattle.std.proofs.Common.{◌≡◌, ◌↔◌, ℕ, ◌<◌, ◌≤◌, Bool, false, length, Result, IfOk, IfErr, IsTrue, true≢false, refl, sym, ap, subst, subst₂, ◌∙◌, inl, inr, arith}
+use Rattle.std.proofs.Common.{◌≡◌, ◌↔◌, ℕ, ◌<◌, ◌≤◌, Bool, false, length, Result, IfOk, IfErr, IsTrue, true≢false, refl, sym, ap, subst, subst₂, ◌∙◌, inl, inr, arith, List, Ok, Err}
 use Rattle.std.proofs.lemmas.Bool.{and_parts}
 use Rattle.std.proofs.lemmas.Result.{IfErr-weaker}
 use Rattle.sqlite_disk.specs.declared.Disk.{Ghosts}
@@ -14,8 +14,7 @@ use Rattle.sqlite_store.specs.Opening.{FailsToOpen}
 use Rattle.sqlite_store.specs.FileStore as store
 use Rattle.sqlite_store.specs.Unopened.{state_of, files_of}
 use Rattle.sqlite.proofs.OpenLemmas.{pool_files}
-use Rattle.acd_files.proofs.Ends.{ok_so}
-use Rattle.acd_files.specs.Files.{new_page, IsLone, AreReadOnly, IsCreated, IsReadAndCreated, IsUnmade, IsUnbegun, IsBegun}
+use Rattle.acd_files.specs.Files.{new_page, created, given_back, interrupted, read_only as just_read, unchanged, unusable, IfShort, IsLone, AreReadOnly, AreReady, AreUnopened, IsCreation, IsCreated, IsInterrupted}
 
 -- how the store treats pages, by its four numbers
 abbrev pub options : ℕ → ℕ → ℕ → ℕ → Options
@@ -31,6 +30,9 @@ refused_so a b L P e is h = subst (FailsToOpen a b L P) is h
 
 too_many : (n : ℕ) → new_page < n → n ≤ new_page → ⊥
 too_many n more few = omega (arith, more, few)
+
+too_few : (n : ℕ) → ¬ (n ≤ new_page) → new_page < n
+too_few n more = omega (arith, more)
 
 module _ {D : Type 0} {g : Ghosts D} where
   reads_none : (file : D) → IsTrue (g.is_usable file) → OnlyReads g file file
@@ -60,46 +62,43 @@ module _ {D : Type 0} {g : Ghosts D} where
   pub read_on : (a b c : Files D) → AreReadOnly g a b → AreReadOnly g b c → AreReadOnly g a c
   read_on a b c first second = record { log = reads_on a.log b.log c.log first.log second.log; db = reads_on a.db b.db c.db first.db second.db }
 
-  -- ---- where a fault ends that
+  -- ---- what was done to files that were read before
 
-  pub unbegun_read : (old new : Files D) → AreReadOnly g old new → IsUnbegun g old new
-  unbegun_read old new read = (new, read, inl (inl (read_as new new refl read.log.usable read.db.usable)))
+  ready_after_read : (old mid new : Files D) → AreReadOnly g old mid → AreReady g mid new → AreReady g old new
+  ready_after_read old mid new read (just_read more only) = just_read (λ still. subst (λ (bytes : List ℕ). new_page < length bytes) read.db.seen (more still)) (read_on old mid new read only)
+  ready_after_read old mid new read (created again fresh only made) =
+      created again (λ still. subst₂ (λ (log db : List ℕ). (length db ≤ new_page) × (¬ IsLone log db)) read.log.seen read.db.seen (fresh still)) (read_on old mid again read only) made
 
-  pub unbegun_after_read : (old mid new : Files D) → AreReadOnly g old mid → IsUnbegun g mid new → IsUnbegun g old new
-  unbegun_after_read old mid new read h = (h.0, read_on old mid h.0 read h.1, h.2)
+  pub unopened_after_read : (old mid new : Files D) → AreReadOnly g old mid → AreUnopened g mid new → AreUnopened g old new
+  unopened_after_read old mid new read (unchanged only) = unchanged (read_on old mid new read only)
+  unopened_after_read old mid new read (interrupted again only came) = interrupted again (read_on old mid again read only) came
+  unopened_after_read old mid new read (unusable ready) = unusable (ready_after_read old mid new read ready)
+  unopened_after_read old mid new read (given_back begun handed ready only back) = given_back begun handed (ready_after_read old mid begun read ready) only back
 
-  pub unmade_after_read : {F : Type 0} (r : Result (Files D) (F × Files D)) (old mid : Files D) → AreReadOnly g old mid → IfErr r (λ (e : F × Files D). IsUnmade g mid e.1) → IfErr r (λ (e : F × Files D). IsUnbegun g old e.1)
-  unmade_after_read r old mid read h = IfErr-weaker r _ _ (λ e left. (mid, read, inl left)) h
+  pub err_after_read : {F : Type 0} (r : Result (Files D) (F × Files D)) (old mid : Files D) → AreReadOnly g old mid → IfErr r (λ (e : F × Files D). AreUnopened g mid e.1) → IfErr r (λ (e : F × Files D). AreUnopened g old e.1)
+  err_after_read r old mid read h = IfErr-weaker r _ _ (λ e left. unopened_after_read old mid e.1 read left) h
 
-  pub unbegun_created : (old mid new : Files D) → AreReadOnly g old mid → IsReadAndCreated g mid new → IsUnbegun g old new
-  unbegun_created old mid new read made = (made.0, read_on old mid made.0 read made.1, inr made.2)
+  pub created_as : (files new : Files D) → IsTrue (g.is_usable files.log) → IsTrue (g.is_usable files.db) → IsCreation g IsInterrupted files new → AreUnopened g files new
+  created_as files new log db came = interrupted files (read_as files files refl log db) came
 
   -- a database was to be made in files that were read before, of which the log isn't one without its file
-  module _ {F : Type 0} (r : Result (Files D) F) (old mid : Files D) (read : AreReadOnly g old mid) where
-    pub created_after_read : IfOk r (λ (new : Files D). IsCreated g mid new) → IfOk r (λ (new : Files D). IsReadAndCreated g old new)
-    created_after_read = ok_so r _ _ (λ new made. (mid, read, made))
+  pub ready_beside : {F : Type 0} (r : Result (Files D) F) (old mid : Files D) → AreReadOnly g old mid → (lone : Bool) → lone ≡ false → (AreClean g mid.log mid.db → IsTrue lone ↔ IsLone (g.seen old.log) (g.seen old.db))
+      → IfOk r (λ (new : Files D). AreClean g new.log new.db → AreClean g mid.log mid.db) → IfOk r (λ (new : Files D). IsCreated g mid new) → IfOk r (λ (new : Files D). IfShort g old new (AreReady g old new))
+  ready_beside (Ok new) old mid read lone is whether clean made =
+      λ few. created mid (λ still. (few still, λ it. true≢false (sym ((whether (clean still)).1 it) ∙ is))) read made
+  ready_beside (Err e) old mid read lone is whether clean made = tt
 
-    pub spared_after_read : (lone : Bool) → lone ≡ false → (AreClean g mid.log mid.db → IsTrue lone ↔ IsLone (g.seen old.log) (g.seen old.db))
-        → IfOk r (λ (new : Files D). AreClean g new.log new.db → AreClean g mid.log mid.db) → IfOk r (λ (new : Files D). AreClean g new.log new.db → ¬ IsLone (g.seen old.log) (g.seen old.db))
-    spared_after_read lone is h = ok_so r _ _ (λ new before still it. true≢false (sym ((h (before still)).1 it) ∙ is))
-
-  pub begun_created : (old mid new : Files D) → AreReadOnly g old mid → (IsClean g mid.db → length (g.seen old.db) ≤ new_page) → (AreClean g new.log new.db → AreClean g mid.log mid.db)
-      → (AreClean g new.log new.db → ¬ IsLone (g.seen mid.log) (g.seen mid.db)) → IsReadAndCreated g mid new → IsBegun g old new
-  begun_created old mid new read few clean spared made =
-      let whole : IsReadAndCreated g old new = (made.0, read_on old mid made.0 read made.1, made.2) in
-      record {
-        large = λ still big. absurd (too_many (length (g.seen old.db)) big (few (and_parts (g.is_clean mid.log) (g.is_clean mid.db) (clean still)).1));
-        small = inr whole;
-        made = λ still short. (λ lone. spared still (subst₂ IsLone (sym read.log.seen) (sym read.db.seen) lone), whole);
-      }
+  pub short_clean : (old mid new : Files D) → AreReadOnly g old mid → (IsClean g mid.db → length (g.seen old.db) ≤ new_page) → (AreClean g new.log new.db → AreClean g mid.log mid.db) → IfShort g mid new (AreReady g mid new) → AreReady g old new
+  short_clean old mid new read few clean ready =
+      ready_after_read old mid new read (ready (λ still. subst (λ (bytes : List ℕ). length bytes ≤ new_page) (sym read.db.seen) (few (and_parts (g.is_clean mid.log) (g.is_clean mid.db) (clean still)).1)))
 
   -- files that have more than a first page
-  pub begun_read : (old new : Files D) → AreReadOnly g old new → (IsClean g new.db → ¬ (length (g.seen old.db) ≤ new_page)) → IsBegun g old new
-  begun_read old new read more = record {
-    large = λ still big. read;
-    small = inl read;
-    made = λ still short. absurd (more (and_parts (g.is_clean new.log) (g.is_clean new.db) still).1 short);
-  }
+  pub large_read : (old new : Files D) → AreReady g old new → AreClean g new.log new.db → new_page < length (g.seen old.db) → AreReadOnly g old new
+  large_read old new (just_read more read) clean large = read
+  large_read old new (created read fresh only made) clean large = absurd (too_many (length (g.seen old.db)) large (fresh clean).0)
+
+  pub large_ready : (old new : Files D) → AreReadOnly g old new → (IsClean g new.db → ¬ (length (g.seen old.db) ≤ new_page)) → AreReady g old new
+  large_ready old new read more = just_read (λ still. too_few (length (g.seen old.db)) (more (and_parts (g.is_clean new.log) (g.is_clean new.db) still).1)) read
 
   -- the files of an unopened store, or of an open one, are clean where its state is
   pub unopened_clean : (it : Unopened D g) (files : Files D) → files_of it ≡ (files.log, files.db) → (state_of it).is_clean ≡ are_clean g files.log files.db

@@ -8,7 +8,7 @@ use Rattle.sqlite_store.specs.FileStore.{files}
 use Rattle.sqlite.specs.Held.{Held}
 use Rattle.sqlite.specs.Files.{IsClosed}
 use Rattle.sqlite.specs.Closing.{IsCopied}
-use Rattle.acd_files.specs.Files.{IsOpenedIn, IsUnopened}
+use Rattle.acd_files.specs.Files.{AreUnopened, IsOpenedIn}
 use Rattle.acd_files.specs.declared.fault.OpeningFault.{OpeningFault}
 use Rattle.acd_files.specs.declared.fault.OpeningFault.TheVariants.{Look}
 use Rattle.acd_files.specs.declared.fault.OpeningFault.TheVariants as opening
@@ -39,7 +39,7 @@ module _ {D : Type 0} (disk : Ghosts D) (IsFresh : Bool → D → Type 0) where
     pub pair : Files D
     pub unused : IsFresh true pair.log × IsFresh false pair.db
     pub rest : Files D
-    pub left : IsUnopened disk pair rest
+    pub left : AreUnopened disk pair rest
 
   -- there is no connection: where files were opened, this is left of them
   abbrev pub LeavesUnopened : OpeningFault → Type 0

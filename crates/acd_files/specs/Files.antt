@@ -41,20 +41,20 @@ IsLone log db = (length db ≡ 0) × HoldsCommit log
 
 module _ {D : Type 0} {g : Ghosts D} where
   -- the store made its database of no tables in them
-  pub record IsMadeIn (before : Unopened D g) (new : Files D) : Type 0 where
+  pub record IsMade (before : Unopened D g) (new : Files D) : Type 0 where
     pub made : FileStore D g
     pub of_made : store.files made ≡ (new.log, new.db)
     pub creates : IsTrue (store.state made).is_clean → Creates before (store.state made)
 
-  -- or it refused them, since they hold a database or can't hold one
-  pub record IsRefusedIn (before : Unopened D g) (new : Files D) : Type 0 where
+  -- it refused, since they hold a database or can't hold one
+  pub record IsCreateRefused (before : Unopened D g) (new : Files D) : Type 0 where
     pub rest : Unopened D g
     pub of_rest : files_of rest ≡ (new.log, new.db)
     pub refuses : IsTrue (state_of rest).is_clean → ¬ CanCreate before
     pub creates : IsTrue (state_of rest).is_clean → Creates before (state_of rest)
 
-  -- or it left off
-  pub record IsLeftOff (before : Unopened D g) (new : Files D) : Type 0 where
+  -- a fault interrupted it
+  pub record IsInterrupted (before : Unopened D g) (new : Files D) : Type 0 where
     pub rest : Unopened D g
     pub of_rest : files_of rest ≡ (new.log, new.db)
     pub creates : IsTrue (state_of rest).is_clean → Creates before (state_of rest)
@@ -71,6 +71,10 @@ module _ {D : Type 0} (g : Ghosts D) where
   -- the file has no more than a first page, where its disk didn't lie
   abbrev pub IsSmall : D → D → Bool → Type 0
   IsSmall old new found = IsClean g new → IsTrue found ↔ length (g.seen old) ≤ new_page
+
+  -- this holds where the file has no more than a first page, by disks that didn't lie
+  abbrev pub IfShort : Files D → Files D → Type 0 → Type 0
+  IfShort old new Fact = IfClean new (length (g.seen old.db) ≤ new_page) → Fact
 
   -- the log holds a commit, and its file has no bytes
   abbrev pub IsLoneIn : Files D → Type 0
@@ -98,55 +102,51 @@ module _ {D : Type 0} (g : Ghosts D) where
   abbrev pub AreTreated : Files D → Files D → ℕ → Options → Type 0
   AreTreated old new seed options = OfPage old new (λ (page : ℕ). options ≡ treated page seed)
 
-  -- they were handed to the store to make a database of no tables in them, which it did so
-  pub record IsHanded (After : Unopened D g → Files D → Type 0) (old new : Files D) : Type 0 where
+  -- they have no more than a first page, and the log isn't one without its file
+  abbrev pub AreNew : Files D → Type 0
+  AreNew pair = (length (g.seen pair.db) ≤ new_page) × (¬ IsLoneIn pair)
+
+  -- the store had them, to make a database of no tables in them, and this is what came of it
+  pub record IsCreation (Came : Unopened D g → Files D → Type 0) (old new : Files D) : Type 0 where
     pub before : Unopened D g
     pub of_old : files_of before ≡ (old.log, old.db)
     pub size : (state_of before).page_size ≡ new_page
     pub schema : wanted_by before ≡ []
-    pub after : After before new
+    pub after : Came before new
 
-  -- it made one, or refused them
+  -- it made one, or it refused
   abbrev pub IsCreated : Files D → Files D → Type 0
-  IsCreated = IsHanded (λ before new. IsMadeIn before new ⊎ IsRefusedIn before new)
+  IsCreated = IsCreation (λ before new. IsMade before new ⊎ IsCreateRefused before new)
 
-  -- A fault ended that: they were read at most, or the store left off.
-  abbrev pub IsUnmade : Files D → Files D → Type 0
-  IsUnmade old new = AreReadOnly old new ⊎ IsHanded IsLeftOff old new
-
-  -- a fault ended what is done to them before they are opened: they were read, and then the same, or a database was made in them that can't be used
-  abbrev pub IsUnbegun : Files D → Files D → Type 0
-  IsUnbegun old new = (read : Files D) × AreReadOnly old read × (IsUnmade read new ⊎ IsCreated read new)
-
-  -- and nothing but reading was done to them before
-  abbrev pub IsReadAndCreated : Files D → Files D → Type 0
-  IsReadAndCreated old new = (read : Files D) × AreReadOnly old read × IsCreated read new
-
-  -- where there is more than a first page nothing but reading was done to them; else a database was to be made in them, but for a log that is left without its file
-  pub record IsBegun (old new : Files D) : Type 0 where
-    pub large : AreClean g new.log new.db → new_page < length (g.seen old.db) → AreReadOnly old new
-    pub small : AreReadOnly old new ⊎ IsReadAndCreated old new
-    pub made : AreClean g new.log new.db → length (g.seen old.db) ≤ new_page → (¬ IsLoneIn old) × IsReadAndCreated old new
-
-  -- the store was to open such files, and gave them back
-  pub record IsGivenBack (old new : Files D) : Type 0 where
-    pub begun : Files D
-    pub is_begun : IsBegun old begun
-    pub handed : Files D
-    pub read : AreReadOnly begun handed
+  -- the store was to open them, and gave them back so
+  pub record IsGivenBack (handed new : Files D) : Type 0 where
     pub rest : Leftover D g
     pub of_rest : files_left rest ≡ (new.log, new.db)
     pub leaves : IsCleanLeft rest → LeavesFiles handed rest
 
-  -- what is left of them where no connection was made
-  abbrev pub IsUnopened : Files D → Files D → Type 0
-  IsUnopened old new = IsUnbegun old new ⊎ IsGivenBack old new
+-- two files that the store may open
+pub data AreReady {D : Type 0} (g : Ghosts D) (old new : Files D) : Type 0 where
+  -- they have more than a first page, and nothing but reading was done to them
+  read_only : IfClean g new (new_page < length (g.seen old.db)) → AreReadOnly g old new → AreReady g old new
+  -- they were new: they were read, and then the store made a database in them, or refused to
+  created : (read : Files D) → IfClean g new (AreNew g old) → AreReadOnly g old read → IsCreated g read new → AreReady g old new
 
-  -- a connection to such files, as the store opened them
-  pub record IsOpenedIn (old : Files D) (conn : Held (FileStore D g)) : Type 0 where
-    pub begun : Files D
-    pub new : IsBegun old begun
-    pub handed : Files D
-    pub read : AreReadOnly begun handed
-    pub opened : HasCleanDisk (file_state conn) → IsOpened conn
-    pub found : HasCleanDisk (file_state conn) → Finds handed conn
+-- two files to which no connection was made
+pub data AreUnopened {D : Type 0} (g : Ghosts D) (old new : Files D) : Type 0 where
+  -- nothing but reading was done to them
+  unchanged : AreReadOnly g old new → AreUnopened g old new
+  -- they were read, and then a fault interrupted the store, which was to make a database in them
+  interrupted : (read : Files D) → AreReadOnly g old read → IsCreation g IsInterrupted read new → AreUnopened g old new
+  -- they were ready, and can't be used
+  unusable : AreReady g old new → AreUnopened g old new
+  -- they were ready and read, and the store, which was to open them, gave these back
+  given_back : (begun handed : Files D) → AreReady g old begun → AreReadOnly g begun handed → IsGivenBack g handed new → AreUnopened g old new
+
+-- a connection to two files, as the store opened them
+pub record IsOpenedIn {D : Type 0} (g : Ghosts D) (old : Files D) (conn : Held (FileStore D g)) : Type 0 where
+  pub begun : Files D
+  pub ready : AreReady g old begun
+  pub handed : Files D
+  pub read : AreReadOnly g begun handed
+  pub opened : HasCleanDisk (file_state conn) → IsOpened conn
+  pub found : HasCleanDisk (file_state conn) → Finds handed conn

@@ -5,7 +5,7 @@ ghost use Rattle.sqlite.specs.Held.{IsNew};
 ghost use Rattle.sqlite_std_file.specs.File.{file_is_usable, IsFresh};
 ghost use Rattle.acd_files.specs.Connections.{IsShut};
 ghost use Rattle.acd_files.specs.Faults.{by_memory};
-ghost use Rattle.acd_files.specs.Files.{IsOpenedIn, IsUnopened};
+ghost use Rattle.acd_files.specs.Files.{AreUnopened, IsOpenedIn};
 ghost use Rattle.acd_files.specs.Logs.{IsSomeEnding};
 ghost use Rattle.acd_files.specs.Connections.{IsLaidIn, IsOpenedFrom, LeavesUnopened};
 
@@ -189,7 +189,7 @@ fn open_files<'a, D: Disk + Drop>(
     ensures unused { IfOk result IsNew }
     ensures opened { IfOk result (λ conn. IsOpenedIn D.Disk files conn) }
     // where that fails they hold what they held before, or where that was nothing a database of no tables
-    ensures left { IfErr result (λ e. IsUnopened D.Disk files e.files) }
+    ensures left { IfErr result (λ e. AreUnopened D.Disk files e.files) }
 {
     let [first, second] = seeds;
     let mut files = match begun(alloc, files, first, path) {

@@ -4,7 +4,7 @@ ghost use Rattle.std.specs.Prelude.{◌≡◌, ◌/◌, ◌≤◌, ◌<◌, IsTr
 ghost use Rattle.std.specs.IoError.{error_kind};
 ghost use Rattle.sqlite_wal.specs.Reads.{AreClean, OnlyReads};
 ghost use Rattle.acd_files.specs.Faults.{disk_fault, log_fault};
-ghost use Rattle.acd_files.specs.Files.{new_page, page_of, treated, IfClean, IsSmall, IsLoneIn, AreReadOnly, KeepsPages, AreTreated, IsCreated, IsReadAndCreated, IsUnmade, IsUnbegun, IsBegun};
+ghost use Rattle.acd_files.specs.Files.{new_page, page_of, treated, IfClean, IfShort, IsSmall, AreReadOnly, KeepsPages, AreTreated, IsCreated, AreReady, AreUnopened};
 
 use crate::fault::PathFault;
 use crate::lone_log::is_lone;
@@ -69,7 +69,7 @@ fn created<'a, D: Disk + Drop>(
     requires db { IsTrue (D.Disk.is_usable files.db) }
     ensures created { IfOk result (λ new. IsCreated D.Disk files new) }
     ensures clean { IfOk result (λ new. IfClean D.Disk new (AreClean D.Disk files.log files.db)) }
-    ensures left { IfErr result (λ e. IsUnmade D.Disk files e.1) }
+    ensures left { IfErr result (λ e. AreUnopened D.Disk files e.1) }
 {
     let Some(size) = PageSize::new(NEW_PAGE) else {
         return Err((PathFault::CannotOpen(path), files));
@@ -111,10 +111,11 @@ fn created_beside<'a, D: Disk + Drop>(
 ) -> Result<Files<D>, (PathFault<'a>, Files<D>)>
     requires log { IsTrue (D.Disk.is_usable files.log) }
     requires db { IsTrue (D.Disk.is_usable files.db) }
-    ensures created { IfOk result (λ new. IsReadAndCreated D.Disk files new) }
     ensures clean { IfOk result (λ new. IfClean D.Disk new (AreClean D.Disk files.log files.db)) }
-    ensures spared { IfOk result (λ new. IfClean D.Disk new (¬ IsLoneIn D.Disk files)) }
-    ensures left { IfErr result (λ e. IsUnbegun D.Disk files e.1) }
+    // where the file has no more than a first page
+    ensures ready { IfOk result
+        (λ new. IfShort D.Disk files new (AreReady D.Disk files new)) }
+    ensures left { IfErr result (λ e. AreUnopened D.Disk files e.1) }
 {
     match is_lone(alloc, &mut files) {
         Ok(false) => created(alloc, files, seed, path),
@@ -134,8 +135,8 @@ pub(crate) fn begun<'a, D: Disk + Drop>(
     requires db { IsTrue (D.Disk.is_usable files.db) }
     ensures log { IfOk result (λ files. IsTrue (D.Disk.is_usable files.log)) }
     ensures db { IfOk result (λ files. IsTrue (D.Disk.is_usable files.db)) }
-    ensures begun { IfOk result (λ new. IsBegun D.Disk files new) }
-    ensures left { IfErr result (λ e. IsUnbegun D.Disk files e.1) }
+    ensures ready { IfOk result (λ new. AreReady D.Disk files new) }
+    ensures left { IfErr result (λ e. AreUnopened D.Disk files e.1) }
 {
     match may_be_new(&mut files) {
         Ok(false) => Ok(files),

@@ -73,9 +73,9 @@ use Rattle.acd_sqlbook.specs.View.{BookView, book_of}
 use Rattle.acd_sqlbook.proofs.Followed.{blank_of}
 use Rattle.acd_sqlbook.proofs.Reopened.{over_book, books_are_adopted}
 use Rattle.acd_sessions.specs.Desks.{in_database}
-use Rattle.acd_files.specs.Files.{new_page, AreReadOnly, IsMadeIn, IsRefusedIn, IsReadAndCreated, IsOpenedIn}
+use Rattle.acd_files.specs.Files.{new_page, created, read_only, AreReadOnly, AreReady, IsMade, IsCreateRefused, IsOpenedIn}
 use Rattle.acd_sessions.specs.Over.{held, LeavesBooks}
-use Rattle.acd_files.proofs.Begun.{store_clean, unopened_clean}
+use Rattle.acd_files.proofs.Begun.{large_read, store_clean, unopened_clean}
 use Rattle.acd_sessions.specs.Reopening.{DeskResult, IsDeskOf, Reopened, FailsByDisk, IsOpenedOver, IsTakenFrom, FilesReopen, IsNumbered, AreSynced, SyncedReopen, ReopensClosed}
 
 -- ---- a desk over a book
@@ -137,7 +137,7 @@ module _ {D : Type 0} (g : disk.Ghosts D) where
 
   handed_same : (files : Files D) (conn : Held (FileStore D g)) (is : IsOpenedIn g files conn) → new_page < length (g.seen files.db) → AreClean g is.handed.log is.handed.db
       → image_of g is.handed ≡ image_of g files
-  handed_same files conn is large clean = same_bytes is.begun is.handed is.read ∙ same_bytes files is.begun (is.new.large (begun_clean is.begun is.handed is.read clean) large)
+  handed_same files conn is large clean = same_bytes is.begun is.handed is.read ∙ same_bytes files is.begun (large_read files is.begun is.ready (begun_clean is.begun is.handed is.read clean) large)
 
 module _ {D : Type 0} (g : disk.Ghosts D) (image : Image) (db : Trees) (there : HoldsDatabase image db) (c : Content) (book : IsBook db c) where
   held_in : (files : Files D) → image_of g files ≡ image → HoldsDatabase (image_of g files) db
@@ -229,7 +229,7 @@ module _ {D : Type 0} (g : disk.Ghosts D) (stays : SeenMayStay g) (files : Files
     kept_in : (new : Files D) (s : State) → Creates before s → s.may_leave (image_of g new) → HoldsIn new_page (image_of g new) db
     kept_in new s creates may = kept (image_of g new) (creates.guarded never_unstarted (image_of g new) may)
 
-    after_all : (new : Files D) → AreClean g new.log new.db → IsMadeIn before new ⊎ IsRefusedIn before new → HoldsIn new_page (image_of g new) db
+    after_all : (new : Files D) → AreClean g new.log new.db → IsMade before new ⊎ IsCreateRefused before new → HoldsIn new_page (image_of g new) db
     after_all new clean (inl made) =
         let here = store_clean made.made new made.of_made ∙ clean in
         kept_in new (store.state made.made) (made.creates here) (subst (λ (f : D × D). (store.state made.made).may_leave (seen_image g f.0 f.1)) made.of_made (seen_may_be_left made.made.pool stays here))
@@ -237,13 +237,13 @@ module _ {D : Type 0} (g : disk.Ghosts D) (stays : SeenMayStay g) (files : Files
         let here = unopened_clean refused.rest new refused.of_rest ∙ clean in
         kept_in new (state_of refused.rest) (refused.creates here) (subst (λ (f : D × D). (state_of refused.rest).may_leave (seen_image g f.0 f.1)) refused.of_rest (seen_may_be_left refused.rest.pool stays here))
 
-  begun_holds : (new : Files D) → AreClean g new.log new.db → AreReadOnly g files new ⊎ IsReadAndCreated g files new → HoldsIn new_page (image_of g new) db
-  begun_holds new clean (inl read) = subst (λ (x : Image). HoldsIn new_page x db) (sym (same_bytes g files new read)) there
-  begun_holds new clean (inr (read, only, handed)) = after_all read only handed.before handed.of_old handed.size new clean handed.after
+  begun_holds : (new : Files D) → AreClean g new.log new.db → AreReady g files new → HoldsIn new_page (image_of g new) db
+  begun_holds new clean (read_only more read) = subst (λ (x : Image). HoldsIn new_page x db) (sym (same_bytes g files new read)) there
+  begun_holds new clean (created read fresh only handed) = after_all read only handed.before handed.of_old handed.size new clean handed.after
 
   synced_holds : (conn : Held (FileStore D g)) (is : IsOpenedIn g files conn) → AreClean g is.handed.log is.handed.db → HoldsDatabase (image_of g is.handed) db
   synced_holds conn is clean =
-      let begun = begun_holds is.begun (begun_clean g is.begun is.handed is.read clean) is.new.small in
+      let begun = begun_holds is.begun (begun_clean g is.begun is.handed is.read clean) is.ready in
       (new_page, (omega arith, omega arith, refl, refl), subst (λ (x : Image). HoldsIn new_page x db) (sym (same_bytes g is.begun is.handed is.read)) begun)
 
 -- ---- what a command leaves

@@ -1,6 +1,6 @@
 use Rattle.std.proofs.Common.{◌∙◌, sym, inl, inr}
 use Rattle.sqlite_store.specs.Unopened.{state_of, StopsCreating, CanCreate}
-use Rattle.acd_files.proofs.Begun.{refused_so, unopened_clean, store_clean}
+use Rattle.acd_files.proofs.Begun.{created_as, refused_so, unopened_clean, store_clean}
 use Rattle.acd_files.proofs.paging.created.Goals as goal
 
 pub returns-in-Ok-create-clause-created : goal.returns-in-Ok-create-clause-created
@@ -38,7 +38,7 @@ returns-in-Err-Refused-default-clause-clean g c still =
     ∙ c.in-Err-Refused-default.ensures.falls (unopened_clean c.in-Err-Refused-default.left c.close-in-Err-Refused-default.result (sym c.close-in-Err-Refused-default.ensures) ∙ still)
 
 pub returns-in-Err-OutOfMemory-default-clause-left : goal.returns-in-Err-OutOfMemory-default-clause-left
-returns-in-Err-OutOfMemory-default-clause-left g c = inr (record {
+returns-in-Err-OutOfMemory-default-clause-left g c = created_as c.args.files _ c.requires.log c.requires.db (record {
   before = c.in-Ok-new.unopened;
   of_old = c.in-Ok-new.ensures.files ∙ c.in-Ok.ensures.files;
   size = c.in-Ok-new.ensures.size ∙ c.in-Ok.ensures.size ∙ c.in-Some.ensures.value;
@@ -47,7 +47,7 @@ returns-in-Err-OutOfMemory-default-clause-left g c = inr (record {
 })
 
 pub returns-in-Err-create-clause-left : goal.returns-in-Err-create-clause-left
-returns-in-Err-create-clause-left g c = inr (record {
+returns-in-Err-create-clause-left g c = created_as c.args.files _ c.requires.log c.requires.db (record {
   before = c.in-Ok-new.unopened;
   of_old = c.in-Ok-new.ensures.files ∙ c.in-Ok.ensures.files;
   size = c.in-Ok-new.ensures.size ∙ c.in-Ok.ensures.size ∙ c.in-Some.ensures.value;
