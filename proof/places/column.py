@@ -34,9 +34,9 @@ after("crates/acd_model/specs/Examples/Words.antt", ("stamp = 4; since = 0", "; 
 put("crates/acd_lemmas/proofs/SameRecords.antt",
     ("    let state = two since.1 in\n    λ i. record {\n      agent", "    let logged = two since.1 in\n    let state = two logged.1 in\n    λ i. record {\n      agent"),
     ("      since = eqb-true x.since y.since since.0 i;\n", "      since = eqb-true x.since y.since since.0 i;\n      logged = number_same x.logged y.logged logged.0 i;\n"))
-after("crates/acd_laws/proofs/Rules/KeptPlan.antt", ("groups = gs; stamp = turn.stamp; since = turn.moment", "; logged = Some turn.moment"))
+after("crates/acd_laws/proofs/Rules/RulesOfPlanning.antt", ("groups = gs; stamp = turn.stamp; since = turn.moment", "; logged = Some turn.moment"))
 after("crates/acd_laws/proofs/Rules/BoundsStep.antt", ("groups = groups; stamp = k; since = m", "; logged = Some m"))
-after("crates/acd_laws/proofs/Watched/SoundDeeds.antt", ("groups = groups; stamp = turn.stamp; since = turn.moment", "; logged = Some turn.moment"))
+after("crates/acd_laws/proofs/Watched/EffectReports.antt", ("groups = groups; stamp = turn.stamp; since = turn.moment", "; logged = Some turn.moment"))
 
 # ---- JSON
 

@@ -118,8 +118,8 @@ as_variant(DESK + "proofs/OldStates.antt", ("serve_old s turn (ChangeAgent agent
 # ---- laws
 
 LAWS = "crates/acd_laws/proofs/"
-as_variant(LAWS + "Deeds.antt", (", change_group, change_agent", ", park_here"), ("deed_of_serve s turn (ChangeAgent agent name) = inl (refl, inl (deed_change_agent s turn agent name))\n", "deed_of_serve s turn (ParkHere call device) = inl (refl, inl (deed_park_here s turn call device))\n"))
-put(LAWS + "Deeds.antt", ("deed_retrieve_call : ", """\
+as_variant(LAWS + "Effects.antt", (", change_group, change_agent", ", park_here"), ("deed_of_serve s turn (ChangeAgent agent name) = inl (refl, inl (deed_change_agent s turn agent name))\n", "deed_of_serve s turn (ParkHere call device) = inl (refl, inl (deed_park_here s turn call device))\n"))
+put(LAWS + "Effects.antt", ("deed_retrieve_call : ", """\
 deed_park_here : (s : Rows) (turn : Turn) (call device : ℕ) → DeedBy s turn (park_here s call device)
 unfolding park_here
 deed_park_here s turn call device =

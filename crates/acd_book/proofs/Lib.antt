@@ -1,12 +1,12 @@
-mod Changing
-pub mod Numbered
+mod ChangeCounters
+pub mod NumberedLists
 pub mod Keys
-pub mod Left
-mod Watching
+pub mod EventsAbove
+mod MonitorEvents
 mod Places
-mod Listing
-mod Counting
+mod DeviceNumbers
+mod MonitorCounts
 pub mod BookSteps
-pub mod Reading
+pub mod ReadsInTurn
 pub mod ReadsAhead
 pub mod SharedLists

@@ -5,9 +5,9 @@ use Rattle.acd_book.specs.Content.{Content, HasRisen}
 use Rattle.acd_book.specs.State.{BookState, IfHonest, Reads}
 use Rattle.acd_book.specs.declared.fault.BookFault.{BookFault}
 use Rattle.acd_book.specs.declared.fault.BookFault.TheVariants.{NoMemory, Store}
-use Rattle.acd_book.proofs.Reading.{Finding, Together}
+use Rattle.acd_book.proofs.ReadsInTurn.{Finding, Together}
 use Rattle.acd_book.proofs.BookSteps.{no_step, none_changed, step_so, step_then, unchanged_then, keeps_then}
-use Rattle.acd_book.specs.BookReading.{ReadsIfOpen}
+use Rattle.acd_book.specs.BookReads.{ReadsIfOpen}
 use Rattle.acd_terms.proofs.Results.{ok_err, same_error}
 
 no_store : {A : Type 0} → ◌≡◌ {A = Result A BookFault} (Err NoMemory) (Err Store) → ⊥

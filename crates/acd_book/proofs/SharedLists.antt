@@ -7,7 +7,7 @@ use Rattle.std.proofs.lemmas.List.Elements.{filter-append}
 use Rattle.acd_terms.specs.Lists.{Every}
 use Rattle.acd_book.specs.Order.{Rises}
 use Rattle.acd_lemmas.proofs.Lists.{every-append, head_is, tail_is}
-use Rattle.acd_book.specs.Sharing.{IsSplit, Begins, cut_before}
+use Rattle.acd_book.specs.ListOverlap.{IsSplitAt, Begins, cut_before}
 
 -- ---- numbers in order ----
 
@@ -69,16 +69,16 @@ at_head f m (y ∷ past) x rest h = at_head f (f y) past x rest h.1
 
 -- ---- a list in two, at a number ----
 
-pub split_at : {T : Type 0} (f : T → ℕ) (m n : ℕ) (xs : List T) → m ≤ n → Rises f m xs → (past : List T) × (left : List T) × IsSplit f n xs past left
+pub split_at : {T : Type 0} (f : T → ℕ) (m n : ℕ) (xs : List T) → m ≤ n → Rises f m xs → (past : List T) × (left : List T) × IsSplitAt f n xs past left
 split_at f m n [] le h = ([], [], record { whole = refl; below = tt; above = tt })
 split_at {T = T} f m n (x ∷ xs) le h =
-    let cases : (b : Bool) → nat_lt n (f x) ≡ b → (past : List T) × (left : List T) × IsSplit f n (x ∷ xs) past left
-    = λ b. elim b as (λ b. nat_lt n (f x) ≡ b → (past : List T) × (left : List T) × IsSplit f n (x ∷ xs) past left) [
+    let cases : (b : Bool) → nat_lt n (f x) ≡ b → (past : List T) × (left : List T) × IsSplitAt f n (x ∷ xs) past left
+    = λ b. elim b as (λ b. nat_lt n (f x) ≡ b → (past : List T) × (left : List T) × IsSplitAt f n (x ∷ xs) past left) [
       | true ↦ λ is. ([], x ∷ xs, record { whole = refl; below = tt; above = (ltb-true n (f x) is, h.1) })
       | false ↦ λ is.
           let low : f x ≤ n = ltb-false n (f x) is in
           let rest = split_at f (f x) n xs low h.1 in
-          let split : IsSplit f n xs rest.0 rest.1 = rest.2 in
+          let split : IsSplitAt f n xs rest.0 rest.1 = rest.2 in
           (x ∷ rest.0, rest.1, record { whole = ap (λ (l : List T). x ∷ l) split.whole; below = (low, split.below); above = split.above })
     ] in
     cases (nat_lt n (f x)) refl
@@ -110,7 +110,7 @@ pub record Shares {T : Type 0} (f : T → ℕ) (cut n : ℕ) (archived current :
   pub done : List T
   pub left : List T
   pub rest : List T
-  pub split : IsSplit f cut archived past (done ++ left)
+  pub split : IsSplitAt f cut archived past (done ++ left)
   pub mine : current ≡ done ++ rest
   pub done_low : Every (λ (x : T). f x ≤ n) done
   pub left_high : Rises f n left
@@ -121,7 +121,7 @@ pub shares_nothing : {T : Type 0} (f : T → ℕ) (cut : ℕ) (archived current 
     → Shares f cut cut archived current
 shares_nothing f cut archived current rise current_rise =
     let two = split_at f 0 cut archived (omega arith) rise in
-    let split : IsSplit f cut archived two.0 two.1 = two.2 in
+    let split : IsSplitAt f cut archived two.0 two.1 = two.2 in
     record {
       past = two.0;
       done = [];
@@ -137,7 +137,7 @@ shares_nothing f cut archived current rise current_rise =
 
 -- all that the other one has up to there
 pub archived_split : {T : Type 0} (f : T → ℕ) (cut n : ℕ) (archived current : List T) (s : Shares f cut n archived current)
-    → IsSplit f n archived (s.past ++ s.done) s.left
+    → IsSplitAt f n archived (s.past ++ s.done) s.left
 archived_split {T = T} f cut n archived current s = record {
   whole = s.split.whole ∙ sym (append_assoc s.past s.done s.left);
   below = every-append (λ (x : T). f x ≤ n) s.past s.done (every_upto f cut n s.past s.above s.split.below) s.done_low;
@@ -157,7 +157,7 @@ shares_next {T = T} f cut n archived current s x left rest is_left is_rest =
       done = s.done ++ x ∷ [];
       left = left;
       rest = rest;
-      split = subst (IsSplit f cut archived s.past) one s.split;
+      split = subst (IsSplitAt f cut archived s.past) one s.split;
       mine = s.mine ∙ ap (λ (l : List T). s.done ++ l) is_rest ∙ sym (append_assoc s.done (x ∷ []) rest);
       done_low = every-append (λ (y : T). f y ≤ f x) s.done (x ∷ []) (every_upto f n (f x) s.done le s.done_low) (le_refl (f x), tt);
       left_high = high.1;
@@ -172,7 +172,7 @@ shares_all {T = T} f cut n last archived current s none newer = record {
   past = s.past;
   carried = s.done;
   rest = s.rest;
-  split = subst (IsSplit f cut archived s.past) (ap (λ (l : List T). s.done ++ l) none ∙ append-nil s.done) s.split;
+  split = subst (IsSplitAt f cut archived s.past) (ap (λ (l : List T). s.done ++ l) none ∙ append-nil s.done) s.split;
   mine = s.mine;
   newer = newer;
 }
@@ -207,7 +207,7 @@ cut_within f last (x ∷ xs) = less last (f x)
 -- wherever the other one was cut, that is the cut
 pub split_there : {T : Type 0} (f : T → ℕ) (last : ℕ) (archived current past carried rest : List T) → archived ≡ past ++ carried → current ≡ carried ++ rest
     → Rises f 0 archived → Every (λ (x : T). f x ≤ last) archived → Rises f last rest
-    → IsSplit f (cut_before f last current) archived past carried
+    → IsSplitAt f (cut_before f last current) archived past carried
 split_there {T = T} f last archived current past [] rest whole mine rise low newer =
     let far : (l : List T) → Rises f last l → cut_before f last l ≡ last = λ l. elim l as (λ l. Rises f last l → cut_before f last l ≡ last) [
       | [] ↦ λ h. refl
@@ -260,14 +260,14 @@ all_above {T = T} f n m (x ∷ xs) le up =
     further n m k le lt = omega (arith, le, lt)
 
 -- a book reads above a number what is left there
-pub next_left : {T : Type 0} (f : T → ℕ) (n : ℕ) (xs past left : List T) → IsSplit f n xs past left
+pub next_left : {T : Type 0} (f : T → ℕ) (n : ℕ) (xs past left : List T) → IsSplitAt f n xs past left
     → take 1 (filter (λ (x : T). nat_lt n (f x)) xs) ≡ take 1 left
 next_left {T = T} f n xs past left s =
     let p : T → Bool = λ (x : T). nat_lt n (f x) in
     ap (λ (l : List T). take 1 (filter p l)) s.whole
     ∙ ap (take 1) (filter-append p past left ∙ ap₂ (λ (a b : List T). a ++ b) (none_above f n past s.below) (all_above f n n left (le_refl n) s.above))
 
-current_split : {T : Type 0} (f : T → ℕ) (cut n : ℕ) (archived current : List T) (s : Shares f cut n archived current) → IsSplit f n current s.done s.rest
+current_split : {T : Type 0} (f : T → ℕ) (cut n : ℕ) (archived current : List T) (s : Shares f cut n archived current) → IsSplitAt f n current s.done s.rest
 current_split f cut n archived current s = record { whole = s.mine; below = s.done_low; above = s.rest_high }
 
 pub archived_left : {T : Type 0} (f : T → ℕ) (cut n : ℕ) (archived current : List T) (s : Shares f cut n archived current)

@@ -5,5 +5,5 @@ use Rattle.acd_model.specs.Changes.{changed_by}
 use Rattle.acd_book.specs.declared.ledger.Ledger.{Ledger}
 
 -- the records with the changes made that wait
-abbrev pub rows_of : Ledger → Rows
-rows_of l = changed_by l.records (drop l.made l.journal.items)
+abbrev pub ledger_rows : Ledger → Rows
+ledger_rows l = changed_by l.records (drop l.made l.journal.items)

@@ -22,8 +22,8 @@ abbrev pub number_of : Event → ℕ
 number_of e = e.number
 
 -- the event of a number, in a list that is numbered from 1
-abbrev pub event_at : List Event → ℕ → Option Event
-event_at events number = if number == 0 then None else slice_get events (number - 1)
+abbrev pub event_numbered : List Event → ℕ → Option Event
+event_numbered events number = if number == 0 then None else slice_get events (number - 1)
 
 abbrev pub key_of : Kept → Key
 key_of k = record { requester = k.request.requester; invoke = k.request.invoke }

@@ -2,7 +2,7 @@
 
 ghost use Rattle.std.specs.Prelude.{◌≡◌, ◌≤◌, ◌<◌, ◌+◌, IfOk, OnOk, OnErr, take, length};
 ghost use Rattle.acd_book.specs.Content.{empty_content, kept_under, IsNextKept, records_page, events_page, monitor_page, commit_of, commit_by};
-ghost use Rattle.acd_book.specs.Giving.{GivesList};
+ghost use Rattle.acd_book.specs.CallResults.{GivesList};
 
 use crate::kept::Kept;
 use crate::ledger::Ledger;
@@ -22,10 +22,10 @@ pub(crate) struct Contents {
 }
 
 impl Contents {
-    ghost use Rattle.acd_book.specs.Held.{content_of, waiting, HasMade};
+    ghost use Rattle.acd_book.specs.MemoryContent.{memory_content, waiting, HasMade};
 
     pub(crate) fn new(alloc: Global, limits: Limits) -> Contents
-        ensures empty { content_of result ≡ empty_content limits }
+        ensures empty { memory_content result ≡ empty_content limits }
         ensures none_wait { waiting result ≡ 0 }
     {
         Contents {
@@ -43,7 +43,7 @@ impl Contents {
         invoke: Invoke,
     ) -> Result<Option<Kept>, AllocError>
         ensures { IfOk result
-            (λ found. found ≡ kept_under requester.now invoke (content_of self.now)) }
+            (λ found. found ≡ kept_under requester.now invoke (memory_content self.now)) }
     {
         match self.replies.under(requester, invoke) {
             Some(kept) => Ok(Some(kept.clone()?)),
@@ -53,7 +53,7 @@ impl Contents {
 
     /// The kept record of the least greater stamp.
     pub(crate) fn kept_after(&self, stamp: u64) -> Result<Option<Kept>, AllocError>
-        ensures { IfOk result (IsNextKept stamp (content_of self.now)) }
+        ensures { IfOk result (IsNextKept stamp (memory_content self.now)) }
     {
         match self.replies.after(stamp) {
             Some(kept) => Ok(Some(kept.clone()?)),
@@ -62,13 +62,13 @@ impl Contents {
     }
 
     pub(crate) fn requests_after(&self, stamp: u64, limit: usize) -> Result<Vec<Kept>, AllocError>
-        ensures { GivesList result (records_page stamp limit (content_of self.now)) }
+        ensures { GivesList result (records_page stamp limit (memory_content self.now)) }
     {
         first_kept(self.alloc, self.replies.all_after(stamp), limit)
     }
 
     pub(crate) fn events_after(&self, number: u64, limit: usize) -> Result<Vec<Event>, AllocError>
-        ensures { GivesList result (events_page number limit (content_of self.now)) }
+        ensures { GivesList result (events_page number limit (memory_content self.now)) }
     {
         first(self.alloc, self.log.all_after(number), limit)
     }
@@ -81,8 +81,8 @@ impl Contents {
         limit: usize,
     ) -> Result<Vec<Event>, AllocError>
         ensures found { GivesList result
-            (monitor_page monitor number limit (content_of self.old)) }
-        ensures same { content_of self.new ≡ content_of self.old }
+            (monitor_page monitor number limit (memory_content self.old)) }
+        ensures same { memory_content self.new ≡ memory_content self.old }
         ensures no_longer { waiting self.new ≤ waiting self.old }
     {
         let Some(watched) = self.ledger.monitor(monitor)? else {
@@ -100,7 +100,7 @@ impl Contents {
     ) -> Result<(), AllocError>
         ensures ok { OnOk result
             (HasMade (commit_of rows.now events.now kept.now) self.old self.new) }
-        ensures err { OnErr result (content_of self.new ≡ content_of self.old) }
+        ensures err { OnErr result (memory_content self.new ≡ memory_content self.old) }
         ensures no_longer { waiting self.new ≤ waiting self.old }
     {
         if !self.log.precedes(events) {
@@ -125,7 +125,7 @@ impl Contents {
     ) -> Result<(), AllocError>
         ensures ok { OnOk result
             (HasMade (commit_by changes.now events.now kept.now) self.old self.new) }
-        ensures err { OnErr result (content_of self.new ≡ content_of self.old) }
+        ensures err { OnErr result (memory_content self.new ≡ memory_content self.old) }
         ensures bounded { OnOk result (waiting self.new < 256 + length changes.now) }
         ensures no_longer { OnErr result (waiting self.new ≤ waiting self.old) }
     {

@@ -28,10 +28,10 @@ pub(crate) struct Ledger {
 }
 
 impl Ledger {
-    ghost use Rattle.acd_book.specs.Ledger.{rows_of};
+    ghost use Rattle.acd_book.specs.Ledger.{ledger_rows};
 
     pub(crate) fn new(alloc: Global, limits: Limits) -> Ledger
-        ensures rows { rows_of result ≡ empty_rows limits }
+        ensures rows { ledger_rows result ≡ empty_rows limits }
         ensures none_wait { vec_len result.journal ≡ 0 }
     {
         Ledger {
@@ -43,7 +43,7 @@ impl Ledger {
     }
 
     pub(crate) fn from_rows(alloc: Global, rows: &Rows) -> Result<Ledger, AllocError>
-        ensures rows { IfOk result (λ ledger. rows_of ledger ≡ rows.now) }
+        ensures rows { IfOk result (λ ledger. ledger_rows ledger ≡ rows.now) }
         ensures none_wait { IfOk result (λ ledger. vec_len ledger.journal ≡ 0) }
     {
         Ok(Ledger {
@@ -55,22 +55,22 @@ impl Ledger {
     }
 
     pub(crate) fn limits(&self) -> Limits
-        ensures { result ≡ (rows_of self.now).limits }
+        ensures { result ≡ (ledger_rows self.now).limits }
     {
         self.records.limits()
     }
 
     /// It can count so many more events.
     pub(crate) fn counts(&self, events: u64) -> bool
-        ensures { result ≡ nat_lt ((rows_of self.now).last_event + events) (2 ^ 64) }
+        ensures { result ≡ nat_lt ((ledger_rows self.now).last_event + events) (2 ^ 64) }
     {
         self.records.last_event().checked_add(events).is_some()
     }
 
     /// All of it, once no change waits.
     pub(crate) fn rows(&mut self) -> Result<Rows, AllocError>
-        ensures ok { IfOk result (λ rows. rows ≡ rows_of self.old) }
-        ensures same { rows_of self.new ≡ rows_of self.old }
+        ensures ok { IfOk result (λ rows. rows ≡ ledger_rows self.old) }
+        ensures same { ledger_rows self.new ≡ ledger_rows self.old }
         ensures no_longer { vec_len self.new.journal ≤ vec_len self.old.journal }
     {
         self.settle();
@@ -82,8 +82,8 @@ impl Ledger {
 
     /// The record of a running monitor, once no change waits.
     pub(crate) fn monitor(&mut self, monitor: u64) -> Result<Option<MonitorRecord>, AllocError>
-        ensures ok { IfOk result (λ found. found ≡ monitor_of (rows_of self.old) monitor) }
-        ensures same { rows_of self.new ≡ rows_of self.old }
+        ensures ok { IfOk result (λ found. found ≡ monitor_of (ledger_rows self.old) monitor) }
+        ensures same { ledger_rows self.new ≡ ledger_rows self.old }
         ensures no_longer { vec_len self.new.journal ≤ vec_len self.old.journal }
     {
         self.settle();
@@ -95,7 +95,7 @@ impl Ledger {
 
     /// Makes the changes that wait, as far as there is memory.
     pub(crate) fn settle(&mut self)
-        ensures same { rows_of self.new ≡ rows_of self.old }
+        ensures same { ledger_rows self.new ≡ ledger_rows self.old }
         ensures no_longer { vec_len self.new.journal ≤ vec_len self.old.journal }
     {
         while self.made < self.journal.len() {
@@ -110,7 +110,7 @@ impl Ledger {
 
     /// Makes the changes that wait, where they are many.
     pub(crate) fn settle_many(&mut self)
-        ensures same { rows_of self.new ≡ rows_of self.old }
+        ensures same { ledger_rows self.new ≡ ledger_rows self.old }
         ensures no_longer { vec_len self.new.journal ≤ vec_len self.old.journal }
     {
         if self.journal.len() >= LONG {
@@ -120,7 +120,7 @@ impl Ledger {
 
     /// Takes room for so many more changes, once few wait.
     pub(crate) fn reserve(&mut self, changes: usize) -> Result<(), AllocError>
-        ensures same { rows_of self.new ≡ rows_of self.old }
+        ensures same { ledger_rows self.new ≡ ledger_rows self.old }
         ensures few { OnOk result (vec_len self.new.journal < 256) }
         ensures room { OnOk result
             (vec_len self.new.journal + changes ≤ vec_capacity self.new.journal) }
@@ -137,9 +137,9 @@ impl Ledger {
     pub(crate) fn append(&mut self, changes: &[Change], stamp: u64, moment: u32, events: u64)
         requires room { vec_len self.old.journal + length changes.now
             ≤ vec_capacity self.old.journal }
-        requires countable { (rows_of self.old).last_event + events < 2 ^ 64 }
-        ensures made { rows_of self.new
-            ≡ rows_made (rows_of self.old) changes.now stamp moment events }
+        requires countable { (ledger_rows self.old).last_event + events < 2 ^ 64 }
+        ensures made { ledger_rows self.new
+            ≡ rows_made (ledger_rows self.old) changes.now stamp moment events }
         ensures added { vec_len self.new.journal ≤ vec_len self.old.journal + length changes.now }
     {
         let last_event = self.records.last_event() + events;

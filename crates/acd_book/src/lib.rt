@@ -18,14 +18,14 @@ mod key;
 mod ledger;
 mod log;
 mod memory;
+mod monitor_index;
 mod numbers;
 mod replies;
 mod text;
-mod watched;
 
 pub use book::Book;
 pub use fault::BookFault;
 pub use kept::Kept;
 pub use memory::MemoryBook;
+pub use monitor_index::MonitorIndex;
 pub use text::Text;
-pub use watched::Watched;

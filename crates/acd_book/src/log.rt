@@ -4,11 +4,11 @@ ghost use Rattle.std.specs.Prelude.{◌≡◌, ◌+◌, ◌≤◌, ◌++◌, [],
 ghost use Rattle.std.specs.List.{cons_option, filter_map};
 ghost use Rattle.std.proofs.Props.{props};
 ghost use Rattle.acd_book.specs.Content.{is_at, device_page};
-ghost use Rattle.acd_book.specs.Giving.{GivesList};
-ghost use Rattle.acd_book.specs.Memory.{event_at, is_numbered, number_of};
-ghost use Rattle.acd_book.specs.Watched.{KeepsWatched, ListsEvents, listed_prop};
+ghost use Rattle.acd_book.specs.CallResults.{GivesList};
+ghost use Rattle.acd_book.specs.Memory.{event_numbered, is_numbered, number_of};
+ghost use Rattle.acd_book.specs.MonitorIndexes.{KeepsWatched, ListsEvents, listed_prop};
 
-use crate::watched::Watched;
+use crate::monitor_index::MonitorIndex;
 use acd_model::Change;
 use acd_terms::{DeviceId, Event, MonitorRecord};
 use std::alloc::{AllocError, Global};
@@ -17,7 +17,7 @@ use std::alloc::{AllocError, Global};
 #[derive(Drop)]
 pub(crate) struct Log {
     pub(crate) events: Vec<Event>,
-    pub(crate) watched: Watched,
+    pub(crate) watched: MonitorIndex,
     ghost numbered: { is_numbered number_of 0 events.items ≡ true },
     ghost listed: { ListsEvents events.items watched } by { Prim.hlevel (props, listed_prop) },
     ghost kept: { KeepsWatched watched } by { Prim.hlevel props },
@@ -29,7 +29,7 @@ impl Log {
     {
         Log {
             events: Vec::new(alloc),
-            watched: Watched::new(alloc),
+            watched: MonitorIndex::new(alloc),
         }
     }
 
@@ -43,7 +43,7 @@ impl Log {
 
     // The event of a number.
     fn event_at(&self, number: u64) -> Option<Event>
-        ensures { result ≡ event_at self.now.events.items number }
+        ensures { result ≡ event_numbered self.now.events.items number }
     {
         let place = number.checked_sub(1)?;
         self.events.get(place as usize).copied()
@@ -51,7 +51,7 @@ impl Log {
 
     // The events of these numbers.
     fn events_at(&self, alloc: Global, numbers: &[u64]) -> Result<Vec<Event>, AllocError>
-        ensures { GivesList result (filter_map (event_at self.now.events.items) numbers.now) }
+        ensures { GivesList result (filter_map (event_numbered self.now.events.items) numbers.now) }
     {
         let mut found = Vec::with_capacity(alloc, numbers.len())?;
         for number in numbers {
@@ -113,7 +113,7 @@ impl Log {
         ensures same { self.new.events ≡ self.old.events }
     {
         let last = self.events.len() as u64;
-        self.watched = Watched::of_monitors(alloc, monitors, last);
+        self.watched = MonitorIndex::of_monitors(alloc, monitors, last);
     }
 
     /// Adds events that go on, for which there is room.

@@ -28,11 +28,11 @@ pub struct MemoryBook {
 
 impl Model for MemoryBook {
     ghost use Rattle.acd_book.specs.Content.{Content};
-    ghost use Rattle.acd_book.specs.Held.{content_of};
+    ghost use Rattle.acd_book.specs.MemoryContent.{memory_content};
 
     ghost Value = { Content };
 
-    ghost view = { λ b. content_of b.contents };
+    ghost view = { λ b. memory_content b.contents };
 }
 
 impl MemoryBook {

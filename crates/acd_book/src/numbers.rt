@@ -17,7 +17,7 @@ pub(crate) struct Numbers {
 }
 
 impl Numbers {
-    ghost use Rattle.acd_book.specs.Watched.{AddsIfAbove};
+    ghost use Rattle.acd_book.specs.MonitorIndexes.{AddsIfAbove};
 
     pub(crate) fn new(alloc: Global, above: u64) -> Numbers
         ensures above { result.above ≡ above }

@@ -5,7 +5,7 @@ use Rattle.std.specs.Str.{bytes_eq}
 use Rattle.std.proofs.lemmas.Slice.Eq.{bytes_eq-Decides}
 use Rattle.acd_terms.specs.declared.command.Request.{Request}
 use Rattle.acd_codec.specs.declared.member.Member.{Member}
-use Rattle.acd_codec.specs.Reading.{reads_as}
+use Rattle.acd_codec.specs.RequestReading.{reads_as}
 use Rattle.acd_codec.specs.RequestTexts.{request_text}
 use Rattle.acd_codec.specs.KeptTexts.{if_written, request_of_text}
 

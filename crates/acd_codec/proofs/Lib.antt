@@ -1,9 +1,9 @@
 pub mod Documents
 pub mod Readings
-pub mod Adding
-pub mod Printed
-pub mod Plain
+pub mod TokensInTurn
+pub mod ReplyTokens
+pub mod PlainValues
 pub mod RoundTrip
 pub mod KeptTexts
-pub mod Choosing
+pub mod GroupChoices
 pub mod OldReadings

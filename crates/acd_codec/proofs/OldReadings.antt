@@ -18,7 +18,7 @@ use Rattle.acd_codec.specs.declared.service.Service.TheVariants as service
 use Rattle.acd_codec.specs.Members.{member_name}
 use Rattle.acd_codec.specs.Services.{service_name, first_services, later_services, service_of}
 use Rattle.acd_codec.specs.MemberReading.{text_in, is_there, device_of, device_in, agent_in, requester_in, invoke_in, service_in, requested_state_in}
-use Rattle.acd_codec.specs.Reading.{two_devices_in, one_group_in, chosen_in, requested_in, set_agent_state_in, command_in, request_in, request_from, reads_as}
+use Rattle.acd_codec.specs.RequestReading.{two_devices_in, one_group_in, chosen_in, requested_in, set_agent_state_in, command_in, request_in, request_from, reads_as}
 use Rattle.acd_codec.specs.OldReading.{old_service_of, old_service_in, old_requested_in, old_set_agent_state_in, old_command_in, old_request_in, old_request_from, old_reads_as, OldReadsTheSame}
 
 -- the second reading gives what the first one gives

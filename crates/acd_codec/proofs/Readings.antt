@@ -7,7 +7,7 @@ use Rattle.serde_json.specs.Data.{Data}
 use Rattle.serde_json.specs.Read.{read}
 use Rattle.serde_json.specs.Find.{as_object}
 use Rattle.acd_codec.specs.declared.member.Member.TheVariants as member
-use Rattle.acd_codec.specs.Reading.{reads_as, request_in, request_from}
+use Rattle.acd_codec.specs.RequestReading.{reads_as, request_in, request_from}
 
 pub reads_value : (bytes : List ℕ) (d : Data) → IsUtf8 bytes → read bytes ≡ Some d → reads_as bytes ≡ request_from (Some d)
 unfolding reads_as

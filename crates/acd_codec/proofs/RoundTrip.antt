@@ -28,12 +28,12 @@ use Rattle.acd_codec.specs.declared.service.Service.{Service}
 use Rattle.acd_codec.specs.declared.service.Service.TheVariants as service
 use Rattle.acd_codec.specs.Services.{Form, of_group, of_agent, of_device, of_arrival, of_making, of_connection, of_transfer, of_state, of_monitor, of_priority, of_nothing, row, service_name, service_of, taken_apart, requested_state_of}
 use Rattle.acd_codec.specs.MemberReading.{list_in, device_in, agent_in, name_in, requester_in, invoke_in, seconds_in, priority_in, serial_in, service_in, requested_state_in, devices_of, groups_in}
-use Rattle.acd_codec.specs.Reading.{reads_as, request_in, command_in, form_in, group_in, named_agent_in, two_devices_in, connection_in, one_group_in, chosen_in, requested_in, set_agent_state_in}
+use Rattle.acd_codec.specs.RequestReading.{reads_as, request_in, command_in, form_in, group_in, named_agent_in, two_devices_in, connection_in, one_group_in, chosen_in, requested_in, set_agent_state_in}
 use Rattle.acd_codec.specs.Parts.{digits_data, groups_parts, items_of, written_before}
 use Rattle.acd_codec.specs.RequestTexts.{service_members, request_data, request_text}
-use Rattle.acd_codec.specs.Formed.{IsDevice, AreFormed, IsRequest}
-use Rattle.acd_codec.proofs.Choosing.{choice_again}
-use Rattle.acd_codec.proofs.Plain.{IsPlain, ItemsArePlain, MembersArePlain, read_plain, utf8_text}
+use Rattle.acd_codec.specs.RequestForms.{IsDevice, AreFormed, IsRequest}
+use Rattle.acd_codec.proofs.GroupChoices.{choice_again}
+use Rattle.acd_codec.proofs.PlainValues.{IsPlain, ItemsArePlain, MembersArePlain, read_plain, utf8_text}
 use Rattle.acd_codec.proofs.Readings.{reads_object}
 
 word : (s : List ℕ) → are_ascii s ≡ true → IsUtf8 s

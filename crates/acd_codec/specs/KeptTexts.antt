@@ -3,7 +3,7 @@ use Rattle.std.specs.Prelude.{ℕ, List, Option, Some, None, option_and_then, if
 use Rattle.std.specs.Result.{result_ok}
 use Rattle.std.specs.Str.{bytes_eq}
 use Rattle.acd_terms.specs.declared.command.Request.{Request}
-use Rattle.acd_codec.specs.Reading.{reads_as}
+use Rattle.acd_codec.specs.RequestReading.{reads_as}
 use Rattle.acd_codec.specs.RequestTexts.{request_text}
 
 -- the request, if these are the bytes of its text

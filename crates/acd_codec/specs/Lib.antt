@@ -2,11 +2,11 @@ pub mod Members
 pub mod Services
 pub mod MemberReading
 pub mod Documents
-pub mod Reading
+pub mod RequestReading
 pub mod RequestTexts
 pub mod KeptTexts
 pub mod ReplyTexts
-pub mod Formed
+pub mod RequestForms
 pub mod Parts
 pub mod Tokens
 pub mod EventTexts

@@ -21,7 +21,7 @@ use Rattle.acd_codec.specs.declared.service.Service.{Service}
 use Rattle.acd_codec.specs.declared.service.Service.TheVariants as service
 use Rattle.acd_codec.specs.Services.{service_name, first_services}
 use Rattle.acd_codec.specs.MemberReading.{read_in, agent_in, requester_in, invoke_in, requested_state_in}
-use Rattle.acd_codec.specs.Reading.{two_devices_in, command_in, reads_as}
+use Rattle.acd_codec.specs.RequestReading.{two_devices_in, command_in, reads_as}
 
 -- one of the sixteen services
 abbrev pub old_service_of : List ℕ → Option Service

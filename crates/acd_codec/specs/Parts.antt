@@ -22,11 +22,11 @@ written_before [] more = more
 written_before (part k None ∷ ps) more = written_before ps more
 written_before (part k (Some d) ∷ ps) more = member k d (written_before ps more)
 
-abbrev pub written : List Part → Members
-written ps = written_before ps no_members
+abbrev pub written_parts : List Part → Members
+written_parts ps = written_before ps no_members
 
 abbrev pub object_of : List Part → Data
-object_of ps = object (written ps)
+object_of ps = object (written_parts ps)
 
 -- one item each
 abbrev pub items_of : {T : Type 0} → (T → Data) → List T → Items

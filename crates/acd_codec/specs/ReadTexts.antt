@@ -10,7 +10,7 @@ use Rattle.acd_terms.specs.declared.record.GroupRecord.{GroupRecord}
 use Rattle.acd_terms.specs.declared.state.ConnectionState.{ConnectionState}
 use Rattle.acd_terms.specs.declared.state.ConnectionState.TheVariants.{Initiated, Alerting, Connected, Hold, Queued, Fail}
 use Rattle.acd_codec.specs.declared.read_texts.Extent.{Extent}
-use Rattle.acd_codec.specs.declared.read_texts.Extent.TheVariants.{Brief, Full}
+use Rattle.acd_codec.specs.declared.read_texts.Extent.TheVariants.{Brief, All}
 use Rattle.acd_codec.specs.declared.read_texts.PlannedDevice.{PlannedDevice}
 use Rattle.acd_codec.specs.declared.read_texts.PlannedDevice.TheVariants.{Group, Station}
 use Rattle.acd_codec.specs.declared.read_texts.PlannedStation.{PlannedStation}
@@ -27,7 +27,7 @@ connection_state_name Fail = codes "fail"
 -- a number that a snapshot contains, and the read of a single record doesn't
 abbrev pub in_full : Extent → Option ℕ → Option ℕ
 in_full Brief n = None
-in_full Full n = n
+in_full All n = n
 
 abbrev pub agent_parts : Extent → AgentRecord → List Part
 agent_parts extent a =

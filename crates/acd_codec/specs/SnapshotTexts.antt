@@ -5,7 +5,7 @@ use Rattle.serde_json.specs.Written.{compact_text}
 use Rattle.acd_terms.specs.declared.record.AgentRecord.{AgentRecord}
 use Rattle.acd_terms.specs.declared.record.GroupRecord.{GroupRecord}
 use Rattle.acd_terms.specs.declared.record.MonitorRecord.{MonitorRecord}
-use Rattle.acd_codec.specs.declared.read_texts.Extent.TheVariants.{Full}
+use Rattle.acd_codec.specs.declared.read_texts.Extent.TheVariants.{All}
 use Rattle.acd_codec.specs.declared.read_texts.PlannedStation.{PlannedStation}
 use Rattle.acd_codec.specs.declared.snapshots.LiveCall.{LiveCall}
 use Rattle.acd_codec.specs.declared.snapshots.Snapshot.{Snapshot}
@@ -13,13 +13,13 @@ use Rattle.acd_codec.specs.Parts.{Part, number_part, list_part, digits_part, obj
 use Rattle.acd_codec.specs.ReadTexts.{agent_parts, call_parts, group_parts, station_parts}
 
 abbrev pub agent_data : AgentRecord → Data
-agent_data a = object_of (agent_parts Full a)
+agent_data a = object_of (agent_parts All a)
 
 abbrev pub call_data : LiveCall → Data
-call_data c = object_of (call_parts Full c.call c.connections)
+call_data c = object_of (call_parts All c.call c.connections)
 
 abbrev pub group_data : GroupRecord → Data
-group_data g = object_of (group_parts Full g)
+group_data g = object_of (group_parts All g)
 
 -- a monitor, with the last event before it was started
 abbrev pub monitor_parts : MonitorRecord → List Part

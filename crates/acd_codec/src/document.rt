@@ -10,7 +10,7 @@ ghost use Rattle.serde_json.specs.Read.{read, of_json, of_members, number_of, nu
 ghost use Rattle.serde_json.specs.Find.{as_object, as_number, as_u64};
 ghost use Rattle.acd_codec.specs.Documents.{json_of, data_of, value_data, items_data, is_below_zero};
 ghost use Rattle.acd_codec.specs.MemberReading.{text_in, number_in, list_in, is_there, member_in};
-ghost use Rattle.acd_codec.specs.Reading.{IsReadFault, request_from, reads_as};
+ghost use Rattle.acd_codec.specs.RequestReading.{IsReadFault, request_from, reads_as};
 
 use crate::fault::ReadFault;
 use crate::member::Member;

@@ -2,8 +2,8 @@
 
 ghost use Rattle.std.specs.Prelude.{◌≡◌, ◌↔◌, Ok};
 ghost use Rattle.acd_terms.specs.Lists.{Every};
-ghost use Rattle.acd_codec.specs.Formed.{IsSerial, IsDevice, IsRequested, AreFormed, IsCommand, IsRequest};
-ghost use Rattle.acd_codec.specs.Reading.{reads_as};
+ghost use Rattle.acd_codec.specs.RequestForms.{IsSerial, IsDevice, IsRequested, AreFormed, IsCommand, IsRequest};
+ghost use Rattle.acd_codec.specs.RequestReading.{reads_as};
 ghost use Rattle.acd_codec.specs.OldReading.{OldReadsTheSame};
 ghost use Rattle.acd_codec.specs.RequestTexts.{request_text};
 

@@ -41,7 +41,7 @@ pub(crate) enum Extent {
     /// As in the read of the record alone.
     Brief,
     /// As in a snapshot.
-    Full,
+    All,
 }
 
 // A number that a snapshot contains, and the read of a single record doesn't.
@@ -50,7 +50,7 @@ fn in_full(extent: Extent, number: Option<u64>) -> Option<u64>
 {
     match extent {
         Extent::Brief => None,
-        Extent::Full => number,
+        Extent::All => number,
     }
 }
 
@@ -153,13 +153,13 @@ impl Form for FullParties {
     type Item = ConnectionRecord;
 
     ghost use Rattle.acd_codec.specs.ReadTexts.{party_data};
-    ghost use Rattle.acd_codec.specs.declared.read_texts.Extent.TheVariants.{Full};
+    ghost use Rattle.acd_codec.specs.declared.read_texts.Extent.TheVariants.{All};
 
-    ghost data_of = { party_data Full };
+    ghost data_of = { party_data All };
 
     fn write(out: &mut Writer, connection: &ConnectionRecord) -> Result<(), AllocError> {
         out.begin_object()?;
-        put_party(out, Extent::Full, connection)?;
+        put_party(out, Extent::All, connection)?;
         out.end_object()
     }
 }
@@ -173,7 +173,7 @@ fn put_parties(
 {
     match extent {
         Extent::Brief => put_list::<Parties>(out, "connections", connections),
-        Extent::Full => put_list::<FullParties>(out, "connections", connections),
+        Extent::All => put_list::<FullParties>(out, "connections", connections),
     }
 }
 

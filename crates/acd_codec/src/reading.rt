@@ -7,7 +7,7 @@ ghost use Rattle.acd_terms.specs.Groups.{with_all};
 ghost use Rattle.acd_codec.specs.Documents.{data_of, value_data};
 ghost use Rattle.acd_codec.specs.MemberReading.{device_of, device_in, agent_in, name_in, requester_in, invoke_in, seconds_in, priority_in, serial_in, service_in, requested_state_in, choice_of, groups_in, devices_named};
 ghost use Rattle.acd_codec.specs.Services.{of_group, of_agent, of_device, of_arrival, of_making, of_connection, of_transfer, of_monitor, of_priority};
-ghost use Rattle.acd_codec.specs.Reading.{Gives, form_in, group_in, named_agent_in, two_devices_in, connection_in, one_group_in, chosen_in, requested_in, set_agent_state_in, command_in, request_in, request_from, reads_as};
+ghost use Rattle.acd_codec.specs.RequestReading.{Gives, form_in, group_in, named_agent_in, two_devices_in, connection_in, one_group_in, chosen_in, requested_in, set_agent_state_in, command_in, request_in, request_from, reads_as};
 ghost use Rattle.acd_codec.specs.RequestTexts.{request_text};
 ghost use Rattle.acd_codec.specs.KeptTexts.{request_of_text};
 
@@ -170,7 +170,7 @@ fn groups_in(document: &Document<'_>) -> Result<SomeGroups, Member>
 }
 
 // A group, its name, its ring and its wrap.
-#[tactic(auto, unfolding(crate::specs::Reading::group_in))]
+#[tactic(auto, unfolding(crate::specs::RequestReading::group_in))]
 fn group_in(document: &Document<'_>) -> Result<(DeviceId, Name, Seconds, Seconds), Member>
     ensures { result ≡ group_in (data_of document.now) }
 {
@@ -206,7 +206,7 @@ fn change_group_in(document: &Document<'_>) -> Result<Command, Member>
 }
 
 // An agent and a name.
-#[tactic(auto, unfolding(crate::specs::Reading::named_agent_in))]
+#[tactic(auto, unfolding(crate::specs::RequestReading::named_agent_in))]
 fn named_agent_in(document: &Document<'_>) -> Result<(AgentId, Name), Member>
     ensures { result ≡ named_agent_in (data_of document.now) }
 {
@@ -230,7 +230,7 @@ fn change_agent_in(document: &Document<'_>) -> Result<Command, Member>
 }
 
 // Two devices that are named one after the other.
-#[tactic(auto, unfolding(crate::specs::Reading::two_devices_in))]
+#[tactic(auto, unfolding(crate::specs::RequestReading::two_devices_in))]
 fn two_devices_in(
     document: &Document<'_>,
     first: Member,
@@ -244,7 +244,7 @@ fn two_devices_in(
 }
 
 // A call and a device.
-#[tactic(auto, unfolding(crate::specs::Reading::connection_in))]
+#[tactic(auto, unfolding(crate::specs::RequestReading::connection_in))]
 fn connection_in(document: &Document<'_>) -> Result<(Serial, DeviceId), Member>
     ensures { result ≡ connection_in (data_of document.now) }
 {
@@ -253,7 +253,7 @@ fn connection_in(document: &Document<'_>) -> Result<(Serial, DeviceId), Member>
     Ok((call, device))
 }
 
-#[tactic(auto, unfolding(crate::specs::Reading::one_group_in))]
+#[tactic(auto, unfolding(crate::specs::RequestReading::one_group_in))]
 fn one_group_in(document: &Document<'_>) -> Result<SomeGroups, Member>
     ensures { result ≡ one_group_in (data_of document.now) }
 {
@@ -262,7 +262,7 @@ fn one_group_in(document: &Document<'_>) -> Result<SomeGroups, Member>
 }
 
 // The groups of a log-on: one by itself, or else a list.
-#[tactic(auto, unfolding(crate::specs::Reading::chosen_in))]
+#[tactic(auto, unfolding(crate::specs::RequestReading::chosen_in))]
 fn chosen_in(document: &Document<'_>) -> Result<SomeGroups, Member>
     ensures { result ≡ chosen_in (data_of document.now) }
 {
@@ -275,7 +275,7 @@ fn chosen_in(document: &Document<'_>) -> Result<SomeGroups, Member>
     }
 }
 
-#[tactic(auto, unfolding(crate::specs::Reading::requested_in))]
+#[tactic(auto, unfolding(crate::specs::RequestReading::requested_in))]
 fn requested_in(document: &Document<'_>, state: RequestedState) -> Result<Requested, Member>
     ensures { result ≡ requested_in (data_of document.now) state }
 {
@@ -289,7 +289,7 @@ fn requested_in(document: &Document<'_>, state: RequestedState) -> Result<Reques
     }
 }
 
-#[tactic(auto, unfolding(crate::specs::Reading::set_agent_state_in))]
+#[tactic(auto, unfolding(crate::specs::RequestReading::set_agent_state_in))]
 fn set_agent_state_in(document: &Document<'_>) -> Result<Command, Member>
     ensures { result ≡ set_agent_state_in (data_of document.now) }
 {
@@ -421,7 +421,7 @@ fn command_in(service: Service, document: &Document<'_>) -> Result<Command, Memb
     services!(read, service, document)
 }
 
-#[tactic(auto, unfolding(crate::specs::Reading::request_in))]
+#[tactic(auto, unfolding(crate::specs::RequestReading::request_in))]
 fn request_in(document: &Document<'_>) -> Result<Request, Member>
     ensures { result ≡ request_in (data_of document.now) }
 {

@@ -50,7 +50,7 @@ impl Form for Agents {
 
     fn write(out: &mut Writer, agent: &AgentRecord) -> Result<(), AllocError> {
         out.begin_object()?;
-        put_agent_members(out, Extent::Full, agent)?;
+        put_agent_members(out, Extent::All, agent)?;
         out.end_object()
     }
 }
@@ -67,7 +67,7 @@ impl Form for Calls {
 
     fn write(out: &mut Writer, live: &LiveCall) -> Result<(), AllocError> {
         out.begin_object()?;
-        put_call_members(out, Extent::Full, &live.call, live.connections.as_slice())?;
+        put_call_members(out, Extent::All, &live.call, live.connections.as_slice())?;
         out.end_object()
     }
 }
@@ -84,7 +84,7 @@ impl Form for Groups {
 
     fn write(out: &mut Writer, group: &GroupRecord) -> Result<(), AllocError> {
         out.begin_object()?;
-        put_group_members(out, Extent::Full, group)?;
+        put_group_members(out, Extent::All, group)?;
         out.end_object()
     }
 }

@@ -5,8 +5,8 @@ pub mod SharedSteps
 pub mod CleanCuts
 pub mod BothReads
 pub mod Overlaps
-pub mod LedFrom
+pub mod CarriedPart
 pub mod NewerRuns
-pub mod StepsWith
-pub mod AuditedWith
+pub mod ArchiveReplaySteps
+pub mod ArchiveAuditReads
 pub mod Pruning

@@ -3,8 +3,8 @@ pub mod Commits
 pub mod NewKeys
 pub mod DeskSteps
 pub mod Calls
-pub mod Faulty
-pub mod Many
-pub mod Opens
+pub mod FaultyCalls
+pub mod CallsInTurn
+pub mod Openings
 pub mod Sessions
-pub mod Ticking
+pub mod ClockTicks

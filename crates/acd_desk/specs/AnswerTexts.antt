@@ -16,8 +16,8 @@ use Rattle.acd_desk.specs.declared.fault.DeskFault.{DeskFault}
 use Rattle.acd_desk.specs.declared.fault.DeskFault.TheVariants as fault
 use Rattle.acd_desk.specs.declared.taken.Taken.{Taken}
 use Rattle.acd_desk.specs.declared.taken.Taken.TheVariants as taken
-use Rattle.acd_desk.specs.Accepted.{is_rejection}
-use Rattle.acd_desk.specs.Ran.{Standing, standing, Took, Ran}
+use Rattle.acd_desk.specs.AcceptedArrivals.{is_rejection}
+use Rattle.acd_desk.specs.DeskCalls.{DeskState, state_of, Took, Ran}
 use Rattle.acd_desk.specs.ReadAnswers.{text_read}
 
 -- the text for a client
@@ -58,9 +58,9 @@ abbrev pub IsSaid : Request → Taken → Said → Type 0
 IsSaid r t out = (out ≡ taken_said r t) ⊎ ((is_rejection t ≡ true) × (out ≡ fixed_said fixed.NoMemory))
 
 -- the text that the desk read, seen as its characters
-abbrev pub seen : {Z : Type 0} → Result (Option (String Z)) DeskFault → Result (Option (List ℕ)) DeskFault
-seen (Ok text) = Ok (text_read text)
-seen (Err why) = Err why
+abbrev pub seen_text : {Z : Type 0} → Result (Option (String Z)) DeskFault → Result (Option (List ℕ)) DeskFault
+seen_text (Ok text) = Ok (text_read text)
+seen_text (Err why) = Err why
 
 -- the answer to a question, by the result of the look-up
 abbrev pub found_said : Result (Option (List ℕ)) DeskFault → Said
@@ -70,7 +70,7 @@ found_said (Err fault.NoMemory) = fixed_said fixed.NoMemory
 found_said (Err fault.StoreFault) = fixed_said fixed.StoreFault
 
 -- the desk executed an arrival, and this is the text of its answer
-pub record SaysOf (old : Standing) (a : Arrival) (out : Said) (new : Standing) : Type 0 where
+pub record SaysOf (old : DeskState) (a : Arrival) (out : Said) (new : DeskState) : Type 0 where
   pub answer : Taken
   pub says : out ≡ taken_said a.request answer
   pub took : Took old a answer new
@@ -78,4 +78,4 @@ pub record SaysOf (old : Standing) (a : Arrival) (out : Said) (new : Standing) :
 
 -- the same of a desk over a book, by the words of that book
 abbrev pub DeskSays : {B : Type 0} → Ghosts B → Desk B → Arrival → Said → Desk B → Type 0
-DeskSays book old a out new = SaysOf (standing book old) a out (standing book new)
+DeskSays book old a out new = SaysOf (state_of book old) a out (state_of book new)

@@ -7,8 +7,8 @@ use Rattle.acd_book.specs.State.{BookState, IfHonest}
 use Rattle.acd_desk.specs.declared.audit.Audit.{Audit}
 use Rattle.acd_desk.specs.declared.audit.Audit.TheVariants.{Sound, Differs}
 use Rattle.acd_desk.specs.declared.fault.DeskFault.{DeskFault}
-use Rattle.acd_desk.specs.Firsts.{run}
-use Rattle.acd_desk.specs.Stands.{arrivals_of, IsSound}
+use Rattle.acd_desk.specs.AbstractDesk.{run}
+use Rattle.acd_desk.specs.SoundContent.{arrivals_of, IsSound}
 
 -- the first n kept requests run again, each at the moment that its record holds
 abbrev pub replayed : Content → ℕ → Content

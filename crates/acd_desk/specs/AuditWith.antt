@@ -8,10 +8,10 @@ use Rattle.acd_book.specs.Memory.{stamp_of, number_of}
 use Rattle.acd_book.specs.Order.{Rises, IsOrdered}
 use Rattle.acd_desk.specs.declared.audit.ArchiveAudit.{ArchiveAudit}
 use Rattle.acd_desk.specs.declared.audit.ArchiveAudit.TheVariants.{Sound, SentAgain, Differs}
-use Rattle.acd_desk.specs.Stands.{arrivals_of}
-use Rattle.acd_desk.specs.Leads.{led}
+use Rattle.acd_desk.specs.SoundContent.{arrivals_of}
+use Rattle.acd_desk.specs.AnyContent.{led}
 use Rattle.acd_desk.specs.Replay.{Matches}
-use Rattle.acd_desk.specs.Carried.{Archive}
+use Rattle.acd_desk.specs.CarriedContent.{Archive}
 use Rattle.acd_desk.specs.WithArchive.{IsCut, IsSoundWith, IsLedFrom}
 
 -- no moment is before the one that precedes it

@@ -13,12 +13,12 @@ use Rattle.acd_book.specs.Content.{Content}
 use Rattle.acd_book.specs.State.{IfHonest}
 use Rattle.acd_desk.specs.declared.desk.Desk.{Desk}
 use Rattle.acd_desk.specs.declared.taken.Taken.{Taken}
-use Rattle.acd_desk.specs.Accepted.{is_fault, is_reply}
-use Rattle.acd_desk.specs.Arrived.{at}
-use Rattle.acd_desk.specs.Stands.{IsNew}
-use Rattle.acd_desk.specs.Standing.{InStep}
-use Rattle.acd_desk.specs.Ran.{Standing, standing, Took}
-use Rattle.acd_desk.specs.ReadDone.{ReadDone}
+use Rattle.acd_desk.specs.AcceptedArrivals.{is_fault, is_reply}
+use Rattle.acd_desk.specs.Arrivals.{at}
+use Rattle.acd_desk.specs.SoundContent.{IsNew}
+use Rattle.acd_desk.specs.DeskState.{InStep}
+use Rattle.acd_desk.specs.DeskCalls.{DeskState, state_of, Took}
+use Rattle.acd_desk.specs.DeskReads.{ReadDone}
 
 -- `clock-` and the moment that was read, in decimal
 abbrev pub clock_requester : Moment → List ℕ
@@ -34,7 +34,7 @@ may_be_due (Some s) moment = is_due_by s moment
 may_be_due None moment = true
 
 -- a look that found nothing due: no request was handed in
-pub record NoneDue (moment : Moment) (old new : Standing) : Type 0 where
+pub record NoneDue (moment : Moment) (old new : DeskState) : Type 0 where
   pub look : may_be_due new.switch moment ≡ false
   pub read : ReadDone {A = Bool} old new (Ok false) (λ (c : Content) (found : Bool). found ≡ is_due_by c.rows moment)
 
@@ -44,7 +44,7 @@ pub record LeavesNone (moment : Moment) (s : Rows) : Type 0 where
   pub bounds : (more : List TimedCommand) → IsInTime s (run s more).rows
 
 -- a look that had the clock's tick handed in, and the answer to that
-pub record Ticked (moment : Moment) (old : Standing) (t : Taken) (new : Standing) : Type 0 where
+pub record Ticked (moment : Moment) (old : DeskState) (t : Taken) (new : DeskState) : Type 0 where
   -- it is an arrival like any other
   pub took : Took old (at moment (clock_tick moment)) t new
   -- something was due in the switch, or it had to be loaded
@@ -56,11 +56,11 @@ pub record Ticked (moment : Moment) (old : Standing) (t : Taken) (new : Standing
       → LeavesNone (executed_moment old.book.content.rows moment) new.book.content.rows)
 
 -- a look at the moment of the clock, and the answer to its tick, where one was handed in
-abbrev pub Looked : Moment → Standing → Option Taken → Standing → Type 0
+abbrev pub Looked : Moment → DeskState → Option Taken → DeskState → Type 0
 Looked moment old None new = NoneDue moment old new
 Looked moment old (Some t) new = Ticked moment old t new
 
 -- ---- of a desk over a book, by the words of that book
 
 abbrev pub DeskLooked : {B : Type 0} → Ghosts B → Moment → Desk B → Option Taken → Desk B → Type 0
-DeskLooked book moment old result new = Looked moment (standing book old) result (standing book new)
+DeskLooked book moment old result new = Looked moment (state_of book old) result (state_of book new)

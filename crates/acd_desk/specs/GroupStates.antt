@@ -7,10 +7,10 @@ use Rattle.acd_terms.specs.declared.record.ConnectionRecord.{ConnectionRecord}
 use Rattle.acd_model.specs.Scans.{connection_of}
 
 -- the lesser of two numbers that may be there
-abbrev pub lesser : Option ℕ → Option ℕ → Option ℕ
-lesser None other = other
-lesser (Some n) None = Some n
-lesser (Some n) (Some m) = Some (min n m)
+abbrev pub lesser_number : Option ℕ → Option ℕ → Option ℕ
+lesser_number None other = other
+lesser_number (Some n) None = Some n
+lesser_number (Some n) (Some m) = Some (min n m)
 
 -- when the connection that may be there entered its queue
 abbrev pub queued_of : Option ConnectionRecord → Option Moment

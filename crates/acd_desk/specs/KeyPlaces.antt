@@ -2,7 +2,7 @@
 use Rattle.std.specs.Prelude.{◌≡◌, ℕ, ◌+◌, ◌*◌, ◌%◌, Bool, true, List, slice_index_or}
 use Rattle.std.specs.List.{fold}
 use Rattle.acd_terms.specs.declared.command.Request.{Request}
-use Rattle.acd_desk.specs.declared.seen.SeenKeys.{SeenKeys}
+use Rattle.acd_desk.specs.declared.seen_keys.SeenKeys.{SeenKeys}
 
 -- characters go on from a number as its digits, and the lowest of all are kept
 abbrev pub place_from : ℕ → List ℕ → ℕ

@@ -3,9 +3,9 @@ use Rattle.std.specs.Prelude.{◌≡◌}
 use Rattle.acd_terms.specs.Lists.{Among}
 use Rattle.acd_terms.specs.declared.record.GroupRecord.{GroupRecord}
 use Rattle.acd_model.specs.Figures.{figures_of}
-use Rattle.acd_model.specs.Placed.{IsPlaced}
+use Rattle.acd_model.specs.CallPlaces.{IsPlaced}
 use Rattle.acd_model.specs.OneOffer.{HasOneOffer}
-use Rattle.acd_model.specs.Watched.{IsWatched}
+use Rattle.acd_model.specs.Watcher.{IsWatched}
 use Rattle.acd_model.specs.Rules.First.{BreaksNoRule}
 use Rattle.acd_laws.specs.BalanceLaws.{IsBalanced}
 use Rattle.acd_laws.specs.OfferLaws.{LeavesNoOffer}

@@ -11,12 +11,12 @@ use Rattle.acd_book.specs.State.{BookState, IfHonest, BookStep, Unchanged}
 use Rattle.acd_desk.specs.declared.open_fault.OpenFault.{OpenFault}
 use Rattle.acd_desk.specs.declared.open_fault.OpenFault.TheVariants as fault
 use Rattle.acd_desk.specs.declared.desk.Desk.{Desk}
-use Rattle.acd_desk.specs.Stands.{IsSound}
-use Rattle.acd_desk.specs.Carried.{Archive, together}
-use Rattle.acd_desk.specs.Standing.{Standing, InStep, StartsWith, standing}
+use Rattle.acd_desk.specs.SoundContent.{IsSound}
+use Rattle.acd_desk.specs.CarriedContent.{Archive, together}
+use Rattle.acd_desk.specs.DeskState.{DeskState, InStep, StartsWith, state_of}
 
 -- a desk with the rows of its book, which break no rule
-pub record Opened (old : BookState) (new : Standing) : Type 0 where
+pub record Opened (old : BookState) (new : DeskState) : Type 0 where
   -- no failure was counted
   pub step : BookStep ⊥ old new.book
   pub opened : IfHonest old new.book (old.is_open × new.book.is_open × (new.book.content ≡ old.content) × (new.switch ≡ Some old.content.rows))
@@ -65,5 +65,5 @@ pub record Refused (old : BookState) (why : OpenFault) (new : BookState) : Type 
 -- a desk over the book; or none, and the book comes back
 abbrev pub Opens : {B : Type 0} → Ghosts B → B → Result (Desk B) (OpenFault × B) → Type 0
 Opens {B} words old result = MatchResult result
-    (λ (desk : Desk B). Opened (words.state old) (standing words desk))
+    (λ (desk : Desk B). Opened (words.state old) (state_of words desk))
     (λ refused. Refused (words.state old) refused.0 (words.state refused.1))

@@ -13,7 +13,7 @@ use Rattle.acd_desk.specs.declared.overlap.Pages.{Pages}
 use Rattle.acd_desk.specs.declared.overlap.Next.TheVariants.{Same, Other, Over}
 use Rattle.acd_desk.specs.Kinds.{Kind, page_above}
 use Rattle.acd_desk.specs.Pages.{IsPage}
-use Rattle.acd_book.specs.Sharing.{IsSplit, Begins, cut_before}
+use Rattle.acd_book.specs.ListOverlap.{IsSplitAt, Begins, cut_before}
 use Rattle.acd_desk.specs.WithArchive.{ComeBefore}
 use Rattle.acd_desk.specs.AuditWith.{StandsInTime, HoldsArchive}
 
@@ -76,7 +76,7 @@ IsOtherUpTo last P (Some place) = (place ≤ last) × ¬ P
 -- each event left in the archive comes before each record that was carried over
 abbrev pub IsCleanCut : Content → ℕ → ℕ → Type 0
 IsCleanCut a stamp number = (past carried : List Kept) (left reported : List Event)
-    → IsSplit stamp_of stamp a.kept past carried → IsSplit number_of number a.events left reported → ComeBefore left carried
+    → IsSplitAt stamp_of stamp a.kept past carried → IsSplitAt number_of number a.events left reported → ComeBefore left carried
 
 -- it is found whether the cut is clean, of an archive that stands in time
 abbrev pub DecidesCleanCut : ℕ → ℕ → Content → Bool → Type 0

@@ -10,7 +10,7 @@ use Rattle.acd_desk.specs.declared.pair.Pair.{Pair}
 use Rattle.acd_desk.specs.declared.pair.PairFault.{PairFault}
 use Rattle.acd_desk.specs.declared.pair.PairFault.TheVariants.{Current, Archive}
 use Rattle.acd_desk.specs.Opening.{by_book}
-use Rattle.acd_book.specs.BookReading.{ReadsIfOpen}
+use Rattle.acd_book.specs.BookReads.{ReadsIfOpen}
 
 -- the answer of one of them, as the answer of both
 abbrev pub of_current : {T : Type 0} → Result T BookFault → Result T PairFault

@@ -1,7 +1,7 @@
 -- A content whose oldest records are taken away, since its archive has them.
 use Rattle.std.specs.Prelude.{◌≡◌, ℕ, ◌≤◌}
 use Rattle.acd_book.specs.Content.{Content}
-use Rattle.acd_desk.specs.Carried.{Archive, together, joined}
+use Rattle.acd_desk.specs.CarriedContent.{Archive, together, joined}
 use Rattle.acd_desk.specs.WithArchive.{IsCut, IsLedFrom}
 use Rattle.acd_desk.specs.AuditWith.{first_sent_again}
 use Rattle.acd_desk.specs.Overlap.{IsCleanCut}

@@ -13,7 +13,7 @@ use Rattle.acd_terms.specs.declared.event.Event.{Event}
 use Rattle.std.specs.List.{filter_map}
 use Rattle.acd_model.specs.Scans.{group_of, agent_of, call_of, connection_of, monitor_of, is_group, is_station, agent_at, connections_of, waiting_in, eligible_in}
 use Rattle.acd_model.specs.Choice.{waiting_pair, ready_pair}
-use Rattle.acd_tables.specs.Indexed.{pair_cmp}
+use Rattle.acd_tables.specs.IndexedRows.{pair_cmp}
 use Rattle.acd_tables.specs.AtDevice.{connections_at}
 use Rattle.acd_codec.specs.ReadTexts.{agent_text, call_text, device_text, queue_text}
 use Rattle.acd_codec.specs.SnapshotTexts.{snapshot_text}
@@ -27,7 +27,7 @@ use Rattle.acd_reports.specs.QueueReport.{queue_report}
 use Rattle.acd_reports.specs.Export.{events_csv, records_text}
 use Rattle.acd_book.specs.declared.kept.Kept.{Kept}
 use Rattle.acd_book.specs.Content.{Content, events_after, records_after, events_of_monitor}
-use Rattle.acd_desk.specs.Stands.{IsSound}
+use Rattle.acd_desk.specs.SoundContent.{IsSound}
 use Rattle.acd_desk.specs.RequestPages.{requests_text}
 use Rattle.acd_desk.specs.declared.question.Question.{Question}
 use Rattle.acd_desk.specs.declared.question.Question.TheVariants as ask
@@ -50,19 +50,19 @@ abbrev pub call_read : Rows → CallId → Option (List ℕ)
 call_read s call = option_map (λ (r : CallRecord). call_text r (connections_of s call)) (call_of s call)
 
 -- a station with the agent who is logged on there, and its connections in ascending call
-abbrev pub station_in : Rows → Device → PlannedStation
-station_in s station = record { device = station; agent = option_map (λ (a : AgentRecord). a.agent) (agent_at s station); connections = connections_at s station }
+abbrev pub station_at : Rows → Device → PlannedStation
+station_at s station = record { device = station; agent = option_map (λ (a : AgentRecord). a.agent) (agent_at s station); connections = connections_at s station }
 
 abbrev pub or_group : Option GroupRecord → Option PlannedDevice → Option PlannedDevice
 or_group (Some g) station = Some (planned.Group g)
 or_group None station = station
 
 -- a planned device
-abbrev pub device_in : Rows → Device → Option PlannedDevice
-device_in s device = or_group (group_of s device) (if is_station s device then Some (planned.Station (station_in s device)) else None)
+abbrev pub device_at : Rows → Device → Option PlannedDevice
+device_at s device = or_group (group_of s device) (if is_station s device then Some (planned.Station (station_at s device)) else None)
 
 abbrev pub device_read : Rows → Device → Option (List ℕ)
-device_read s device = option_map device_text (device_in s device)
+device_read s device = option_map device_text (device_at s device)
 
 -- those who wait in a group, by their places
 abbrev pub by_place : ConnectionRecord → ConnectionRecord → Ordering
@@ -72,8 +72,8 @@ unfoldable pub queue_in : Rows → Device → List ConnectionRecord
 queue_in s group = in_order by_place (waiting_in s group)
 
 -- the connections in a group of these calls, each by its place and its number
-abbrev pub connections_in : Rows → Device → List (Stamp × CallId) → List ConnectionRecord
-connections_in s group places = filter_map (λ (p : Stamp × CallId). connection_of s p.1 group) places
+abbrev pub connections_of_device : Rows → Device → List (Stamp × CallId) → List ConnectionRecord
+connections_of_device s group places = filter_map (λ (p : Stamp × CallId). connection_of s p.1 group) places
 
 -- its eligible agents, by stamp and then by number
 abbrev pub by_stamp : AgentRecord → AgentRecord → Ordering
@@ -103,7 +103,7 @@ snapshot_of s = record {
   last = s.last_event;
   moment = s.last_moment;
   monitors = s.monitors;
-  stations = map (λ (t : StationRecord). station_in s t.device) s.stations;
+  stations = map (λ (t : StationRecord). station_at s t.device) s.stations;
 }
 
 abbrev pub snapshot_read : Rows → Option (List ℕ)

@@ -11,9 +11,9 @@ use Rattle.acd_book.specs.declared.kept.Kept.{Kept}
 use Rattle.acd_book.specs.Content.{Content, kept_of, IsKeptAfter, events_after}
 use Rattle.acd_book.specs.Memory.{stamp_of, number_of}
 use Rattle.acd_book.specs.Order.{Rises, IsOrdered}
-use Rattle.acd_desk.specs.Firsts.{stepped, record_of, run}
-use Rattle.acd_desk.specs.Stands.{arrivals_of, IsSound}
-use Rattle.acd_desk.specs.declared.seen.SeenKeys.{SeenKeys}
+use Rattle.acd_desk.specs.AbstractDesk.{stepped, record_of, run}
+use Rattle.acd_desk.specs.SoundContent.{arrivals_of, IsSound}
+use Rattle.acd_desk.specs.declared.seen_keys.SeenKeys.{SeenKeys}
 use Rattle.acd_desk.specs.declared.page.Page.{Page}
 use Rattle.acd_desk.specs.declared.replay.Replay.{Replay}
 use Rattle.acd_desk.specs.declared.replay.Step.{Step}

@@ -9,14 +9,14 @@ use Rattle.acd_book.specs.Content.{Content, kept_of}
 use Rattle.acd_book.specs.Memory.{stamp_of}
 use Rattle.acd_desk.specs.declared.audit.ArchiveAudit.{ArchiveAudit}
 use Rattle.acd_desk.specs.declared.audit.ArchiveAudit.TheVariants.{Sound, SentAgain, Differs}
-use Rattle.acd_desk.specs.declared.seen.SeenKeys.{SeenKeys}
+use Rattle.acd_desk.specs.declared.seen_keys.SeenKeys.{SeenKeys}
 use Rattle.acd_desk.specs.declared.page.Page.{Page}
 use Rattle.acd_desk.specs.declared.working.LoadedSwitch.{LoadedSwitch}
 use Rattle.acd_desk.specs.declared.replay.Replay.{Replay}
 use Rattle.acd_desk.specs.declared.newer.NewerReplay.{NewerReplay}
 use Rattle.acd_desk.specs.declared.newer.NewerStep.{NewerStep}
 use Rattle.acd_desk.specs.declared.newer.NewerStep.TheVariants.{Replayed, Ended}
-use Rattle.acd_desk.specs.Firsts.{stepped}
+use Rattle.acd_desk.specs.AbstractDesk.{stepped}
 use Rattle.acd_desk.specs.KeyPlaces.{IsSeenKey}
 use Rattle.acd_desk.specs.Pages.{IsPageOf}
 use Rattle.acd_desk.specs.Replay.{again, rows_of, FindsFirst, GoesOn, Matches}

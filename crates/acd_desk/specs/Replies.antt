@@ -9,7 +9,7 @@ use Rattle.acd_book.specs.declared.kept.Kept.{Kept}
 use Rattle.acd_book.specs.Content.{Content, is_key, kept_of}
 use Rattle.acd_desk.specs.declared.taken.Taken.{Taken}
 use Rattle.acd_desk.specs.declared.taken.Taken.TheVariants.{Reply, InvokeReused, DeskFull}
-use Rattle.acd_desk.specs.Firsts.{has_key, executed, firsts, run}
+use Rattle.acd_desk.specs.AbstractDesk.{has_key, executed, firsts, run}
 
 -- the same key, service and members, by the comparison that is derived
 unfoldable pub same_request : Request → Request → Bool

@@ -11,11 +11,11 @@ use Rattle.acd_desk.specs.declared.open_fault.OpenFault.{OpenFault}
 use Rattle.acd_desk.specs.declared.open_fault.OpenFault.TheVariants as fault
 use Rattle.acd_desk.specs.declared.session.SessionFault.{SessionFault}
 use Rattle.acd_desk.specs.declared.session.SessionFault.TheVariants as session
-use Rattle.acd_desk.specs.Accepted.{is_fault, accepted, maybe_last, sent}
-use Rattle.acd_desk.specs.Stands.{IsSound, replies, StopsAt}
-use Rattle.acd_desk.specs.Ran.{EndsIn, IsStoreFault, Holds}
+use Rattle.acd_desk.specs.AcceptedArrivals.{is_fault, accepted, maybe_last, sent}
+use Rattle.acd_desk.specs.SoundContent.{IsSound, replies, StopsAt}
+use Rattle.acd_desk.specs.DeskCalls.{EndsIn, IsStoreFault, Holds}
 use Rattle.acd_desk.specs.Opening.{Refused}
-use Rattle.acd_desk.specs.Leads.{Leads}
+use Rattle.acd_desk.specs.AnyContent.{Leads}
 
 -- this is said where the book was honest and its content sound
 abbrev pub IfWhole : BookState → BookState → Type 0 → Type 0

@@ -4,9 +4,9 @@ use Rattle.acd_terms.specs.Lists.{Every}
 use Rattle.acd_terms.specs.declared.event.Event.{Event}
 use Rattle.acd_book.specs.declared.kept.Kept.{Kept}
 use Rattle.acd_book.specs.Content.{Content}
-use Rattle.acd_desk.specs.Stands.{arrivals_of}
-use Rattle.acd_desk.specs.Leads.{led}
-use Rattle.acd_desk.specs.Carried.{Archive, together}
+use Rattle.acd_desk.specs.SoundContent.{arrivals_of}
+use Rattle.acd_desk.specs.AnyContent.{led}
+use Rattle.acd_desk.specs.CarriedContent.{Archive, together}
 
 -- each of these events is before each of these records
 abbrev pub ComeBefore : List Event → List Kept → Type 0

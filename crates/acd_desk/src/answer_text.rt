@@ -1,7 +1,7 @@
 //! Answers in text.
 
 ghost use Rattle.std.specs.Prelude.{◌≡◌};
-ghost use Rattle.acd_desk.specs.Arrived.{at};
+ghost use Rattle.acd_desk.specs.Arrivals.{at};
 ghost use Rattle.acd_desk.specs.AnswerTexts.{said, IsRejection, IsSaid, DeskSays};
 
 use crate::desk::Desk;
@@ -21,7 +21,7 @@ pub enum AnswerText {
 
 impl AnswerText {
     ghost use Rattle.std.specs.Prelude.{◌≡◌};
-    ghost use Rattle.acd_desk.specs.AnswerTexts.{said, fixed_said, malformed_said, found_said, seen};
+    ghost use Rattle.acd_desk.specs.AnswerTexts.{said, fixed_said, malformed_said, found_said, seen_text};
 
     /// An answer that is the same for all. It takes no memory.
     pub fn fixed(answer: FixedAnswer) -> AnswerText
@@ -45,7 +45,7 @@ impl AnswerText {
 
     /// The answer to a question, by what the desk read. It takes no memory.
     pub fn found(found: Result<Option<String>, DeskFault>) -> AnswerText
-        ensures { said result ≡ found_said (seen found) }
+        ensures { said result ≡ found_said (seen_text found) }
     {
         match found {
             Ok(Some(text)) => AnswerText::Made {

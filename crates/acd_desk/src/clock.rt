@@ -1,9 +1,9 @@
 //! The desk's own clock: its tick, and when that is handed in.
 
 ghost use Rattle.std.specs.Prelude.{◌≡◌, ◌++◌, codes, decimal};
-ghost use Rattle.acd_desk.specs.Standing.{standing};
+ghost use Rattle.acd_desk.specs.DeskState.{state_of};
 ghost use Rattle.acd_desk.specs.Clock.{clock_requester, clock_tick, may_be_due, DeskLooked};
-ghost use Rattle.acd_desk.specs.Clocked.{DeskBrings};
+ghost use Rattle.acd_desk.specs.LoadedDesk.{DeskBrings};
 
 use crate::desk::Desk;
 use crate::fault::DeskFault;
@@ -42,7 +42,7 @@ impl<B: Book> Desk<B> {
     /// Whether some offer or after-call work has lasted its group's time at the moment, or at the last executed one, if
     /// that is later. Where the switch isn't in memory, it is true. It takes no memory.
     pub fn is_due(&self, moment: u32) -> bool
-        ensures { result ≡ may_be_due (standing B.Book self.now).switch moment }
+        ensures { result ≡ may_be_due (state_of B.Book self.now).switch moment }
     {
         match &self.working {
             Working::Loaded(loaded) => loaded.switch.is_due(moment),

@@ -1,11 +1,11 @@
 //! A desk over a book.
 
 ghost use Rattle.std.specs.Prelude.{◌≡◌, [], ◌∷◌, OnOk, OnErr, IfOk};
-ghost use Rattle.acd_desk.specs.Arrived.{at};
-ghost use Rattle.acd_desk.specs.Standing.{standing, book_of, with_switch};
+ghost use Rattle.acd_desk.specs.Arrivals.{at};
+ghost use Rattle.acd_desk.specs.DeskState.{state_of, book_of, with_switch};
 ghost use Rattle.acd_terms.specs.Lists.{Every};
-ghost use Rattle.acd_desk.specs.Ran.{TookNew, DeskTook, DeskRan, HasFailed, EndsIn, IsStoreFault};
-ghost use Rattle.acd_desk.specs.ReadDone.{TakesSwitch};
+ghost use Rattle.acd_desk.specs.DeskCalls.{TookNew, DeskTook, DeskRan, HasFailed, EndsIn, IsStoreFault};
+ghost use Rattle.acd_desk.specs.DeskReads.{TakesSwitch};
 ghost use Rattle.acd_desk.specs.Faults.{answer_to, fault_of, left_by};
 ghost use Rattle.acd_desk.specs.Opening.{Opens};
 ghost use Rattle.acd_desk.specs.Replies.{answer_of};
@@ -178,7 +178,7 @@ impl<B: Book> Desk<B> {
 
     /// Whether the desk has failed: it then answers storeFault, and nothing else. It takes no memory.
     pub fn has_failed(&self) -> bool
-        ensures { result ≡ (standing B.Book self.now).failed }
+        ensures { result ≡ (state_of B.Book self.now).failed }
     {
         matches!(self.working, Working::Failed)
     }

@@ -2,9 +2,9 @@
 
 ghost use Rattle.std.specs.Prelude.{◌≡◌, ◌<◌, IfOk, IfErr};
 ghost use Rattle.acd_model.specs.Rules.First.{BreaksNoRule};
-ghost use Rattle.acd_desk.specs.Arrived.{at};
-ghost use Rattle.acd_desk.specs.Firsts.{kept_at};
-ghost use Rattle.acd_desk.specs.Prepared.{HasExecuted};
+ghost use Rattle.acd_desk.specs.Arrivals.{at};
+ghost use Rattle.acd_desk.specs.AbstractDesk.{kept_at};
+ghost use Rattle.acd_desk.specs.PreparedCommit.{HasExecuted};
 
 use crate::working::LoadedSwitch;
 use acd_book::{BookFault, Kept, Text};

@@ -1,7 +1,7 @@
 //! The export of a desk's events, read page by page.
 
-ghost use Rattle.acd_book.specs.BookReading.{Anything};
-ghost use Rattle.acd_desk.specs.ReadDone.{DeskRead};
+ghost use Rattle.acd_book.specs.BookReads.{Anything};
+ghost use Rattle.acd_desk.specs.DeskReads.{DeskRead};
 ghost use Rattle.acd_desk.specs.ReadAnswers.{WritesPage, IsExport};
 
 use crate::desk::Desk;

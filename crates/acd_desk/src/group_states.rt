@@ -5,9 +5,9 @@ ghost use Rattle.std.specs.List.Sorted.{IsStrictlySortedBy};
 ghost use Rattle.acd_model.specs.Rules.First.{BreaksNoRule};
 ghost use Rattle.acd_model.specs.Rules.Occupied.{rings_from};
 ghost use Rattle.acd_model.specs.Scans.{connection_of};
-ghost use Rattle.acd_tables.specs.Indexed.{is_ringing, pair_cmp};
+ghost use Rattle.acd_tables.specs.IndexedRows.{is_ringing, pair_cmp};
 ghost use Rattle.acd_reports.specs.QueueReport.{state_of};
-ghost use Rattle.acd_desk.specs.GroupStates.{first_of, lesser, queued_of};
+ghost use Rattle.acd_desk.specs.GroupStates.{first_of, lesser_number, queued_of};
 
 use acd_reports::GroupState;
 use acd_tables::Tables;
@@ -15,8 +15,8 @@ use acd_terms::{ConnectionRecord, DeviceId, GroupRecord};
 use std::alloc::{AllocError, Global};
 use std::collections::BTreeSet;
 
-fn lesser(one: Option<u32>, other: Option<u32>) -> Option<u32>
-    ensures { result ≡ lesser one other }
+fn lesser_number(one: Option<u32>, other: Option<u32>) -> Option<u32>
+    ensures { result ≡ lesser_number one other }
 {
     match (one, other) {
         (Some(n), Some(m)) => Some(n.min(m)),
@@ -42,7 +42,7 @@ fn first_in(tables: &Tables, group: DeviceId, queue: &BTreeSet<(u64, u64)>) -> O
 {
     let mut first = None;
     for (_, call) in queue {
-        first = lesser(first, queued_at(tables, *call, group));
+        first = lesser_number(first, queued_at(tables, *call, group));
     }
     first
 }

@@ -1,6 +1,6 @@
 //! The desk: it executes each request once, keeps its reply, and gives a repeat the kept one.
 //!
-//! [`Desk`] works over any [`acd_book::Book`]. `specs/Firsts` and `specs/Replies` say what it answers and leaves: the
+//! [`Desk`] works over any [`acd_book::Book`]. `specs/AbstractDesk` and `specs/Replies` say what it answers and leaves: the
 //! abstract switch run once over each request's first arrival. [`Taken`] is an answer, an [`AnswerText`] says it in
 //! text, and [`OpenFault`] says why a book makes no desk. `specs/ReadAnswers` says what it answers to a [`Question`], or it
 //! answers a [`DeskFault`]. An [`Audit`] says whether all that its book holds is what the kept requests give, run
@@ -36,7 +36,7 @@ mod replay;
 mod request_pages;
 mod requests;
 mod same;
-mod seen;
+mod seen_keys;
 mod session;
 mod table_reads;
 mod taken;

@@ -5,8 +5,8 @@ ghost use Rattle.std.specs.List.{cons_option};
 ghost use Rattle.std.specs.List.Sorted.{IsStrictlySortedBy};
 ghost use Rattle.acd_model.specs.Scans.{connections_of};
 ghost use Rattle.acd_model.specs.Rules.First.{BreaksNoRule};
-ghost use Rattle.acd_tables.specs.Indexed.{pair_cmp};
-ghost use Rattle.acd_desk.specs.ReadAnswers.{text_read, agent_read, call_read, station_in, device_in, device_read, connections_in, queue_read, report_read, live_call, snapshot_of, snapshot_read};
+ghost use Rattle.acd_tables.specs.IndexedRows.{pair_cmp};
+ghost use Rattle.acd_desk.specs.ReadAnswers.{text_read, agent_read, call_read, station_at, device_at, device_read, connections_of_device, queue_read, report_read, live_call, snapshot_of, snapshot_read};
 
 use crate::group_states::group_states;
 use acd_codec::{
@@ -81,8 +81,8 @@ pub(crate) fn call_read(
 }
 
 // The station with who is logged on there, and its connections.
-fn station_in(tables: &Tables, station: DeviceId) -> Result<PlannedStation, AllocError>
-    ensures { IfOk result (λ found. found ≡ station_in tables.now station) }
+fn station_at(tables: &Tables, station: DeviceId) -> Result<PlannedStation, AllocError>
+    ensures { IfOk result (λ found. found ≡ station_at tables.now station) }
 {
     let connections = tables.connections_at(station)?;
     Ok(PlannedStation {
@@ -93,8 +93,8 @@ fn station_in(tables: &Tables, station: DeviceId) -> Result<PlannedStation, Allo
 }
 
 // What is planned at the device.
-fn device_in(tables: &Tables, device: DeviceId) -> Result<Option<PlannedDevice>, AllocError>
-    ensures { IfOk result (λ found. found ≡ device_in tables.now device) }
+fn device_at(tables: &Tables, device: DeviceId) -> Result<Option<PlannedDevice>, AllocError>
+    ensures { IfOk result (λ found. found ≡ device_at tables.now device) }
 {
     if let Some(group) = tables.group(device) {
         return Ok(Some(PlannedDevice::Group(group)));
@@ -102,7 +102,7 @@ fn device_in(tables: &Tables, device: DeviceId) -> Result<Option<PlannedDevice>,
     if !tables.is_station(device) {
         return Ok(None);
     }
-    let station = station_in(tables, device)?;
+    let station = station_at(tables, device)?;
     Ok(Some(PlannedDevice::Station(station)))
 }
 
@@ -113,7 +113,7 @@ pub(crate) fn device_read(
 ) -> Result<Option<String>, AllocError>
     ensures { IfOk result (λ text. text_read text ≡ device_read tables.now device) }
 {
-    match device_in(tables, device)? {
+    match device_at(tables, device)? {
         None => Ok(None),
         Some(device) => Ok(Some(device_text(alloc, &device)?)),
     }
@@ -127,7 +127,7 @@ fn waiting_in(
     queue: &BTreeSet<(u64, u64)>,
 ) -> Result<Vec<ConnectionRecord>, AllocError>
     ensures waiting { IfOk result
-        (λ v. v.items ≡ connections_in tables.now group queue.now.keys) }
+        (λ v. v.items ≡ connections_of_device tables.now group queue.now.keys) }
     ensures sorted { IsStrictlySortedBy pair_cmp queue.now.keys }
 {
     let mut waiting = Vec::new(alloc);
@@ -210,11 +210,11 @@ fn stations_in(
     tables: &Tables,
     stations: &[StationRecord],
 ) -> Result<Vec<PlannedStation>, AllocError>
-    ensures { IfOk result (λ v. v.items ≡ map (λ t. station_in tables.now t.device) stations.now) }
+    ensures { IfOk result (λ v. v.items ≡ map (λ t. station_at tables.now t.device) stations.now) }
 {
     let mut seen = Vec::with_capacity(alloc, stations.len())?;
     for station in stations {
-        seen.push(station_in(tables, station.device)?)?;
+        seen.push(station_at(tables, station.device)?)?;
     }
     Ok(seen)
 }

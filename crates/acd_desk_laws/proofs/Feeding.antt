@@ -8,11 +8,11 @@ use Rattle.acd_terms.specs.declared.rows.Limits.{Limits}
 use Rattle.acd_terms.specs.declared.command.Arrival.{Arrival}
 use Rattle.acd_terms.specs.declared.command.Request.{Request}
 use Rattle.acd_book.specs.Content.{Content, is_key, empty_content}
-use Rattle.acd_desk.specs.Firsts.{has_key, distinct_from, firsts, run, run_from}
+use Rattle.acd_desk.specs.AbstractDesk.{has_key, distinct_from, firsts, run, run_from}
 use Rattle.acd_desk.specs.Replies.{answer_in, reply_to}
 use Rattle.acd_desk_laws.specs.Feeding.{IsFed, nothing, part}
 use Rattle.acd_desk.proofs.Contents.Runs.{distinct-push, has-push}
-use Rattle.acd_desk.proofs.Contents.Longer.{reply_stays, has_within}
+use Rattle.acd_desk.proofs.Contents.LongerLists.{reply_stays, has_within}
 use Rattle.acd_lemmas.proofs.Bools.{or_yes}
 use Rattle.acd_book.proofs.Keys.{key_same, key_itself}
 

@@ -10,25 +10,25 @@ use Rattle.acd_terms.specs.declared.event.Columns.{Columns}
 use Rattle.acd_terms.specs.declared.event.Event.{Event}
 use Rattle.acd_model.specs.Scans.{group_of, agent_of}
 use Rattle.acd_model.specs.Figures.{figures_of, sum_of_figures}
-use Rattle.acd_model.specs.Reported.{known_after, connection_reported, Seat, no_seat, seat_reported, enters, last_entry}
-use Rattle.acd_model.specs.Watched.{is_external_caller, state_at, seat_of, HasPlace, IsWatched}
+use Rattle.acd_model.specs.EventReports.{known_after, connection_reported, Seat, no_seat, seat_reported, enters, last_entry}
+use Rattle.acd_model.specs.Watcher.{is_external_caller, state_at, seat_of, HasPlace, IsWatched}
 use Rattle.acd_laws.specs.WatchedLaws.{ReportsNoMore}
-use Rattle.acd_laws.proofs.Figures.CountedEvents.{figures_joined}
-use Rattle.acd_laws.proofs.Rules.DecidedAll.{rules_are_kept}
-use Rattle.acd_lemmas.proofs.Facts.{Rules}
+use Rattle.acd_laws.proofs.Figures.EventCounts.{figures_joined}
+use Rattle.acd_laws.proofs.Rules.AllRuleTests.{rules_are_kept}
+use Rattle.acd_lemmas.proofs.RuleFacts.{Rules}
 use Rattle.acd_lemmas.proofs.State.{group_among, group_key}
-use Rattle.acd_laws.proofs.Watched.Reported.{after-append}
+use Rattle.acd_laws.proofs.Watched.ReportedState.{after-append}
 use Rattle.acd_laws.proofs.Watched.WatchedRuns.{step_keeps_watched, entry_number}
 use Rattle.acd_book.specs.Content.{Content, GoOn, IsCounted, kept_of}
-use Rattle.acd_desk.specs.Firsts.{stepped, executed}
+use Rattle.acd_desk.specs.AbstractDesk.{stepped, executed}
 use Rattle.acd_desk.specs.Replies as replies
-use Rattle.acd_desk.specs.Stands.{IsSound, ran_after}
+use Rattle.acd_desk.specs.SoundContent.{IsSound, ran_after}
 use Rattle.acd_desk.specs.ReadAnswers.{above}
-use Rattle.acd_desk_laws.specs.Following.{shown_at, figures_shown, IsBefore, LeadsBy, SnapshotLeadsOn}
+use Rattle.acd_desk_laws.specs.Following.{shown_at, figures_shown, IsCallBefore, LeadsBy, SnapshotLeadsOn}
 use Rattle.acd_desk.proofs.Contents.ContentLaws.{sound_keeps_laws, sound_keeps_figures, sound_rules, sound_reports_no_more, sound_counted}
-use Rattle.acd_desk_laws.proofs.Recast.{is_held, history, watched_recast, no_more_recast, last_none, held_place}
-use Rattle.acd_desk.proofs.Contents.Longer.{ran_none, ran_push}
-use Rattle.acd_desk.proofs.Contents.Sound.{ran_sound}
+use Rattle.acd_desk_laws.proofs.RecastEvents.{is_held, history, watched_recast, no_more_recast, last_none, held_place}
+use Rattle.acd_desk.proofs.Contents.LongerLists.{ran_none, ran_push}
+use Rattle.acd_desk.proofs.Contents.SoundRuns.{ran_sound}
 use Rattle.acd_desk.proofs.Contents.Steps.{step_numbers, step_event}
 use Rattle.acd_desk.proofs.Pages.PageLemmas.{is_above, not_above}
 use Rattle.acd_laws.proofs.Watched.Order.{last-append}
@@ -156,7 +156,7 @@ held_before c d g rules group call p h same = by (is_held c.rows group call) ref
         absurd (omega (arith, some, parts, same, nothing))
 
 queue_order : (c d : Content) (g : Grown c d) → IsSound c → (group first second p q : ℕ) → HasPlace d.rows group first p → HasPlace d.rows group second q
-    → (p < q) ↔ IsBefore c.rows g.new group first second
+    → (p < q) ↔ IsCallBefore c.rows g.new group first second
 queue_order c d g sound group first second p q a b =
     let old : List Event = history c.rows c.events in
     let low : ℕ = c.rows.last_event in

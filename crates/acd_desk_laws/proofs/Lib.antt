@@ -5,11 +5,11 @@ pub mod Feeding
 pub mod OldStates
 pub mod OldOffers
 pub mod OldRuns
-pub mod Recast
+pub mod RecastEvents
 pub mod Following
 pub mod Rebuilding
 pub mod TextSizes
 pub mod Outcomes
 pub mod PageSizes
 pub mod NamesInert
-pub mod InTime
+pub mod OrderInTime

@@ -19,20 +19,20 @@ use Rattle.acd_terms.specs.States.{is_null}
 use Rattle.acd_model.specs.Scans.{agent_of, agent_at, is_group, is_station, is_planned}
 use Rattle.acd_model.specs.Moves.{moved}
 use Rattle.acd_terms.specs.Results.{◌>>=◌, ◌>>◌}
-use Rattle.acd_model.specs.Served.{Served, refuse_if, gives, outcome_of, moves_of}
+use Rattle.acd_model.specs.ServiceAnswers.{Served, refuse_if, gives, outcome_of, moves_of}
 use Rattle.acd_model.specs.Services.{log_on, set_agent_state}
 use Rattle.acd_model.specs.Services.Serve.{serve}
 use Rattle.acd_model.specs.Step.{Stepped, step, step_by, executed_moment, next_stamp, next_turn}
 use Rattle.acd_model.specs.declared.moves.Move.{Move}
 use Rattle.acd_book.specs.declared.kept.Kept.{Kept}
 use Rattle.acd_book.specs.Content.{Content, empty_content, committed}
-use Rattle.acd_desk.specs.Firsts.{firsts, kept_at, executed, run_from}
-use Rattle.acd_desk.specs.Stands.{arrivals_of, IsSound}
+use Rattle.acd_desk.specs.AbstractDesk.{firsts, kept_at, executed, run_from}
+use Rattle.acd_desk.specs.SoundContent.{arrivals_of, IsSound}
 use Rattle.acd_desk_laws.specs.OldStep.{old_log_on_at, old_log_on, old_set_agent_state, old_serve, old_step_at, old_step}
 use Rattle.acd_desk_laws.specs.OldSound.{old_executed, old_run_from, IsOldRequested, IsOldCommand, IsOldSound}
 use Rattle.acd_desk_laws.proofs.OldStates.{just_one, IsOldState, empty_is_old, moved_is_old, serve_old, step_is_old}
 use Rattle.acd_desk_laws.proofs.OldOffers.{same_distribution}
-use Rattle.acd_desk.proofs.Contents.Sound.{firsts_same, length-arrivals}
+use Rattle.acd_desk.proofs.Contents.SoundRuns.{firsts_same, length-arrivals}
 use Rattle.acd_terms.specs.declared.command.Turn.{Turn}
 
 -- a log-on in one group

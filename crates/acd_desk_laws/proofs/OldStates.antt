@@ -21,20 +21,20 @@ use Rattle.acd_model.specs.Release.{released, release_of, release_agent, release
 use Rattle.acd_terms.specs.Results.{◌>>=◌, ◌>>◌}
 use Rattle.acd_model.specs.Scans.{call_of, monitor_of}
 use Rattle.acd_model.specs.Moves.{silent}
-use Rattle.acd_model.specs.Served.{refuse_if, moves_of, gives}
+use Rattle.acd_model.specs.ServiceAnswers.{refuse_if, moves_of, gives}
 use Rattle.acd_model.specs.Services.{add_group, add_station, add_agent, arrive_call, make_call, phone_off_hook, busy_agent, occupy, answer_call, hold_call, retrieve_call, clear_other, clearing, next_call, next_monitor, release_other, clear_connection, deflect_call, single_step_transfer, all_groups, log_on, change_state, set_agent_state, monitor_start, monitor_stop}
 use Rattle.acd_model.specs.Services.Serve.{serve}
 use Rattle.acd_model.specs.Distribution.{offer_at, offer_moves, with_offer, offers, distribution, station_of_agent}
 use Rattle.acd_model.specs.Choice.{offer_of}
-use Rattle.acd_model.specs.Tick.{return_to, return_moves, overdue_in, is_rested, rested_in, rest_moves, each, returns, rests, tick}
+use Rattle.acd_model.specs.Tick.{return_to, return_moves, overdue_in, is_wrapped_up, wrapped_up_in, wrap_up_moves, each, returns, wraps, tick}
 use Rattle.acd_model.specs.Step.{step, step_moves, next_turn}
 use Rattle.acd_model.specs.declared.moves.Ending.TheVariants.{NoAnswer}
 use Rattle.acd_model.specs.declared.moves.Change.TheVariants.{PutGroup, PutAgent, RemoveMonitor}
 use Rattle.acd_model.specs.declared.moves.Release.TheVariants.{Stays, Goes}
 use Rattle.acd_lemmas.proofs.Words.{Rows, Limits, GroupRecord, AgentRecord, ConnectionRecord, AgentState, Pending, Change, Command, Ending, Event, Move, Offer, Release, Requested, Served, Every, at_group, at_agent, has, agent_of, connection_of, agent_at, is_distributed, is_occupied, other_of, with_group, with_station, with_agent, with_call, with_connection, with_monitor, without_call, without_connection, without_monitor, with_last, changed, moved, events_of, group_order, is_in, state_wanted}
 use Rattle.acd_lemmas.proofs.Lists.{every_among, every_from, every-append, every-put, filter_among, find_among, ascending-put}
-use Rattle.acd_laws.proofs.Rules.Ended.{ascending_counting}
-use Rattle.acd_laws.proofs.Deeds.{by_refusal, by_found}
+use Rattle.acd_laws.proofs.Rules.StepEnds.{ascending_counting}
+use Rattle.acd_laws.proofs.Effects.{by_refusal, by_found}
 use Rattle.acd_lemmas.proofs.State.{groups_total, agent_among}
 use Rattle.acd_desk_laws.specs.OldSound.{IsOldRequested, IsOldCommand}
 use Rattle.acd_terms.specs.declared.command.Turn.{Turn}
@@ -174,20 +174,20 @@ returns_old turn s (x ∷ xs) o =
     every-append IsOldMove (return_moves s turn x) (each (λ t x. return_moves t turn x) t xs) first
     (returns_old turn t xs (moved_is_old s (return_moves s turn x) first o))
 
-rests_old : (turn : Turn) (s : Rows) (xs : List AgentRecord) → Every HasOneGroup xs → Every IsOldMove (each (λ t a. rest_moves turn a) s xs)
+rests_old : (turn : Turn) (s : Rows) (xs : List AgentRecord) → Every HasOneGroup xs → Every IsOldMove (each (λ t a. wrap_up_moves turn a) s xs)
 rests_old turn s [] h = tt
-rests_old turn s (a ∷ xs) h = (goes_old turn a a.station A.Ready h.0, rests_old turn (moved s (rest_moves turn a)) xs h.1)
+rests_old turn s (a ∷ xs) h = (goes_old turn a a.station A.Ready h.0, rests_old turn (moved s (wrap_up_moves turn a)) xs h.1)
 
-rested_old : (s : Rows) (m : ℕ) → IsOldState s → Every HasOneGroup (rested_in s m)
-unfolding rested_in
-rested_old s m o = every_from HasOneGroup (rested_in s m) (λ a i. every_among HasOneGroup s.agents a o.agents (filter_among (is_rested s m) s.agents a i).0)
+rested_old : (s : Rows) (m : ℕ) → IsOldState s → Every HasOneGroup (wrapped_up_in s m)
+unfolding wrapped_up_in
+rested_old s m o = every_from HasOneGroup (wrapped_up_in s m) (λ a i. every_among HasOneGroup s.agents a o.agents (filter_among (is_wrapped_up s m) s.agents a i).0)
 
 tick_old : (s : Rows) (turn : Turn) → IsOldState s → Every IsOldMove (tick s turn)
-unfolding tick returns rests
+unfolding tick returns wraps
 tick_old s turn o =
     let back = returns_old turn s (overdue_in s turn.moment) o in
     let t : Rows = moved s (returns s turn) in
-    every-append IsOldMove (returns s turn) (rests t turn) back (rests_old turn t (rested_in t turn.moment) (rested_old t turn.moment (moved_is_old s (returns s turn) back o)))
+    every-append IsOldMove (returns s turn) (wraps t turn) back (rests_old turn t (wrapped_up_in t turn.moment) (rested_old t turn.moment (moved_is_old s (returns s turn) back o)))
 
 -- the walk over refusals
 

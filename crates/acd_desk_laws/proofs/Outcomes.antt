@@ -24,12 +24,12 @@ use Rattle.acd_model.specs.Moves.{silent}
 use Rattle.acd_model.specs.declared.moves.Change.TheVariants.{PutGroup, PutAgent, RemoveMonitor}
 use Rattle.acd_model.specs.declared.moves.Move.{Move}
 use Rattle.acd_model.specs.AgentMoves.{go_from, wait_for}
-use Rattle.acd_model.specs.Served.{Served, refuse_if, gives, outcome_of}
+use Rattle.acd_model.specs.ServiceAnswers.{Served, refuse_if, gives, outcome_of}
 use Rattle.acd_model.specs.Services.{add_group, add_station, add_agent, arrive_call, next_call, make_call, phone_off_hook, answer_call, hold_call, retrieve_call, clear_connection, deflect_call, single_step_transfer, all_groups, log_on, go_or_wait, change_state, next_monitor, monitor_start, monitor_stop, set_group_priority, reject_call, change_group, change_agent}
 use Rattle.acd_model.specs.Services.Serve.{serve}
 use Rattle.acd_model.specs.Step.{step, next_turn}
 use Rattle.acd_laws.specs.RuleLaws.{IsWithinBounds}
-use Rattle.acd_laws.proofs.Deeds.{by_refusal, by_found}
+use Rattle.acd_laws.proofs.Effects.{by_refusal, by_found}
 use Rattle.acd_desk_laws.specs.PageSizes.{IsOutcome}
 
 data IsNext (s : Rows) : Outcome → Type 0 where

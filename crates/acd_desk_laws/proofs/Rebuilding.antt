@@ -7,16 +7,16 @@ use Rattle.acd_terms.specs.declared.command.Arrival.{Arrival}
 use Rattle.acd_book.specs.declared.kept.Kept.{Kept}
 use Rattle.acd_book.specs.Content.{Content, empty_content, kept_of}
 use Rattle.acd_book.specs.Memory.{is_numbered, stamp_of}
-use Rattle.acd_book.proofs.Numbered.{first, above, numbered-push}
-use Rattle.acd_desk.specs.Firsts.{record_of, executed, firsts, run_from, run}
+use Rattle.acd_book.proofs.NumberedLists.{first, above, numbered-push}
+use Rattle.acd_desk.specs.AbstractDesk.{record_of, executed, firsts, run_from, run}
 use Rattle.acd_desk.specs.Replies.{after}
-use Rattle.acd_desk.specs.Stands.{arrivals_of, IsSound, ran_after}
+use Rattle.acd_desk.specs.SoundContent.{arrivals_of, IsSound, ran_after}
 use Rattle.acd_desk.specs.ReadAnswers.{requests_size, requests_page}
-use Rattle.acd_desk_laws.specs.Rebuilding.{last_read, IsRead, nothing, page, IsAllRead, made_of, PagesRebuild}
+use Rattle.acd_desk_laws.specs.Rebuilding.{last_read, IsReadInPages, nothing, page, IsAllRead, made_of, PagesRebuild}
 use Rattle.acd_desk.proofs.Replays.AuditLaws.{sound_agrees}
-use Rattle.acd_desk.proofs.Contents.Longer.{ran_none, ran_push}
+use Rattle.acd_desk.proofs.Contents.LongerLists.{ran_none, ran_push}
 use Rattle.acd_desk.proofs.Contents.Runs.{run-limits}
-use Rattle.acd_desk.proofs.Contents.Sound.{run_sound, ran_sound, arrivals_append}
+use Rattle.acd_desk.proofs.Contents.SoundRuns.{run_sound, ran_sound, arrivals_append}
 use Rattle.acd_desk.proofs.Contents.Steps.{step_stamp}
 
 -- ---- the kept records of a run are numbered from 1 to the last stamp ----
@@ -105,7 +105,7 @@ begins_page c read sound b = (
 abbrev Follows : Content → List Kept → Type 0
 Follows c read = IsSound c × Begins c read
 
-follows : (c : Content) (read : List Kept) → IsRead c read → Follows c read
+follows : (c : Content) (read : List Kept) → IsReadInPages c read → Follows c read
 follows _ _ (nothing c sound) = (sound, (c.kept, refl))
 follows _ _ (page c read more h) =
     let before = follows c read h in

@@ -33,7 +33,7 @@ use Rattle.acd_codec.specs.declared.service.RequestedState.{RequestedState}
 use Rattle.acd_codec.specs.declared.service.RequestedState.TheVariants as requested_state
 use Rattle.acd_codec.specs.declared.service.Service.{Service}
 use Rattle.acd_codec.specs.declared.service.Service.TheVariants as service
-use Rattle.acd_codec.specs.Formed.{IsDevice, IsAgent, IsSeconds, IsPriority, IsSerial, IsRequested, AreFormed, IsRequest}
+use Rattle.acd_codec.specs.RequestForms.{IsDevice, IsAgent, IsSeconds, IsPriority, IsSerial, IsRequested, AreFormed, IsRequest}
 use Rattle.acd_codec.specs.Members.{member_name}
 use Rattle.acd_codec.specs.Parts.{items_of, digits_data, groups_parts, written_before}
 use Rattle.acd_codec.specs.Services.{service_name, taken_apart, requested_state_name}

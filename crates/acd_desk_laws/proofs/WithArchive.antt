@@ -2,12 +2,12 @@
 use Rattle.std.proofs.Common.{List, sym, ap, subst, ◌∙◌}
 use Rattle.acd_terms.specs.declared.command.Arrival.{Arrival}
 use Rattle.acd_book.specs.Content.{Content}
-use Rattle.acd_desk.specs.Stands.{arrivals_of, IsSound}
-use Rattle.acd_desk.specs.Carried.{Archive, together, joined, NoneSentAgain}
+use Rattle.acd_desk.specs.SoundContent.{arrivals_of, IsSound}
+use Rattle.acd_desk.specs.CarriedContent.{Archive, together, joined, NoneSentAgain}
 use Rattle.acd_desk.specs.WithArchive.{IsSoundWith}
-use Rattle.acd_desk.proofs.Contents.Leading.{sound_led}
-use Rattle.acd_desk.proofs.Contents.Sound.{ran_sound}
-use Rattle.acd_desk.proofs.Contents.Carrying.{cut_again}
+use Rattle.acd_desk.proofs.Contents.RunsOfAnyContent.{sound_led}
+use Rattle.acd_desk.proofs.Contents.SoundRuns.{ran_sound}
+use Rattle.acd_desk.proofs.Contents.OlderRecords.{cut_again}
 use Rattle.acd_desk_laws.proofs.CarriedRuns.{run_of_all}
 
 pub audits_with_archive : (a c : Content) (goes : IsSoundWith a c) → IsSound a → IsSound (together goes.left c)

@@ -1,7 +1,7 @@
 -- Laws of a content that continues its archive.
 use Rattle.acd_book.specs.Content.{Content}
-use Rattle.acd_desk.specs.Stands.{arrivals_of, IsSound}
-use Rattle.acd_desk.specs.Carried.{Archive, together, joined, NoneSentAgain}
+use Rattle.acd_desk.specs.SoundContent.{arrivals_of, IsSound}
+use Rattle.acd_desk.specs.CarriedContent.{Archive, together, joined, NoneSentAgain}
 use Rattle.acd_desk.specs.WithArchive.{IsLedFrom, IsSoundWith}
 use Rattle.acd_desk.specs.AuditWith.{StandsInTime}
 

@@ -4,9 +4,9 @@ use Rattle.acd_terms.specs.Limits.{limits_fit}
 use Rattle.acd_terms.specs.declared.rows.Limits.{Limits}
 use Rattle.acd_terms.specs.declared.command.Arrival.{Arrival}
 use Rattle.acd_book.specs.Content.{Content, empty_content}
-use Rattle.acd_desk.specs.Firsts.{firsts, run}
+use Rattle.acd_desk.specs.AbstractDesk.{firsts, run}
 use Rattle.acd_desk.specs.Replies.{reply_to, IsReplyAt, after}
-use Rattle.acd_desk.specs.Stands.{arrivals_of, IsSound, ran_after, raised_from}
+use Rattle.acd_desk.specs.SoundContent.{arrivals_of, IsSound, ran_after, raised_from}
 use Rattle.acd_desk.specs.Laws.{KeepsLaws}
 use Rattle.acd_desk.specs.ReadAnswers.{Rise}
 

@@ -8,7 +8,7 @@ use Rattle.acd_laws.specs.NameLaws.{unnamed_command, SameRowsButNames}
 use Rattle.acd_book.specs.declared.kept.Kept.{Kept}
 use Rattle.acd_book.specs.Content.{Content, is_key}
 use Rattle.acd_desk.specs.declared.taken.Taken.{Taken}
-use Rattle.acd_desk.specs.Firsts.{run}
+use Rattle.acd_desk.specs.AbstractDesk.{run}
 use Rattle.acd_desk.specs.Replies.{reply_to}
 
 -- with the name of its command removed

@@ -20,7 +20,7 @@ use Rattle.acd_terms.specs.declared.answer.Refusal.TheVariants.{UnknownAgent, Wr
 use Rattle.acd_model.specs.Scans.{agent_of, agent_at, is_group, is_station, is_planned}
 use Rattle.acd_model.specs.Moves.{reported, moved}
 use Rattle.acd_terms.specs.Results.{◌>>=◌, ◌>>◌}
-use Rattle.acd_model.specs.Served.{Served, refuse_if, gives, outcome_of, moves_of}
+use Rattle.acd_model.specs.ServiceAnswers.{Served, refuse_if, gives, outcome_of, moves_of}
 use Rattle.acd_model.specs.Services.AddGroup.{add_group}
 use Rattle.acd_model.specs.Services.AddStation.{add_station}
 use Rattle.acd_model.specs.Services.AddAgent.{add_agent}

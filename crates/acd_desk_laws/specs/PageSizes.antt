@@ -4,11 +4,11 @@ use Rattle.acd_terms.specs.Lists.{Every}
 use Rattle.acd_terms.specs.declared.answer.Answer.TheVariants as answer
 use Rattle.acd_terms.specs.declared.answer.Outcome.{Outcome}
 use Rattle.acd_terms.specs.declared.answer.Outcome.TheVariants.{Done}
-use Rattle.acd_codec.specs.Formed.{IsSerial, IsRequest}
+use Rattle.acd_codec.specs.RequestForms.{IsSerial, IsRequest}
 use Rattle.acd_codec.specs.ReplyTexts.{outcome_status, reply_text}
 use Rattle.acd_book.specs.declared.kept.Kept.{Kept}
 use Rattle.acd_book.specs.Content.{Content}
-use Rattle.acd_desk.specs.Stands.{IsSound}
+use Rattle.acd_desk.specs.SoundContent.{IsSound}
 use Rattle.acd_desk.specs.ReadAnswers.{requests_read}
 
 -- its number is that of a call or a monitor

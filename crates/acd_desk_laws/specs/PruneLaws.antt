@@ -1,9 +1,9 @@
 -- Laws of a content whose oldest records are taken away.
 use Rattle.std.specs.Prelude.{◌≡◌, ℕ}
 use Rattle.acd_book.specs.Content.{Content}
-use Rattle.acd_book.specs.Pruned.{pruned}
-use Rattle.acd_desk.specs.Stands.{IsSound}
-use Rattle.acd_desk.specs.Carried.{Archive, together, joined}
+use Rattle.acd_book.specs.PrunedContent.{pruned}
+use Rattle.acd_desk.specs.SoundContent.{IsSound}
+use Rattle.acd_desk.specs.CarriedContent.{Archive, together, joined}
 use Rattle.acd_desk.specs.WithArchive.{IsSoundWith, IsLedFrom}
 use Rattle.acd_desk.specs.AuditWith.{StandsInTime, HoldsArchive, IsSentAgain}
 use Rattle.acd_desk.specs.Pruning.{IsGone, IsPlace, StaysLed}

@@ -4,8 +4,8 @@ use Rattle.acd_terms.specs.declared.rows.Limits.{Limits}
 use Rattle.acd_terms.specs.declared.command.Arrival.{Arrival}
 use Rattle.acd_book.specs.declared.kept.Kept.{Kept}
 use Rattle.acd_book.specs.Content.{Content}
-use Rattle.acd_desk.specs.Firsts.{run}
-use Rattle.acd_desk.specs.Stands.{arrivals_of, IsSound, ran_after}
+use Rattle.acd_desk.specs.AbstractDesk.{run}
+use Rattle.acd_desk.specs.SoundContent.{arrivals_of, IsSound, ran_after}
 use Rattle.acd_desk.specs.ReadAnswers.{requests_page}
 
 -- the stamp of the last request that was read, or 0 where none was
@@ -15,9 +15,9 @@ last_read (k ∷ []) = k.stamp
 last_read (_ ∷ k ∷ kept) = last_read (k ∷ kept)
 
 -- pages that were read while the desk continued: each page is one of what the desk held then, from the stamp of the last request before
-pub data IsRead : Content → List Kept → Type 0 where
-  nothing : (c : Content) → IsSound c → IsRead c []
-  page : (c : Content) (read : List Kept) (more : List Arrival) → IsRead c read → IsRead (ran_after c more) (read ++ requests_page (ran_after c more) (last_read read))
+pub data IsReadInPages : Content → List Kept → Type 0 where
+  nothing : (c : Content) → IsSound c → IsReadInPages c []
+  page : (c : Content) (read : List Kept) (more : List Arrival) → IsReadInPages c read → IsReadInPages (ran_after c more) (read ++ requests_page (ran_after c more) (last_read read))
 
 -- a further page is empty, or the last stamp that was read is the last one of all
 abbrev pub IsAllRead : Content → List Kept → Type 0
@@ -39,4 +39,4 @@ pub record Rebuilds (c : Content) (read : List Kept) : Type 0 where
 
 -- page by page, the reads of a sound content rebuild it
 abbrev pub PagesRebuild : Type 0
-PagesRebuild = (c : Content) (read : List Kept) → IsRead c read → Rebuilds c read
+PagesRebuild = (c : Content) (read : List Kept) → IsReadInPages c read → Rebuilds c read

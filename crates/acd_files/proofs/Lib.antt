@@ -1,5 +1,5 @@
 pub mod Begun
-pub mod Lone
+pub mod LoneLogs
 pub mod Plans
 pub mod Ends
 pub mod LineOf

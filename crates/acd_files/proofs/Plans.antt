@@ -3,7 +3,7 @@ use Rattle.std.proofs.Common.{◌≡◌, ℕ, ◌<◌, Bool, true, false, cond, 
 use Rattle.acd_terms.specs.declared.command.Request.{Request}
 use Rattle.acd_reports.specs.Plan.{plan_requests, requests_of, records_of, without_mark}
 use Rattle.acd_reports.specs.declared.fault.PlanFault.TheVariants.{TooLong}
-use Rattle.acd_io.specs.Read.{IsInput}
+use Rattle.acd_io.specs.Streams.{IsInput}
 
 too_long : (bytes : List ℕ) → 1048576 < length bytes → plan_requests bytes ≡ Err TooLong
 unfolding plan_requests

@@ -1,6 +1,6 @@
 -- What the bytes of a log say, before anything is opened.
 use Rattle.std.specs.Prelude.{◌⊎◌, ◌≤◌, ℕ, List, Option}
-use Rattle.acd_io.specs.Read.{IsInput}
+use Rattle.acd_io.specs.Streams.{IsInput}
 use Rattle.acd_log.specs.declared.ending.Ending.{Ending}
 use Rattle.acd_log.specs.Ending.{IsDamaged, IsHeadless, IsEndingOf}
 use Rattle.acd_files.specs.Files.{new_page, HoldsCommit}

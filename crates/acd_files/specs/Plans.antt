@@ -1,7 +1,7 @@
 -- The plan of an import, by the bytes that a reader gives.
 use Rattle.std.specs.Prelude.{◌≡◌, ℕ, List, take, Option, Ok, IfSome}
 use Rattle.acd_terms.specs.declared.command.Request.{Request}
-use Rattle.acd_io.specs.Read.{IsInput}
+use Rattle.acd_io.specs.Streams.{IsInput}
 use Rattle.acd_reports.specs.Plan.{plan_requests}
 
 -- all bytes of the reader, or as many as are enough: one more than a plan may have

@@ -1,7 +1,7 @@
 //! What the bytes of a log say, before anything is opened.
 
 ghost use Rattle.std.specs.Prelude.{◌↔◌, IsTrue, IfOk};
-ghost use Rattle.acd_io.specs.Read.{IsInput};
+ghost use Rattle.acd_io.specs.Streams.{IsInput};
 ghost use Rattle.acd_files.specs.Logs.{IsEndingFrom, IsSpoiled, IsUnfinished};
 
 use crate::lone_log::hold_commit;

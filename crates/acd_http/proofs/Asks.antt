@@ -6,31 +6,31 @@ use Rattle.std.proofs.lemmas.List.{take-append-le, drop-append-le}
 use Rattle.std.proofs.lemmas.Bool.{cases_lt}
 use Rattle.std.proofs.lemmas.Bool.Decides.{nat_tests}
 use Rattle.std.specs.declared.alloc.AllocError.{AllocError}
-use Rattle.acd_codec.specs.Reading.{reads_as}
-use Rattle.acd_io.specs.Read.{IsInput}
+use Rattle.acd_codec.specs.RequestReading.{reads_as}
+use Rattle.acd_io.specs.Streams.{IsInput}
 use Rattle.acd_http.specs.Head.{head_len}
-use Rattle.acd_http.specs.Received.{Found, BodyFound, IsRead, StopsInBody, StopsInHead}
-use Rattle.acd_http.specs.declared.asked.Asked.{Asked}
-use Rattle.acd_http.specs.declared.asked.Asked.TheVariants.{Truncated, Refused}
+use Rattle.acd_http.specs.ReceivedBytes.{Found, BodyFound, IsRead, StopsInBody, StopsInHead}
+use Rattle.acd_http.specs.declared.web_request.WebRequest.{WebRequest}
+use Rattle.acd_http.specs.declared.web_request.WebRequest.TheVariants.{Truncated, Refused}
 use Rattle.acd_http.specs.declared.refused.Refused.TheVariants as refused
-use Rattle.acd_http.specs.Wanting.{IsSmall}
-use Rattle.acd_http.specs.Asking.{HeadAsks, AsksBy, Asks, IsAsked, IsHeadOf, IsWanted, IsHeadAsked, IsUnasked, IsUnknown, IsSeen, asked_by, headless, is_bodiless, body_in, body_asks}
-use Rattle.acd_http.specs.declared.asked.Unknown.{Unknown}
-use Rattle.acd_http.specs.declared.asked.Unknown.TheVariants as unknown
-use Rattle.acd_http.specs.declared.wanted.Wanted.{Wanted}
-use Rattle.acd_http.specs.declared.wanted.Wanted.TheVariants as want
+use Rattle.acd_http.specs.HeadRequests.{IsSmallBody}
+use Rattle.acd_http.specs.WebRequests.{HeadAsks, AsksBy, Asks, IsAsked, IsHeadOf, IsWanted, IsHeadAsked, IsUnasked, IsUnknown, IsSeen, parse, headless, is_bodiless, body_in, body_asks}
+use Rattle.acd_http.specs.declared.web_request.ParseFault.{ParseFault}
+use Rattle.acd_http.specs.declared.web_request.ParseFault.TheVariants as unknown
+use Rattle.acd_http.specs.declared.head_request.HeadRequest.{HeadRequest}
+use Rattle.acd_http.specs.declared.head_request.HeadRequest.TheVariants as want
 use Rattle.acd_terms.specs.declared.command.Request.{Request}
 use Rattle.acd_codec.specs.declared.member.Member.{Member}
 use Rattle.acd_http.proofs.Readings.{head_is, no_head_is}
 use Rattle.acd_http.proofs.SmallBodies.{any_rest, not_truncated, bodiless_is}
 use Rattle.acd_io.proofs.Inputs.{input_begun}
 
-pub by_head : (input : List ℕ) (o : Option ℕ) (asked : Asked) → head_len (take 8192 input) ≡ o → AsksBy o input asked → Asks input asked
+pub by_head : (input : List ℕ) (o : Option ℕ) (asked : WebRequest) → head_len (take 8192 input) ≡ o → AsksBy o input asked → Asks input asked
 unfolding Asks
 by_head input o asked e h = subst (λ (p : Option ℕ). AsksBy p input asked) (sym e) h
 
 -- the question of a head, whatever follows it
-pub head_finds : (first left : Option (List ℕ)) (seen : List ℕ) (n : ℕ) (asked : Asked) → Consumes first left seen → head_len (take 8192 seen) ≡ Some n → ((rest : List ℕ) → HeadAsks (take n seen) rest asked) → IsAsked first asked
+pub head_finds : (first left : Option (List ℕ)) (seen : List ℕ) (n : ℕ) (asked : WebRequest) → Consumes first left seen → head_len (take 8192 seen) ≡ Some n → ((rest : List ℕ) → HeadAsks (take n seen) rest asked) → IsAsked first asked
 head_finds first left seen n asked read e h =
     let more = input_begun first left seen read in
     let is = head_is 8192 n seen more.0 e in
@@ -68,7 +68,7 @@ body_of now rest n len whole =
     rw enough (ap (λ (l : List ℕ). body_asks (reads_as l)) front)
 
 -- a body that has come whole
-pub body_finds : (first left : Option (List ℕ)) (seen : List ℕ) (n len : ℕ) (body : List ℕ) (asked : Asked) → Consumes first left seen → head_len (take 8192 seen) ≡ Some n → n + len ≤ length seen
+pub body_finds : (first left : Option (List ℕ)) (seen : List ℕ) (n len : ℕ) (body : List ℕ) (asked : WebRequest) → Consumes first left seen → head_len (take 8192 seen) ≡ Some n → n + len ≤ length seen
     → ((rest : List ℕ) → HeadAsks (take n seen) rest (body_in len rest)) → body ≡ take len (drop n seen) → asked ≡ body_asks (reads_as body) → IsAsked first asked
 body_finds first left seen n len body asked read e whole h is asks =
     let more = input_begun first left seen read in
@@ -76,14 +76,14 @@ body_finds first left seen n len body asked read e whole h is asks =
     let all = seen ++ more.0 in
     let here : HeadAsks (take n all) (drop n all) (body_in len (drop n all)) = subst (λ (l : List ℕ). HeadAsks l (drop n all) (body_in len (drop n all))) front.1 (h (drop n all)) in
     let same : body_in len (drop n all) ≡ asked = body_of seen more.0 n len whole ∙ sym (asks ∙ ap (λ (l : List ℕ). body_asks (reads_as l)) is) in
-    (all, more.1, by_head all (Some n) asked front.0 (subst (λ (a : Asked). HeadAsks (take n all) (drop n all) a) same here))
+    (all, more.1, by_head all (Some n) asked front.0 (subst (λ (a : WebRequest). HeadAsks (take n all) (drop n all) a) same here))
 
 short_asks : (seen : List ℕ) (n len : ℕ) → head_len (take 8192 seen) ≡ Some n → n ≤ length seen → length seen < n + len → ((rest : List ℕ) → HeadAsks (take n seen) rest (body_in len rest)) → Asks seen Truncated
 short_asks seen n len e fits short h =
     let size : length (drop n seen) < len = omega (arith, length-drop n seen) in
     let less : nat_le len (length (drop n seen)) ≡ false = grind (arith, nat_tests) in
     let same : body_in len (drop n seen) ≡ Truncated = rw less refl in
-    by_head seen (Some n) Truncated e (subst (λ (a : Asked). HeadAsks (take n seen) (drop n seen) a) same (h (drop n seen)))
+    by_head seen (Some n) Truncated e (subst (λ (a : WebRequest). HeadAsks (take n seen) (drop n seen) a) same (h (drop n seen)))
 
 -- a body that is too short
 pub body_short : (first left : Option (List ℕ)) (seen : List ℕ) (n len : ℕ) → Consumes first left seen → head_len (take 8192 seen) ≡ Some n → n ≤ length seen → length seen < n + len → IsAtEnd left
@@ -101,38 +101,38 @@ no_head first left seen h = elim (cases_lt (length seen) 8192) [
   | inl few ↦
       let less : nat_le 8192 (length seen) ≡ false = grind (arith, nat_tests) in
       let is : headless (length seen) ≡ Truncated = rw less refl in
-      subst (λ (x : Asked). IsAsked first x) (sym is) (too_short first left seen h.read h.head.0 few (h.head.1 few))
+      subst (λ (x : WebRequest). IsAsked first x) (sym is) (too_short first left seen h.read h.head.0 few (h.head.1 few))
   | inr full ↦
       let enough : nat_le 8192 (length seen) ≡ true = grind (arith, nat_tests) in
       let is : headless (length seen) ≡ Refused refused.HeadTooLarge false = rw enough refl in
-      subst (λ (x : Asked). IsAsked first x) (sym is) (too_large first left seen h.read h.head.0 full)
+      subst (λ (x : WebRequest). IsAsked first x) (sym is) (too_large first left seen h.read h.head.0 full)
 ]
 
 -- no head has ended; s is the slice whose length was measured
-pub no_head_finds : (first left : Option (List ℕ)) (seen s : List ℕ) (found : Option ℕ) (a : Asked) → found ≡ None → s ≡ seen → Found found seen first left → a ≡ headless (length s) → IsAsked first a
+pub no_head_finds : (first left : Option (List ℕ)) (seen s : List ℕ) (found : Option ℕ) (a : WebRequest) → found ≡ None → s ≡ seen → Found found seen first left → a ≡ headless (length s) → IsAsked first a
 no_head_finds first left seen s found a none same h is =
-    subst (λ (x : Asked). IsAsked first x) (sym (is ∙ ap (λ (l : List ℕ). headless (length l)) same)) (no_head first left seen (subst (λ (o : Option ℕ). Found o seen first left) none h))
+    subst (λ (x : WebRequest). IsAsked first x) (sym (is ∙ ap (λ (l : List ℕ). headless (length l)) same)) (no_head first left seen (subst (λ (o : Option ℕ). Found o seen first left) none h))
 
 -- ---- what is known after a head; s is the slice that was looked at
 
-wants_so : (head : List ℕ) (bodiless : Bool) (r : Result Wanted AllocError) (v w : Wanted) → IsHeadAsked head bodiless r → r ≡ Ok v → v ≡ w → IsSmall w × IsWanted head bodiless w
-wants_so head bodiless r v w h is same = subst (λ (x : Result Wanted AllocError). IsHeadAsked head bodiless x) (is ∙ ap Ok same) h
+wants_so : (head : List ℕ) (bodiless : Bool) (r : Result HeadRequest AllocError) (v w : HeadRequest) → IsHeadAsked head bodiless r → r ≡ Ok v → v ≡ w → IsSmallBody w × IsWanted head bodiless w
+wants_so head bodiless r v w h is same = subst (λ (x : Result HeadRequest AllocError). IsHeadAsked head bodiless x) (is ∙ ap Ok same) h
 
-pub known_finds : (first left : Option (List ℕ)) (seen s : List ℕ) (n : ℕ) (bodiless : Bool) (r : Result Wanted AllocError) (v w : Wanted) (a : Asked) → s ≡ seen → IsHeadOf n seen → IsHeadAsked (take n s) bodiless r → r ≡ Ok v → v ≡ w
-    → ((rest : List ℕ) → asked_by w bodiless rest ≡ a) → Consumes first left seen → IsAsked first a
+pub known_finds : (first left : Option (List ℕ)) (seen s : List ℕ) (n : ℕ) (bodiless : Bool) (r : Result HeadRequest AllocError) (v w : HeadRequest) (a : WebRequest) → s ≡ seen → IsHeadOf n seen → IsHeadAsked (take n s) bodiless r → r ≡ Ok v → v ≡ w
+    → ((rest : List ℕ) → parse w bodiless rest ≡ a) → Consumes first left seen → IsAsked first a
 known_finds first left seen s n bodiless r v w a same h wanted is e asks read =
     let wants = (wants_so (take n s) bodiless r v w wanted is e).1 in
-    head_finds first left seen n a read h.0 (λ rest. subst (λ (l : List ℕ). HeadAsks (take n l) rest a) same (subst (λ (x : Asked). HeadAsks (take n s) rest x) (asks rest) (wants rest)))
+    head_finds first left seen n a read h.0 (λ rest. subst (λ (l : List ℕ). HeadAsks (take n l) rest a) same (subst (λ (x : WebRequest). HeadAsks (take n s) rest x) (asks rest) (wants rest)))
 
-pub unknown_finds : (first left : Option (List ℕ)) (seen s : List ℕ) (n : ℕ) (bodiless : Bool) (r : Result Wanted AllocError) (f : AllocError) → s ≡ seen → IsHeadOf n seen → IsHeadAsked (take n s) bodiless r → r ≡ Err f → Consumes first left seen
+pub unknown_finds : (first left : Option (List ℕ)) (seen s : List ℕ) (n : ℕ) (bodiless : Bool) (r : Result HeadRequest AllocError) (f : AllocError) → s ≡ seen → IsHeadOf n seen → IsHeadAsked (take n s) bodiless r → r ≡ Err f → Consumes first left seen
     → IsUnknown first left (unknown.NoMemory bodiless)
 unknown_finds first left seen s n bodiless r f same h wanted is read =
-    let unseen : IsHeadAsked (take n s) bodiless (Err f) = subst (λ (x : Result Wanted AllocError). IsHeadAsked (take n s) bodiless x) is wanted in
-    let a = asked_by unseen.0 bodiless [] in (
+    let unseen : IsHeadAsked (take n s) bodiless (Err f) = subst (λ (x : Result HeadRequest AllocError). IsHeadAsked (take n s) bodiless x) is wanted in
+    let a = parse unseen.0 bodiless [] in (
       a,
       not_truncated unseen.0 bodiless unseen.1,
       bodiless_is unseen.0 bodiless unseen.1,
-      head_finds first left seen n a read h.0 (λ rest. subst (λ (l : List ℕ). HeadAsks (take n l) rest a) same (subst (λ (x : Asked). HeadAsks (take n s) rest x) (sym (any_rest unseen.0 bodiless rest unseen.1)) (unseen.2 rest))),
+      head_finds first left seen n a read h.0 (λ rest. subst (λ (l : List ℕ). HeadAsks (take n l) rest a) same (subst (λ (x : WebRequest). HeadAsks (take n s) rest x) (sym (any_rest unseen.0 bodiless rest unseen.1)) (unseen.2 rest))),
     )
 
 body_whole : (r : Result Request Member) → (body_asks r ≡ Truncated → ⊥)
@@ -150,15 +150,15 @@ no_memory first left seen n len body read e whole h is =
     let a = body_asks (reads_as body) in
     (a, body_whole (reads_as body), not_bodiless (reads_as body), body_finds first left seen n len body a read e whole h is refl)
 
-pub read_finds : (first left : Option (List ℕ)) (seen : List ℕ) (n len : ℕ) (body : List ℕ) (r : Result Asked Unknown) → Consumes first left seen → head_len (take 8192 seen) ≡ Some n → n + len ≤ length seen
+pub read_finds : (first left : Option (List ℕ)) (seen : List ℕ) (n len : ℕ) (body : List ℕ) (r : Result WebRequest ParseFault) → Consumes first left seen → head_len (take 8192 seen) ≡ Some n → n + len ≤ length seen
     → ((rest : List ℕ) → HeadAsks (take n seen) rest (body_in len rest)) → body ≡ take len (drop n seen)
-    → MatchResult r (λ (a : Asked). a ≡ body_asks (reads_as body)) (λ (u : Unknown). u ≡ unknown.NoMemory false) → IsSeen first left r
+    → MatchResult r (λ (a : WebRequest). a ≡ body_asks (reads_as body)) (λ (u : ParseFault). u ≡ unknown.NoMemory false) → IsSeen first left r
 read_finds first left seen n len body (Ok a) read e whole h is answer = body_finds first left seen n len body a read e whole h is answer
-read_finds first left seen n len body (Err u) read e whole h is answer = subst (λ (v : Unknown). IsUnknown first left v) (sym answer) (no_memory first left seen n len body read e whole h is)
+read_finds first left seen n len body (Err u) read e whole h is answer = subst (λ (v : ParseFault). IsUnknown first left v) (sym answer) (no_memory first left seen n len body read e whole h is)
 
-pub whole_finds : (first left later : Option (List ℕ)) (was s now s' : List ℕ) (n len : ℕ) (bodiless whole : Bool) (head : Result Wanted AllocError) (v : Wanted) (r : Result Asked Unknown) → s ≡ was → IsHeadOf n was → IsHeadAsked (take n s) bodiless head → head ≡ Ok v → v ≡ want.Body len → Consumes first left was
+pub whole_finds : (first left later : Option (List ℕ)) (was s now s' : List ℕ) (n len : ℕ) (bodiless whole : Bool) (head : Result HeadRequest AllocError) (v : HeadRequest) (r : Result WebRequest ParseFault) → s ≡ was → IsHeadOf n was → IsHeadAsked (take n s) bodiless head → head ≡ Ok v → v ≡ want.Body len → Consumes first left was
     → whole ≡ true → BodyFound whole (n + len) was now left later → s' ≡ now
-    → MatchResult r (λ (a : Asked). a ≡ body_asks (reads_as (take (n + len - n) (drop n s')))) (λ (u : Unknown). u ≡ unknown.NoMemory false) → IsSeen first later r
+    → MatchResult r (λ (a : WebRequest). a ≡ body_asks (reads_as (take (n + len - n) (drop n s')))) (λ (u : ParseFault). u ≡ unknown.NoMemory false) → IsSeen first later r
 whole_finds first left later was s now s' n len bodiless whole head v r same h asked so body read here found same' answer =
     let is = (wants_so (take n s) bodiless head v (want.Body len) asked so body).1 in
     let stays = head_stays was found.more now n found.grown h in
@@ -168,7 +168,7 @@ whole_finds first left later was s now s' n len bodiless whole head v r same h a
     read_finds first later now n len (take (n + len - n) (drop n s')) r all stays.0 ends
     (λ rest. subst (λ (l : List ℕ). HeadAsks l rest (body_in len rest)) (ap (take n) same ∙ stays.1) (is rest)) slice answer
 
-pub part_finds : (first left later : Option (List ℕ)) (was s now : List ℕ) (n len : ℕ) (bodiless whole : Bool) (head : Result Wanted AllocError) (v : Wanted) → s ≡ was → IsHeadOf n was → IsHeadAsked (take n s) bodiless head → head ≡ Ok v → v ≡ want.Body len → Consumes first left was
+pub part_finds : (first left later : Option (List ℕ)) (was s now : List ℕ) (n len : ℕ) (bodiless whole : Bool) (head : Result HeadRequest AllocError) (v : HeadRequest) → s ≡ was → IsHeadOf n was → IsHeadAsked (take n s) bodiless head → head ≡ Ok v → v ≡ want.Body len → Consumes first left was
     → whole ≡ false → BodyFound whole (n + len) was now left later → IsAsked first Truncated
 part_finds first left later was s now n len bodiless whole head v same h asked so body read here found =
     let is = (wants_so (take n s) bodiless head v (want.Body len) asked so body).1 in
@@ -179,7 +179,7 @@ part_finds first left later was s now n len bodiless whole head v same h asked s
     (λ rest. subst (λ (l : List ℕ). HeadAsks l rest (body_in len rest)) (ap (take n) same ∙ stays.1) (is rest))
 
 -- reading stopped within a body
-pub body_unasked : (first left later : Option (List ℕ)) (was s now : List ℕ) (n len : ℕ) (bodiless : Bool) (head : Result Wanted AllocError) (v : Wanted) → s ≡ was → IsHeadOf n was → IsHeadAsked (take n s) bodiless head → head ≡ Ok v → v ≡ want.Body len → Consumes first left was
+pub body_unasked : (first left later : Option (List ℕ)) (was s now : List ℕ) (n len : ℕ) (bodiless : Bool) (head : Result HeadRequest AllocError) (v : HeadRequest) → s ≡ was → IsHeadOf n was → IsHeadAsked (take n s) bodiless head → head ≡ Ok v → v ≡ want.Body len → Consumes first left was
     → StopsInBody (n + len) was now left later → IsUnasked first later
 body_unasked first left later was s now n len bodiless head v same h asked so body read stops =
     let is = (wants_so (take n s) bodiless head v (want.Body len) asked so body).1 in

@@ -3,9 +3,9 @@ use Rattle.std.proofs.Common.{◌≡◌, ℕ, suc, ◌+◌, ◌<◌, ◌≤◌, 
 use Rattle.std.proofs.lemmas.List.{drop_all}
 use Rattle.acd_http.specs.declared.head.Place.{Place}
 use Rattle.acd_http.specs.declared.head.Place.TheVariants.{Start}
-use Rattle.acd_http.specs.Head.{head_from, head_len, is_empty_at, place_after}
+use Rattle.acd_http.specs.Head.{head_from, head_len, is_empty_at, head_place_after}
 
-pub step_other : (some : Bool) (place : Place) (bytes : List ℕ) (i : ℕ) → i < length bytes → (get_or bytes i 0 ≡ 10 → ⊥) → head_from some place (drop i bytes) ≡ option_map suc (head_from some (place_after place (get_or bytes i 0)) (drop (i + 1) bytes))
+pub step_other : (some : Bool) (place : Place) (bytes : List ℕ) (i : ℕ) → i < length bytes → (get_or bytes i 0 ≡ 10 → ⊥) → head_from some place (drop i bytes) ≡ option_map suc (head_from some (head_place_after place (get_or bytes i 0)) (drop (i + 1) bytes))
 unfolding head_from
 step_other some place bytes i h other = rw (drop-cons bytes i 0, add-one) (rw (ne_eqb (get_or bytes i 0) 10 other) refl)
 

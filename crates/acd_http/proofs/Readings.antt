@@ -5,10 +5,10 @@ use Rattle.std.proofs.lemmas.List.{length-take, take-append-le}
 use Rattle.std.specs.Bool.{if◌then◌else◌}
 use Rattle.std.specs.Io.KnownBytes.{Consumes, Keeps}
 use Rattle.std.proofs.KnownBytes.{Consumes-kept}
-use Rattle.acd_http.specs.Received.{Found, StopsInHead, StopsInBody}
+use Rattle.acd_http.specs.ReceivedBytes.{Found, StopsInHead, StopsInBody}
 use Rattle.acd_http.specs.declared.head.Place.{Place}
 use Rattle.acd_http.specs.declared.head.Place.TheVariants.{Start}
-use Rattle.acd_http.specs.Head.{head_from, head_len, is_empty_at, place_after}
+use Rattle.acd_http.specs.Head.{head_from, head_len, is_empty_at, head_place_after}
 
 pub short : (now old buf : List ℕ) (n : ℕ) → now ≡ old → length old ≤ 12288 → length buf ≤ 4096 → length now + length (take n buf) ≤ 16384
 short now old buf n e h k = omega (arith, ap length e, length-take n buf)
@@ -22,9 +22,9 @@ pub head_kept : (some : Bool) (place : Place) (xs ys : List ℕ) → MatchOption
 unfolding head_from
 head_kept some place [] ys = tt
 head_kept some place (x ∷ xs) ys =
-    elim (x == 10) as (λ b. MatchOption {T = ℕ} (if b then (if is_empty_at place then (if some then Some 1 else option_map suc (head_from false Start xs)) else option_map suc (head_from true Start xs)) else option_map suc (head_from some (place_after place x) xs)) (Unit {0})
-    (λ (n : ℕ). (if b then (if is_empty_at place then (if some then Some 1 else option_map suc (head_from false Start (xs ++ ys))) else option_map suc (head_from true Start (xs ++ ys))) else option_map suc (head_from some (place_after place x) (xs ++ ys))) ≡ Some n)) [
-      | false ↦ mapped (head_from some (place_after place x) xs) (head_from some (place_after place x) (xs ++ ys)) (head_kept some (place_after place x) xs ys)
+    elim (x == 10) as (λ b. MatchOption {T = ℕ} (if b then (if is_empty_at place then (if some then Some 1 else option_map suc (head_from false Start xs)) else option_map suc (head_from true Start xs)) else option_map suc (head_from some (head_place_after place x) xs)) (Unit {0})
+    (λ (n : ℕ). (if b then (if is_empty_at place then (if some then Some 1 else option_map suc (head_from false Start (xs ++ ys))) else option_map suc (head_from true Start (xs ++ ys))) else option_map suc (head_from some (head_place_after place x) (xs ++ ys))) ≡ Some n)) [
+      | false ↦ mapped (head_from some (head_place_after place x) xs) (head_from some (head_place_after place x) (xs ++ ys)) (head_kept some (head_place_after place x) xs ys)
       | true ↦ elim (is_empty_at place) as (λ b. MatchOption {T = ℕ} (if b then (if some then Some 1 else option_map suc (head_from false Start xs)) else option_map suc (head_from true Start xs)) (Unit {0})
           (λ (n : ℕ). (if b then (if some then Some 1 else option_map suc (head_from false Start (xs ++ ys))) else option_map suc (head_from true Start (xs ++ ys))) ≡ Some n)) [
             | false ↦ mapped (head_from true Start xs) (head_from true Start (xs ++ ys)) (head_kept true Start xs ys)
@@ -44,8 +44,8 @@ pub head_fits : (some : Bool) (place : Place) (xs : List ℕ) → MatchOption (h
 unfolding head_from
 head_fits some place [] = tt
 head_fits some place (x ∷ xs) =
-    elim (x == 10) as (λ b. MatchOption {T = ℕ} (if b then (if is_empty_at place then (if some then Some 1 else option_map suc (head_from false Start xs)) else option_map suc (head_from true Start xs)) else option_map suc (head_from some (place_after place x) xs)) (Unit {0}) (λ (n : ℕ). n ≤ length (x ∷ xs))) [
-      | false ↦ longer (head_from some (place_after place x) xs) xs x (head_fits some (place_after place x) xs)
+    elim (x == 10) as (λ b. MatchOption {T = ℕ} (if b then (if is_empty_at place then (if some then Some 1 else option_map suc (head_from false Start xs)) else option_map suc (head_from true Start xs)) else option_map suc (head_from some (head_place_after place x) xs)) (Unit {0}) (λ (n : ℕ). n ≤ length (x ∷ xs))) [
+      | false ↦ longer (head_from some (head_place_after place x) xs) xs x (head_fits some (head_place_after place x) xs)
       | true ↦ elim (is_empty_at place) as (λ b. MatchOption {T = ℕ} (if b then (if some then Some 1 else option_map suc (head_from false Start xs)) else option_map suc (head_from true Start xs)) (Unit {0}) (λ (n : ℕ). n ≤ length (x ∷ xs))) [
         | false ↦ longer (head_from true Start xs) xs x (head_fits true Start xs)
         | true ↦ elim some as (λ b. MatchOption {T = ℕ} (if b then Some 1 else option_map suc (head_from false Start xs)) (Unit {0}) (λ (n : ℕ). n ≤ length (x ∷ xs))) [

@@ -2,7 +2,7 @@
 use Rattle.std.proofs.Common.{◌≡◌, ℕ, ◌+◌, ◌-◌, ◌<◌, ◌≤◌, ◌++◌, true, false, List, [], ◌∷◌, length, drop, take, get_or, refl, sym, ap, ◌∙◌, arith, add-one, drop-cons, ne_eqb, append_assoc, append-nil, length-drop}
 use Rattle.std.proofs.lemmas.List.{drop_all, take_all, take_more}
 use Rattle.acd_http.specs.declared.head.Place.{Place}
-use Rattle.acd_http.specs.Head.{lines_from, is_empty_at, place_after}
+use Rattle.acd_http.specs.Head.{lines_from, is_empty_at, head_place_after}
 use Rattle.acd_http.specs.declared.head.Place.TheVariants.{Start}
 use Rattle.acd_http.specs.Target.{begins_path, from_path, before_mark, after_mark}
 
@@ -11,7 +11,7 @@ at bytes i h = rw (drop-cons bytes i 0, add-one) refl
 
 -- ---- the lines of a head
 
-pub line_goes_on : (place : Place) (bytes : List ℕ) (i : ℕ) → i < length bytes → (get_or bytes i 0 ≡ 10 → ⊥) → lines_from place (drop i bytes) ≡ lines_from (place_after place (get_or bytes i 0)) (drop (i + 1) bytes)
+pub line_goes_on : (place : Place) (bytes : List ℕ) (i : ℕ) → i < length bytes → (get_or bytes i 0 ≡ 10 → ⊥) → lines_from place (drop i bytes) ≡ lines_from (head_place_after place (get_or bytes i 0)) (drop (i + 1) bytes)
 unfolding lines_from
 line_goes_on place bytes i h other = ap (lines_from place) (at bytes i h) ∙ (rw (ne_eqb (get_or bytes i 0) 10 other) refl)
 

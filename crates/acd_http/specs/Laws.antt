@@ -1,16 +1,16 @@
 -- Laws of what is asked and answered.
 use Rattle.std.specs.Prelude.{◌≡◌, ◌≢◌, ℕ, List, [], ◌∷◌, ◌++◌, map, Some}
 use Rattle.http.specs.StatusCode.{reason_phrase}
-use Rattle.acd_http.specs.declared.asked.Asked.{Asked}
-use Rattle.acd_http.specs.declared.asked.Asked.TheVariants.{Truncated}
-use Rattle.acd_http.specs.Asking.{Asks}
-use Rattle.acd_http.specs.Replying.{phrase_of}
+use Rattle.acd_http.specs.declared.web_request.WebRequest.{WebRequest}
+use Rattle.acd_http.specs.declared.web_request.WebRequest.TheVariants.{Truncated}
+use Rattle.acd_http.specs.WebRequests.{Asks}
+use Rattle.acd_http.specs.ReplyBytes.{phrase_of}
 
 abbrev pub AsksOneThing : Type 0
-AsksOneThing = (input : List ℕ) (a b : Asked) → Asks input a → Asks input b → a ≡ b
+AsksOneThing = (input : List ℕ) (a b : WebRequest) → Asks input a → Asks input b → a ≡ b
 
 abbrev pub AsksByABeginning : Type 0
-AsksByABeginning = (input more : List ℕ) (asked : Asked) → Asks input asked → asked ≢ Truncated → Asks (input ++ more) asked
+AsksByABeginning = (input more : List ℕ) (asked : WebRequest) → Asks input asked → asked ≢ Truncated → Asks (input ++ more) asked
 
 -- the statuses that the desk answers
 abbrev pub statuses : List ℕ

@@ -32,14 +32,14 @@ is_serial (x ∷ xs) = not (x == 48) && nat_le (length (x ∷ xs)) 10
 unfoldable pub serial_of : List ℕ → Option ℕ
 serial_of digits = if is_serial digits then option_and_then (number_between 1 1000000000) (number_up_to digits) else None
 
-abbrev pub agent_in : List ℕ → Option ℕ
-agent_in path = result_ok (read_id agent_digits (rest_of (codes "/agents/") path))
+abbrev pub agent_in_path : List ℕ → Option ℕ
+agent_in_path path = result_ok (read_id agent_digits (rest_of (codes "/agents/") path))
 
-abbrev pub device_in : List ℕ → List ℕ → Option ℕ
-device_in front path = result_ok (read_id device_digits (rest_of front path))
+abbrev pub device_in_path : List ℕ → List ℕ → Option ℕ
+device_in_path front path = result_ok (read_id device_digits (rest_of front path))
 
-abbrev pub monitor_in : List ℕ → Option ℕ
-monitor_in path = serial_of (before (codes "/events") (rest_of (codes "/monitors/") path))
+abbrev pub monitor_in_path : List ℕ → Option ℕ
+monitor_in_path path = serial_of (before (codes "/events") (rest_of (codes "/monitors/") path))
 
 -- an identifier that isn't well formed names nothing
 abbrev pub found_or : Option Question → Result Question Refused
@@ -60,14 +60,14 @@ with_after (Some after) look = found_or (look after)
 abbrev pub look_up : Option Route → List ℕ → List ℕ → Result Question Refused
 look_up None path query = Err refused.NotFound
 look_up (Some Services) path query = Err (refused.MethodNotAllowed allow.Posts)
-look_up (Some Agent) path query = found_or (option_map ask.Agent (agent_in path))
+look_up (Some Agent) path query = found_or (option_map ask.Agent (agent_in_path path))
 look_up (Some Call) path query = found_or (option_map ask.Call (serial_of (rest_of (codes "/calls/") path)))
-look_up (Some Device) path query = found_or (option_map ask.Device (device_in (codes "/devices/") path))
-look_up (Some Queue) path query = found_or (option_map ask.Queue (device_in (codes "/queues/") path))
+look_up (Some Device) path query = found_or (option_map ask.Device (device_in_path (codes "/devices/") path))
+look_up (Some Queue) path query = found_or (option_map ask.Queue (device_in_path (codes "/queues/") path))
 look_up (Some Events) path query = paged (option_map ask.Events (after_of query))
 look_up (Some History) path query = paged (option_map ask.History (after_of query))
 look_up (Some Requests) path query = paged (option_map ask.Requests (after_of query))
-look_up (Some MonitorEvents) path query = with_after (after_of query) (λ (after : ℕ). option_map (λ (monitor : ℕ). ask.MonitorEvents monitor after) (monitor_in path))
+look_up (Some MonitorEvents) path query = with_after (after_of query) (λ (after : ℕ). option_map (λ (monitor : ℕ). ask.MonitorEvents monitor after) (monitor_in_path path))
 look_up (Some Report) path query = Ok ask.Report
 look_up (Some Snapshot) path query = Ok ask.Snapshot
 

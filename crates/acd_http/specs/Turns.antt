@@ -5,12 +5,12 @@ use Rattle.acd_book.specs.declared.book.Book.{Ghosts}
 use Rattle.acd_desk.specs.declared.desk.Desk.{Desk}
 use Rattle.acd_desk.specs.declared.taken.Taken.{Taken}
 use Rattle.acd_desk.specs.declared.taken.Taken.TheVariants.{Reply, InvokeReused, DeskFull, NoMemory, StoreFault}
-use Rattle.acd_desk.specs.Ran.{Standing, standing}
+use Rattle.acd_desk.specs.DeskCalls.{DeskState, state_of}
 use Rattle.acd_io.specs.declared.sending.Stopped.{Stopped}
-use Rattle.acd_io.specs.Sent.{WasSent}
+use Rattle.acd_io.specs.SentBytes.{WasSent}
 use Rattle.acd_desk.specs.Clock.{Looked, DeskLooked}
 use Rattle.acd_http.specs.declared.serving.Span.{Span}
-use Rattle.acd_http.specs.Listening.{Outcome, PrintsText, outcome_line, AnsweredOne}
+use Rattle.acd_http.specs.ConnectionsInTurn.{Outcome, PrintsText, outcome_line, AnsweredOne}
 
 -- a connection, by how it ended; or a look at the clock, by the answer to its tick, where one was handed in, and by whether a line was written of that
 pub data Turn : Type 0 where
@@ -32,21 +32,21 @@ turn_line number (answered x) = outcome_line number x
 turn_line number (looked taken told) = cond told (tick_line taken) []
 
 -- 1 for a connection, 0 for a look
-abbrev pub connections_in : Turn → ℕ
-connections_in (answered x) = 1
-connections_in (looked taken told) = 0
+abbrev pub connections_of_turn : Turn → ℕ
+connections_of_turn (answered x) = 1
+connections_of_turn (looked taken told) = 0
 
 -- how many of these are connections
 abbrev pub connection_count : List Turn → ℕ
 connection_count [] = 0
-connection_count (x ∷ xs) = connections_in x + connection_count xs
+connection_count (x ∷ xs) = connections_of_turn x + connection_count xs
 
 -- the lines of turns; the first connection among them has this number
 unfoldable pub turn_lines : ℕ → List Turn → List ℕ
 turn_lines number [] = []
-turn_lines number (x ∷ xs) = turn_line number x ++ turn_lines (number + connections_in x) xs
+turn_lines number (x ∷ xs) = turn_line number x ++ turn_lines (number + connections_of_turn x) xs
 
-module _ {D : Type 0} (stands : D → Standing) where
+module _ {D : Type 0} (stands : D → DeskState) where
   -- a look, by a desk that hadn't failed
   pub record LookedAt (taken : Option Taken) (d e : D) : Type 0 where
     pub moment : ℕ
@@ -95,7 +95,7 @@ module _ {D : Type 0} (stands : D → Standing) where
 
 -- it took turns, and its service has this span
 abbrev pub Serves : {B : Type 0} → Ghosts B → Span → Desk B → Desk B → (List ℕ → Type 0) → Type 0
-Serves book span d e WentOut = TurnsUntil (standing book) (is_some span.step) span.connections d e WentOut
+Serves book span d e WentOut = TurnsUntil (state_of book) (is_some span.step) span.connections d e WentOut
 
 -- for private clauses: the line of a look was written, or none
 abbrev pub TellsLook : Option Taken → Result (Unit {0}) Stopped × Result (Unit {0}) Stopped → Option (List ℕ) × Option (List ℕ) → Type 0
@@ -107,5 +107,5 @@ LookedOnce book desks printed output =
     (moment : ℕ) × (taken : Option Taken) × DeskLooked book moment desks.0 taken desks.1 × TellsLook taken printed output
 
 -- for private clauses: it was looked at, in its turns
-abbrev pub LooksAt : {B : Type 0} → Ghosts B → Span → Desk B × Desk B → Result (Unit {0}) Stopped × Result (Unit {0}) Stopped → Option (List ℕ) × Option (List ℕ) → Type 0
-LooksAt book span desks printed output = AddsLooks (standing book) (is_some span.step, is_none span.connections) desks printed output
+abbrev pub LooksAtClock : {B : Type 0} → Ghosts B → Span → Desk B × Desk B → Result (Unit {0}) Stopped × Result (Unit {0}) Stopped → Option (List ℕ) × Option (List ℕ) → Type 0
+LooksAtClock book span desks printed output = AddsLooks (state_of book) (is_some span.step, is_none span.connections) desks printed output

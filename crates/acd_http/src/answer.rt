@@ -2,13 +2,13 @@
 
 ghost use Rattle.std.specs.Prelude.{◌≡◌, Bool};
 ghost use Rattle.acd_desk.specs.AnswerTexts.{said};
-ghost use Rattle.acd_http.specs.declared.asked.Asked.{Asked};
-ghost use Rattle.acd_http.specs.Exchanging.{reply_out, json_reply, fixed_reply, refused_reply, RepliesWith, Answered};
+ghost use Rattle.acd_http.specs.declared.web_request.WebRequest.{WebRequest};
+ghost use Rattle.acd_http.specs.Exchange.{reply_out, json_reply, fixed_reply, refused_reply, RepliesWith, Answered};
 
-use crate::asked::Asked;
 use crate::reads::found_reply;
 use crate::refused::{Allow, Refused};
 use crate::reply::Kind;
+use crate::web_request::WebRequest;
 use acd_book::Book;
 use acd_codec::FixedAnswer;
 use acd_desk::{AnswerText, Desk};
@@ -52,19 +52,19 @@ fn refused(why: Refused) -> Reply
 }
 
 fn arrival<B: Book>(desk: &mut Desk<B>, moment: u32, request: &Request) -> Reply
-    ensures { RepliesWith B.Book (moment, Asked.Arrival request.now) desk.old result desk.new }
+    ensures { RepliesWith B.Book (moment, WebRequest.Arrival request.now) desk.old result desk.new }
 {
     in_json(desk.take_text(moment, request))
 }
 
 /// The reply to what was asked; none where the input ended before.
-pub(crate) fn answered<B: Book>(desk: &mut Desk<B>, moment: u32, asked: Asked) -> Option<Reply>
+pub(crate) fn answered<B: Book>(desk: &mut Desk<B>, moment: u32, asked: WebRequest) -> Option<Reply>
     ensures { Answered B.Book (moment, asked) desk.old result desk.new }
 {
     match asked {
-        Asked::Truncated => None,
-        Asked::Refused(why, _) => Some(refused(why)),
-        Asked::Look(question, _) => Some(found_reply(desk, moment, question)),
-        Asked::Arrival(request) => Some(arrival(desk, moment, &request)),
+        WebRequest::Truncated => None,
+        WebRequest::Refused(why, _) => Some(refused(why)),
+        WebRequest::Look(question, _) => Some(found_reply(desk, moment, question)),
+        WebRequest::Arrival(request) => Some(arrival(desk, moment, &request)),
     }
 }

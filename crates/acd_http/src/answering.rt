@@ -1,7 +1,7 @@
 //! One connection, answered.
 
-ghost use Rattle.acd_desk.specs.Ran.{standing};
-ghost use Rattle.acd_http.specs.Listening.{AnsweredOne};
+ghost use Rattle.acd_desk.specs.DeskCalls.{state_of};
+ghost use Rattle.acd_http.specs.ConnectionsInTurn.{AnsweredOne};
 
 use crate::exchanging::{ExchangeFault, exchange};
 use crate::moment::moment_now;
@@ -37,7 +37,7 @@ fn exchange_with<B: Book, C: Clock, P: Peer>(
     patience: Option<Duration>,
     desk: &mut Desk<B>,
 ) -> Result<(), ExchangeFault>
-    ensures { AnsweredOne (standing B.Book) desk.old result desk.new }
+    ensures { AnsweredOne (state_of B.Book) desk.old result desk.new }
 {
     let mut reader = Patient::from_now(peer, clock, patience);
     let mut writer = Patient::from_first(peer, clock, patience);
@@ -55,7 +55,7 @@ pub(crate) fn answer_peer<B: Book, C: Clock, P: Peer>(
     patience: Option<Duration>,
     desk: &mut Desk<B>,
 ) -> Result<(), ExchangeFault>
-    ensures { AnsweredOne (standing B.Book) desk.old result desk.new }
+    ensures { AnsweredOne (state_of B.Book) desk.old result desk.new }
 {
     let outcome = exchange_with(clock, alloc, routes, peer, patience, desk);
     take_rest(peer);

@@ -1,16 +1,16 @@
 //! One request, and its reply.
 
 ghost use Rattle.std.specs.Prelude.{◌≡◌, IfErr, ◌++◌, cond, []};
-ghost use Rattle.acd_io.specs.Sent.{Sends};
+ghost use Rattle.acd_io.specs.SentBytes.{Sends};
 ghost use Rattle.acd_lines.specs.Lines.{streams};
-ghost use Rattle.acd_http.specs.Exchanging.{reply_out, ExchangeDoneAt};
+ghost use Rattle.acd_http.specs.Exchange.{reply_out, ExchangeDoneAt};
 
 use crate::answer::{Reply, answered, fixed};
-use crate::asked::{Unknown, asked_by};
 use crate::head_text::HeadText;
 use crate::input::Input;
 use crate::reply::reply_head;
 use crate::routes::Routes;
+use crate::web_request::{ParseFault, parse};
 use acd_book::Book;
 use acd_codec::FixedAnswer;
 use acd_desk::Desk;
@@ -93,16 +93,16 @@ pub fn exchange<B: Book, R: Read, W: Write>(
         Ok(input) => input,
         Err(AllocError) => return Err(ExchangeFault::NoMemory),
     };
-    match asked_by(alloc, routes, reader, &mut input) {
+    match parse(alloc, routes, reader, &mut input) {
         Ok(asked) => match answered(desk, moment, asked) {
             Some(reply) => respond(writer, asked.is_bodiless(), &reply),
             None => Err(ExchangeFault::Truncated),
         },
-        Err(Unknown::NoMemory(bodiless)) => respond(
+        Err(ParseFault::NoMemory(bodiless)) => respond(
             writer,
             bodiless,
             &fixed(FixedAnswer::NoMemory),
         ),
-        Err(Unknown::Stopped) => Err(ExchangeFault::Read),
+        Err(ParseFault::Stopped) => Err(ExchangeFault::Read),
     }
 }

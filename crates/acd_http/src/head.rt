@@ -16,7 +16,7 @@ pub(crate) enum Place {
 
 impl Place {
     ghost use Rattle.std.specs.Prelude.{◌≡◌};
-    ghost use Rattle.acd_http.specs.Head.{is_empty_at, place_after};
+    ghost use Rattle.acd_http.specs.Head.{is_empty_at, head_place_after};
 
     // Whether a line that ends here is empty.
     fn is_empty(self) -> bool
@@ -29,7 +29,7 @@ impl Place {
     }
 
     fn after(self, byte: u8) -> Place
-        ensures { result ≡ place_after self byte }
+        ensures { result ≡ head_place_after self byte }
     {
         match self {
             Place::Start => {

@@ -1,8 +1,8 @@
 //! The bytes read of a connection.
 
 ghost use Rattle.std.specs.Prelude.{◌≡◌, ◌<◌, ◌≤◌, ◌+◌, ◌++◌, [], length, IfOk, OnOk};
-ghost use Rattle.acd_io.specs.Read.{across};
-ghost use Rattle.acd_http.specs.Received.{Filled};
+ghost use Rattle.acd_io.specs.Streams.{across};
+ghost use Rattle.acd_http.specs.ReceivedBytes.{Filled};
 
 use acd_io::{Stopped, retried};
 use std::alloc::{AllocError, Global};

@@ -2,7 +2,7 @@
 //! requests, which [`acd_lines`] answers, a line may ask what a GET asks ([`lines_with_reads`]). [`serve`] answers the
 //! connections that come in at a [`Door`], one after the other, and has the desk tick between them, where that is asked for.
 //!
-//! `specs/Asking` says what bytes ask for, and `specs/Exchanging` what is written for it; [`laws`] say that bytes ask
+//! `specs/WebRequests` says what bytes ask for, and `specs/Exchange` what is written for it; [`laws`] say that bytes ask
 //! one thing, and by a beginning of theirs alone; `specs/Turns` says what a service leaves. Clients ask for services by POST to `/csta`; they read the desk by
 //! GET and HEAD.
 //!
@@ -14,11 +14,11 @@
 
 mod answer;
 mod answering;
-mod asked;
 mod door;
 mod exchanging;
 mod fields;
 mod head;
+mod head_request;
 mod head_text;
 mod input;
 pub mod laws;
@@ -39,10 +39,9 @@ mod routes;
 mod serving;
 mod socket_file;
 mod target;
-mod wanted;
 mod watch;
+mod web_request;
 
-pub use asked::Asked;
 pub use door::{Accept, Door, Polled};
 pub use exchanging::{ExchangeFault, exchange};
 pub use listening::{serve_on, serve_until_failed};
@@ -51,3 +50,4 @@ pub use reading_lines::{RequestsAndReads, lines_with_reads};
 pub use refused::{Allow, Part, Refused};
 pub use routes::Routes;
 pub use serving::{ServeFault, Span, serve};
+pub use web_request::WebRequest;

@@ -1,9 +1,9 @@
 //! Connections of a listener that only blocks, answered one after the other.
 
-ghost use Rattle.acd_io.specs.Sent.{Sends};
-ghost use Rattle.acd_desk.specs.Ran.{standing};
-ghost use Rattle.acd_http.specs.Listening.{AnsweredAll, UntilFailed};
-ghost use Rattle.acd_http.specs.Routed.{IfRouted, IfUnrouted};
+ghost use Rattle.acd_io.specs.SentBytes.{Sends};
+ghost use Rattle.acd_desk.specs.DeskCalls.{state_of};
+ghost use Rattle.acd_http.specs.ConnectionsInTurn.{AnsweredAll, UntilFailed};
+ghost use Rattle.acd_http.specs.RouteMemory.{IfRouted, IfUnrouted};
 ghost use Rattle.std.specs.Prelude.{◌≡◌};
 
 use crate::serving::{ServeFault, Span, serve};
@@ -27,7 +27,7 @@ pub fn serve_on<B: Book, C: Clock, E: Write>(
 ) -> Result<(), ServeFault>
     // the lines were written or, where one of them could not be, a beginning of them and not all
     ensures answered { IfRouted result
-        (AnsweredAll (standing B.Book) connections desk.old desk.new
+        (AnsweredAll (state_of B.Book) connections desk.old desk.new
         (Sends E.contents errors.old errors.new result)) }
     ensures memory { IfUnrouted result ((desk.new ≡ desk.old) × (errors.new ≡ errors.old)) }
 {

@@ -1,7 +1,7 @@
 //! The question of a GET or HEAD.
 
 ghost use Rattle.std.specs.Prelude.{◌≡◌, ◌-◌, IfOk, length, take, drop, option_map, codes};
-ghost use Rattle.acd_http.specs.Lookups.{rest_of, before, is_serial, serial_of, agent_in, device_in, monitor_in, look_up, target_looked, found_or, paged};
+ghost use Rattle.acd_http.specs.Lookups.{rest_of, before, is_serial, serial_of, agent_in_path, device_in_path, monitor_in_path, look_up, target_looked, found_or, paged};
 
 use crate::query::after_of;
 use crate::refused::{Allow, Part, Refused};
@@ -53,14 +53,14 @@ fn serial_of(digits: &[u8]) -> Option<u64>
     }
 }
 
-fn agent_in(path: &[u8]) -> Option<AgentId>
-    ensures { result ≡ agent_in path.now }
+fn agent_in_path(path: &[u8]) -> Option<AgentId>
+    ensures { result ≡ agent_in_path path.now }
 {
     AgentId::read(rest_of(path, b"/agents/")).ok()
 }
 
-fn device_in(path: &[u8], front: &[u8]) -> Option<DeviceId>
-    ensures { result ≡ device_in front.now path.now }
+fn device_in_path(path: &[u8], front: &[u8]) -> Option<DeviceId>
+    ensures { result ≡ device_in_path front.now path.now }
 {
     DeviceId::read(rest_of(path, front)).ok()
 }
@@ -71,8 +71,8 @@ fn call_in(path: &[u8]) -> Option<u64>
     serial_of(rest_of(path, b"/calls/"))
 }
 
-fn monitor_in(path: &[u8]) -> Option<u64>
-    ensures { result ≡ monitor_in path.now }
+fn monitor_in_path(path: &[u8]) -> Option<u64>
+    ensures { result ≡ monitor_in_path path.now }
 {
     serial_of(before(rest_of(path, b"/monitors/"), b"/events"))
 }
@@ -107,17 +107,19 @@ fn look_up(
     match route {
         None => Ok(Err(Refused::NotFound)),
         Some(Route::Services) => Ok(Err(Refused::MethodNotAllowed(Allow::Posts))),
-        Some(Route::Agent) => Ok(found_or(agent_in(path).map(Question::Agent))),
+        Some(Route::Agent) => Ok(found_or(agent_in_path(path).map(Question::Agent))),
         Some(Route::Call) => Ok(found_or(call_in(path).map(Question::Call))),
-        Some(Route::Device) => Ok(found_or(device_in(path, b"/devices/").map(Question::Device))),
-        Some(Route::Queue) => Ok(found_or(device_in(path, b"/queues/").map(Question::Queue))),
+        Some(Route::Device) => Ok(found_or(device_in_path(path, b"/devices/").map(
+            Question::Device,
+        ))),
+        Some(Route::Queue) => Ok(found_or(device_in_path(path, b"/queues/").map(Question::Queue))),
         Some(Route::Report) => Ok(Ok(Question::Report)),
         Some(Route::Snapshot) => Ok(Ok(Question::Snapshot)),
         Some(Route::Events) => Ok(paged(after_of(alloc, query)?.map(Question::Events))),
         Some(Route::History) => Ok(paged(after_of(alloc, query)?.map(Question::History))),
         Some(Route::Requests) => Ok(paged(after_of(alloc, query)?.map(Question::Requests))),
         Some(Route::MonitorEvents) => match after_of(alloc, query)? {
-            Some(after) => match monitor_in(path) {
+            Some(after) => match monitor_in_path(path) {
                 Some(monitor) => Ok(Ok(Question::MonitorEvents(monitor, after))),
                 None => Ok(Err(Refused::NotFound)),
             },

@@ -10,7 +10,7 @@ pub(crate) enum Method {
 
 impl Method {
     ghost use Rattle.std.specs.Prelude.{◌≡◌};
-    ghost use Rattle.acd_http.specs.Wanting.{method_of, is_head};
+    ghost use Rattle.acd_http.specs.HeadRequests.{method_of, is_head};
 
     pub(crate) fn read(bytes: &[u8]) -> Option<Method>
         ensures { result ≡ method_of bytes.now }

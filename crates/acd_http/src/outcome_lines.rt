@@ -1,9 +1,9 @@
 //! The lines that report the faults of connections.
 
 ghost use Rattle.std.specs.Prelude.{◌≡◌, ◌≤◌, length, Err};
-ghost use Rattle.acd_io.specs.Read.{across};
-ghost use Rattle.acd_io.specs.Sent.{Sends};
-ghost use Rattle.acd_http.specs.Listening.{PrintsText, fault_text, outcome_line};
+ghost use Rattle.acd_io.specs.Streams.{across};
+ghost use Rattle.acd_io.specs.SentBytes.{Sends};
+ghost use Rattle.acd_http.specs.ConnectionsInTurn.{PrintsText, fault_text, outcome_line};
 
 use crate::exchanging::ExchangeFault;
 use crate::head_text::HeadText;
@@ -23,7 +23,7 @@ fn fault_text(fault: ExchangeFault) -> &'static [u8]
     }
 }
 
-#[tactic(auto, unfolding(crate::specs::Listening::outcome_line))]
+#[tactic(auto, unfolding(crate::specs::ConnectionsInTurn::outcome_line))]
 fn fault_line(number: u64, fault: ExchangeFault) -> HeadText
     ensures { result ≡ outcome_line number (Err fault) }
 {
@@ -38,7 +38,7 @@ fn fault_line(number: u64, fault: ExchangeFault) -> HeadText
 }
 
 // Writes the line of a connection, where there is one.
-#[tactic(auto, unfolding(crate::specs::Listening::outcome_line))]
+#[tactic(auto, unfolding(crate::specs::ConnectionsInTurn::outcome_line))]
 fn print_outcome<E: Write>(
     errors: &mut E,
     number: u64,

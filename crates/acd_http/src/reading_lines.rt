@@ -1,10 +1,10 @@
 //! Lines that ask what a GET asks, beside those that ask for a service.
 
 ghost use Rattle.std.specs.Prelude.{◌≡◌, ◌⊎◌, IfOk, OnErr, Ok, Some, string_bytes};
-ghost use Rattle.acd_desk.specs.AnswerTexts.{seen};
+ghost use Rattle.acd_desk.specs.AnswerTexts.{seen_text};
 ghost use Rattle.acd_lines.specs.Lines.{LinesDoneBy, streams};
 ghost use Rattle.acd_http.specs.Lookups.{target_looked};
-ghost use Rattle.acd_http.specs.ReadingLines.{is_read, as_json, found_line, Says, SaysNoMemory, AnswersReadWith, by_reads};
+ghost use Rattle.acd_http.specs.LinesWithReads.{is_read, as_json, found_line, Says, SaysNoMemory, AnswersReadWith, by_reads};
 
 use crate::routes::Routes;
 use acd_book::Book;
@@ -37,7 +37,7 @@ fn text_line(alloc: Global, is_plain: bool, text: String) -> AnswerText
 }
 
 fn found_line(alloc: Global, is_plain: bool, found: Result<Option<String>, DeskFault>) -> AnswerText
-    ensures { Says result (found_line is_plain (seen found))
+    ensures { Says result (found_line is_plain (seen_text found))
         ⊎ (OnErr found ⊥ × SaysNoMemory result) }
 {
     match found {
@@ -47,7 +47,12 @@ fn found_line(alloc: Global, is_plain: bool, found: Result<Option<String>, DeskF
     }
 }
 
-fn look<B: Book>(alloc: Global, desk: &mut Desk<B>, moment: u32, question: Question) -> AnswerText
+fn read_text<B: Book>(
+    alloc: Global,
+    desk: &mut Desk<B>,
+    moment: u32,
+    question: Question,
+) -> AnswerText
     ensures { AnswersReadWith B.Book (moment, Ok question) desk.old result desk.new }
 {
     let is_plain = question.is_plain();
@@ -66,7 +71,7 @@ fn answer_read<B: Book>(
     ensures { AnswersReadWith B.Book (moment, target_looked target.now) desk.old result desk.new }
 {
     match routes.look_up(alloc, target) {
-        Ok(Ok(question)) => look(alloc, desk, moment, question),
+        Ok(Ok(question)) => read_text(alloc, desk, moment, question),
         Ok(Err(why)) => why.answer(),
         Err(AllocError) => AnswerText::fixed(FixedAnswer::NoMemory),
     }
@@ -103,9 +108,9 @@ impl RequestsAndReads {
 
 impl<B: Book> Answering<B> for RequestsAndReads {
     ghost use Rattle.std.specs.Prelude.{refl};
-    ghost use Rattle.acd_desk.specs.Ran.{standing};
+    ghost use Rattle.acd_desk.specs.DeskCalls.{state_of};
     ghost use Rattle.acd_lines.specs.Input.{no_moment, too_long};
-    ghost use Rattle.acd_http.specs.ReadingLines.{ReadingLine, plain, text_asked, ReadingAnswers};
+    ghost use Rattle.acd_http.specs.LinesWithReads.{ReadingLine, plain, text_asked, ReadingAnswers};
 
     ghost Asked = { ReadingLine };
 
@@ -115,7 +120,7 @@ impl<B: Book> Answering<B> for RequestsAndReads {
 
     ghost read = { text_asked };
 
-    ghost answers = { ReadingAnswers (standing B.Book) };
+    ghost answers = { ReadingAnswers (state_of B.Book) };
 
     ghost needs_a_moment = { λ d. (refl, refl) };
 

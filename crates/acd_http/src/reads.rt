@@ -1,8 +1,8 @@
 //! The reply to a read.
 
 ghost use Rattle.std.specs.Prelude.{◌≡◌, Bool};
-ghost use Rattle.acd_desk.specs.AnswerTexts.{seen};
-ghost use Rattle.acd_http.specs.Exchanging.{reply_out, kind_found, found_reply, RepliesToRead};
+ghost use Rattle.acd_desk.specs.AnswerTexts.{seen_text};
+ghost use Rattle.acd_http.specs.Exchange.{reply_out, kind_found, found_reply, RepliesToRead};
 
 use crate::answer::Reply;
 use crate::reply::Kind;
@@ -11,7 +11,7 @@ use acd_desk::{AnswerText, Desk, DeskFault, Question};
 
 // The answer is JSON where nothing was found.
 fn kind_found(kind: Kind, found: &Result<Option<String>, DeskFault>) -> Kind
-    ensures { result ≡ kind_found kind (seen found.now) }
+    ensures { result ≡ kind_found kind (seen_text found.now) }
 {
     match found {
         Ok(Some(_)) => kind,
@@ -21,7 +21,7 @@ fn kind_found(kind: Kind, found: &Result<Option<String>, DeskFault>) -> Kind
 
 fn reply_to(kind: Kind, found: Result<Option<String>, DeskFault>) -> Reply
     ensures { (bodiless : Bool)
-        → reply_out bodiless result ≡ found_reply bodiless kind (seen found) }
+        → reply_out bodiless result ≡ found_reply bodiless kind (seen_text found) }
 {
     let kind = kind_found(kind, &found);
     Reply {

@@ -1,9 +1,9 @@
 //! A head and a body that are read as they come.
 
 ghost use Rattle.std.specs.Prelude.{◌≡◌, ◌≤◌, [], take};
-ghost use Rattle.acd_io.specs.Read.{across};
+ghost use Rattle.acd_io.specs.Streams.{across};
 ghost use Rattle.acd_http.specs.Head.{head_len};
-ghost use Rattle.acd_http.specs.Received.{BodyRead, HeadRead};
+ghost use Rattle.acd_http.specs.ReceivedBytes.{BodyRead, HeadRead};
 
 use crate::head::head_len;
 use crate::input::{Input, fill};

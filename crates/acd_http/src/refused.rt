@@ -1,7 +1,7 @@
 //! Why a request is answered without the desk.
 
 ghost use Rattle.std.specs.Prelude.{◌≡◌, ◌≤◌, length};
-ghost use Rattle.acd_http.specs.Refusing.{part_text};
+ghost use Rattle.acd_http.specs.RefusalReplies.{part_text};
 
 use acd_codec::{FixedAnswer, MALFORMED_STATUS, Member};
 use acd_desk::AnswerText;
@@ -67,7 +67,7 @@ pub enum Refused {
 impl Refused {
     ghost use Rattle.std.specs.Prelude.{◌≡◌, None};
     ghost use Rattle.acd_desk.specs.AnswerTexts.{said};
-    ghost use Rattle.acd_http.specs.Refusing.{refused_said, refused_allow};
+    ghost use Rattle.acd_http.specs.RefusalReplies.{refused_said, refused_allow};
 
     /// The answer. It takes no memory.
     pub fn answer(self) -> AnswerText

@@ -1,7 +1,7 @@
 //! The bytes of a reply.
 
 ghost use Rattle.std.specs.Prelude.{◌≡◌, ◌≤◌, ◌+◌, ◌++◌, length};
-ghost use Rattle.acd_http.specs.Replying.{phrase_of, kind_text, allow_text, status_line, kind_field, size_field, head_text};
+ghost use Rattle.acd_http.specs.ReplyBytes.{phrase_of, kind_text, allow_text, status_line, kind_field, size_field, head_text};
 
 use crate::head_text::HeadText;
 use crate::refused::Allow;
@@ -17,11 +17,11 @@ pub(crate) enum Kind {
 
 impl Kind {
     ghost use Rattle.std.specs.Prelude.{◌≡◌};
-    ghost use Rattle.acd_http.specs.Exchanging.{kind_of};
+    ghost use Rattle.acd_http.specs.Exchange.{reply_kind};
 
     /// Of the answer to a question.
     pub(crate) fn of(question: &Question) -> Kind
-        ensures { result ≡ kind_of question.now }
+        ensures { result ≡ reply_kind question.now }
     {
         if question.is_plain() {
             Kind::Plain
@@ -32,7 +32,7 @@ impl Kind {
 }
 
 // The canonical phrase of a status that the desk answers.
-#[tactic(auto, unfolding(crate::specs::Replying::phrase_of))]
+#[tactic(auto, unfolding(crate::specs::ReplyBytes::phrase_of))]
 fn phrase_of(status: u16) -> &'static str
     ensures value { result.now ≡ phrase_of status }
     ensures short { length result.now ≤ 31 }
@@ -110,7 +110,7 @@ fn push_size(head: &mut HeadText, size: usize)
 }
 
 /// Makes the head of a reply. It takes no memory.
-#[tactic(auto, unfolding(crate::specs::Replying::head_text))]
+#[tactic(auto, unfolding(crate::specs::ReplyBytes::head_text))]
 pub(crate) fn reply_head(status: u16, kind: Kind, size: usize, allow: Option<Allow>) -> HeadText
     ensures { result ≡ head_text status kind size allow }
 {

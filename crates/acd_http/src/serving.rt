@@ -2,12 +2,12 @@
 
 ghost use Rattle.std.specs.Prelude.{◌≡◌, true, false, None, IfSome, IfNone, is_some};
 ghost use Rattle.std.specs.Option.{is_none};
-ghost use Rattle.acd_io.specs.Read.{across};
-ghost use Rattle.acd_io.specs.Sent.{Sends};
-ghost use Rattle.acd_desk.specs.Ran.{standing};
-ghost use Rattle.acd_http.specs.Listening.{AnsweredOne};
-ghost use Rattle.acd_http.specs.Routed.{IfRouted, IfUnrouted};
-ghost use Rattle.acd_http.specs.Turns.{LooksAt, Serves};
+ghost use Rattle.acd_io.specs.Streams.{across};
+ghost use Rattle.acd_io.specs.SentBytes.{Sends};
+ghost use Rattle.acd_desk.specs.DeskCalls.{state_of};
+ghost use Rattle.acd_http.specs.ConnectionsInTurn.{AnsweredOne};
+ghost use Rattle.acd_http.specs.RouteMemory.{IfRouted, IfUnrouted};
+ghost use Rattle.acd_http.specs.Turns.{LooksAtClock, Serves};
 
 use crate::answering::answer_peer;
 use crate::door::Door;
@@ -64,9 +64,9 @@ impl Span {
 // Whether the service has come to its end with the desk.
 fn has_ended<B: Book>(span: Span, desk: &Desk<B>) -> bool
     ensures ended { result ≡ true → (span.connections ≡ None)
-        × ((standing B.Book desk.now).failed ≡ true) }
+        × ((state_of B.Book desk.now).failed ≡ true) }
     ensures goes_on { result ≡ false → is_none span.connections ≡ true
-        → (standing B.Book desk.now).failed ≡ false }
+        → (state_of B.Book desk.now).failed ≡ false }
 {
     span.connections.is_none() && desk.has_failed()
 }
@@ -81,12 +81,12 @@ fn next_peer<B: Book, C: Clock, D: Door, E: Write>(
     watch: &mut Watch,
     errors: &mut E,
 ) -> Option<io::Result<D::Peer>>
-    ensures looks { LooksAt B.Book span (desk.old, desk.new)
+    ensures looks { LooksAtClock B.Book span (desk.old, desk.new)
         (watch.old.printed, watch.new.printed) (across E.contents errors.old errors.new) }
     ensures ended { IfNone result ((span.connections ≡ None)
-        × ((standing B.Book desk.new).failed ≡ true)) }
+        × ((state_of B.Book desk.new).failed ≡ true)) }
     ensures goes_on { IfSome result (λ peer. is_none span.connections ≡ true
-        → (standing B.Book desk.new).failed ≡ false) }
+        → (state_of B.Book desk.new).failed ≡ false) }
 {
     for _ in 0..u64::MAX {
         watch.look_in_time(clock, span, desk, errors);
@@ -114,7 +114,7 @@ fn answer_next<B: Book, C: Clock, P: Peer + Drop>(
     patience: Option<Duration>,
     desk: &mut Desk<B>,
 ) -> Result<(), ExchangeFault>
-    ensures { AnsweredOne (standing B.Book) desk.old result desk.new }
+    ensures { AnsweredOne (state_of B.Book) desk.old result desk.new }
 {
     let Ok(peer) = next else {
         return Err(ExchangeFault::Read);

@@ -2,10 +2,10 @@
 
 ghost use Rattle.std.specs.Prelude.{◌≡◌, false, [], cond, is_some, Ok};
 ghost use Rattle.std.specs.Option.{is_none};
-ghost use Rattle.acd_io.specs.Read.{across};
-ghost use Rattle.acd_desk.specs.Ran.{standing};
-ghost use Rattle.acd_http.specs.Listening.{PrintsText};
-ghost use Rattle.acd_http.specs.Turns.{LookedOnce, LooksAt, tick_line};
+ghost use Rattle.acd_io.specs.Streams.{across};
+ghost use Rattle.acd_desk.specs.DeskCalls.{state_of};
+ghost use Rattle.acd_http.specs.ConnectionsInTurn.{PrintsText};
+ghost use Rattle.acd_http.specs.Turns.{LookedOnce, LooksAtClock, tick_line};
 
 use crate::moment::moment_now;
 use crate::serving::Span;
@@ -151,7 +151,7 @@ impl Watch {
         desk: &mut Desk<B>,
         errors: &mut E,
     )
-        ensures { LooksAt B.Book span (desk.old, desk.new) (self.old.printed, self.new.printed)
+        ensures { LooksAtClock B.Book span (desk.old, desk.new) (self.old.printed, self.new.printed)
             (across E.contents errors.old errors.new) }
     {
         let Some(step) = span.step else {

@@ -2,7 +2,7 @@
 use Rattle.std.proofs.Common.{◌≡◌, ℕ, List, [], ◌++◌, take, Option, Some, None, refl, sym, ap, ◌∙◌, subst, append-nil}
 use Rattle.std.specs.Io.KnownBytes.{Consumes, Keeps, IsAtEnd}
 use Rattle.std.proofs.KnownBytes.{Consumes-trans, Consumes-whole}
-use Rattle.acd_io.specs.Read.{IsInput}
+use Rattle.acd_io.specs.Streams.{IsInput}
 
 pub no_bytes : (n : ℕ) (xs : List ℕ) → n ≡ 0 → take n xs ≡ []
 no_bytes n xs e = ap (λ (k : ℕ). take k xs) e

@@ -2,5 +2,5 @@ pub mod Sends
 pub mod Inputs
 pub mod DigitLemmas
 pub mod Orders
-pub mod GivenOn
-pub mod Told
+pub mod PassedBytes
+pub mod StopsAtOrder

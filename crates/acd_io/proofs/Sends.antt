@@ -4,7 +4,7 @@ use Rattle.std.proofs.lemmas.List.{take_all, take-append-drop}
 use Rattle.std.proofs.Math.Seq.{take-add}
 use Rattle.std.specs.Io.KnownBytes.{Appends}
 use Rattle.std.specs.Result.{IsErrAnd}
-use Rattle.acd_io.specs.Sent.{Passes, Begins, Breaks, WasSent}
+use Rattle.acd_io.specs.SentBytes.{Passes, Begins, Breaks, WasSent}
 use Rattle.std.proofs.KnownBytes.{Appends-trans, Appends-nil}
 
 pub one_write : (a b c : Option (List ℕ)) (bytes : List ℕ) (done n : ℕ) → Appends a b (take done bytes) → Appends b c (take n (take (length bytes - done) (drop done bytes))) → Appends a c (take (done + n) bytes)

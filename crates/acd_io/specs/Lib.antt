@@ -1,6 +1,6 @@
-pub mod Read
-pub mod Sent
+pub mod Streams
+pub mod SentBytes
 pub mod Digits
 pub mod Order
-pub mod Left
+pub mod RestOfInput
 pub mod Laws

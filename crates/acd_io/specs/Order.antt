@@ -37,6 +37,6 @@ abbrev pub is_held : Bool → List ℕ → Bool
 is_held ended bytes = begins_order bytes || (not ended && is_beginning bytes)
 
 -- for private clauses: so many of these bytes were given on, and the one after them begins a line or not; after `ended` nothing follows them
-abbrev pub Passes : Bool → Bool → List ℕ → ℕ × Bool → Type 0
-Passes ended starts bytes given =
+abbrev pub PassesOrder : Bool → Bool → List ℕ → ℕ × Bool → Type 0
+PassesOrder ended starts bytes given =
     (xs : List ℕ) → (ended ≡ true → xs ≡ []) → marked_from starts (bytes ++ xs) ≡ take given.0 bytes ++ marked_from given.1 (drop given.0 bytes ++ xs)

@@ -1,7 +1,7 @@
 //! The bytes that come before the order.
 
 ghost use Rattle.std.specs.Prelude.{◌≡◌, ◌≤◌, ◌<◌, ◌&&◌, true, length};
-ghost use Rattle.acd_io.specs.Order.{is_held, Passes};
+ghost use Rattle.acd_io.specs.Order.{is_held, PassesOrder};
 
 use crate::order::stops;
 
@@ -10,7 +10,7 @@ use crate::order::stops;
 pub(crate) fn passed(bytes: &[u8], starts: bool, most: usize, ended: bool) -> (usize, bool)
     requires { most ≤ length bytes.now }
     ensures within { result.0 ≤ most }
-    ensures passes { Passes ended starts bytes.now result }
+    ensures passes { PassesOrder ended starts bytes.now result }
     // none is given on only where the order is first
     ensures held { 0 < most → result.0 ≡ 0 → (starts && is_held ended bytes.now) ≡ true }
 {

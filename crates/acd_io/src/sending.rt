@@ -1,6 +1,6 @@
 //! Bytes that are written whole.
 
-ghost use Rattle.acd_io.specs.Sent.{Sends};
+ghost use Rattle.acd_io.specs.SentBytes.{Sends};
 
 use crate::retry::retried;
 use std::io::Write;

@@ -23,12 +23,12 @@ impl<R: Read> UntilOrder<R> {
     ghost use Rattle.std.specs.Prelude.{◌≡◌, ◌<◌, ◌≤◌, false, [], length, option_map, IfSome, IsTrue, OnOk};
     ghost use Rattle.std.specs.Io.KnownBytes.{Keeps};
     ghost use Rattle.acd_io.specs.Order.{marked, mark};
-    ghost use Rattle.acd_io.specs.Left.{is_told, left_of, reads_left};
+    ghost use Rattle.acd_io.specs.RestOfInput.{is_told, input_left, reads_left};
 
     /// It begins with the next byte of the reader, as a line does. It takes no memory but that of `pending`.
     pub fn new(pending: Pending, inner: R) -> UntilOrder<R>
         requires { pending ≡ [] }
-        ensures { left_of R.remaining result ≡ option_map marked (R.remaining inner) }
+        ensures { input_left R.remaining result ≡ option_map marked (R.remaining inner) }
     {
         UntilOrder {
             inner,
@@ -41,7 +41,7 @@ impl<R: Read> UntilOrder<R> {
     /// Whether it has stopped at the order.
     pub fn is_told(&self) -> bool
         ensures value { result ≡ is_told self.now }
-        ensures order { IsTrue result → IfSome (left_of R.remaining self.now) (λ xs. xs ≡ mark) }
+        ensures order { IsTrue result → IfSome (input_left R.remaining self.now) (λ xs. xs ≡ mark) }
     {
         self.starts && begins_order(self.pending.as_slice())
     }
@@ -62,7 +62,7 @@ impl<R: Read> UntilOrder<R> {
     fn fill(&mut self) -> io::Result<()>
         requires room { length self.old.pending ≤ 4096 }
         requires goes_on { self.old.ended ≡ false }
-        ensures kept { Keeps (left_of R.remaining self.old) (left_of R.remaining self.new) }
+        ensures kept { Keeps (input_left R.remaining self.old) (input_left R.remaining self.new) }
         ensures fewer { OnOk result (reads_left self.new < reads_left self.old) }
     {
         let mut chunk = [0u8; CHUNK];
@@ -77,7 +77,7 @@ impl<R: Read> UntilOrder<R> {
 
     // Reads until it is known, or the reader has ended.
     fn decide(&mut self) -> io::Result<()>
-        ensures kept { Keeps (left_of R.remaining self.old) (left_of R.remaining self.new) }
+        ensures kept { Keeps (input_left R.remaining self.old) (input_left R.remaining self.new) }
         ensures some { OnOk result (self.new.ended ≡ false → 0 < length self.new.pending) }
     {
         while !self.ended && self.is_open() {
@@ -88,9 +88,9 @@ impl<R: Read> UntilOrder<R> {
 }
 
 impl<R: Read> Read for UntilOrder<R> {
-    ghost use Rattle.acd_io.specs.Left.{left_of};
+    ghost use Rattle.acd_io.specs.RestOfInput.{input_left};
 
-    ghost remaining = { left_of R.remaining };
+    ghost remaining = { input_left R.remaining };
 
     fn read(&mut self, buf: &mut [u8]) -> io::Result<usize> {
         self.decide()?;

@@ -18,23 +18,23 @@ use Rattle.acd_model.specs.Release.{release, ending_of}
 use Rattle.acd_model.specs.Services.{next_call, clear_other, release_other}
 use Rattle.acd_model.specs.Figures.{counting, with_figures}
 use Rattle.acd_model.specs.Distribution.{distribution}
-use Rattle.acd_model.specs.Tick.{is_over, ring_of, wrap_of, is_overdue_offer, is_overdue, overdue_in, return_to, return_moves, is_over_in, is_rested, rested_in, rest_moves, each, returns as all_returns, rests as all_rests, tick}
+use Rattle.acd_model.specs.Tick.{is_over, ring_of, wrap_of, is_overdue_offer, is_overdue, overdue_in, return_to, return_moves, is_over_in, is_wrapped_up, wrapped_up_in, wrap_up_moves, each, returns as all_returns, wraps as all_rests, tick}
 use Rattle.acd_model.specs.Step.{step, next_turn, executed_moment}
 use Rattle.acd_model.specs.Run.{TimedCommand, run}
 use Rattle.acd_model.proofs.MoveLemmas.{moved_append}
-use Rattle.acd_lemmas.proofs.Facts.{Rules, AgentRule, IsPlannedStation, ArePlannedGroups, SeatedAs, ConnectionRule, HasColumns, AlertingColumns}
+use Rattle.acd_lemmas.proofs.RuleFacts.{Rules, AgentRule, IsPlannedStation, ArePlannedGroups, SeatedAs, ConnectionRule, HasColumns, AlertingColumns}
 use Rattle.acd_lemmas.proofs.Lists.{every_among, every_from, every-put, every-remove, among_put, after_among, among-filter, some_from, some_is, filter_among, ascending-filter}
 use Rattle.acd_lemmas.proofs.State.{agent_put, agent_among, agent_found, agent_seat, connection_there, left_among, is_of, is_of_self, group_counted_found}
 use Rattle.acd_lemmas.proofs.States.{alerting_is}
-use Rattle.acd_lemmas.proofs.Keyed.{eqb_self, cmp_self}
+use Rattle.acd_lemmas.proofs.KeyedLists.{eqb_self, cmp_self}
 use Rattle.acd_laws.proofs.MoveKinds.{AgentMove, stays, remains, reports, Arrival, queues, alerts, fails, arrival_of, releases, occupies, goes_from, released_by, agent_connections, agent_others}
-use Rattle.acd_laws.proofs.Deeds.{Deed, nothing, adds_group, adds_station, adds_agent, watches, unwatches, arrives, makes, goes_out, answers, holds, retrieves, clears, deflects, transfers, logs_on, rejects, renames, waits, goes, Regroups, refuses, puts, Round, offers, returns, rests}
-use Rattle.acd_laws.proofs.Offers.Distributing.{Back, return_stays, other_call, overdue_back, returned}
-use Rattle.acd_laws.proofs.Rules.RulesKept.{RoundKeeps, rules_serve, by_rounds, by_tick, by_deeds}
-use Rattle.acd_laws.proofs.Rules.KeptEnds.{kept_return_to}
-use Rattle.acd_laws.proofs.Rules.KeptPlan.{kept_rest_moves}
-use Rattle.acd_laws.proofs.Rules.Ended.{rules_step, rules_first}
-use Rattle.acd_laws.proofs.Rules.DecidedAll.{rules_are_kept}
+use Rattle.acd_laws.proofs.Effects.{Effect, nothing, adds_group, adds_station, adds_agent, watches, unwatches, arrives, makes, goes_out, answers, holds, retrieves, clears, deflects, transfers, logs_on, rejects, renames, waits, goes, ChangesGroup, refuses, puts, Round, offers, returns, rests}
+use Rattle.acd_laws.proofs.Offers.DistributionSteps.{Back, return_stays, other_call, overdue_back, returned}
+use Rattle.acd_laws.proofs.Rules.RulesOfSteps.{RoundKeeps, rules_serve, by_rounds, by_tick, by_deeds}
+use Rattle.acd_laws.proofs.Rules.RulesOfEnds.{kept_return_to}
+use Rattle.acd_laws.proofs.Rules.RulesOfPlanning.{kept_rest_moves}
+use Rattle.acd_laws.proofs.Rules.StepEnds.{rules_step, rules_first}
+use Rattle.acd_laws.proofs.Rules.AllRuleTests.{rules_are_kept}
 use Rattle.acd_laws.specs.Due.{is_due}
 use Rattle.acd_laws.specs.TimeLaws.{IsYoung, IsInTime, tick_at, TickBoundsAnswers, RunBoundsAnswers, TickLeavesNone}
 
@@ -52,7 +52,7 @@ module _ (u : Rows) (t : ℕ) where
   Rings x = is_overdue u t x ≡ false
 
   abbrev pub Works : AgentRecord → Type 0
-  Works a = is_rested u t a ≡ false
+  Works a = is_wrapped_up u t a ≡ false
 
   offered_later : (x : ConnectionRecord) (m : ℕ) → t ≤ m → x.offered ≡ Some m → Rings x
   unfolding is_overdue
@@ -63,7 +63,7 @@ module _ (u : Rows) (t : ℕ) where
       by (Some g) = and_right (is_alerting x.state) _ (begun_later (ring_of (group_of u g)) m t l)
 
   working_later : (a : AgentRecord) → t ≤ a.since → Works a
-  unfolding is_rested
+  unfolding is_wrapped_up
   working_later a l = by (least_group a.groups)
     where
       by : (o : Option ℕ) → (is_working_after_call a.state && is_over_in u t a o) ≡ false
@@ -102,7 +102,7 @@ module _ (u : Rows) (t : ℕ) where
   -- the moves of agents and arrivals
 
   fits_agent : (turn : Turn) (x : Move) → t ≤ turn.moment → AgentMove Works turn x → Fits x.change
-  unfolding is_rested
+  unfolding is_wrapped_up
   fits_agent turn _ l stays = tt
   fits_agent turn _ l (remains a name pending h) = h
   fits_agent turn _ l (reports a b d h r) = let e = r.since in working_later b (omega (arith, l, e))
@@ -133,8 +133,8 @@ module _ (u : Rows) (t : ℕ) where
 
   -- the moves of a service
 
-  fits_deed : (s : Rows) (turn : Turn) (ms : List Move) → t ≤ turn.moment → Deed s turn ms → Every Works s.agents → AllFit ms
-  unfolding is_overdue is_rested
+  fits_deed : (s : Rows) (turn : Turn) (ms : List Move) → t ≤ turn.moment → Effect s turn ms → Every Works s.agents → AllFit ms
+  unfolding is_overdue is_wrapped_up
   fits_deed s turn _ l nothing h = tt
   fits_deed s turn _ l (adds_group _ _ _ _ _ _) h = (tt, tt)
   fits_deed s turn _ l (adds_station _ _ _) h = (tt, tt)
@@ -159,7 +159,7 @@ module _ (u : Rows) (t : ℕ) where
   fits_deed s turn _ l (goes a wanted found _ _) h =
       (fits_agent turn _ l (goes_from Works turn a a.station (state_wanted wanted) (every_among Works s.agents a h (agent_among s a.agent a found))), tt)
 
-  fits_regroups : (s : Rows) (c : Command) (ms : List Move) → Regroups s c ms → AllFit ms
+  fits_regroups : (s : Rows) (c : Command) (ms : List Move) → ChangesGroup s c ms → AllFit ms
   fits_regroups s c _ (refuses _ _ _) = tt
   fits_regroups s c _ (puts _ _ _ _) = (tt, tt)
 
@@ -223,7 +223,7 @@ return_groups : (s : Rows) (turn : Turn) (x : ConnectionRecord) (g : ℕ) → (m
 unfolding with_connection without_connection
 return_groups s turn x g = agent_groups turn _ _ (released_by s turn x NoAnswer)
 
-rest_groups : (s : Rows) (turn : Turn) (a : AgentRecord) → (moved s (rest_moves turn a)).groups ≡ s.groups
+rest_groups : (s : Rows) (turn : Turn) (a : AgentRecord) → (moved s (wrap_up_moves turn a)).groups ≡ s.groups
 rest_groups s turn a = agent_groups turn s _ (goes_from (λ _. Unit {0}) turn a a.station A.Ready tt)
 
 abbrev GroupsAre : List GroupRecord → Rows → List Event → Type 0
@@ -304,8 +304,8 @@ module _ (u : Rows) (turn : Turn) where
 
   rested_by : (s : Rows) (a : AgentRecord) (xs : List AgentRecord) → Rules s → agent_of s a.agent ≡ Some a → is_working_after_call a.state ≡ true
       → ((b : AgentRecord) → Among b s.agents → StillAtWork (a ∷ xs) b)
-      → Rules (moved s (rest_moves turn a)) → (b : AgentRecord) → Among b (moved s (rest_moves turn a)).agents → StillAtWork xs b
-  unfolding with_agent is_rested
+      → Rules (moved s (wrap_up_moves turn a)) → (b : AgentRecord) → Among b (moved s (wrap_up_moves turn a)).agents → StillAtWork xs b
+  unfolding with_agent is_wrapped_up
   rested_by s a xs r found works h =
       let d = on_station s a.station (seated s a a.state works (every_among (AgentRule s) s.agents a r.agents (agent_among s a.agent a found))).0 in
       subst
@@ -335,13 +335,13 @@ module _ (u : Rows) (turn : Turn) where
 
   all_rested : (s : Rows) (xs : List AgentRecord) → IsAscending agent_order xs
       → ((a : AgentRecord) → Among a xs → (agent_of s a.agent ≡ Some a) × (is_working_after_call a.state ≡ true)) → Rules s
-      → ((b : AgentRecord) → Among b s.agents → StillAtWork xs b) → (b : AgentRecord) → Among b (moved s (each (λ t a. rest_moves turn a) s xs)).agents
+      → ((b : AgentRecord) → Among b s.agents → StillAtWork xs b) → (b : AgentRecord) → Among b (moved s (each (λ t a. wrap_up_moves turn a) s xs)).agents
       → Works u turn.moment b
   all_rested s [] so k r h b i = elim (h b i) [ inl good ↦ good | inr none ↦ absurd none ]
   all_rested s (a ∷ xs) so k r h b i =
       let ka = k a (inl refl) in
-      let one : List Move = rest_moves turn a in
-      let rest : List Move = each (λ t a. rest_moves turn a) (moved s one) xs in
+      let one : List Move = wrap_up_moves turn a in
+      let rest : List Move = each (λ t a. wrap_up_moves turn a) (moved s one) xs in
       let r1 : Rules (moved s one) = kept_rest_moves s turn a r ka.0 ka.1 in
       all_rested (moved s one) xs so.1
       (λ c j. let kc = k c (inr j) in (
@@ -352,11 +352,11 @@ module _ (u : Rows) (turn : Turn) where
       ))
       r1 (rested_by s a xs r ka.0 ka.1 h r1) b (subst (λ (v : Rows). Among b v.agents) (moved_append s one rest) i)
 
-  rest_connections : (s : Rows) (xs : List AgentRecord) → (moved s (each (λ t a. rest_moves turn a) s xs)).connections ≡ s.connections
+  rest_connections : (s : Rows) (xs : List AgentRecord) → (moved s (each (λ t a. wrap_up_moves turn a) s xs)).connections ≡ s.connections
   rest_connections s [] = refl
   rest_connections s (a ∷ xs) =
-      let one : List Move = rest_moves turn a in
-      ap (λ (v : Rows). v.connections) (moved_append s one (each (λ t a. rest_moves turn a) (moved s one) xs))
+      let one : List Move = wrap_up_moves turn a in
+      ap (λ (v : Rows). v.connections) (moved_append s one (each (λ t a. wrap_up_moves turn a) (moved s one) xs))
       ∙ rest_connections (moved s one) xs ∙ agent_connections turn s _ (goes_from (λ _. Unit {0}) turn a a.station A.Ready tt)
 
 -- of groups with the same rings and wraps the same is overdue
@@ -370,8 +370,8 @@ overdue_same u v t x h = by x.group x.offered
     by (Some g) None = refl
     by (Some g) (Some m) = ap (λ n. is_alerting x.state && is_over n m t) (h g)
 
-rested_same : (u v : Rows) (t : ℕ) (a : AgentRecord) → ((g : ℕ) → wrap_of (group_of u g) ≡ wrap_of (group_of v g)) → is_rested u t a ≡ is_rested v t a
-unfolding is_rested
+rested_same : (u v : Rows) (t : ℕ) (a : AgentRecord) → ((g : ℕ) → wrap_of (group_of u g) ≡ wrap_of (group_of v g)) → is_wrapped_up u t a ≡ is_wrapped_up v t a
+unfolding is_wrapped_up
 rested_same u v t a h = by (least_group a.groups)
   where
     by : (o : Option ℕ) → (is_working_after_call a.state && is_over_in u t a o) ≡ (is_working_after_call a.state && is_over_in v t a o)
@@ -390,22 +390,22 @@ overdue_or_not : (s : Rows) (t : ℕ) (x : ConnectionRecord) → Among x s.conne
 unfolding overdue_in
 overdue_or_not s t x i = elim (cases_Bool (is_overdue s t x)) [ inl e ↦ inr (among-filter (is_overdue s t) s.connections x i e) | inr e ↦ inl e ]
 
-rested_or_not : (s : Rows) (t : ℕ) (a : AgentRecord) → Among a s.agents → Works s t a ⊎ Among a (rested_in s t)
-unfolding rested_in
-rested_or_not s t a i = elim (cases_Bool (is_rested s t a)) [ inl e ↦ inr (among-filter (is_rested s t) s.agents a i e) | inr e ↦ inl e ]
+rested_or_not : (s : Rows) (t : ℕ) (a : AgentRecord) → Among a s.agents → Works s t a ⊎ Among a (wrapped_up_in s t)
+unfolding wrapped_up_in
+rested_or_not s t a i = elim (cases_Bool (is_wrapped_up s t a)) [ inl e ↦ inr (among-filter (is_wrapped_up s t) s.agents a i e) | inr e ↦ inl e ]
 
 overdue_ascend : (s : Rows) (t : ℕ) → Rules s → IsAscending connection_order (overdue_in s t)
 unfolding overdue_in
 overdue_ascend s t r = ascending-filter connection_order (is_overdue s t) s.connections r.orders.connections
 
-rested_ascend : (s : Rows) (t : ℕ) → Rules s → IsAscending agent_order (rested_in s t)
-unfolding rested_in
-rested_ascend s t r = ascending-filter agent_order (is_rested s t) s.agents r.orders.agents
+rested_ascend : (s : Rows) (t : ℕ) → Rules s → IsAscending agent_order (wrapped_up_in s t)
+unfolding wrapped_up_in
+rested_ascend s t r = ascending-filter agent_order (is_wrapped_up s t) s.agents r.orders.agents
 
-rested_works : (s : Rows) (t : ℕ) (a : AgentRecord) → Rules s → Among a (rested_in s t) → (agent_of s a.agent ≡ Some a) × (is_working_after_call a.state ≡ true)
-unfolding rested_in is_rested
+rested_works : (s : Rows) (t : ℕ) (a : AgentRecord) → Rules s → Among a (wrapped_up_in s t) → (agent_of s a.agent ≡ Some a) × (is_working_after_call a.state ≡ true)
+unfolding wrapped_up_in is_wrapped_up
 rested_works s t a r i =
-    let w = filter_among (is_rested s t) s.agents a i in
+    let w = filter_among (is_wrapped_up s t) s.agents a i in
     (agent_found s r.orders.agents a w.0, (and_parts (is_working_after_call a.state) (is_over_in s t a (least_group a.groups)) w.1).0)
 
 none_overdue : (s : Rows) (turn : Turn) → Rules s → (x : ConnectionRecord) → Among x (moved s (all_returns s turn)).connections → Rings s turn.moment x
@@ -416,7 +416,7 @@ none_overdue s turn r =
 none_rested : (s : Rows) (turn : Turn) → Rules s → (a : AgentRecord) → Among a (moved s (all_rests s turn)).agents → Works s turn.moment a
 unfolding all_rests
 none_rested s turn r =
-    all_rested s turn s (rested_in s turn.moment) (rested_ascend s turn.moment r) (λ a i. rested_works s turn.moment a r i) r (rested_or_not s turn.moment)
+    all_rested s turn s (wrapped_up_in s turn.moment) (rested_ascend s turn.moment r) (λ a i. rested_works s turn.moment a r i) r (rested_or_not s turn.moment)
 
 tick_holds : (s : Rows) (turn : Turn) → Rules s → Holds s turn.moment (moved s (tick s turn))
 unfolding tick all_rests group_of
@@ -425,7 +425,7 @@ tick_holds s turn r =
     let back = returned (GroupsAre s.groups) turn (λ t es x g rt h found alerting group. return_groups t turn x g ∙ h) s [] r refl in
     let joined : moved s (all_returns s turn ++ all_rests v turn) ≡ moved v (all_rests v turn) = moved_append s (all_returns s turn) (all_rests v turn) in
     let wraps : (g : ℕ) → wrap_of (group_of s g) ≡ wrap_of (group_of v g) = λ g. wrap_by s v g (sym back.1) in (
-      subst (λ xs. Every (Rings s turn.moment) xs) (sym (ap (λ (w : Rows). w.connections) joined ∙ rest_connections v turn v (rested_in v turn.moment)))
+      subst (λ xs. Every (Rings s turn.moment) xs) (sym (ap (λ (w : Rows). w.connections) joined ∙ rest_connections v turn v (wrapped_up_in v turn.moment)))
           (every_from (Rings s turn.moment) v.connections (none_overdue s turn r)),
       subst (λ (w : Rows). Every (Works s turn.moment) w.agents) (sym joined)
           (every_from (Works s turn.moment) (moved v (all_rests v turn)).agents (λ a i. rested_same s v turn.moment a wraps ∙ none_rested v turn back.0 a i)),
@@ -499,7 +499,7 @@ younger : (u s : Rows) (n since : ℕ) → u.last_moment ≤ s.last_moment → i
 younger u s n since l e p = let h = young n since u.last_moment e p in omega (arith, h, l)
 
 in_time : (u s : Rows) → Since u u.last_moment s → IsInTime u s
-unfolding is_overdue is_rested
+unfolding is_overdue is_wrapped_up
 in_time u s h = record {
   passed = h.passed;
   offers = λ x g i e f.
@@ -509,7 +509,7 @@ in_time u s h = record {
   work = λ a i e.
       let seat = seat_of a e (every_among (AgentRule s) s.agents a h.rules.agents i) in
       let g = has_least a.groups seat.1.0 in
-      let not : is_rested u u.last_moment a ≡ false = every_among (Works u u.last_moment) s.agents a h.holds.1 i in
+      let not : is_wrapped_up u u.last_moment a ≡ false = every_among (Works u u.last_moment) s.agents a h.holds.1 i in
       (g.0, g.1, younger u s (wrap_of (group_of u g.0)) a.since h.passed (works a g.0 e g.1 not));
 }
   where
@@ -517,7 +517,7 @@ in_time u s h = record {
         → is_over (ring_of (group_of u g)) o u.last_moment ≡ false
     rings x g o e f q not = sym (rw (e, f, q) refl) ∙ not
 
-    works : (a : AgentRecord) (g : ℕ) → is_working_after_call a.state ≡ true → least_group a.groups ≡ Some g → is_rested u u.last_moment a ≡ false
+    works : (a : AgentRecord) (g : ℕ) → is_working_after_call a.state ≡ true → least_group a.groups ≡ Some g → is_wrapped_up u u.last_moment a ≡ false
         → is_over (wrap_of (group_of u g)) a.since u.last_moment ≡ false
     works a g e f not = sym (rw (e, f) refl) ∙ not
 
@@ -542,7 +542,7 @@ none_passes test (x ∷ xs) h = ap (λ b. b || list_any test xs) h.0 ∙ none_pa
 
 not_due : (s : Rows) (t : ℕ) → Holds s t s → is_due s t ≡ false
 unfolding is_due
-not_due s t h = ap (λ b. b || list_any (is_rested s t) s.agents) (none_passes (is_overdue s t) s.connections h.0) ∙ none_passes (is_rested s t) s.agents h.1
+not_due s t h = ap (λ b. b || list_any (is_wrapped_up s t) s.agents) (none_passes (is_overdue s t) s.connections h.0) ∙ none_passes (is_wrapped_up s t) s.agents h.1
 
 pub tick_leaves_none : TickLeavesNone
 unfolding step with_last with_figures

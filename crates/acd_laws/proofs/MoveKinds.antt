@@ -12,7 +12,7 @@ use Rattle.acd_model.specs.declared.moves.Release.TheVariants.{Stays, Goes}
 use Rattle.acd_lemmas.proofs.State.{agent_put, agent_there}
 use Rattle.acd_terms.specs.declared.state.ConnectionState.TheVariants.{Alerting, Fail}
 use Rattle.acd_terms.specs.declared.event.Report.TheVariants.{Queued, Delivered, Failed}
-use Rattle.acd_model.specs.CallMoves.{plain, queueing, met_at, arriving, arrival, arrive}
+use Rattle.acd_model.specs.CallMoves.{unqueued, queueing, met_at, arriving, arrival, arrive}
 use Rattle.acd_terms.specs.declared.command.Turn.{Turn}
 
 -- the agent in another state, at the same station unless it is null
@@ -101,8 +101,8 @@ agent_others turn n t x (reports a b d h r) = agent_put t b n ∙ cond-false (b.
 pub data Arrival (s : Rows) (turn : Turn) (call to : ℕ) (why : Cause) : Move → Type 0 where
   queues : is_group s to ≡ true
       → Arrival s turn call to why (reported (PutConnection (queueing call to (Some turn.stamp) (Some turn.moment))) (Queued call to why))
-  alerts : Arrival s turn call to why (reported (PutConnection (plain call to Alerting)) (Delivered call to why None))
-  fails : Arrival s turn call to why (reported (PutConnection (plain call to Fail)) (Failed call to))
+  alerts : Arrival s turn call to why (reported (PutConnection (unqueued call to Alerting)) (Delivered call to why None))
+  fails : Arrival s turn call to why (reported (PutConnection (unqueued call to Fail)) (Failed call to))
 
 pub arrival_of : (s : Rows) (turn : Turn) (call to : ℕ) (why : Cause) → Arrival s turn call to why (arrive s turn call to why)
 unfolding arrive

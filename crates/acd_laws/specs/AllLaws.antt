@@ -6,12 +6,12 @@ use Rattle.acd_terms.specs.declared.rows.Rows.{Rows}
 use Rattle.acd_terms.specs.declared.rows.Limits.{Limits}
 use Rattle.acd_terms.specs.declared.command.Command.{Command}
 use Rattle.acd_terms.specs.declared.event.Event.{Event}
-use Rattle.acd_model.specs.Placed.{IsPlaced}
+use Rattle.acd_model.specs.CallPlaces.{IsPlaced}
 use Rattle.acd_model.specs.OneOffer.{HasOneOffer}
-use Rattle.acd_model.specs.Watched.{IsWatched}
+use Rattle.acd_model.specs.Watcher.{IsWatched}
 use Rattle.acd_model.specs.Rules.First.{BreaksNoRule}
 use Rattle.acd_model.specs.Run.{TimedCommand}
-use Rattle.acd_laws.specs.Forms.{AfterStep, AfterRun}
+use Rattle.acd_laws.specs.Forms.{AfterStep, HoldsAfterRun}
 use Rattle.acd_laws.specs.PlacedLaws.{NamesNoLaterCall}
 use Rattle.acd_laws.specs.BalanceLaws.{IsBalanced}
 use Rattle.acd_laws.specs.OfferLaws.{LeavesNoOffer}
@@ -44,4 +44,4 @@ StepKeepsLaws = (s : Rows) (events : List Event) (moment : Moment) (command : Co
 -- they all hold of every run of no more requests than are allowed
 abbrev pub RunKeepsLaws : Type 0
 RunKeepsLaws = (limits : Limits) (commands : List TimedCommand) → limits_fit limits ≡ true → length commands ≤ limits.requests
-    → AfterRun LawsHold limits commands
+    → HoldsAfterRun LawsHold limits commands

@@ -56,10 +56,10 @@ abbrev pub group_after : Rows → Moment → Command → GroupRecord → GroupRe
 group_after s moment command g = counting (step s moment command).events (regrouped command g)
 
 -- a planned group is as the step leaves it
-abbrev pub GoesOn : Rows → Moment → Command → Device → GroupRecord → Type 0
-GoesOn s moment command d g = group_of s d ≡ Some g → group_of (step s moment command).rows d ≡ Some (group_after s moment command g)
+abbrev pub FiguresContinue : Rows → Moment → Command → Device → GroupRecord → Type 0
+FiguresContinue s moment command d g = group_of s d ≡ Some g → group_of (step s moment command).rows d ≡ Some (group_after s moment command g)
 
 -- of a planned group's record a step of rows that break no rule changes the figures, by what its events count, by setGroupPriority of it the
 -- priority, and by changeGroup of it name, ring and wrap
 abbrev pub StepAddsFigures : Type 0
-StepAddsFigures = (s : Rows) (moment : Moment) (command : Command) (d : Device) (g : GroupRecord) → BreaksNoRule s → GoesOn s moment command d g
+StepAddsFigures = (s : Rows) (moment : Moment) (command : Command) (d : Device) (g : GroupRecord) → BreaksNoRule s → FiguresContinue s moment command d g

@@ -15,8 +15,8 @@ abbrev pub AfterStep : (Rows → List Event → Type 0) → Rows → List Event 
 AfterStep P s events moment command = P (step s moment command).rows (events ++ (step s moment command).events)
 
 -- it holds of the rows after a run from none, and of all its events
-abbrev pub AfterRun : (Rows → List Event → Type 0) → Limits → List TimedCommand → Type 0
-AfterRun P limits commands = P (run (empty_rows limits) commands).rows (run (empty_rows limits) commands).events
+abbrev pub HoldsAfterRun : (Rows → List Event → Type 0) → Limits → List TimedCommand → Type 0
+HoldsAfterRun P limits commands = P (run (empty_rows limits) commands).rows (run (empty_rows limits) commands).events
 
 -- from rows that break no rule, and for which one fact holds, each step goes to rows for which the other holds
 abbrev pub StepLeads : (Rows → List Event → Type 0) → (Rows → List Event → Type 0) → Type 0
@@ -28,4 +28,4 @@ StepKeeps P = StepLeads P P
 
 -- the fact holds after every run
 abbrev pub EachRunEnds : (Rows → List Event → Type 0) → Type 0
-EachRunEnds P = (limits : Limits) (commands : List TimedCommand) → AfterRun P limits commands
+EachRunEnds P = (limits : Limits) (commands : List TimedCommand) → HoldsAfterRun P limits commands

@@ -10,7 +10,7 @@ use Rattle.acd_terms.specs.declared.command.Command.{Command}
 use Rattle.acd_model.specs.Offers.{IsOffer, HasNoOffer}
 use Rattle.acd_model.specs.Moves.{moved}
 use Rattle.acd_model.specs.Distribution.{offer_moves, distribution}
-use Rattle.acd_model.specs.Served.{moves_of}
+use Rattle.acd_model.specs.ServiceAnswers.{moves_of}
 use Rattle.acd_model.specs.Services.Serve.{serve}
 use Rattle.acd_model.specs.Step.{step, next_turn}
 use Rattle.acd_model.specs.Run.{TimedCommand, run}

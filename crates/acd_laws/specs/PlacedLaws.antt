@@ -7,18 +7,18 @@ use Rattle.acd_terms.specs.declared.rows.Rows.{Rows}
 use Rattle.acd_terms.specs.declared.command.Command.{Command}
 use Rattle.acd_terms.specs.declared.event.Event.{Event}
 use Rattle.acd_model.specs.Scans.{call_of}
-use Rattle.acd_model.specs.Placed.{cleared_by, IsCleared, IsWaiting, IsAtDevices, IsPlaced}
+use Rattle.acd_model.specs.CallPlaces.{cleared_by, IsCleared, IsWaiting, IsAtDevices, IsPlaced}
 use Rattle.acd_model.specs.Rules.First.{BreaksNoRule}
 use Rattle.acd_laws.specs.Forms.{AfterStep, StepLeads, StepKeeps, EachRunEnds}
 
 -- the call that may be named isn't above the last
-abbrev pub IsUpTo : CallId → Option CallId → Type 0
-IsUpTo last None = Unit {0}
-IsUpTo last (Some call) = call ≤ last
+abbrev pub IsCallUpTo : CallId → Option CallId → Type 0
+IsCallUpTo last None = Unit {0}
+IsCallUpTo last (Some call) = call ≤ last
 
 -- no event names a call above the last
 abbrev pub NamesNoLaterCall : Rows → List Event → Type 0
-NamesNoLaterCall s events = Every (λ (e : Event). IsUpTo s.last_call (columns_of e.report).call) events
+NamesNoLaterCall s events = Every (λ (e : Event). IsCallUpTo s.last_call (columns_of e.report).call) events
 
 -- a call up to the last that isn't live was cleared once, any other never
 abbrev pub clearings : Rows → CallId → ℕ

@@ -4,8 +4,8 @@ use Rattle.acd_terms.specs.Numbers.{Device, CallId, Moment, Stamp}
 use Rattle.acd_terms.specs.declared.rows.Rows.{Rows}
 use Rattle.acd_terms.specs.declared.command.Command.{Command}
 use Rattle.acd_terms.specs.declared.event.Event.{Event}
-use Rattle.acd_model.specs.Reported.{known_after, connection_reported, last_entry}
-use Rattle.acd_model.specs.Watched.{is_external_caller, HasPlace, IsWatched}
+use Rattle.acd_model.specs.EventReports.{known_after, connection_reported, last_entry}
+use Rattle.acd_model.specs.Watcher.{is_external_caller, HasPlace, IsWatched}
 use Rattle.acd_model.specs.Rules.First.{BreaksNoRule}
 use Rattle.acd_laws.specs.Forms.{AfterStep, EachRunEnds}
 

@@ -19,7 +19,7 @@ ghost use Rattle.acd_laws.specs.ChangeLaws.{StepMakesItsChanges};
 ghost use Rattle.acd_laws.specs.AllLaws.{StepKeepsLaws, RunKeepsLaws};
 ghost use Rattle.acd_laws.specs.NameLaws.{NamesAreInert, RunIgnoresNames};
 ghost use Rattle.acd_laws.specs.OneOfferLaws.{RulesGiveOneOffer, StepKeepsOneOffer, RunHasOneOffer};
-ghost use Rattle.acd_laws.specs.StarvingLaws.{LowPriorityMayStarve};
+ghost use Rattle.acd_laws.specs.StarvationLaws.{LowPriorityMayStarve};
 ghost use Rattle.acd_laws.specs.TimeLaws.{TickBoundsAnswers, RunBoundsAnswers, TickLeavesNone};
 
 /// The call that is found to wait first in a group has the least place there, and one is found wherever one waits.

@@ -2,12 +2,12 @@ pub mod Words
 pub mod Lists
 pub mod MappedLists
 pub mod Least
-pub mod Keyed
+pub mod KeyedLists
 pub mod States
-pub mod Facts
+pub mod RuleFacts
 pub mod State
-pub mod Decided
-pub mod Same
+pub mod RuleTests
+pub mod EqualParts
 pub mod SameRecords
 pub mod SameCommands
 pub mod Numbers

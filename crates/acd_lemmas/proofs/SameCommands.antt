@@ -7,7 +7,7 @@ use Rattle.acd_terms.specs.declared.command.Command.{Command}
 use Rattle.acd_terms.specs.declared.command.Command.TheVariants.{AddGroup, AddStation, AddAgent, ArriveCall, MakeCall, PhoneOffHook, AnswerCall, HoldCall, RetrieveCall, ClearConnection, DeflectCall, SingleStepTransfer, SetAgentState, MonitorStart, MonitorStop, Tick, SetGroupPriority, RejectCall, ChangeGroup, ChangeAgent}
 use Rattle.acd_terms.specs.contracts.command.RequestedPartialEq.TheImpl as requested
 use Rattle.acd_terms.specs.contracts.command.CommandPartialEq.TheImpl as command
-use Rattle.acd_lemmas.proofs.Same.{two, numbers, same_list}
+use Rattle.acd_lemmas.proofs.EqualParts.{two, numbers, same_list}
 use Rattle.acd_lemmas.proofs.SameRecords.{same_pending}
 
 same_requested : (a b : Requested) → (requested.eq-value).it a b ≡ true → a ≡ b

@@ -39,7 +39,7 @@ use Rattle.acd_terms.specs.contracts.event.EventEq.TheImpl.Laws as event_laws
 use Rattle.acd_terms.specs.contracts.rows.LimitsPartialEq.TheImpl as limits_eq
 use Rattle.acd_terms.specs.contracts.rows.RowsPartialEq.TheImpl as rows_eq
 use Rattle.acd_terms.specs.contracts.rows.RowsEq.TheImpl.Laws as rows_laws
-use Rattle.acd_lemmas.proofs.Same.{two, numbers, same_list, option_same, number_same}
+use Rattle.acd_lemmas.proofs.EqualParts.{two, numbers, same_list, option_same, number_same}
 
 pub same_state : (x y : AgentState) → (agent_state_eq.eq-value).it x y ≡ true → x ≡ y
 same_state agent.Null agent.Null h = refl

@@ -11,8 +11,8 @@ use Rattle.acd_lemmas.proofs.Words.{Rows, GroupRecord, StationRecord, AgentRecor
 use Rattle.acd_model.specs.Figures.{counting}
 use Rattle.acd_lemmas.proofs.Lists.{eq_is, is_eq_of, one, find_passes, find_among, filter_among, count-removed, every_among, counted, none_from, some_is}
 use Rattle.acd_lemmas.proofs.MappedLists.{find_by-map, of-option_map}
-use Rattle.acd_lemmas.proofs.Keyed.{Keyed, by_number, cmp_equal, cmp_self, find_is, some_is_any, found_among, found_has, found_itself, found_put, some_put, found_left, eqb_swap, counted_new, counted_old, others_left}
-use Rattle.acd_lemmas.proofs.Facts.{Rules, CallRule, ConnectionRule, seated_at, two_if}
+use Rattle.acd_lemmas.proofs.KeyedLists.{Keyed, by_number, cmp_equal, cmp_self, find_is, some_is_any, found_among, found_has, found_itself, found_put, some_put, found_left, eqb_swap, counted_new, counted_old, others_left}
+use Rattle.acd_lemmas.proofs.RuleFacts.{Rules, CallRule, ConnectionRule, seated_at, two_if}
 use Rattle.acd_lemmas.proofs.Numbers.{then_equal}
 
 abbrev pub by_group : Keyed GroupRecord ℕ

@@ -27,7 +27,7 @@ pub use Rattle.acd_model.specs.declared.moves.Ending.{Ending}
 pub use Rattle.acd_model.specs.declared.moves.Move.{Move}
 pub use Rattle.acd_model.specs.declared.moves.Offer.{Offer}
 pub use Rattle.acd_model.specs.declared.moves.Release.{Release}
-pub use Rattle.acd_model.specs.Served.{Served}
+pub use Rattle.acd_model.specs.ServiceAnswers.{Served}
 pub use Rattle.acd_model.specs.Scans.{at_group, at_station, at_agent, at_call, at_connection, at_monitor, is_group, is_station, is_planned, has, is_idle_there}
 unfoldable pub use Rattle.acd_model.specs.Scans.{
   group_of,
@@ -62,6 +62,6 @@ unfoldable pub use Rattle.acd_model.specs.Writes.{
 pub use Rattle.acd_model.specs.Moves.{no_move, silent, reported, changed, moved, event_at, with_event, events_of}
 pub use Rattle.acd_model.specs.Rules.Plan.{group_order, station_order, agent_order, call_order, connection_order, monitor_order, is_station_there, are_planned_groups, is_alone_at}
 unfoldable pub use Rattle.acd_model.specs.Rules.Plan.{keeps_limits, keeps_order, keeps_device, keeps_agent, keeps_monitor}
-pub use Rattle.acd_model.specs.Rules.Calls.{is_bare, is_placed, has_columns, is_group_or_none, may_stand, is_open, parties_of, initiated_of, initiated_at, open_of, live_at, alerting_at, hold_at}
+pub use Rattle.acd_model.specs.Rules.Calls.{is_bare, is_placed, has_members, is_group_or_none, may_stand, is_open, parties_of, initiated_of, initiated_at, open_of, live_at, alerting_at, hold_at}
 unfoldable pub use Rattle.acd_model.specs.Rules.Calls.{keeps_call, keeps_connection, keeps_parties, keeps_live}
 pub use Rattle.acd_model.specs.OneOffer.{is_distributed_at, IsAttended, IsTalking, HasOneOffer}

@@ -7,7 +7,7 @@ use Rattle.std.proofs.lemmas.List.Elements.{filter-append}
 use Rattle.std.specs.Cmp.Derive.{both_true}
 use Rattle.std.specs.List.{list_all}
 use Rattle.std.specs.Io.BufRead.{ends_with_byte, strip_last}
-use Rattle.acd_lines.specs.Input.{cut, onto, text_of, has_none}
+use Rattle.acd_lines.specs.Input.{cut, onto, text_of_line, has_none}
 use Rattle.acd_lines.specs.Output.{whole_lines}
 
 -- a part with no line feed, and then one
@@ -34,8 +34,8 @@ ends_in_feed part =
     let some : 0 < length (part ++ 10 ∷ []) = omega arith in
     both_true (lt-ltb 0 _ some) (ap (λ (n : ℕ). get_or (part ++ 10 ∷ []) n 0 == 10) last ∙ ap (λ (x : ℕ). x == 10) (get_or_at part 10 [] 0 (length part) refl))
 
-pub text_line : (part : List ℕ) → text_of (part ++ 10 ∷ []) ≡ strip_last 13 part
-unfolding text_of
+pub text_line : (part : List ℕ) → text_of_line (part ++ 10 ∷ []) ≡ strip_last 13 part
+unfolding text_of_line
 text_line part =
     let size = length-append part (10 ∷ []) in
     let last : length (part ++ 10 ∷ []) - 1 ≡ length part = omega arith in
@@ -49,8 +49,8 @@ no_last (x ∷ xs) h =
       | false ↦ λ e. rw (lt-ltb 0 (length (x ∷ xs)) (omega arith)) refl
     ] refl
 
-pub text_open : (part : List ℕ) → has_none 10 part ≡ true → text_of part ≡ part
-unfolding text_of
+pub text_open : (part : List ℕ) → has_none 10 part ≡ true → text_of_line part ≡ part
+unfolding text_of_line
 text_open part h = rw (no_last part h) refl
 
 filter_all : (p : List ℕ → Bool) (xs : List (List ℕ)) → list_all p xs ≡ true → filter p xs ≡ xs

@@ -1,15 +1,15 @@
 -- How answering lines ended, by what was answered.
 use Rattle.std.proofs.Common.{◌≡◌, ℕ, Bool, true, List, Result, Ok, Err, IsErrAnd, sym, subst, ◌∙◌, true≢false}
 use Rattle.std.specs.Io.KnownBytes.{Appends}
-use Rattle.acd_desk.specs.Ran.{Standing}
-use Rattle.acd_io.specs.Sent.{Begins}
+use Rattle.acd_desk.specs.DeskCalls.{DeskState}
+use Rattle.acd_io.specs.SentBytes.{Begins}
 use Rattle.acd_lines.specs.declared.fault.LinesFault.{LinesFault}
 use Rattle.acd_lines.specs.declared.fault.LinesFault.TheVariants.{Read, Write, NoMemory}
 use Rattle.acd_lines.specs.Lines.{LinesAnswered, AllLines, FirstLines, Streams, EndedBy, LinesDone}
-use Rattle.acd_lines.proofs.Weaker.{picked_so, answered_so, all_are_first}
+use Rattle.acd_lines.proofs.WeakerAnswers.{picked_so, answered_so, all_are_first}
 
 -- `T d e` says how lines were answered from d to e
-module _ {D : Type 0} (stands : D → Standing) (T : D → D → List (List ℕ) → List (List ℕ) → Type 0) (ends : Bool) (io : Streams) (d e : D) where
+module _ {D : Type 0} (stands : D → DeskState) (T : D → D → List (List ℕ) → List (List ℕ) → Type 0) (ends : Bool) (io : Streams) (d e : D) where
   -- the whole input was answered
   pub done_whole : LinesAnswered (AllLines io.old_input) (T d e) (Appends io.old_output io.new_output) → LinesDone stands T ends io d e (Ok tt)
   done_whole h = record { all = λ well. h; first = picked_so (AllLines io.old_input) (FirstLines io.old_input) (T d e) (Appends io.old_output io.new_output) (all_are_first io.old_input) h; begun = tt; cause = tt }

@@ -1,9 +1,9 @@
 pub mod Splits
 pub mod Moments
-pub mod Kept
+pub mod BoundedLines
 pub mod Cuts
-pub mod Reaching
-pub mod Weaker
+pub mod AnsweredSoFar
+pub mod WeakerAnswers
 pub mod Turns
 pub mod RunsInTurn
 pub mod Endings

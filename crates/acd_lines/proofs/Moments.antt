@@ -9,18 +9,18 @@ use Rattle.std.specs.Char.{is_ascii_digit}
 use Rattle.std.specs.List.{list_all}
 use Rattle.acd_io.specs.Digits.{is_number, number_up_to}
 use Rattle.acd_io.proofs.DigitLemmas.{positive, few_digits, no_number}
-use Rattle.acd_lines.specs.Input.{has_none, is_moment, number_of, moment_before, moment_of}
+use Rattle.acd_lines.specs.Input.{has_none, is_moment, moment_of_digits, moment_before, moment_of}
 use Rattle.acd_lines.proofs.Splits.{split_none, split_first}
 
-no_moment : (digits : List ℕ) → is_moment digits ≡ false → number_of digits ≡ None
-unfolding number_of
+no_moment : (digits : List ℕ) → is_moment digits ≡ false → moment_of_digits digits ≡ None
+unfolding moment_of_digits
 no_moment digits h = rw h refl
 
-pub number_long : (digits : List ℕ) → 10 < length digits → number_of digits ≡ None
+pub number_long : (digits : List ℕ) → 10 < length digits → moment_of_digits digits ≡ None
 number_long digits h = no_moment digits (grind (arith, nat_tests))
 
-pub number_faulty : (digits : List ℕ) → number_up_to digits ≡ None → number_of digits ≡ None
-number_faulty digits e = elim (is_moment digits) as (λ b. is_moment digits ≡ b → number_of digits ≡ None) [
+pub number_faulty : (digits : List ℕ) → number_up_to digits ≡ None → moment_of_digits digits ≡ None
+number_faulty digits e = elim (is_moment digits) as (λ b. is_moment digits ≡ b → moment_of_digits digits ≡ None) [
   | false ↦ λ h. no_moment digits h
   | true ↦ λ h.
       let first = and_parts (nat_lt 0 (length digits)) (nat_le (length digits) 10 && (list_all is_ascii_digit digits && nat_le (digits_value 10 digits) 4294967295)) h in
@@ -31,8 +31,8 @@ number_faulty digits e = elim (is_moment digits) as (λ b. is_moment digits ≡ 
       absurd (true≢false (sym (both_true (ap not none) third.0) ∙ no_number digits e))
 ] refl
 
-number_is : (digits : List ℕ) (v : ℕ) → length digits ≤ 10 → is_number digits ≡ true → v ≡ digits_value 10 digits → v ≤ 4294967295 → Some v ≡ number_of digits
-unfolding number_of
+number_is : (digits : List ℕ) (v : ℕ) → length digits ≤ 10 → is_number digits ≡ true → v ≡ digits_value 10 digits → v ≤ 4294967295 → Some v ≡ moment_of_digits digits
+unfolding moment_of_digits
 number_is digits v short numbered is small =
     let both = and_parts (not (length digits == 0)) (list_all is_ascii_digit digits) numbered in
     let some : 0 < length digits = positive (length digits) (not-true (length digits == 0) both.0) in
@@ -41,7 +41,7 @@ number_is digits v short numbered is small =
     rw holds (ap Some is)
 
 -- where the number fits
-pub number_fits : {E : Type 0} (r : Result ℕ E) (digits : List ℕ) (v : ℕ) → OkIff r (v < 4294967296) v → length digits ≤ 10 → number_up_to digits ≡ Some v → result_ok r ≡ number_of digits
+pub number_fits : {E : Type 0} (r : Result ℕ E) (digits : List ℕ) (v : ℕ) → OkIff r (v < 4294967296) v → length digits ≤ 10 → number_up_to digits ≡ Some v → result_ok r ≡ moment_of_digits digits
 number_fits (Ok x) digits v h short e =
     let few = few_digits digits v short e in
     number_is digits x short few.0 (h.1 ∙ few.1) (omega (arith, h.0, h.1))
@@ -56,6 +56,6 @@ pub moment_none : (text : List ℕ) → has_none 32 text ≡ true → moment_of 
 unfolding moment_of
 moment_none text h = ap moment_before (split_none 32 text h)
 
-pub moment_split : (text front rest : List ℕ) → text ≡ front ++ 32 ∷ rest → has_none 32 front ≡ true → moment_of text ≡ option_map (λ n. (n, rest)) (number_of front)
+pub moment_split : (text front rest : List ℕ) → text ≡ front ++ 32 ∷ rest → has_none 32 front ≡ true → moment_of text ≡ option_map (λ n. (n, rest)) (moment_of_digits front)
 unfolding moment_of
 moment_split text front rest e h = ap moment_of e ∙ ap moment_before (split_first 32 front rest h)

@@ -7,17 +7,17 @@ use Rattle.std.specs.Io.KnownBytes.{Appends}
 use Rattle.acd_terms.specs.declared.command.Request.{Request}
 use Rattle.acd_terms.specs.declared.command.Arrival.{Arrival}
 use Rattle.acd_desk.specs.declared.taken.Taken.{Taken}
-use Rattle.acd_desk.specs.Arrived.{at}
-use Rattle.acd_desk.specs.Ran.{Standing, Ran}
-use Rattle.acd_desk.proofs.Desks.Many.{Settles, ran_nothing, ran_more}
+use Rattle.acd_desk.specs.Arrivals.{at}
+use Rattle.acd_desk.specs.DeskCalls.{DeskState, Ran}
+use Rattle.acd_desk.proofs.Desks.CallsInTurn.{Settles, ran_nothing, ran_more}
 use Rattle.acd_lines.specs.Input.{arrival}
 use Rattle.acd_lines.specs.Answers.{Answers, taken_line}
 use Rattle.acd_lines.specs.Output.{AnswerLines, imported}
-use Rattle.acd_io.specs.Sent.{Passes, Breaks}
+use Rattle.acd_io.specs.SentBytes.{Passes, Breaks}
 use Rattle.acd_lines.specs.Parts.{LineDone, LineStops, Imports, ImportStops, HasImported}
 use Rattle.acd_io.proofs.Sends.{passes_nothing, passes_then, passes_out, passes_whole, breaks_then, breaks_out}
 use Rattle.acd_lines.specs.Lines.{LinesAnswered, AllRequests}
-use Rattle.acd_lines.proofs.Weaker.{out_so}
+use Rattle.acd_lines.proofs.WeakerAnswers.{out_so}
 
 -- one answer line more
 answered_more : (rs : List Request) (ts : List Taken) (outs : List (List ℕ)) (r : Request) (t : Taken) (out : List ℕ) → out ≡ taken_line r t → AnswerLines (imported rs) ts outs
@@ -42,7 +42,7 @@ take_more i rs r d e h = subst (λ (x : Request). take (i + 1) rs ≡ take i rs 
 pub take_whole : (i : ℕ) (rs : List Request) → length rs ≤ i → take i rs ≡ rs
 take_whole i rs h = grind (arith, common_steps)
 
-module _ {D : Type 0} (stands : D → Standing) (settles : (d : D) → Settles (stands d)) where
+module _ {D : Type 0} (stands : D → DeskState) (settles : (d : D) → Settles (stands d)) where
   -- none was executed
   pub imports_none : (d : D) (a : Option (List ℕ)) (waiting : List ℕ) → waiting ≡ [] → Imports stands d [] d a a waiting
   imports_none d a waiting none = record {
@@ -83,7 +83,7 @@ module _ {D : Type 0} (stands : D → Standing) (settles : (d : D) → Settles (
     out = subst (Breaks a c) (sym (text_more h.answers stopped.0)) (breaks_then a b c [] waiting (concat h.answers) stopped.0 h.out stopped.2);
   }
 
-module _ {D : Type 0} (stands : D → Standing) where
+module _ {D : Type 0} (stands : D → DeskState) where
   -- all were executed, and the waiting bytes were written
   pub imports_out : (d e : D) (rs all : List Request) (a b c : Option (List ℕ)) (waiting : List ℕ) → rs ≡ all → Imports stands d rs e a b waiting → Passes b c [] waiting → Imports stands d all e a c []
   imports_out d e rs all a b c waiting is h out = record {

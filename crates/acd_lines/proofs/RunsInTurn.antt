@@ -2,10 +2,10 @@
 use Rattle.std.proofs.Common.{◌≡◌, ℕ, List, [], ◌∷◌, ◌++◌, refl, sym, ap, subst, ◌∙◌, append_assoc, append-nil}
 use Rattle.acd_terms.specs.declared.command.Arrival.{Arrival}
 use Rattle.acd_desk.specs.declared.taken.Taken.{Taken}
-use Rattle.acd_desk.specs.Arrived.{at}
-use Rattle.acd_desk.specs.Ran.{Standing, Ran}
-use Rattle.acd_desk.proofs.Desks.Many.{Settles, ran_nothing, ran_more}
-use Rattle.acd_lines.specs.Input.{Line, no_moment, too_long, faulty, arrival, line_of, text_of, lines_of, arrivals_in}
+use Rattle.acd_desk.specs.Arrivals.{at}
+use Rattle.acd_desk.specs.DeskCalls.{DeskState, Ran}
+use Rattle.acd_desk.proofs.Desks.CallsInTurn.{Settles, ran_nothing, ran_more}
+use Rattle.acd_lines.specs.Input.{Line, no_moment, too_long, faulty, arrival, line_of, text_of_line, lines_of, arrivals_in}
 use Rattle.acd_lines.specs.Answers.{Answers}
 use Rattle.acd_lines.specs.Output.{AnswerLines}
 use Rattle.acd_lines.specs.Parts.{AnswersEach}
@@ -17,7 +17,7 @@ arrivals_rest too_long lines = refl
 arrivals_rest (faulty member) lines = refl
 arrivals_rest (arrival moment request) lines = refl
 
-module _ {D : Type 0} (stands : D → Standing) where
+module _ {D : Type 0} (stands : D → DeskState) where
   -- one line more
   abbrev pub OneLine : D → List Arrival → List Taken → D → Line → List ℕ → Type 0
   OneLine s l ts e line out = (more : List Taken) × Ran (stands s) (l ++ arrivals_in (line ∷ [])) (ts ++ more) (stands e)
@@ -41,7 +41,7 @@ module _ {D : Type 0} (stands : D → Standing) where
   answers_on settles s d e l ts [] (o ∷ os) ran h = absurd h
   answers_on settles s d e l ts (p ∷ ps) [] ran h = absurd h
   answers_on settles s d e l ts (p ∷ ps) (o ∷ os) ran h =
-      let line : Line = line_of (text_of p) in
+      let line : Line = line_of (text_of_line p) in
       let one = one_line settles s d h.0 l ts line o ran h.1 in
       let rest = answers_on settles s h.0 e (l ++ arrivals_in (line ∷ [])) (ts ++ one.0) ps os one.1 h.2 in (
         one.0 ++ rest.0,

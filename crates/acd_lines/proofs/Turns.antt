@@ -4,23 +4,23 @@ use Rattle.std.proofs.lemmas.List.{length-take, take_at}
 use Rattle.std.specs.Io.BufRead.{strip_last}
 use Rattle.std.specs.Io.KnownBytes.{Appends, Consumes}
 use Rattle.std.proofs.KnownBytes.{Consumes-nil}
-use Rattle.acd_lines.specs.Input.{has_none, text_of, cut}
-use Rattle.acd_io.specs.Read.{IsInput}
+use Rattle.acd_lines.specs.Input.{has_none, text_of_line, cut}
+use Rattle.acd_io.specs.Streams.{IsInput}
 use Rattle.acd_io.proofs.Inputs.{input_begun}
 use Rattle.acd_io.specs.declared.sending.Stopped.{Stopped}
-use Rattle.acd_io.specs.Sent.{Passes, Breaks, Begins}
-use Rattle.acd_lines.specs.Outgoing.{Step}
+use Rattle.acd_io.specs.SentBytes.{Passes, Breaks, Begins}
+use Rattle.acd_lines.specs.WaitingBytes.{OverCall}
 use Rattle.acd_lines.specs.Parts.{FirstAnswered, Reached, AnsweredSoFar, LineDone, LineStops, Feeds, Stops, FeedStops, Finishes, FinishStops, InTurn, AnsweredAs, AnswerPushed, text_kept}
 use Rattle.acd_io.proofs.Sends.{breaks_front, passes_same_front, passes_nothing, passes_then, breaks_then, passes_out, breaks_out, begins_so, passes_whole}
 use Rattle.acd_lines.specs.Output.{whole_lines}
 use Rattle.acd_lines.specs.Lines.{LinesAnswered, AllLines, FirstLines, EndedLines}
-use Rattle.acd_lines.proofs.Kept.{ByFront, kept_more, kept_line, kept_strip}
+use Rattle.acd_lines.proofs.BoundedLines.{ByFront, kept_more, kept_line, kept_strip}
 use Rattle.acd_lines.proofs.Cuts.{text_line, text_open}
-use Rattle.acd_lines.proofs.Reaching.{reached_bytes, reached_line, read_reached, some_reached, all_ended, all_open}
-use Rattle.acd_lines.proofs.Weaker.{out_so, all_are_first}
+use Rattle.acd_lines.proofs.AnsweredSoFar.{reached_bytes, reached_line, read_reached, some_reached, all_ended, all_open}
+use Rattle.acd_lines.proofs.WeakerAnswers.{out_so, all_are_first}
 
 -- the text of a line, of which a beginning was kept
-line_text_of : {L : Type 0} (asks : List ℕ → L) → ByFront asks → (m : ℕ) (part kept end : List ℕ) → 4107 < m → kept ≡ take (m + 1) part → asks (strip_last 13 (take (m + 1) (kept ++ end))) ≡ asks (text_of ((part ++ end) ++ 10 ∷ []))
+line_text_of : {L : Type 0} (asks : List ℕ → L) → ByFront asks → (m : ℕ) (part kept end : List ℕ) → 4107 < m → kept ≡ take (m + 1) part → asks (strip_last 13 (take (m + 1) (kept ++ end))) ≡ asks (text_of_line ((part ++ end) ++ 10 ∷ []))
 line_text_of {L} asks by_front m part kept end big e =
     ap (λ (l : List ℕ). asks (strip_last 13 l)) (ap (λ (l : List ℕ). take (m + 1) (l ++ end)) e ∙ kept_more (m + 1) part end) ∙ kept_strip asks by_front m (part ++ end) big ∙ ap asks (sym (text_line (part ++ end)))
 
@@ -83,7 +83,7 @@ module _ {S L : Type 0} (asks : List ℕ → L) (by_front : ByFront asks) (A : S
       subst (λ (l : List ℕ). Reached asks A s l [] (earlier ++ (h.answers ++ out)) t) (sym (up_to_feed seen end)) (subst (λ (w : List ℕ). Reached asks A s ((seen ++ end) ++ 10 ∷ []) [] w t) (append_assoc earlier h.answers out) reached)
 
   -- the same line
-  pub pushed_same : (line line' : L) (over : Step S) (r : Result (Unit {0}) Stopped) → line ≡ line' → AnswerPushed A line over r → AnswerPushed A line' over r
+  pub pushed_same : (line line' : L) (over : OverCall S) (r : Result (Unit {0}) Stopped) → line ≡ line' → AnswerPushed A line over r → AnswerPushed A line' over r
   pushed_same line line' over r e h = (h.0, subst (λ (l : L). A over.old l h.0 over.new) e h.1, h.2)
 
   -- a line ended, and was answered

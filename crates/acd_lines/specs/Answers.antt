@@ -8,8 +8,8 @@ use Rattle.acd_codec.specs.declared.fault.FixedAnswer.TheVariants as fixed
 use Rattle.acd_desk.specs.declared.taken.Taken.{Taken}
 use Rattle.acd_desk.specs.declared.answer_text.AnswerText.{AnswerText}
 use Rattle.acd_desk.specs.AnswerTexts.{Said, said, fixed_said, malformed_said, taken_said}
-use Rattle.acd_desk.specs.Arrived.{at}
-use Rattle.acd_desk.specs.Ran.{Standing, Took}
+use Rattle.acd_desk.specs.Arrivals.{at}
+use Rattle.acd_desk.specs.DeskCalls.{DeskState, Took}
 use Rattle.acd_lines.specs.Input.{Line, no_moment, too_long, faulty, arrival}
 
 -- status, space, body, line feed
@@ -35,7 +35,7 @@ taken_line r t = line_text (taken_said r t)
 abbrev pub GetsAnswer : {D L : Type 0} → (D → L → List ℕ → D → Type 0) → D → L → AnswerText → D → Type 0
 GetsAnswer Answers d asked answer e = Answers d asked (answered_text answer) e
 
-module _ {D : Type 0} (stands : D → Standing) where
+module _ {D : Type 0} (stands : D → DeskState) where
   -- the desk, a line, what is written for it, and the desk after it
   abbrev pub Answers : D → Line → List ℕ → D → Type 0
   Answers d no_moment out e = (out ≡ malformed_line members.Moment) × (e ≡ d)

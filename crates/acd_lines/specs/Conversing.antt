@@ -5,14 +5,14 @@ use Rattle.acd_lines.specs.declared.conversation.Replies.{Replies}
 use Rattle.acd_lines.specs.declared.conversation.Conversation.{Conversation}
 use Rattle.acd_lines.specs.declared.fault.LinesFault.{LinesFault}
 use Rattle.acd_lines.specs.Lines.{Manner, Streams, streams, LinesDoneBy}
-use Rattle.acd_lines.specs.Outgoing.{Step, outgoing}
+use Rattle.acd_lines.specs.WaitingBytes.{OverCall, outgoing}
 
 -- it is had with the same desk, and its answers go to the same writer
 abbrev pub KeepsEnds : {B A W : Type 0} → Replies B A W → Replies B A W → Type 0
 KeepsEnds first last = (last.desk.ghost_name ≡ first.desk.ghost_name) × (last.writer.ghost_name ≡ first.writer.ghost_name)
 
 -- by its desk, its outbox and its writer, as they were before the call, and as they are after
-abbrev pub step : {B A W : Type 0} → (W → Option (List ℕ)) → Replies B A W → Replies B A W → Step (Desk B)
+abbrev pub step : {B A W : Type 0} → (W → Option (List ℕ)) → Replies B A W → Replies B A W → OverCall (Desk B)
 step contents first last = record {
   old = first.desk.now;
   new = last.desk.now;
@@ -23,7 +23,7 @@ step contents first last = record {
 pub record Turn (S : Type 0) : Type 0 where
   pub kept : List ℕ
   pub keeps : List ℕ
-  pub over : Step S
+  pub over : OverCall S
 
 abbrev pub turn : {B A W : Type 0} → (W → Option (List ℕ)) → Conversation B A W → Conversation B A W → Turn (Desk B)
 turn contents first last = record { kept = first.partial.now; keeps = last.partial.now; over = step contents first.replies last.replies }

@@ -7,8 +7,8 @@ use Rattle.std.specs.Io.BufRead.{ends_with_byte, strip_last}
 use Rattle.acd_terms.specs.declared.command.Request.{Request}
 use Rattle.acd_terms.specs.declared.command.Arrival.{Arrival}
 use Rattle.acd_codec.specs.declared.member.Member.{Member}
-use Rattle.acd_codec.specs.Reading.{reads_as}
-use Rattle.acd_desk.specs.Arrived.{at}
+use Rattle.acd_codec.specs.RequestReading.{reads_as}
+use Rattle.acd_desk.specs.Arrivals.{at}
 
 -- x is put before the first piece
 abbrev pub onto : ℕ → List (List ℕ) → List (List ℕ)
@@ -21,8 +21,8 @@ cut [] = []
 cut (x ∷ xs) = if x == 10 then (10 ∷ []) ∷ cut xs else onto x (cut xs)
 
 -- a piece without its line feed, and without a carriage return before that
-unfoldable pub text_of : List ℕ → List ℕ
-text_of piece = if ends_with_byte 10 piece then strip_last 13 (strip_last 10 piece) else piece
+unfoldable pub text_of_line : List ℕ → List ℕ
+text_of_line piece = if ends_with_byte 10 piece then strip_last 13 (strip_last 10 piece) else piece
 
 -- no such byte
 abbrev pub has_none : ℕ → List ℕ → Bool
@@ -44,12 +44,12 @@ abbrev pub is_moment : List ℕ → Bool
 is_moment digits = nat_lt 0 (length digits) && (nat_le (length digits) 10 && (list_all is_ascii_digit digits && nat_le (digits_value 10 digits) 4294967295))
 
 -- the number of a moment
-unfoldable pub number_of : List ℕ → Option ℕ
-number_of digits = if is_moment digits then Some (digits_value 10 digits) else None
+unfoldable pub moment_of_digits : List ℕ → Option ℕ
+moment_of_digits digits = if is_moment digits then Some (digits_value 10 digits) else None
 
 abbrev pub moment_before : Option (List ℕ × List ℕ) → Option (ℕ × List ℕ)
 moment_before None = None
-moment_before (Some p) = option_map (λ n. (n, p.1)) (number_of p.0)
+moment_before (Some p) = option_map (λ n. (n, p.1)) (moment_of_digits p.0)
 
 -- the moment of a line, before its first space, and the rest after that
 unfoldable pub moment_of : List ℕ → Option (ℕ × List ℕ)
@@ -85,7 +85,7 @@ line_of text = asked no_moment too_long request_read text
 
 -- the lines that some pieces are
 abbrev pub lines_of : List (List ℕ) → List Line
-lines_of pieces = map (λ (piece : List ℕ). line_of (text_of piece)) pieces
+lines_of pieces = map (λ (piece : List ℕ). line_of (text_of_line piece)) pieces
 
 -- the arrivals among some lines
 abbrev pub arrivals_in : List Line → List Arrival

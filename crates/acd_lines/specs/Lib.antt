@@ -1,7 +1,7 @@
 pub mod Input
 pub mod Answers
 pub mod Output
-pub mod Outgoing
+pub mod WaitingBytes
 pub mod Lines
 pub mod Parts
 pub mod Conversing

@@ -7,13 +7,13 @@ use Rattle.acd_terms.specs.declared.command.Arrival.{Arrival}
 use Rattle.acd_book.specs.declared.book.Book.{Ghosts}
 use Rattle.acd_desk.specs.declared.desk.Desk.{Desk}
 use Rattle.acd_desk.specs.declared.taken.Taken.{Taken}
-use Rattle.acd_desk.specs.Arrived.{at}
-use Rattle.acd_desk.specs.Ran.{DeskRan, Standing, standing}
+use Rattle.acd_desk.specs.Arrivals.{at}
+use Rattle.acd_desk.specs.DeskCalls.{DeskRan, DeskState, state_of}
 use Rattle.acd_lines.specs.declared.fault.LinesFault.{LinesFault}
 use Rattle.acd_lines.specs.declared.fault.LinesFault.TheVariants.{Read, Write, NoMemory}
 use Rattle.acd_lines.specs.Input.{cut, lines_of, arrivals_in}
-use Rattle.acd_io.specs.Read.{IsInput}
-use Rattle.acd_io.specs.Sent.{Begins, Breaks}
+use Rattle.acd_io.specs.Streams.{IsInput}
+use Rattle.acd_io.specs.SentBytes.{Begins, Breaks}
 use Rattle.acd_lines.specs.Output.{whole_lines, AnswerLines, imported}
 
 -- the questions answered, and their answer lines: how many these are, how they were answered, and how the lines were
@@ -115,7 +115,7 @@ module _ {D : Type 0} (InTurn : D → D → List (List ℕ) → List (List ℕ) 
   EndedBy NoMemory = Untouched io × (e ≡ d)
 
 -- where `ends` says so, a desk that has failed answers nothing more
-module _ {D : Type 0} (stands : D → Standing) (InTurn : D → D → List (List ℕ) → List (List ℕ) → Type 0) (ends : Bool) (io : Streams) (d e : D) where
+module _ {D : Type 0} (stands : D → DeskState) (InTurn : D → D → List (List ℕ) → List (List ℕ) → Type 0) (ends : Bool) (io : Streams) (d e : D) where
   pub record LinesDone (result : Result (Unit {0}) LinesFault) : Type 0 where
     -- without a fault the whole input was answered, unless the desk failed and that was to end it
     pub all : OnOk result ((ends ≡ true → (stands e).failed ≡ false) → LinesAnswered (AllLines io.old_input) (InTurn d e) (Appends io.old_output io.new_output))
@@ -130,7 +130,7 @@ module _ {D : Type 0} (stands : D → Standing) (InTurn : D → D → List (List
 -- how lines are answered
 pub record Manner (D : Type 0) : Type 1 where
   -- what is seen of a desk
-  pub stands : D → Standing
+  pub stands : D → DeskState
   -- these lines got these answers, from one desk to another
   pub Answered : D → D → List (List ℕ) → List (List ℕ) → Type 0
   -- a desk that has failed answers nothing more
@@ -138,7 +138,7 @@ pub record Manner (D : Type 0) : Type 1 where
 
 -- the desk executes their requests, and nothing else is asked
 abbrev pub by_requests : {B : Type 0} → Ghosts B → Bool → Manner (Desk B)
-by_requests book ends = record { stands = standing book; Answered = RunInTurn book; ends = ends }
+by_requests book ends = record { stands = state_of book; Answered = RunInTurn book; ends = ends }
 
 -- so lines were answered, from one desk to another
 abbrev pub LinesDoneBy : {D : Type 0} → Manner D → Streams → D → D → Result (Unit {0}) LinesFault → Type 0

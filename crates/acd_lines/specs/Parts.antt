@@ -5,11 +5,11 @@ use Rattle.std.specs.Io.BufRead.{ends_with_byte, strip_last}
 use Rattle.acd_terms.specs.declared.command.Request.{Request}
 use Rattle.acd_terms.specs.declared.command.Arrival.{Arrival}
 use Rattle.acd_desk.specs.declared.taken.Taken.{Taken}
-use Rattle.acd_desk.specs.Ran.{Standing, Ran}
-use Rattle.acd_lines.specs.Input.{has_none, text_of, cut}
+use Rattle.acd_desk.specs.DeskCalls.{DeskState, Ran}
+use Rattle.acd_lines.specs.Input.{has_none, text_of_line, cut}
 use Rattle.acd_io.specs.declared.sending.Stopped.{Stopped}
-use Rattle.acd_io.specs.Sent.{Passes, Breaks}
-use Rattle.acd_lines.specs.Outgoing.{Step, Pushed}
+use Rattle.acd_io.specs.SentBytes.{Passes, Breaks}
+use Rattle.acd_lines.specs.WaitingBytes.{OverCall, Pushed}
 use Rattle.acd_lines.specs.Lines.{LinesAnswered, AllRequests, FirstRequests, RequestsAnswered}
 
 module _ {S L : Type 0} (Answers : S → L → List ℕ → S → Type 0) where
@@ -22,7 +22,7 @@ module _ {S L : Type 0} (Answers : S → L → List ℕ → S → Type 0) where
   LineStops s line t old new before = (out : List ℕ) × Answers s line out t × Breaks old new (before ++ out)
 
   -- a line was answered, and its answer was pushed: by how that ended, the one or the other
-  abbrev pub AnswerPushed : L → Step S → Result (Unit {0}) Stopped → Type 0
+  abbrev pub AnswerPushed : L → OverCall S → Result (Unit {0}) Stopped → Type 0
   AnswerPushed line over result = (text : List ℕ) × Answers over.old line text over.new × Pushed result over.out text
 
 module _ {S L : Type 0} (asks : List ℕ → L) (Answers : S → L → List ℕ → S → Type 0) where
@@ -31,7 +31,7 @@ module _ {S L : Type 0} (asks : List ℕ → L) (Answers : S → L → List ℕ 
   AnswersEach s [] [] t = t ≡ s
   AnswersEach s [] (out ∷ outs) t = ⊥
   AnswersEach s (piece ∷ pieces) [] t = ⊥
-  AnswersEach s (piece ∷ pieces) (out ∷ outs) t = (mid : S) × Answers s (asks (text_of piece)) out mid × AnswersEach mid pieces outs t
+  AnswersEach s (piece ∷ pieces) (out ∷ outs) t = (mid : S) × Answers s (asks (text_of_line piece)) out mid × AnswersEach mid pieces outs t
 
   -- from one desk to another
   abbrev pub InTurn : S → S → List (List ℕ) → List (List ℕ) → Type 0
@@ -86,7 +86,7 @@ module _ {S L : Type 0} (asks : List ℕ → L) (Answers : S → L → List ℕ 
   FinishStops mid t kept old new before = (s : S) (seen part answers : List ℕ) → kept ≡ take 4109 part → Reached s seen part answers mid
       → (out : List ℕ) × AnsweredAs s (cut seen) (answers ++ out) t × Breaks old new (before ++ out)
 
-module _ {D : Type 0} (stands : D → Standing) where
+module _ {D : Type 0} (stands : D → DeskState) where
   -- a desk has run over the requests of a plan
   abbrev pub HasImported : D → D → List Request → List (List ℕ) → Type 0
   HasImported d e requests outs = RequestsAnswered (λ (arrivals : List Arrival) (answers : List Taken). Ran (stands d) arrivals answers (stands e)) requests outs

@@ -2,12 +2,12 @@
 use Rattle.std.specs.Prelude.{◌≡◌, ℕ, List, [], Bool, Result, MatchResult}
 use Rattle.acd_book.specs.declared.book.Book.{Ghosts as Books}
 use Rattle.acd_desk.specs.declared.desk.Desk.{Desk}
-use Rattle.acd_desk.specs.Ran.{standing}
+use Rattle.acd_desk.specs.DeskCalls.{state_of}
 use Rattle.acd_io.specs.declared.sending.Stopped.{Stopped}
 use Rattle.acd_lines.specs.declared.answering.Answering.{Ghosts}
 use Rattle.acd_lines.specs.Input.{asked}
 use Rattle.acd_lines.specs.Lines.{Manner}
-use Rattle.acd_lines.specs.Outgoing.{Step}
+use Rattle.acd_lines.specs.WaitingBytes.{OverCall}
 use Rattle.acd_lines.specs.Conversing.{Turn}
 use Rattle.acd_lines.specs.Parts.{AnswerPushed, InTurn, Feeds, FeedStops, Finishes, FinishStops, text_kept}
 
@@ -22,10 +22,10 @@ module _ {A B : Type 0} (lines : Ghosts A B) where
 
   -- lines are answered so
   abbrev pub by_questions : Books B → Bool → Manner (Desk B)
-  by_questions book ends = record { stands = standing book; Answered = TakesTurns; ends = ends }
+  by_questions book ends = record { stands = state_of book; Answered = TakesTurns; ends = ends }
 
   -- a line of this text was answered, and its answer was pushed
-  abbrev pub LineAnswered : List ℕ → Step (Desk B) → Result (Unit {0}) Stopped → Type 0
+  abbrev pub LineAnswered : List ℕ → OverCall (Desk B) → Result (Unit {0}) Stopped → Type 0
   LineAnswered text over result = AnswerPushed lines.answers (question text) over result
 
   -- a line that ended in these bytes was, of which a part was kept

@@ -1,6 +1,6 @@
 //! The answer to one line.
 
-ghost use Rattle.acd_desk.specs.Ran.{standing};
+ghost use Rattle.acd_desk.specs.DeskCalls.{state_of};
 ghost use Rattle.acd_lines.specs.Input.{request_read, arrival};
 ghost use Rattle.acd_lines.specs.Answers.{AnsweredBy};
 
@@ -11,7 +11,7 @@ use acd_terms::Request;
 
 /// The answer to a request that comes in at a moment.
 pub(crate) fn execute<B: Book>(desk: &mut Desk<B>, moment: u32, request: &Request) -> AnswerText
-    ensures { AnsweredBy (standing B.Book) desk.old (arrival moment request.now) result desk.new }
+    ensures { AnsweredBy (state_of B.Book) desk.old (arrival moment request.now) result desk.new }
 {
     desk.take_text(moment, request)
 }
@@ -23,7 +23,7 @@ pub(crate) fn read<B: Book>(
     moment: u32,
     json: &[u8],
 ) -> AnswerText
-    ensures { AnsweredBy (standing B.Book) desk.old (request_read moment json.now) result desk.new }
+    ensures { AnsweredBy (state_of B.Book) desk.old (request_read moment json.now) result desk.new }
 {
     let read = requests.read(json);
     match &read {

@@ -2,10 +2,10 @@
 
 ghost use Rattle.std.specs.Prelude.{◌≡◌, ◌<◌, [], length, OnOk};
 ghost use Rattle.std.specs.Io.BufRead.{strip_last};
-ghost use Rattle.acd_desk.specs.Ran.{standing};
+ghost use Rattle.acd_desk.specs.DeskCalls.{state_of};
 ghost use Rattle.acd_lines.specs.Answers.{answered_text};
 ghost use Rattle.acd_lines.specs.Conversing.{step, turn, KeepsEnds, IsBegun, heard, Conversed};
-ghost use Rattle.acd_lines.specs.Outgoing.{outgoing, Pushed, Flushed};
+ghost use Rattle.acd_lines.specs.WaitingBytes.{outgoing, Pushed, Flushed};
 ghost use Rattle.acd_lines.specs.Questions.{LineAnswered, LineEnded, Fed, Finished, by_questions};
 
 use crate::answering::{Answering, answer_line};
@@ -99,7 +99,7 @@ impl<B: Book, A: Answering<B>, W: Write> Replies<'_, B, A, W> {
 
     // Whether the desk has failed.
     fn has_failed(&self) -> bool
-        ensures { result ≡ (standing B.Book self.now.desk.now).failed }
+        ensures { result ≡ (state_of B.Book self.now.desk.now).failed }
     {
         self.desk.has_failed()
     }

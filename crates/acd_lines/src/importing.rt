@@ -1,7 +1,7 @@
 //! The requests of a plan, and their answer lines.
 
 ghost use Rattle.std.specs.Prelude.{◌≡◌, [], IfErr};
-ghost use Rattle.acd_io.specs.Read.{across};
+ghost use Rattle.acd_io.specs.Streams.{across};
 ghost use Rattle.acd_lines.specs.Lines.{PlanAnswered, HasRun};
 
 use crate::answer::execute;

@@ -1,7 +1,7 @@
 //! Answers that wait to be written together.
 
 ghost use Rattle.std.specs.Prelude.{◌≡◌, [], IfOk};
-ghost use Rattle.acd_lines.specs.Outgoing.{outgoing, Pushed, Flushed};
+ghost use Rattle.acd_lines.specs.WaitingBytes.{outgoing, Pushed, Flushed};
 
 use acd_io::{Stopped, most_calls, send};
 use std::alloc::{AllocError, Global};

@@ -1,2 +1,2 @@
 pub mod Heads
-pub mod Looking
+pub mod LogFrames

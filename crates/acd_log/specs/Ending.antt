@@ -12,7 +12,7 @@ abbrev pub HasHead : List ℕ → Type 0
 HasHead log = (56 ≤ length log) × IsSigned (header log) × (be32 (header log) 4 ≡ 3007000)
 
 -- the log is as long as one with a frame, and its head can be read: its pages are so long
-pub record IsReadable (page : ℕ) (log : List ℕ) : Type 0 where
+pub record IsReadableLog (page : ℕ) (log : List ℕ) : Type 0 where
   pub long : 56 ≤ length log
   pub head : IsHeader page (header log)
   pub size : IsPageSize page
@@ -50,7 +50,7 @@ IsDamagedIn page log = (n : ℕ) × IsFirstBad page log n × IsBeforeCommit page
 
 -- Damage: the log ends before a commit that was on the disk. All else is an end that a power cut may leave.
 abbrev pub IsDamaged : List ℕ → Type 0
-IsDamaged log = (page : ℕ) × IsReadable page log × IsDamagedIn page log
+IsDamaged log = (page : ℕ) × IsReadableLog page log × IsDamagedIn page log
 
 abbrev pub is_zero : ℕ → Bool
 is_zero byte = byte == 0
@@ -63,7 +63,7 @@ pub record IsFilled (log : List ℕ) : Type 0 where
 
 -- there is, and the head can't be read
 abbrev pub IsHeadless : List ℕ → Type 0
-IsHeadless log = IsFilled log × ((page : ℕ) → ¬ IsReadable page log)
+IsHeadless log = IsFilled log × ((page : ℕ) → ¬ IsReadableLog page log)
 
 -- the log ends so
 pub record IsEndingOf (log : List ℕ) (ending : Ending) : Type 0 where

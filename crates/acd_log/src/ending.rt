@@ -4,9 +4,9 @@ ghost use Rattle.std.specs.Prelude.{◌≡◌, ◌≢◌, ◌≤◌, ◌↔◌, 
 ghost use Rattle.std.specs.List.{list_all};
 ghost use Rattle.acd_log.specs.Ending.{is_zero, IsFilled, IsDamagedIn, IsEndingOf};
 
+use crate::be32::part_of;
 use crate::frames::is_damaged;
 use crate::head::{HEAD, SHORTEST, page_size};
-use crate::words::part_of;
 
 /// How a log ends.
 #[derive(Clone, Copy, Debug, PartialEq, Eq)]

@@ -5,8 +5,8 @@ ghost use Rattle.sqlite_wal.specs.Format.{part, be32, IsFrame};
 ghost use Rattle.sqlite_wal.specs.Recovery.{frame_at};
 ghost use Rattle.acd_log.specs.Ending.{HasFrame, HasGoodFrame, IsFirstBad, IsBeforeCommit, IsDamagedIn};
 
+use crate::be32::{Sum, number_at, part_of, sum_at};
 use crate::head::HEAD;
-use crate::words::{Sum, number_at, part_of, sum_at};
 use sqlite_wal::checksum_of;
 
 // The bytes of a frame before its page.

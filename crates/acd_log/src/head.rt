@@ -3,9 +3,9 @@
 ghost use Rattle.std.specs.Prelude.{◌≡◌, ◌↔◌, ℕ, None, length, IsTrue, IfSome};
 ghost use Rattle.sqlite_wal.specs.Format.{IsSigned};
 ghost use Rattle.sqlite_wal.specs.PageSize.{bytes_of};
-ghost use Rattle.acd_log.specs.Ending.{HasHead, IsReadable};
+ghost use Rattle.acd_log.specs.Ending.{HasHead, IsReadableLog};
 
-use crate::words::{number_at, part_of, sum_at};
+use crate::be32::{number_at, part_of, sum_at};
 use sqlite_wal::{PageSize, checksum_of};
 
 /// The bytes of a head.
@@ -47,8 +47,8 @@ fn has_head(log: &[u8]) -> bool
 
 /// The length of the log's pages, where its head can be read.
 pub(crate) fn page_size(log: &[u8]) -> Option<PageSize>
-    ensures some { IfSome result (λ size. IsReadable (bytes_of size) log.now) }
-    ensures none { result ≡ None → (page : ℕ) → ¬ IsReadable page log.now }
+    ensures some { IfSome result (λ size. IsReadableLog (bytes_of size) log.now) }
+    ensures none { result ≡ None → (page : ℕ) → ¬ IsReadableLog page log.now }
 {
     if !has_head(log) {
         return None;

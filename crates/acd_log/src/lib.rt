@@ -5,9 +5,9 @@
 //! ```
 #![tactic(auto)]
 
+mod be32;
 mod ending;
 mod frames;
 mod head;
-mod words;
 
 pub use ending::{Ending, ending_of};

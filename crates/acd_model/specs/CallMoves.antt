@@ -20,8 +20,8 @@ use Rattle.acd_model.specs.declared.moves.Destination.{Destination}
 use Rattle.acd_model.specs.declared.moves.Destination.TheVariants.{Queue, Idle, Busy}
 
 -- a connection that no group offered
-abbrev pub plain : CallId → Device → ConnectionState → ConnectionRecord
-plain call device state = record { call = call; device = device; state = state; group = None; place = None; queued = None; offered = None }
+abbrev pub unqueued : CallId → Device → ConnectionState → ConnectionRecord
+unqueued call device state = record { call = call; device = device; state = state; group = None; place = None; queued = None; offered = None }
 
 -- a call in the queue of a group, at a place and since a moment
 abbrev pub queueing : CallId → Device → Option Stamp → Option Moment → ConnectionRecord
@@ -33,10 +33,10 @@ begin c = silent (PutCall c)
 
 -- the side of an external caller
 abbrev pub connect_caller : CallId → Device → Move
-connect_caller call caller = silent (PutConnection (plain call caller Connected))
+connect_caller call caller = silent (PutConnection (unqueued call caller Connected))
 
 abbrev pub initiate : CallId → Device → Move
-initiate call station = reported (PutConnection (plain call station Initiated)) (report.ServiceInitiated call station)
+initiate call station = reported (PutConnection (unqueued call station Initiated)) (report.ServiceInitiated call station)
 
 abbrev pub originate : ConnectionRecord → Device → Move
 originate x called = reported (PutConnection (record x { state = Connected })) (report.Originated x.call x.device called)
@@ -53,8 +53,8 @@ destination_of s to = met_at (is_group s to) (is_idle s to)
 -- the connection there: it enters the queue with the stamp as its place, alerts, or fails
 abbrev pub arriving : Destination → Turn → CallId → Device → ConnectionRecord
 arriving Queue turn call to = queueing call to (Some turn.stamp) (Some turn.moment)
-arriving Idle turn call to = plain call to Alerting
-arriving Busy turn call to = plain call to Fail
+arriving Idle turn call to = unqueued call to Alerting
+arriving Busy turn call to = unqueued call to Fail
 
 abbrev pub arrival : Destination → CallId → Device → Cause → Report
 arrival Queue call to cause = report.Queued call to cause

@@ -4,7 +4,7 @@ pub mod Moves
 pub mod CallMoves
 pub mod AgentMoves
 pub mod Release
-pub mod Served
+pub mod ServiceAnswers
 pub mod Services
 pub mod Choice
 pub mod Offers
@@ -14,9 +14,9 @@ pub mod Figures
 pub mod Step
 pub mod Changes
 pub mod Run
-pub mod Reported
-pub mod Placed
+pub mod EventReports
+pub mod CallPlaces
 pub mod OneOffer
-pub mod Watched
+pub mod Watcher
 pub mod Rules
 pub mod Examples

@@ -8,7 +8,7 @@ use Rattle.acd_terms.specs.declared.event.Event.{Event}
 use Rattle.acd_terms.specs.declared.answer.Outcome.{Outcome}
 use Rattle.acd_model.specs.Writes.{with_last}
 use Rattle.acd_model.specs.Moves.{moved, events_of}
-use Rattle.acd_model.specs.Served.{Served, outcome_of, moves_of}
+use Rattle.acd_model.specs.ServiceAnswers.{Served, outcome_of, moves_of}
 use Rattle.acd_model.specs.Distribution.{distribution}
 use Rattle.acd_model.specs.Figures.{with_figures}
 use Rattle.acd_model.specs.Services.Serve.{serve}

@@ -55,15 +55,15 @@ is_over_in s moment a None = false
 is_over_in s moment a (Some group) = is_over (wrap_of (group_of s group)) a.since moment
 
 -- in after-call work for at least the wrap time of the agent's group of least number
-unfoldable pub is_rested : Rows → Moment → AgentRecord → Bool
-is_rested s moment a = is_working_after_call a.state && is_over_in s moment a (least_group a.groups)
+unfoldable pub is_wrapped_up : Rows → Moment → AgentRecord → Bool
+is_wrapped_up s moment a = is_working_after_call a.state && is_over_in s moment a (least_group a.groups)
 
 -- in ascending agent number
-unfoldable pub rested_in : Rows → Moment → List AgentRecord
-rested_in s moment = filter (is_rested s moment) s.agents
+unfoldable pub wrapped_up_in : Rows → Moment → List AgentRecord
+wrapped_up_in s moment = filter (is_wrapped_up s moment) s.agents
 
-abbrev pub rest_moves : Turn → AgentRecord → List Move
-rest_moves turn a = go_from turn a a.station Ready ∷ []
+abbrev pub wrap_up_moves : Turn → AgentRecord → List Move
+wrap_up_moves turn a = go_from turn a a.station Ready ∷ []
 
 -- the moves for each of a list in turn, each from the state that the moves before it leave
 abbrev pub each : {T : Type 0} → (Rows → T → List Move) → Rows → List T → List Move
@@ -73,8 +73,8 @@ each f s (x ∷ xs) = f s x ++ each f (moved s (f s x)) xs
 unfoldable pub returns : Rows → Turn → List Move
 returns s turn = each (λ t x. return_moves t turn x) s (overdue_in s turn.moment)
 
-unfoldable pub rests : Rows → Turn → List Move
-rests s turn = each (λ t a. rest_moves turn a) s (rested_in s turn.moment)
+unfoldable pub wraps : Rows → Turn → List Move
+wraps s turn = each (λ t a. wrap_up_moves turn a) s (wrapped_up_in s turn.moment)
 
 unfoldable pub tick : Rows → Turn → List Move
-tick s turn = returns s turn ++ rests (moved s (returns s turn)) turn
+tick s turn = returns s turn ++ wraps (moved s (returns s turn)) turn

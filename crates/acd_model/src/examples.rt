@@ -7,7 +7,7 @@ ghost use Rattle.acd_model.specs.Examples.Queue.{CallWaits, OfferedToTheReadyAge
 ghost use Rattle.acd_model.specs.Examples.Waiting.{OffersGoBack, Ticks, Never, WhoIsReadyLongest, TwoGroupsAtOnce};
 ghost use Rattle.acd_model.specs.Examples.Agents.{PendingLogOff, PresentStatePending, HoldAndPending, TransferToStation, TransferToGroup, DeflectedToStation, SecondCallWhileHolding};
 ghost use Rattle.acd_model.specs.Examples.Stations.{BusyStationFails, PrivateCallThenDistribution, LoggedOffWithAPrivateCall, HeldPrivateCall, CallToABusyAgentStation, PrivateCalls};
-ghost use Rattle.acd_model.specs.Examples.HandedOn.{DeflectedToAnotherQueue, DeflectedFromQueueToStationAndBack, DeflectedToItsOwnGroup, DeflectedWithAStatePending, TransferredWhileHeld, TwoAgentsReleased, TransferredBack};
+ghost use Rattle.acd_model.specs.Examples.CallsHandedOn.{DeflectedToAnotherQueue, DeflectedFromQueueToStationAndBack, DeflectedToItsOwnGroup, DeflectedWithAStatePending, TransferredWhileHeld, TwoAgentsReleased, TransferredBack};
 ghost use Rattle.acd_model.specs.Examples.Priorities.{HigherPriorityFirst, EqualPriorities, PriorityChanged};
 ghost use Rattle.acd_model.specs.Examples.Releases.{ReleasedAfterAnAnswer, ReleasedUnanswered, ReleasedByNoAnswer};
 ghost use Rattle.acd_model.specs.Examples.Refusals.{RefusalsOfPlanAndCalls, RefusalsOfAnAnsweredCall, RefusalsOfAHeldCall, RefusalsOfAnOfferedCall, RefusalsOfAnUnansweredCall, RefusalsOfAgents};

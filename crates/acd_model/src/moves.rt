@@ -2,7 +2,7 @@
 
 ghost use Rattle.std.specs.Prelude.{◌≡◌, [], ◌∷◌};
 ghost use Rattle.acd_model.specs.Moves.{no_move, silent, reported};
-ghost use Rattle.acd_model.specs.Served.{refuse_if, gives};
+ghost use Rattle.acd_model.specs.ServiceAnswers.{refuse_if, gives};
 
 use acd_terms::{
     AgentId, AgentRecord, AgentState, Answer, CallRecord, ConnectionRecord, DeviceId, GroupRecord,
@@ -149,7 +149,7 @@ pub struct Done {
 pub type Served = Result<Done, Refusal>;
 
 /// Refuses where the test holds.
-#[tactic(auto, unfolding(crate::specs::Served::refuse_if))]
+#[tactic(auto, unfolding(crate::specs::ServiceAnswers::refuse_if))]
 pub fn refuse_if(test: bool, refusal: Refusal) -> Result<(), Refusal>
     ensures { result ≡ refuse_if test refusal }
 {

@@ -14,28 +14,28 @@ use Rattle.acd_desk.specs.declared.audit.ArchiveAudit.{ArchiveAudit}
 use Rattle.acd_desk.specs.declared.audit.ArchiveAudit.TheVariants as audit
 use Rattle.acd_desk.specs.declared.audit.AuditFault.{AuditFault}
 use Rattle.acd_book.specs.declared.fault.BookFault.{BookFault}
-use Rattle.acd_desk.specs.AuditedWith.{archive_part, desk_part, IsAuditedWith}
-use Rattle.acd_book.specs.BookReading.{Anything, ReadsIfOpen}
+use Rattle.acd_desk.specs.ArchiveAudits.{archive_part, desk_part, IsAuditedWith}
+use Rattle.acd_book.specs.BookReads.{Anything, ReadsIfOpen}
 use Rattle.acd_desk.specs.AuditWith.{StandsInTime, IsAuditWith}
 use Rattle.acd_desk.specs.Opening.{Opened}
-use Rattle.acd_desk.specs.Standing.{Standing, InStep}
-use Rattle.acd_desk.specs.Stands.{IsSound}
-use Rattle.acd_desk.specs.Carried.{Archive, together}
+use Rattle.acd_desk.specs.DeskState.{DeskState, InStep}
+use Rattle.acd_desk.specs.SoundContent.{IsSound}
+use Rattle.acd_desk.specs.CarriedContent.{Archive, together}
 use Rattle.acd_desk.specs.WithArchive.{IsLedFrom}
-use Rattle.acd_desk.specs.ReadDone.{ReadDone}
-use Rattle.acd_desk.proofs.Archives.LedFrom.{counted_led, sound_is_led}
+use Rattle.acd_desk.specs.DeskReads.{ReadDone}
+use Rattle.acd_desk.proofs.Archives.CarriedPart.{counted_led, sound_is_led}
 use Rattle.acd_log.specs.declared.ending.Ending.{Ending}
-use Rattle.acd_sqlbook.specs.Adopting.{IsUntouched}
+use Rattle.acd_sqlbook.specs.Adoption.{IsUntouched}
 use Rattle.acd_sqlbook.specs.declared.cache.Cache.{Cache}
-use Rattle.acd_sqlbook.specs.Caching.{followed}
+use Rattle.acd_sqlbook.specs.Caches.{followed}
 use Rattle.acd_sqlbook.specs.State.{book_state}
 use Rattle.acd_program.specs.declared.auditing.Finding.{Finding}
 use Rattle.acd_program.specs.declared.auditing.Finding.TheVariants.{Sound, Counted, SentAgain, SentAgainCounted, Differs}
 use Rattle.acd_program.specs.declared.desk.Done.{Done}
 use Rattle.acd_program.specs.declared.desk.Done.TheVariants as left
 use Rattle.acd_program.specs.WithArchive.{uncounted_with, counted_with, IsFindingWith, IsDeskFindingWith, IsFindingIn, IsFindingInOrder, IsFoundWithArchive, FindsWithArchive, WasRead, WereAsked, AskedOver, AskedIn, InArchive, AskedWithArchive, BookAskedWithArchive, AuditsWithArchive, AuditedWithArchive, LeavesArchive, LeavesBeside}
-use Rattle.acd_program.specs.Found.{HasCount, finding_line}
-use Rattle.acd_io.specs.Sent.{Begins}
+use Rattle.acd_program.specs.AuditFindings.{HasCount, finding_line}
+use Rattle.acd_io.specs.SentBytes.{Begins}
 use Rattle.acd_files.specs.Connections.{IsShut, IsLaidIn, IsOpenedFrom}
 use Rattle.acd_sessions.specs.Over.{OnlyAsked, LeavesBooks, Unserved, before}
 use Rattle.acd_program.specs.TasksEnded.{AuditCut, LeftWithArchive}
@@ -43,12 +43,12 @@ use Rattle.acd_program.specs.declared.fault.Fault.{Fault}
 use Rattle.acd_program.specs.declared.fault.Fault.TheVariants as ended_by
 use Rattle.acd_program.specs.declared.status.Status.{Status}
 use Rattle.acd_program.specs.Statuses.{finding_status}
-use Rattle.acd_sessions.specs.Taking.{IsOf, IsTaken}
+use Rattle.acd_sessions.specs.ConnectionBook.{IsHeldBook, IsTaken}
 use Rattle.acd_program.specs.Tasks.{AuditedWith, IsReadEnding}
 use Rattle.acd_program.specs.Work.{IsPrinted, text_left}
-use Rattle.acd_program.proofs.Asking.{asked_by, asked_of, asked_so}
+use Rattle.acd_program.proofs.BookReads.{asked_by, asked_of, asked_so}
 use Rattle.acd_sessions.proofs.Called.{called, leaves_books}
-use Rattle.acd_program.proofs.Called.{asked_called}
+use Rattle.acd_program.proofs.SoundElsewhere.{asked_called}
 use Rattle.acd_sessions.proofs.Over.{over_fact, over_so, over_connection}
 use Rattle.acd_files.proofs.Ends.{ok_so}
 use Rattle.acd_terms.proofs.Results.{ok_err}
@@ -56,7 +56,7 @@ use Rattle.acd_terms.proofs.Results.{ok_err}
 -- ---- the archive ----
 
 -- it was read, and nothing of it has changed
-pub archive_read : {A : Type 0} (old mid new : BookState) (found : A) → IsOf old mid → ReadsIfOpen mid new (Ok found) Anything → WasRead old new
+pub archive_read : {A : Type 0} (old mid new : BookState) (found : A) → IsHeldBook old mid → ReadsIfOpen mid new (Ok found) Anything → WasRead old new
 archive_read old mid new found of read =
     let sound : new.is_clean → old.is_sound → mid.is_sound = λ clean is. of.step.sound (read.step.clean clean) is in
     let up : new.is_clean → old.is_sound → new.is_open = λ clean is. read.stays clean (sound clean is) (of.live (read.step.clean clean) is) in
@@ -69,12 +69,12 @@ archive_read old mid new found of read =
     }
 
 -- the finding of a desk, without a count
-finds_uncounted : (a : Content) (s : Standing) (x : ArchiveAudit) → IsAuditWith a s.book.content x → IsDeskFindingWith a s (uncounted_with x)
+finds_uncounted : (a : Content) (s : DeskState) (x : ArchiveAudit) → IsAuditWith a s.book.content x → IsDeskFindingWith a s (uncounted_with x)
 finds_uncounted a s audit.Sound h = h
 finds_uncounted a s (audit.SentAgain stamp) h = h
 finds_uncounted a s (audit.Differs place) h = h
 
-pub found_uncounted : (old_archive new_archive : BookState) (d e : Standing) (x : ArchiveAudit) (found : Finding) → found ≡ uncounted_with x → IsAuditedWith old_archive new_archive d.book e.book (Ok x)
+pub found_uncounted : (old_archive new_archive : BookState) (d e : DeskState) (x : ArchiveAudit) (found : Finding) → found ≡ uncounted_with x → IsAuditedWith old_archive new_archive d.book e.book (Ok x)
     → IsFoundWithArchive old_archive new_archive d e (Ok found)
 found_uncounted old_archive new_archive d e x found is audited = λ clean sound current_clean current_sound opened current_opened stands ordered.
     subst (IsDeskFindingWith old_archive.content d) (sym is) (finds_uncounted old_archive.content d x (audited clean sound current_clean current_sound opened current_opened stands ordered))
@@ -88,12 +88,12 @@ has_no_count counts x found is none = subst (HasCount counts) (sym is) (without 
     without (audit.Differs place) = tt
 
 -- with one
-finds_counted : (a : Content) (s : Standing) (x : ArchiveAudit) (count : ℕ) → IsAuditWith a s.book.content x → (InStep s → count ≡ s.book.content.rows.last_stamp) → IsDeskFindingWith a s (counted_with x count)
+finds_counted : (a : Content) (s : DeskState) (x : ArchiveAudit) (count : ℕ) → IsAuditWith a s.book.content x → (InStep s → count ≡ s.book.content.rows.last_stamp) → IsDeskFindingWith a s (counted_with x count)
 finds_counted a s audit.Sound count h is = (h, is)
 finds_counted a s (audit.SentAgain stamp) count h is = (h, is)
 finds_counted a s (audit.Differs place) count h is = h
 
-pub found_counted : (old_archive new_archive : BookState) (d m e : Standing) (x : ArchiveAudit) (count : ℕ) (found : Finding) → found ≡ counted_with x count → IsAuditedWith old_archive new_archive d.book m.book (Ok x) → ReadDone d m (Ok x) Anything
+pub found_counted : (old_archive new_archive : BookState) (d m e : DeskState) (x : ArchiveAudit) (count : ℕ) (found : Finding) → found ≡ counted_with x count → IsAuditedWith old_archive new_archive d.book m.book (Ok x) → ReadDone d m (Ok x) Anything
     → ReadDone m e (Ok count) (λ (c : Content) (n : ℕ). n ≡ c.rows.last_stamp) → IsFoundWithArchive old_archive new_archive d e (Ok found)
 found_counted old_archive new_archive d m e x count found is audited read counted = λ clean sound current_clean current_sound opened current_opened stands ordered.
     let before : m.book.is_clean = counted.step.clean current_clean in
@@ -112,12 +112,12 @@ has_a_count counts x count found is some = subst (HasCount counts) (sym is) (wit
     with_count (audit.Differs place) = tt
 
 -- what was found after the book that came of another was found after that one
-found_of : (old mid new : BookState) (d e : Standing) (found : Finding) → IsOf old mid → ReadsIfOpen mid new (Ok found) Anything → IsFoundWithArchive mid new d e (Ok found) → FindsWithArchive old new d e found
+found_of : (old mid new : BookState) (d e : DeskState) (found : Finding) → IsHeldBook old mid → ReadsIfOpen mid new (Ok found) Anything → IsFoundWithArchive mid new d e (Ok found) → FindsWithArchive old new d e found
 found_of old mid new d e found of read finds clean is current_clean current_sound opened =
     let before = read.step.clean clean in
     subst (λ (a : Content). StandsInTime a → IsOrdered d.book.content → IsDeskFindingWith a d found) (of.content before is) (finds clean (of.step.sound before is) current_clean current_sound (of.live before is) opened)
 
-both_of : (old mid new : BookState) (d e : Standing) (found : Finding) → ReadsIfOpen mid new (Ok found) Anything → IsFoundWithArchive mid new d e (Ok found) → IsOf old mid → WasRead old new × FindsWithArchive old new d e found
+both_of : (old mid new : BookState) (d e : DeskState) (found : Finding) → ReadsIfOpen mid new (Ok found) Anything → IsFoundWithArchive mid new d e (Ok found) → IsHeldBook old mid → WasRead old new × FindsWithArchive old new d e found
 both_of old mid new d e found read finds of = (archive_read old mid new found of read, found_of old mid new d e found of read finds)
 
 -- the finding is what is printed, where nothing ended it
@@ -134,7 +134,7 @@ pub unserved_untouched : (s t : State) → (HasCleanDisk t → IsUntouched s t) 
 unserved_untouched s t same clean db at = before ((same clean).stops db at)
 
 -- over a connection it was asked
-pub asked_over : (found : Finding) (d e : Standing) (s t : State) (mid : BookState) (cache : Cache) (failures : ℕ) → IsTaken false s mid → IsFoundWithArchive mid (followed cache (book_state t failures)) d e (Ok found)
+pub asked_over : (found : Finding) (d e : DeskState) (s t : State) (mid : BookState) (cache : Cache) (failures : ℕ) → IsTaken false s mid → IsFoundWithArchive mid (followed cache (book_state t failures)) d e (Ok found)
     → ReadDone d e (Ok found) Anything → ReadsIfOpen mid (followed cache (book_state t failures)) (Ok found) Anything → AskedOver s t d e found
 asked_over found d e s t mid cache failures taken finds desk read =
     let new : BookState = followed cache (book_state t failures) in
@@ -146,7 +146,7 @@ asked_over found d e s t mid cache failures taken finds desk read =
     }
 
 -- and closed
-pub asked_in : {D F G : Type 0} {g : Ghosts D} (found : Finding) (r : Result Finding F) (closed : Result (Unit {0}) G) (d e : Standing) (conn last : Held (FileStore D g)) → IfOk r (AskedOver (file_state conn) (file_state last) d e)
+pub asked_in : {D F G : Type 0} {g : Ghosts D} (found : Finding) (r : Result Finding F) (closed : Result (Unit {0}) G) (d e : DeskState) (conn last : Held (FileStore D g)) → IfOk r (AskedOver (file_state conn) (file_state last) d e)
     → Unserved false (file_state conn) (file_state last) → OnOk closed (IsLaidIn last) → (r ≡ Ok found) × (closed ≡ Ok tt) → AskedIn conn d e found
 asked_in {F = F} {G = G} found r closed d e conn last asked kept laid both =
     let over = subst (λ (y : Result Finding F). IfOk y (AskedOver (file_state conn) (file_state last) d e)) both.0 asked in
@@ -156,7 +156,7 @@ asked_in {F = F} {G = G} found r closed d e conn last asked kept laid both =
     }
 
 -- of a desk that is in step with what an audit finds led on
-pub plainly : (a : Content) (s : Standing) (x : Finding) → (IsLedFrom a s.book.content → InStep s) → IsDeskFindingWith a s x → IsFindingWith a s.book.content x
+pub plainly : (a : Content) (s : DeskState) (x : Finding) → (IsLedFrom a s.book.content → InStep s) → IsDeskFindingWith a s x → IsFindingWith a s.book.content x
 plainly a s Sound steps h = h
 plainly a s (Counted count) steps h = (h.0, h.1 (steps (sound_is_led a s.book.content h.0)))
 plainly a s (SentAgain stamp) steps h = h
@@ -169,7 +169,7 @@ module _ {D : Type 0} (disk : Ghosts D) (IsFresh : Bool → D → Type 0) where
 
   -- ---- a desk over a book ----
 
-  asked_both : (old_archive new_archive old : BookState) (d e : Standing) (found : Finding) → Opened old d → ReadDone d e (Ok found) Anything → WasRead old_archive new_archive × FindsWithArchive old_archive new_archive d e found
+  asked_both : (old_archive new_archive old : BookState) (d e : DeskState) (found : Finding) → Opened old d → ReadDone d e (Ok found) Anything → WasRead old_archive new_archive × FindsWithArchive old_archive new_archive d e found
       → WereAsked IsFindingInOrder old_archive new_archive old e.book found
   asked_both old_archive new_archive old d e found o read both = record {
     archive = both.0;
@@ -183,13 +183,13 @@ module _ {D : Type 0} (disk : Ghosts D) (IsFresh : Bool → D → Type 0) where
         (plainly a d found (λ goes. o.in_step before current_sound (subst IsCounted at.2 (counted_led a d.book.content stands.counted goes))) finds);
   }
 
-  pub book_asked_with_archive : (old : BookState) (d e : Standing) (found : Finding) → Opened old d → AskedWithArchive disk IsFresh d e found → BookAskedWithArchive disk IsFresh IsFindingInOrder old e.book found
+  pub book_asked_with_archive : (old : BookState) (d e : DeskState) (found : Finding) → Opened old d → AskedWithArchive disk IsFresh d e found → BookAskedWithArchive disk IsFresh IsFindingInOrder old e.book found
   book_asked_with_archive old d e found o asked =
       in_archive_so (λ (a b : BookState). WasRead a b × FindsWithArchive a b d e found) (λ (a b : BookState). WereAsked IsFindingInOrder a b old e.book found)
       (λ a b both. asked_both a b old d e found o asked.2.desk both) (asked.0, asked.1, asked.2.archive)
 
   -- the book is what closing the desk gave back
-  pub audits_with_archive : (counts : Bool) (ending : Ending) (old now : BookState) (d e : Standing) (found : Finding) → Opened old d → HasCount counts found → AskedWithArchive disk IsFresh d e found → e.book ≡ now
+  pub audits_with_archive : (counts : Bool) (ending : Ending) (old now : BookState) (d e : DeskState) (found : Finding) → Opened old d → HasCount counts found → AskedWithArchive disk IsFresh d e found → e.book ≡ now
       → AuditsWithArchive disk IsFresh counts ending old now (left.Audited found ending)
   audits_with_archive counts ending old now d e found o counted asked is = (counted, subst (λ (b : BookState). BookAskedWithArchive disk IsFresh IsFindingInOrder old b found) is (book_asked_with_archive old d e found o asked), refl)
 
@@ -199,7 +199,7 @@ module _ {D : Type 0} (disk : Ghosts D) (IsFresh : Bool → D → Type 0) where
 
   -- ---- over a connection ----
 
-  book_asked_since : (old mid new : BookState) (found : Finding) → IsOf old mid → BookAskedWithArchive disk IsFresh IsFindingInOrder mid new found → BookAskedWithArchive disk IsFresh IsFindingIn old new found
+  book_asked_since : (old mid new : BookState) (found : Finding) → IsHeldBook old mid → BookAskedWithArchive disk IsFresh IsFindingInOrder mid new found → BookAskedWithArchive disk IsFresh IsFindingIn old new found
   book_asked_since old mid new found of h =
       in_archive_so (λ (a b : BookState). WereAsked IsFindingInOrder a b mid new found) (λ (a b : BookState). WereAsked IsFindingIn a b old new found)
       (λ a b were. record {

@@ -7,13 +7,13 @@ use Rattle.acd_terms.specs.declared.event.Event.{Event}
 use Rattle.acd_book.specs.Content.{Content, GoOn, empty_content}
 use Rattle.acd_reports.specs.Export.{header_record, records_text, events_csv}
 use Rattle.acd_reports.proofs.ExportLemmas.{joined}
-use Rattle.acd_desk.specs.Carried.{together}
-use Rattle.acd_desk.specs.Firsts.{executed, firsts, run_from, stepped}
+use Rattle.acd_desk.specs.CarriedContent.{together}
+use Rattle.acd_desk.specs.AbstractDesk.{executed, firsts, run_from, stepped}
 use Rattle.acd_desk.specs.ReadAnswers.{above}
-use Rattle.acd_desk.specs.Stands.{IsSound, arrivals_of}
+use Rattle.acd_desk.specs.SoundContent.{IsSound, arrivals_of}
 use Rattle.acd_desk.proofs.Contents.Steps.{step_event, step_numbers}
 use Rattle.acd_program.specs.EachOnce.{AreAdded, AreChained, TablesTellOnce, told}
-use Rattle.acd_program.specs.Exporting.{IsNewTable}
+use Rattle.acd_program.specs.ArchiveExport.{IsNewTable}
 use Rattle.acd_program.specs.declared.export.EventTable.{EventTable}
 
 -- ---- what is written

@@ -12,23 +12,23 @@ use Rattle.acd_terms.specs.declared.command.Arrival.{Arrival}
 use Rattle.acd_terms.specs.declared.command.Request.{Request}
 use Rattle.acd_book.specs.State.{BookState}
 use Rattle.acd_sqlbook.specs.declared.cache.Cache.{Cache}
-use Rattle.acd_sqlbook.specs.Caching.{followed}
+use Rattle.acd_sqlbook.specs.Caches.{followed}
 use Rattle.acd_sqlbook.specs.State.{book_state}
 use Rattle.acd_desk.specs.declared.taken.Taken.{Taken}
 use Rattle.acd_desk.specs.Opening.{Opened}
-use Rattle.acd_desk.specs.Ran.{Ran, IsFault}
-use Rattle.acd_desk.specs.Standing.{Standing}
+use Rattle.acd_desk.specs.DeskCalls.{Ran, IsFault}
+use Rattle.acd_desk.specs.DeskState.{DeskState}
 use Rattle.acd_desk.proofs.Desks.Sessions.{session_ran}
-use Rattle.acd_io.specs.Sent.{Breaks}
+use Rattle.acd_io.specs.SentBytes.{Breaks}
 use Rattle.acd_lines.specs.Lines.{LinesAnswered, FirstRequests, RequestsAnswered, Streams}
-use Rattle.acd_lines.proofs.Weaker.{requests_so}
+use Rattle.acd_lines.proofs.WeakerAnswers.{requests_so}
 use Rattle.acd_program.specs.Ended.{OnlyReads, IsBegunPlan, IsBegun, StoppedOver, WorkStopped, WorkLeft}
 use Rattle.acd_files.specs.Connections.{IsShut}
-use Rattle.acd_program.specs.Found.{IsFindingOf}
+use Rattle.acd_program.specs.AuditFindings.{IsFindingOf}
 use Rattle.acd_sessions.specs.LinesOver.{NoneMade}
 use Rattle.acd_sessions.specs.Over.{IsSession, LeavesBooks, OverConnection, Unserved}
 use Rattle.acd_sessions.specs.Sessions.{SessionLeaves, DatabaseLeaves}
-use Rattle.acd_sessions.specs.Taking.{IsOf, IsTaken}
+use Rattle.acd_sessions.specs.ConnectionBook.{IsHeldBook, IsTaken}
 use Rattle.acd_program.specs.Work.{WorkDone}
 use Rattle.acd_sessions.specs.declared.fault.WorkFault.{WorkFault}
 use Rattle.acd_command.specs.declared.asked.Work.{Work}
@@ -36,19 +36,19 @@ use Rattle.acd_command.specs.declared.asked.Work.TheVariants.{Import, Print, Aud
 use Rattle.acd_program.specs.declared.desk.Done.{Done}
 use Rattle.acd_sessions.proofs.Over.{over_makes, session_of, over_connection}
 use Rattle.acd_sessions.proofs.Called.{called, leaves_books, session_called}
-use Rattle.acd_sessions.proofs.Seen.{seen_made}
-use Rattle.acd_sessions.proofs.Taking.{unserved_asked, unserved_makes}
+use Rattle.acd_sessions.proofs.LeftDesks.{seen_made}
+use Rattle.acd_sessions.proofs.BooksOfConnections.{unserved_asked, unserved_makes}
 
 -- ---- the requests of a plan
 
 -- a desk of the book took the first of them
-pub begun_by : (old : BookState) (d e : Standing) (requests : List Request) (old_output new_output : Option (List ℕ)) → Opened old d
+pub begun_by : (old : BookState) (d e : DeskState) (requests : List Request) (old_output new_output : Option (List ℕ)) → Opened old d
     → LinesAnswered (FirstRequests requests) (RequestsAnswered (λ (l : List Arrival) (ts : List Taken). Ran d l ts e)) (Breaks old_output new_output) → IsBegunPlan requests old_output new_output old e.book
 begun_by old d e requests old_output new_output opened h =
     requests_so (FirstRequests requests) (λ (l : List Arrival) (ts : List Taken). Ran d l ts e) (IsSession old e.book) (Breaks old_output new_output) (λ l ts ran. session_ran IsFault old d e l ts opened ran ran.later) h
 
 -- over a book that came of another
-begun_of : (work : Work) (old mid new : BookState) (old_output new_output : Option (List ℕ)) → IsOf old mid → IsBegun work old_output new_output mid new → IsBegun work old_output new_output old new
+begun_of : (work : Work) (old mid new : BookState) (old_output new_output : Option (List ℕ)) → IsHeldBook old mid → IsBegun work old_output new_output mid new → IsBegun work old_output new_output old new
 begun_of (Import requests) old mid new old_output new_output of h =
     requests_so (FirstRequests requests.now) (IsSession mid new) (IsSession old new) (Breaks old_output new_output) (λ l ts s. session_of IsFault old mid new l ts of s) h
 begun_of (Print printout) old mid new old_output new_output of h = h

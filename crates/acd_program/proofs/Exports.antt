@@ -13,16 +13,16 @@ use Rattle.acd_book.specs.State.{BookState, Reads}
 use Rattle.acd_book.specs.declared.fault.BookFault.{BookFault}
 use Rattle.acd_book.specs.declared.fault.BookFault.TheVariants.{NoMemory}
 use Rattle.acd_reports.specs.Export.{records_text}
-use Rattle.acd_book.specs.BookReading.{Anything, IfOrdered, ReadsIfOpen}
+use Rattle.acd_book.specs.BookReads.{Anything, IfOrdered, ReadsIfOpen}
 use Rattle.acd_desk.specs.ReadAnswers.{Rise, above, records_left}
 use Rattle.acd_book.proofs.ReadsAhead.{by_read, read_no_memory, read_nothing, read_ok, read_twice}
 use Rattle.acd_sqlbook.specs.declared.cache.Cache.{Cache}
-use Rattle.acd_sqlbook.specs.Caching.{followed}
+use Rattle.acd_sqlbook.specs.Caches.{followed}
 use Rattle.acd_sqlbook.specs.State.{book_state}
 use Rattle.acd_files.specs.Connections.{IsShut, IsLaidIn, IsOpenedFrom}
 use Rattle.acd_sessions.specs.Over.{OnlyAsked, LeavesBooks, OverConnection, Unserved, before}
-use Rattle.acd_program.specs.Exporting.{AddsEvents, IsAdded, AddsArchive, AddsArchives, MakesTable, LeavesArchives, LeavesExport}
-use Rattle.acd_sessions.specs.Taking.{IsOf, IsTaken}
+use Rattle.acd_program.specs.ArchiveExport.{AddsEvents, IsAdded, AddsArchive, AddsArchives, MakesTable, LeavesArchives, LeavesExport}
+use Rattle.acd_sessions.specs.ConnectionBook.{IsHeldBook, IsTaken}
 use Rattle.acd_program.specs.Tasks.{Exported}
 use Rattle.acd_program.specs.TasksEnded.{ExportCut, LeftWithArchive}
 use Rattle.acd_program.specs.WithArchive.{OverArchive}
@@ -34,7 +34,7 @@ use Rattle.acd_program.specs.declared.fault.Fault.TheVariants as ended_by
 use Rattle.acd_program.specs.declared.status.Status.{Status}
 use Rattle.acd_program.proofs.AuditsWithArchive.{archive_read}
 use Rattle.acd_sessions.proofs.Called.{leaves_books}
-use Rattle.acd_program.proofs.Called.{asked_called}
+use Rattle.acd_program.proofs.SoundElsewhere.{asked_called}
 use Rattle.acd_sessions.proofs.Over.{over_connection}
 
 -- ---- of a book
@@ -83,7 +83,7 @@ module _ (a b d : BookState) (start old new : List ℕ) (after : ℕ) (next : Op
 
 -- ---- over a connection
 
-pub was_added : (t u : EventTable) (old mid new : BookState) → IsOf old mid → ReadsIfOpen {A = Unit {0}} mid new (Ok tt) (IfOrdered (AddsEvents t u)) → IsAdded t u old new
+pub was_added : (t u : EventTable) (old mid new : BookState) → IsHeldBook old mid → ReadsIfOpen {A = Unit {0}} mid new (Ok tt) (IfOrdered (AddsEvents t u)) → IsAdded t u old new
 was_added t u old mid new of read =
     let was = archive_read old mid new (tt {0}) of (read_ok {A = Unit {0}} {C = Unit {0}} Anything mid new tt tt read (λ c h. tt)) in
     record {

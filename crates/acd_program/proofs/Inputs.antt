@@ -4,14 +4,14 @@ use Rattle.std.specs.Io.KnownBytes.{Appends}
 use Rattle.sqlite_disk.specs.declared.Disk.{Ghosts}
 use Rattle.acd_book.specs.Content.{Content}
 use Rattle.acd_book.specs.State.{unfailing}
-use Rattle.acd_desk.specs.Standing.{Standing, standing}
+use Rattle.acd_desk.specs.DeskState.{DeskState, state_of}
 use Rattle.acd_lines.specs.Laws.{RequestsRun}
 use Rattle.acd_lines.specs.Lines.{AllLines, Streams, Untouched}
 use Rattle.acd_lines.specs.declared.fault.LinesFault.{LinesFault}
-use Rattle.acd_sessions.specs.Answered.{in_memory}
+use Rattle.acd_sessions.specs.MemoryAnswers.{in_memory}
 use Rattle.acd_sessions.specs.LinesOver.{Whole, NewAnswered, in_turn}
 use Rattle.acd_sessions.specs.Faults.{lines_fault}
-use Rattle.acd_sessions.specs.Seen.{Seen, seen}
+use Rattle.acd_sessions.specs.DeskAsLeft.{Seen, seen}
 use Rattle.acd_sessions.specs.Sessions.{MemoryLeft}
 use Rattle.acd_program.specs.Tasks.{MemoryAnswered, FileAnswered, InputAnswered}
 use Rattle.acd_program.specs.TasksEnded.{LeftIn, InputLeft, LinesLeft}
@@ -19,13 +19,13 @@ use Rattle.acd_program.specs.declared.fault.Fault.{Fault}
 use Rattle.acd_program.specs.declared.fault.Fault.TheVariants as ended_by
 use Rattle.acd_sessions.specs.declared.fault.WorkFault.{WorkFault}
 use Rattle.acd_program.specs.declared.status.Status.TheVariants.{Success}
-use Rattle.acd_sessions.proofs.Seen.{new_view, new_views, whole_seen, seen_new}
+use Rattle.acd_sessions.proofs.LeftDesks.{new_view, new_views, whole_seen, seen_new}
 use Rattle.acd_sessions.proofs.Inputs.{from_nothing}
 
 memory_answered : RequestsRun in_memory → (reads : Bool) (io : Streams) → NewAnswered reads io → MemoryAnswered reads io
 memory_answered runs true io h =
-    seen_new (Whole (standing in_memory) (in_turn true (standing in_memory)) false io) (λ (stands : Seen Content → Standing). Whole stands (in_turn true stands) false io)
-    (λ d e h. whole_seen (standing in_memory) (seen unfailing) new_view _ new_views d e tt false io h) h
+    seen_new (Whole (state_of in_memory) (in_turn true (state_of in_memory)) false io) (λ (stands : Seen Content → DeskState). Whole stands (in_turn true stands) false io)
+    (λ d e h. whole_seen (state_of in_memory) (seen unfailing) new_view _ new_views d e tt false io h) h
 memory_answered runs false io h = from_nothing runs (AllLines io.old_input) (Appends io.old_output io.new_output) h.first h.final h.opened h.did.answered
 
 -- of an input, by what was named

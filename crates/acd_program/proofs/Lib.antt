@@ -1,5 +1,5 @@
-pub mod Called
-pub mod Asking
+pub mod SoundElsewhere
+pub mod BookReads
 pub mod Works
 pub mod InFiles
 pub mod Tasks

@@ -10,26 +10,26 @@ use Rattle.sqlite_store.specs.declared.store.FileStore.{FileStore}
 use Rattle.acd_terms.specs.declared.rows.Rows.{Rows}
 use Rattle.acd_book.specs.Content.{Content, IsCounted}
 use Rattle.acd_book.specs.Order.{IsOrdered}
-use Rattle.acd_book.specs.Pruned.{pruned}
+use Rattle.acd_book.specs.PrunedContent.{pruned}
 use Rattle.acd_book.specs.State.{BookState, Commits, IfHonest, Reads}
 use Rattle.acd_book.specs.declared.fault.BookFault.{BookFault}
 use Rattle.acd_book.proofs.BookSteps.{step_so, step_then}
 use Rattle.acd_desk.specs.AuditWith.{StandsInTime, HoldsArchive}
-use Rattle.acd_book.specs.BookReading.{Anything, ReadsIfOpen}
-use Rattle.acd_desk.specs.Carried.{Archive, together}
+use Rattle.acd_book.specs.BookReads.{Anything, ReadsIfOpen}
+use Rattle.acd_desk.specs.CarriedContent.{Archive, together}
 use Rattle.acd_desk.specs.Opening.{Opened}
 use Rattle.acd_desk.specs.Overlap.{IsCleanCut}
 use Rattle.acd_desk.specs.Pruning.{IsPlace}
-use Rattle.acd_desk.specs.ReadDone.{ReadDone}
-use Rattle.acd_desk.specs.Standing.{Standing}
-use Rattle.acd_desk.specs.Stands.{IsSound}
-use Rattle.acd_desk.proofs.Archives.LedFrom.{counted_led, sound_is_led}
+use Rattle.acd_desk.specs.DeskReads.{ReadDone}
+use Rattle.acd_desk.specs.DeskState.{DeskState}
+use Rattle.acd_desk.specs.SoundContent.{IsSound}
+use Rattle.acd_desk.proofs.Archives.CarriedPart.{counted_led, sound_is_led}
 use Rattle.acd_desk.proofs.Archives.NewerRuns.{led_holds}
 use Rattle.acd_desk.proofs.Archives.Pruning.{prune_loses_nothing, prune_stays_sound, prune_stays_sent_again}
 use Rattle.acd_book.proofs.ReadsAhead.{by_read, known, read_nothing, read_ok, read_twice}
 use Rattle.acd_log.specs.declared.ending.Ending.{Ending}
 use Rattle.acd_log.specs.declared.ending.Ending.TheVariants.{Plain, Early, Headless}
-use Rattle.acd_sqlbook.specs.Caching.{followed}
+use Rattle.acd_sqlbook.specs.Caches.{followed}
 use Rattle.acd_sqlbook.specs.State.{book_state}
 use Rattle.acd_sqlbook.specs.declared.cache.Cache.{Cache}
 use Rattle.acd_terms.proofs.Results.{ok_err}
@@ -44,19 +44,19 @@ use Rattle.acd_program.specs.declared.outcome.Pruning.TheVariants as prune
 use Rattle.acd_program.specs.declared.status.Status.{Status}
 use Rattle.acd_files.specs.Connections.{IsShut, IsLaidIn, IsOpenedFrom}
 use Rattle.acd_sessions.specs.Over.{OnlyAsked, LeavesBooks, OverConnection, Unserved}
-use Rattle.acd_program.specs.Found.{pruning_line}
+use Rattle.acd_program.specs.AuditFindings.{pruning_line}
 use Rattle.acd_program.specs.Pruning.{is_well, goes_on, MayGoOn, IsPruningOf, IsPruningInOrder, DecidesPlace, IsPrunedTo, IsPruningDone, WasLeft, AskedBoth, IsDecision, WasDecided, CarriesOut, OnlyPruned, WasPruned, BookPruned, BookLeft, LeavesPruned, LeftOver}
-use Rattle.acd_sessions.specs.Taking.{IsOf, IsTaken}
+use Rattle.acd_sessions.specs.ConnectionBook.{IsHeldBook, IsTaken}
 use Rattle.acd_files.specs.Logs.{IsSomeEnding}
 use Rattle.acd_program.specs.Tasks.{PrunedWith}
 use Rattle.acd_program.specs.TasksEnded.{PruneCut, LeftWithArchive}
 use Rattle.acd_program.specs.WithArchive.{IsFindingWith, IsFindingInOrder, IsFoundWithArchive, InArchive, BookAskedWithArchive, IsShutWith, LeavesArchive, LeavesBeside, OverArchive, WasRead, WereAsked}
 use Rattle.acd_program.specs.Work.{IsPrinted, WasAsked}
-use Rattle.acd_io.specs.Sent.{Begins}
-use Rattle.acd_program.proofs.Asking.{asked_by, asked_of, asked_so}
+use Rattle.acd_io.specs.SentBytes.{Begins}
+use Rattle.acd_program.proofs.BookReads.{asked_by, asked_of, asked_so}
 use Rattle.acd_program.proofs.AuditsWithArchive.{archive_read, asked_clean, in_archive_so, plainly}
 use Rattle.acd_sessions.proofs.Called.{called, leaves_books}
-use Rattle.acd_program.proofs.Called.{asked_called}
+use Rattle.acd_program.proofs.SoundElsewhere.{asked_called}
 use Rattle.acd_sessions.proofs.Over.{over_so, over_connection}
 use Rattle.acd_program.proofs.ReadsOn.{left_alone, left_if, left_by, left_twice, only_if, only_then, only_was}
 
@@ -85,7 +85,7 @@ module _ (ending : Ending) (found : Finding) where
 
 -- ---- an audit, and then the search ----
 
-pub audited_both : (old_archive new_archive old : BookState) (d e : Standing) (found : Finding) → Opened old d → ReadDone d e (Ok found) Anything → ReadsIfOpen {A = Finding} old_archive new_archive (Ok found) Anything
+pub audited_both : (old_archive new_archive old : BookState) (d e : DeskState) (found : Finding) → Opened old d → ReadDone d e (Ok found) Anything → ReadsIfOpen {A = Finding} old_archive new_archive (Ok found) Anything
     → IsFoundWithArchive old_archive new_archive d e (Ok found) → AskedBoth IsFindingInOrder old_archive new_archive old e.book found
 audited_both old_archive new_archive old d e found o read archive finds = record {
   archive = left_if {A = Finding} old_archive new_archive found archive;
@@ -142,7 +142,7 @@ only_both IsAnswer a n old new x h = (only_if {A = Unit {0}} a n (Ok tt) h.archi
 
 -- ---- over the archive's connection ----
 
-were_of : {A : Type 0} (IsAnswer : Content → Content → A → Type 0) (old_archive mid_archive new_archive old new : BookState) (x : A) → IsOf old_archive mid_archive → AskedBoth IsAnswer mid_archive new_archive old new x
+were_of : {A : Type 0} (IsAnswer : Content → Content → A → Type 0) (old_archive mid_archive new_archive old new : BookState) (x : A) → IsHeldBook old_archive mid_archive → AskedBoth IsAnswer mid_archive new_archive old new x
     → WereAsked IsAnswer old_archive new_archive old new x
 were_of IsAnswer old_archive mid_archive new_archive old new x of h = record {
   archive = archive_read {A = Unit {0}} old_archive mid_archive new_archive tt of h.archive;
@@ -214,7 +214,7 @@ pruned_to ending a c stamp number stands may place =
 
 -- ---- over a book ----
 
-module _ (ending : Ending) (old_archive new_archive old mid m new : BookState) (r : Result (Unit {0}) BookFault) (of : IsOf old mid) where
+module _ (ending : Ending) (old_archive new_archive old mid m new : BookState) (r : Result (Unit {0}) BookFault) (of : IsHeldBook old mid) where
   -- the book was asked, by what it came of
   was : (p : Pruning) → WereAsked (IsPruningInOrder ending) old_archive new_archive mid m p → WasAsked old Anything p m
   was p were = asked_of old mid m p Anything of were.current
@@ -258,7 +258,7 @@ module _ (ending : Ending) (old_archive new_archive old mid m new : BookState) (
   pub book_left : (p : Pruning) → WereAsked (IsPruningInOrder ending) old_archive new_archive mid m p → CarriesOut m new r p → WasRead old_archive new_archive × OnlyPruned old_archive new_archive old new
   book_left p were done = (were.archive, only_pruned p were done)
 
-module _ (ending : Ending) (old_archive new_archive old mid m new : BookState) (of : IsOf old mid) where
+module _ (ending : Ending) (old_archive new_archive old mid m new : BookState) (of : IsHeldBook old mid) where
   none_done : (p : Pruning) → WereAsked (IsPruningInOrder ending) old_archive new_archive mid m p → WasLeft m new → ((a c d : Content) → IsPruningOf ending a c p → d ≡ c → IsPruningDone ending a c d p)
       → WasPruned ending old_archive new_archive old new p
   none_done p were rest so =

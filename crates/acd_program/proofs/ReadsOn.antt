@@ -6,7 +6,7 @@ use Rattle.acd_book.specs.Content.{Content}
 use Rattle.acd_book.specs.State.{BookState, Reads}
 use Rattle.acd_book.specs.declared.fault.BookFault.{BookFault}
 use Rattle.acd_desk.specs.AuditWith.{StandsInTime}
-use Rattle.acd_book.specs.BookReading.{Anything, ReadsIfOpen}
+use Rattle.acd_book.specs.BookReads.{Anything, ReadsIfOpen}
 use Rattle.acd_desk.specs.Overlap.{IsCleanCut}
 use Rattle.acd_book.proofs.ReadsAhead.{by_read, known, read_nothing, read_ok, read_twice}
 use Rattle.acd_sessions.specs.Over.{OnlyAsked}

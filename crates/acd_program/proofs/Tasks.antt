@@ -17,9 +17,9 @@ use Rattle.acd_program.specs.declared.desk.Done.{Done}
 use Rattle.acd_program.specs.declared.desk.Done.TheVariants.{Nothing, Text, Audited, Pruned}
 use Rattle.acd_program.specs.declared.status.Status.{Status}
 use Rattle.acd_program.specs.declared.status.Status.TheVariants.{Success}
-use Rattle.acd_program.specs.Found.{IsFindingOf, HasCount, finding_line}
+use Rattle.acd_program.specs.AuditFindings.{IsFindingOf, HasCount, finding_line}
 use Rattle.acd_lines.specs.Lines.{AllRequests, RequestsAnswered, Streams}
-use Rattle.acd_lines.proofs.Weaker.{out_so}
+use Rattle.acd_lines.proofs.WeakerAnswers.{out_so}
 use Rattle.acd_sessions.specs.Over.{IsSession, OverConnection}
 use Rattle.acd_program.specs.Work.{WasAsked, IsTextOf, ImportsOver, AuditsOver, WorkDone, IsPrinted, text_left, status_left}
 use Rattle.acd_files.specs.Connections.{IsLaidIn}

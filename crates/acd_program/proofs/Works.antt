@@ -7,45 +7,45 @@ use Rattle.acd_terms.specs.declared.command.Arrival.{Arrival}
 use Rattle.acd_book.specs.Content.{Content}
 use Rattle.acd_book.specs.State.{BookState}
 use Rattle.acd_sqlbook.specs.declared.cache.Cache.{Cache}
-use Rattle.acd_sqlbook.specs.Caching.{followed}
+use Rattle.acd_sqlbook.specs.Caches.{followed}
 use Rattle.acd_sqlbook.specs.State.{book_state}
 use Rattle.sqlite.specs.State.{State}
 use Rattle.acd_desk.specs.declared.taken.Taken.{Taken}
 use Rattle.acd_log.specs.declared.ending.Ending.{Ending}
-use Rattle.acd_desk.specs.Standing.{Standing}
-use Rattle.acd_desk.specs.Stands.{IsSound}
-use Rattle.acd_desk.specs.Carried.{Archive, together}
+use Rattle.acd_desk.specs.DeskState.{DeskState}
+use Rattle.acd_desk.specs.SoundContent.{IsSound}
+use Rattle.acd_desk.specs.CarriedContent.{Archive, together}
 use Rattle.acd_desk.specs.ReadAnswers.{text_read, export_read, Rise}
-use Rattle.acd_desk.proofs.Contents.Rising.{carried_rises}
+use Rattle.acd_desk.proofs.Contents.AscendingEvents.{carried_rises}
 use Rattle.acd_desk.specs.Opening.{Opened}
-use Rattle.acd_desk.specs.Ran.{Ran, IsFault}
+use Rattle.acd_desk.specs.DeskCalls.{Ran, IsFault}
 use Rattle.acd_desk.proofs.Desks.Sessions.{session_ran}
 use Rattle.acd_lines.specs.Lines.{LinesAnswered, AllRequests, RequestsAnswered}
-use Rattle.acd_lines.proofs.Weaker.{requests_so}
+use Rattle.acd_lines.proofs.WeakerAnswers.{requests_so}
 use Rattle.acd_command.specs.declared.asked.Printout.TheVariants.{Export}
 use Rattle.acd_command.specs.declared.asked.Work.{Work}
 use Rattle.acd_command.specs.declared.asked.Work.TheVariants.{Import, Print, Audit}
 use Rattle.acd_program.specs.declared.desk.Done.{Done}
 use Rattle.acd_program.specs.declared.desk.Done.TheVariants as left
-use Rattle.acd_program.specs.Found.{IsFindingOf}
+use Rattle.acd_program.specs.AuditFindings.{IsFindingOf}
 use Rattle.acd_program.specs.Work.{ImportsOver, IsFindingIfOrdered, IsTextOf, AuditsOver, WorkDone, printout_text}
 use Rattle.acd_sessions.specs.Over.{IsSession, LeavesBooks, OverConnection}
-use Rattle.acd_sessions.specs.Taking.{IsOf, IsTaken}
+use Rattle.acd_sessions.specs.ConnectionBook.{IsHeldBook, IsTaken}
 use Rattle.acd_sessions.proofs.Over.{session_of, over_connection}
-use Rattle.acd_program.proofs.Asking.{asked_of, asked_in_order}
+use Rattle.acd_program.proofs.BookReads.{asked_of, asked_in_order}
 use Rattle.acd_sessions.proofs.Called.{called, leaves_books, session_called}
-use Rattle.acd_program.proofs.Called.{asked_called}
+use Rattle.acd_program.proofs.SoundElsewhere.{asked_called}
 
-pub imports_over : (old : BookState) (d e : Standing) (requests : List Request) (old_output new_output : Option (List ℕ)) → Opened old d
+pub imports_over : (old : BookState) (d e : DeskState) (requests : List Request) (old_output new_output : Option (List ℕ)) → Opened old d
     → LinesAnswered (AllRequests requests) (RequestsAnswered (λ (l : List Arrival) (ts : List Taken). Ran d l ts e)) (Appends old_output new_output) → ImportsOver requests old old_output new_output e.book
 imports_over old d e requests old_output new_output opened h =
     requests_so (AllRequests requests) (λ (l : List Arrival) (ts : List Taken). Ran d l ts e) (IsSession old e.book) (Appends old_output new_output) (λ l ts ran. session_ran IsFault old d e l ts opened ran ran.later) h
 
-pub imports_of : (old mid new : BookState) (requests : List Request) (old_output new_output : Option (List ℕ)) → IsOf old mid → ImportsOver requests mid old_output new_output new → ImportsOver requests old old_output new_output new
+pub imports_of : (old mid new : BookState) (requests : List Request) (old_output new_output : Option (List ℕ)) → IsHeldBook old mid → ImportsOver requests mid old_output new_output new → ImportsOver requests old old_output new_output new
 imports_of old mid new requests old_output new_output of h =
     requests_so (AllRequests requests) (IsSession mid new) (IsSession old new) (Appends old_output new_output) (λ l ts s. session_of IsFault old mid new l ts of s) h
 
-audits_of : (counts : Bool) (ending : Ending) (old mid new : BookState) (done : Done) → IsOf old mid → AuditsOver IsFindingIfOrdered counts ending mid done new
+audits_of : (counts : Bool) (ending : Ending) (old mid new : BookState) (done : Done) → IsHeldBook old mid → AuditsOver IsFindingIfOrdered counts ending mid done new
     → AuditsOver IsFindingOf counts ending old done new
 audits_of counts ending old mid new left.Nothing of h = h
 audits_of counts ending old mid new (left.Text text) of h = h
@@ -53,7 +53,7 @@ audits_of counts ending old mid new (left.Pruned pruning quiet) of h = h
 audits_of counts ending old mid new (left.Audited found end) of h = (h.0, asked_in_order old mid new found of h.1, h.2)
 
 -- the work over a book that came of another
-pub work_of : (work : Work) (old mid new : BookState) (old_output new_output : Option (List ℕ)) (done : Done) → IsOf old mid → WorkDone IsFindingIfOrdered work mid old_output new_output done new → WorkDone IsFindingOf work old old_output new_output done new
+pub work_of : (work : Work) (old mid new : BookState) (old_output new_output : Option (List ℕ)) (done : Done) → IsHeldBook old mid → WorkDone IsFindingIfOrdered work mid old_output new_output done new → WorkDone IsFindingOf work old old_output new_output done new
 work_of (Import requests) old mid new old_output new_output done of h = (imports_of old mid new requests.now old_output new_output of h.0, h.1)
 work_of (Print printout) old mid new old_output new_output done of h = (record { asked = asked_of old mid new _ (IsTextOf printout) of h.0.asked; status = h.0.status }, h.1)
 work_of (Audit counts ending) old mid new old_output new_output done of h = (audits_of counts ending old mid new done of h.0, h.1)

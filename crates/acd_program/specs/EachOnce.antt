@@ -4,10 +4,10 @@ use Rattle.acd_terms.specs.Numbers.{EventNumber}
 use Rattle.acd_terms.specs.declared.event.Event.{Event}
 use Rattle.acd_book.specs.Content.{Content, GoOn}
 use Rattle.acd_reports.specs.Export.{events_csv}
-use Rattle.acd_desk.specs.Carried.{Archive, together}
+use Rattle.acd_desk.specs.CarriedContent.{Archive, together}
 use Rattle.acd_desk.specs.ReadAnswers.{above}
-use Rattle.acd_desk.specs.Stands.{IsSound}
-use Rattle.acd_program.specs.Exporting.{IsNewTable, IsWith}
+use Rattle.acd_desk.specs.SoundContent.{IsSound}
+use Rattle.acd_program.specs.ArchiveExport.{IsNewTable, IsWith}
 use Rattle.acd_program.specs.declared.export.EventTable.{EventTable}
 
 -- the events of contents were added to a table, one content after another

@@ -12,7 +12,7 @@ use Rattle.clap.specs.Words.{Text}
 use Rattle.acd_book.specs.declared.book.Book as book
 use Rattle.acd_desk.specs.Pairs.{BookCall}
 use Rattle.acd_desk.specs.declared.desk.Desk.{Desk}
-use Rattle.acd_desk.specs.Standing.{standing}
+use Rattle.acd_desk.specs.DeskState.{state_of}
 use Rattle.acd_lines.specs.Lines.{Streams}
 use Rattle.acd_log.specs.declared.ending.Ending.{Ending}
 use Rattle.acd_command.specs.CommandLine.{IsTaskOf, IsUntaken}
@@ -42,7 +42,7 @@ module _ {S : Type 0} {host : calls.Ghosts Host} {known : start.Ghosts S} (disk 
 
   -- the desk was asked while the archive was open
   abbrev pub AsksWithArchive : {B F : Type 0} → book.Ghosts B → Desk B → Desk B → Result Finding F → Type 0
-  AsksWithArchive books old new result = IfOk result (AskedWithArchive disk IsFresh (standing books old) (standing books new))
+  AsksWithArchive books old new result = IfOk result (AskedWithArchive disk IsFresh (state_of books old) (state_of books new))
 
   -- the book of such a desk was audited, with a count or without, and with how its log ended
   abbrev pub AuditsWith : {B F : Type 0} → Bool × Ending → book.Ghosts B → B → Result Done F × B → Type 0

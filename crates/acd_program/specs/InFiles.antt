@@ -6,7 +6,7 @@ use Rattle.sqlite_store.specs.declared.store.FileStore.{FileStore}
 use Rattle.sqlite.specs.Held.{Held}
 use Rattle.sqlite.specs.Files.{file_state}
 use Rattle.acd_book.specs.State.{BookState}
-use Rattle.acd_program.specs.Found.{IsFindingOf}
+use Rattle.acd_program.specs.AuditFindings.{IsFindingOf}
 use Rattle.acd_sessions.specs.Over.{OverConnection}
 use Rattle.acd_program.specs.Work.{WorkDone, text_left, status_left}
 use Rattle.acd_command.specs.declared.asked.Work.{Work}

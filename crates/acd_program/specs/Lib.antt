@@ -1,11 +1,11 @@
 pub mod Faults
 pub mod Statuses
-pub mod Found
+pub mod AuditFindings
 pub mod Work
 pub mod InFiles
 pub mod WithArchive
 pub mod Pruning
-pub mod Exporting
+pub mod ArchiveExport
 pub mod Tasks
 pub mod Ended
 pub mod TasksEnded

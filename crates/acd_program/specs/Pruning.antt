@@ -8,12 +8,12 @@ use Rattle.sqlite_disk.specs.declared.Disk.{Ghosts}
 use Rattle.sqlite_store.specs.declared.store.FileStore.{FileStore}
 use Rattle.acd_book.specs.Content.{Content}
 use Rattle.acd_book.specs.Order.{IsOrdered}
-use Rattle.acd_book.specs.Pruned.{pruned}
+use Rattle.acd_book.specs.PrunedContent.{pruned}
 use Rattle.acd_book.specs.State.{BookState, Commits, IfHonest}
 use Rattle.acd_book.specs.declared.fault.BookFault.{BookFault}
 use Rattle.acd_desk.specs.AuditWith.{StandsInTime}
-use Rattle.acd_book.specs.BookReading.{Anything, ReadsIfOpen}
-use Rattle.acd_desk.specs.Carried.{Archive}
+use Rattle.acd_book.specs.BookReads.{Anything, ReadsIfOpen}
+use Rattle.acd_desk.specs.CarriedContent.{Archive}
 use Rattle.acd_desk.specs.Pairs.{BookCall, across}
 use Rattle.acd_desk.specs.Pruning.{IsPlace, IsGone}
 use Rattle.acd_log.specs.declared.ending.Ending.{Ending}

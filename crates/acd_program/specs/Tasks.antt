@@ -10,11 +10,11 @@ use Rattle.acd_lines.specs.Lines.{Streams}
 use Rattle.acd_log.specs.declared.ending.Ending.{Ending}
 use Rattle.acd_log.specs.declared.ending.Ending.TheVariants.{Plain}
 use Rattle.acd_program.specs.WithArchive.{IsFindingIn, BookAskedWithArchive}
-use Rattle.acd_sessions.specs.Answered.{AnswersAll}
-use Rattle.acd_desk.specs.Standing.{Standing}
+use Rattle.acd_sessions.specs.MemoryAnswers.{AnswersAll}
+use Rattle.acd_desk.specs.DeskState.{DeskState}
 use Rattle.acd_sessions.specs.LinesOver.{in_turn, DatabaseAnswered, Whole}
-use Rattle.acd_sessions.specs.Seen.{Seen, SeenNew, InDatabase, SeenIn}
-use Rattle.acd_program.specs.Found.{IsFindingOf, HasCount, finding_line, pruning_line}
+use Rattle.acd_sessions.specs.DeskAsLeft.{Seen, SeenNew, InDatabase, SeenIn}
+use Rattle.acd_program.specs.AuditFindings.{IsFindingOf, HasCount, finding_line, pruning_line}
 use Rattle.acd_program.specs.Statuses.{finding_status, pruning_status}
 use Rattle.acd_program.specs.Work.{WasAsked, ImportsOver}
 use Rattle.acd_files.specs.Connections.{OfFiles, IsLaidIn, IsOpenedFrom}
@@ -27,7 +27,7 @@ use Rattle.std.specs.declared.time.Duration.{Duration}
 use Rattle.acd_program.specs.declared.auditing.Finding.{Finding}
 use Rattle.acd_command.specs.declared.asked.Work.{Work}
 use Rattle.acd_command.specs.declared.asked.Work.TheVariants as kind
-use Rattle.acd_program.specs.Exporting.{IsNewTable, AddsEvents, AddsArchives}
+use Rattle.acd_program.specs.ArchiveExport.{IsNewTable, AddsEvents, AddsArchives}
 use Rattle.acd_program.specs.declared.export.EventTable.{EventTable}
 use Rattle.acd_program.specs.Pruning.{BookPruned}
 use Rattle.acd_program.specs.declared.outcome.Pruning.{Pruning}
@@ -66,7 +66,7 @@ module _ {D : Type 0} (disk : Ghosts D) (IsFresh : Bool → D → Type 0) where
     pub conn : OfFiles disk
     pub last : OfFiles disk
     pub opened : IsOpenedFrom disk IsFresh conn
-    pub answered : SeenIn over_files (λ (stands : Seen (InDatabase (FileStore D disk)) → Standing). ServeDone stands span old_output new_output) true (file_state conn) last
+    pub answered : SeenIn over_files (λ (stands : Seen (InDatabase (FileStore D disk)) → DeskState). ServeDone stands span old_output new_output) true (file_state conn) last
     pub closed : IsLaidIn last
 
   -- so one was, its desk answered the lines of the input up to the order, and then connections

@@ -7,13 +7,13 @@ use Rattle.sqlite.specs.State.{State}
 use Rattle.acd_lines.specs.Lines.{Streams, Untouched}
 use Rattle.acd_lines.specs.declared.fault.LinesFault.{LinesFault}
 use Rattle.acd_log.specs.declared.ending.Ending.{Ending}
-use Rattle.acd_io.specs.Sent.{Begins}
+use Rattle.acd_io.specs.SentBytes.{Begins}
 use Rattle.acd_program.specs.WithArchive.{IsFindingIn, BookAskedWithArchive, IsShutWith, LeavesArchive}
 use Rattle.acd_program.specs.Ended.{IsFaultOf, TakesPlan, WorkLeft}
 use Rattle.acd_files.specs.Connections.{IsShut, OfFiles, IsOpenedFrom, LeavesUnopened}
-use Rattle.acd_program.specs.Exporting.{MakesTable, LeavesArchives}
+use Rattle.acd_program.specs.ArchiveExport.{MakesTable, LeavesArchives}
 use Rattle.acd_sessions.specs.Faults.{lines_fault}
-use Rattle.acd_program.specs.Found.{HasCount, finding_line, pruning_line}
+use Rattle.acd_program.specs.AuditFindings.{HasCount, finding_line, pruning_line}
 use Rattle.acd_program.specs.InFiles.{InFile}
 use Rattle.acd_sessions.specs.Output.{Output, output_of}
 use Rattle.acd_sessions.specs.Over.{OverConnection, Unserved}

@@ -13,10 +13,10 @@ use Rattle.acd_desk.specs.declared.audit.ArchiveAudit.{ArchiveAudit}
 use Rattle.acd_desk.specs.declared.audit.ArchiveAudit.TheVariants as audit
 use Rattle.acd_desk.specs.declared.audit.AuditFault.{AuditFault}
 use Rattle.acd_desk.specs.AuditWith.{StandsInTime, IsSentAgain, IsDifferenceWith}
-use Rattle.acd_book.specs.BookReading.{Anything}
+use Rattle.acd_book.specs.BookReads.{Anything}
 use Rattle.acd_desk.specs.declared.desk.Desk.{Desk}
-use Rattle.acd_desk.specs.Standing.{Standing, InStep, standing}
-use Rattle.acd_desk.specs.ReadDone.{ReadDone}
+use Rattle.acd_desk.specs.DeskState.{DeskState, InStep, state_of}
+use Rattle.acd_desk.specs.DeskReads.{ReadDone}
 use Rattle.acd_desk.specs.WithArchive.{IsSoundWith}
 use Rattle.acd_log.specs.declared.ending.Ending.{Ending}
 use Rattle.acd_program.specs.declared.auditing.Finding.{Finding}
@@ -27,7 +27,7 @@ use Rattle.acd_program.specs.declared.fault.ArchiveFault.{ArchiveFault}
 use Rattle.acd_program.specs.declared.fault.ArchiveFault.TheVariants as archive
 use Rattle.acd_program.specs.declared.fault.Fault.{Fault}
 use Rattle.acd_program.specs.declared.fault.Fault.TheVariants as fault
-use Rattle.acd_program.specs.Found.{HasCount}
+use Rattle.acd_program.specs.AuditFindings.{HasCount}
 use Rattle.acd_files.specs.Connections.{IsShut, OfFiles, IsLaidIn, IsOpenedFrom, LeavesUnopened}
 use Rattle.acd_sessions.specs.Over.{Database, OverConnection, Unserved}
 use Rattle.acd_program.specs.Work.{WasAsked}
@@ -53,7 +53,7 @@ IsFindingWith a c (SentAgainCounted stamp count) = IsSentAgain a c stamp × (cou
 IsFindingWith a c (Differs place) = IsDifferenceWith a c place
 
 -- the same of a desk: one that is in step counts its executed requests
-abbrev pub IsDeskFindingWith : Content → Standing → Finding → Type 0
+abbrev pub IsDeskFindingWith : Content → DeskState → Finding → Type 0
 IsDeskFindingWith a s Sound = IsSoundWith a s.book.content
 IsDeskFindingWith a s (Counted count) = IsSoundWith a s.book.content × (InStep s → count ≡ s.book.content.rows.last_stamp)
 IsDeskFindingWith a s (SentAgain stamp) = IsSentAgain a s.book.content stamp
@@ -69,19 +69,19 @@ abbrev pub IsFindingInOrder : Content → Content → Finding → Type 0
 IsFindingInOrder a c found = StandsInTime a → IsOrdered c → IsFindingWith a c found
 
 -- a desk's answer is found so
-abbrev pub IsFoundWithArchive : BookState → BookState → Standing → Standing → Result Finding AuditFault → Type 0
+abbrev pub IsFoundWithArchive : BookState → BookState → DeskState → DeskState → Result Finding AuditFault → Type 0
 IsFoundWithArchive old_archive new_archive d e result =
     IfHonest old_archive new_archive (IfHonest d.book e.book (old_archive.is_open → d.book.is_open
     → IfOk result (λ (found : Finding). StandsInTime old_archive.content → IsOrdered d.book.content → IsDeskFindingWith old_archive.content d found)))
 
 -- the same, of an archive that was open
-abbrev pub FindsWithArchive : BookState → BookState → Standing → Standing → Finding → Type 0
+abbrev pub FindsWithArchive : BookState → BookState → DeskState → DeskState → Finding → Type 0
 FindsWithArchive old_archive new_archive d e found =
     IfHonest old_archive new_archive (IfHonest d.book e.book (d.book.is_open → StandsInTime old_archive.content → IsOrdered d.book.content → IsDeskFindingWith old_archive.content d found))
 
 -- in a call it is, by the archive and the desk, each as it was and as it is then
 abbrev pub FindsWith : {A B : Type 0} → book.Ghosts A → A × A → book.Ghosts B → Desk B × Desk B → Result Finding AuditFault → Type 0
-FindsWith archives archive books desk result = IsFoundWithArchive (archives.state archive.0) (archives.state archive.1) (standing books desk.0) (standing books desk.1) result
+FindsWith archives archive books desk result = IsFoundWithArchive (archives.state archive.0) (archives.state archive.1) (state_of books desk.0) (state_of books desk.1) result
 
 -- a book was asked, whatever it holds
 abbrev pub WasRead : BookState → BookState → Type 0
@@ -96,13 +96,13 @@ pub record WereAsked {A : Type 0} (IsAnswer : Content → Content → A → Type
 -- ---- over the archive's connection
 
 -- a desk was asked while the archive was open
-pub record AskedOver (s t : State) (d e : Standing) (found : Finding) : Type 0 where
+pub record AskedOver (s t : State) (d e : DeskState) (found : Finding) : Type 0 where
   pub desk : ReadDone d e (Ok found) Anything
   pub archive : OverConnection (λ (old new : BookState). WasRead old new × FindsWithArchive old new d e found) false s t
 
 -- so it was, by the desk as it was and as it is then, with the connection that came back
 abbrev pub AsksOver : {S B F : Type 0} → Database S → book.Ghosts B → Desk B → Desk B → Result Finding F × Held S → Type 0
-AsksOver db books old new result = IfOk result.0 (AskedOver (state db.store db.conn) (state db.store result.1) (standing books old) (standing books new))
+AsksOver db books old new result = IfOk result.0 (AskedOver (state db.store db.conn) (state db.store result.1) (state_of books old) (state_of books new))
 
 module _ {D : Type 0} {g : Ghosts D} where
   -- this was done over the archive's book, and the connection was closed into its file; a reopening finds there what it could find before
@@ -119,13 +119,13 @@ module _ {D : Type 0} {g : Ghosts D} where
     pub kept : IsKept (file_state conn) (file_state last)
 
   -- the same, of an archive in files
-  pub record AskedIn (conn : Held (FileStore D g)) (d e : Standing) (found : Finding) : Type 0 where
+  pub record AskedIn (conn : Held (FileStore D g)) (d e : DeskState) (found : Finding) : Type 0 where
     pub desk : ReadDone d e (Ok found) Anything
     pub archive : OverArchive (λ (old new : BookState). WasRead old new × FindsWithArchive old new d e found) conn
 
   -- so it was, by the desk as it was and as it is then
   abbrev pub AsksIn : {B F : Type 0} → Held (FileStore D g) → book.Ghosts B → Desk B → Desk B → Result Finding F → Type 0
-  AsksIn conn books old new result = IfOk result (AskedIn conn (standing books old) (standing books new))
+  AsksIn conn books old new result = IfOk result (AskedIn conn (state_of books old) (state_of books new))
 
 -- `IsFresh is_log file` says that a file is a log, or a database file, that was just opened
 module _ {D : Type 0} (disk : Ghosts D) (IsFresh : Bool → D → Type 0) where
@@ -134,7 +134,7 @@ module _ {D : Type 0} (disk : Ghosts D) (IsFresh : Bool → D → Type 0) where
   InArchive P = (conn : OfFiles disk) × IsOpenedFrom disk IsFresh conn × OverArchive P conn
 
   -- a desk was asked while an archive was open in files beside it
-  abbrev pub AskedWithArchive : Standing → Standing → Finding → Type 0
+  abbrev pub AskedWithArchive : DeskState → DeskState → Finding → Type 0
   AskedWithArchive d e found = (conn : OfFiles disk) × IsOpenedFrom disk IsFresh conn × AskedIn conn d e found
 
   -- a book was

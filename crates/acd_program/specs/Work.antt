@@ -8,12 +8,12 @@ use Rattle.acd_book.specs.declared.book.Book.{Ghosts}
 use Rattle.acd_book.specs.State.{BookState, IfHonest, BookStep}
 use Rattle.acd_reports.specs.QueueReport.{queue_report}
 use Rattle.acd_reports.specs.Export.{events_csv}
-use Rattle.acd_desk.specs.Stands.{IsSound}
-use Rattle.acd_desk.specs.Carried.{Archive, together}
+use Rattle.acd_desk.specs.SoundContent.{IsSound}
+use Rattle.acd_desk.specs.CarriedContent.{Archive, together}
 use Rattle.acd_desk.specs.ReadAnswers.{text_read}
-use Rattle.acd_io.specs.Sent.{Begins, Breaks}
+use Rattle.acd_io.specs.SentBytes.{Begins, Breaks}
 use Rattle.acd_lines.specs.Lines.{LinesAnswered, AllRequests, RequestsAnswered}
-use Rattle.acd_program.specs.Found.{IsFindingOf, HasCount, finding_line, pruning_line}
+use Rattle.acd_program.specs.AuditFindings.{IsFindingOf, HasCount, finding_line, pruning_line}
 use Rattle.acd_program.specs.Statuses.{finding_status, pruning_status}
 use Rattle.acd_sessions.specs.Output.{Output}
 use Rattle.acd_sessions.specs.Over.{IsSession}

@@ -1,11 +1,11 @@
 //! The audit of a desk, with the number of executed requests where that is asked for.
 
 ghost use Rattle.std.specs.Prelude.{◌≡◌, IfOk};
-ghost use Rattle.acd_desk.specs.AuditedWith.{desk_part, archive_part};
-ghost use Rattle.acd_book.specs.BookReading.{Anything, MayRead};
-ghost use Rattle.acd_desk.specs.ReadDone.{DeskRead};
+ghost use Rattle.acd_desk.specs.ArchiveAudits.{desk_part, archive_part};
+ghost use Rattle.acd_book.specs.BookReads.{Anything, MayRead};
+ghost use Rattle.acd_desk.specs.DeskReads.{DeskRead};
 ghost use Rattle.acd_program.specs.WithArchive.{uncounted_with, counted_with, FindsWith};
-ghost use Rattle.acd_program.specs.Found.{uncounted, AuditsDesk, HasCount};
+ghost use Rattle.acd_program.specs.AuditFindings.{uncounted, AuditsDesk, HasCount};
 
 use acd_book::Book;
 use acd_desk::{ArchiveAudit, Audit, AuditFault, Desk, DeskFault};

@@ -4,7 +4,7 @@
 ghost use Rattle.std.specs.Prelude.{◌≤◌};
 ghost use Rattle.std.specs.Bool.{Decides};
 ghost use Rattle.acd_book.specs.State.{BookReads};
-ghost use Rattle.acd_book.specs.BookReading.{Anything, MayRead};
+ghost use Rattle.acd_book.specs.BookReads.{Anything, MayRead};
 ghost use Rattle.acd_desk.specs.Overlap.{DecidesCleanCut, IsBefore};
 ghost use Rattle.acd_program.specs.Pruning.{DecidesPlace};
 

@@ -2,7 +2,7 @@
 
 ghost use Rattle.std.specs.Prelude.{◌≡◌, false, [], IfOk, unwrap_or};
 ghost use Rattle.sqlite.specs.Held.{state};
-ghost use Rattle.acd_desk.specs.ReadDone.{DeskRead};
+ghost use Rattle.acd_desk.specs.DeskReads.{DeskRead};
 ghost use Rattle.acd_desk.specs.ReadAnswers.{text_read};
 ghost use Rattle.acd_sessions.specs.Over.{OnlyAsked};
 ghost use Rattle.acd_program.specs.Ended.{OnlyReads, plan_over, work_over, work_in};
@@ -13,7 +13,7 @@ ghost use Rattle.acd_program.specs.Work.{text_left, status_left, IsPrintoutOf, P
 
 use crate::auditing::{Finding, audited};
 use crate::outcome::Pruning;
-use crate::progress::{Progress, Watched};
+use crate::progress::{Progress, ShownBook};
 use crate::status::Status;
 use acd_book::Book;
 use acd_command::{Printout, Work};
@@ -92,7 +92,7 @@ fn read_text<B: Book>(alloc: Global, book: B, printout: Printout) -> (Result<Don
 }
 
 // Gives the book back. For one that differs, more may be printed on a terminal.
-fn book_of<B: Book>(book: Watched<'_, B>, found: Finding) -> B
+fn book_of<B: Book>(book: ShownBook<'_, B>, found: Finding) -> B
     ensures { result ≡ book.entry.inner }
 {
     match found {
@@ -104,7 +104,7 @@ fn book_of<B: Book>(book: Watched<'_, B>, found: Finding) -> B
 // The replay is watched.
 fn audit<B: Book>(
     alloc: Global,
-    book: Watched<'_, B>,
+    book: ShownBook<'_, B>,
     counts: bool,
     ending: Ending,
 ) -> (Result<Done, WorkFault>, B)
@@ -140,7 +140,7 @@ fn over_book<B: Book, W: Write>(
         Work::Import(requests) => imported(rt.alloc(), book, requests, writer),
         Work::Print(printout) => read_text(rt.alloc(), book, printout),
         Work::Audit { counts, ending } => {
-            let book = Watched::new(book, Progress::new(rt));
+            let book = ShownBook::new(book, Progress::new(rt));
             audit(rt.alloc(), book, counts, ending)
         }
     }

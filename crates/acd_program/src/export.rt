@@ -3,9 +3,9 @@
 ghost use Rattle.std.specs.Prelude.{◌≡◌, false, length, IfOk, IfErr};
 ghost use Rattle.sqlite.specs.Held.{state};
 ghost use Rattle.sqlite_std_file.specs.File.{IsFresh};
-ghost use Rattle.acd_book.specs.BookReading.{MayRead, IfOrdered};
+ghost use Rattle.acd_book.specs.BookReads.{MayRead, IfOrdered};
 ghost use Rattle.acd_desk.specs.ReadAnswers.{WritesPage};
-ghost use Rattle.acd_program.specs.Exporting.{WritesRows, AddsEvents, AddsOver, AddsIn, AddsArchive, AddsArchives, IsNewTable, MakesTable, LeavesArchives, LeavesExport};
+ghost use Rattle.acd_program.specs.ArchiveExport.{WritesRows, AddsEvents, AddsOver, AddsIn, AddsArchive, AddsArchives, IsNewTable, MakesTable, LeavesArchives, LeavesExport};
 ghost use Rattle.acd_sessions.specs.Over.{database, Unserved};
 ghost use Rattle.acd_program.specs.WithArchive.{IsShutWith, LeavesArchive};
 

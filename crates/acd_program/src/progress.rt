@@ -84,23 +84,23 @@ fn stamp_of(found: &Option<Kept>) -> u64
 
 /// A book whose replay is watched: its records are asked for one after the other.
 #[derive(Drop)]
-pub(crate) struct Watched<'a, B: Book> {
+pub(crate) struct ShownBook<'a, B: Book> {
     inner: B,
     progress: Progress<'a>,
 }
 
-impl<'a, B: Book> Watched<'a, B> {
-    pub(crate) fn new(inner: B, progress: Progress<'a>) -> Watched<'a, B>
+impl<'a, B: Book> ShownBook<'a, B> {
+    pub(crate) fn new(inner: B, progress: Progress<'a>) -> ShownBook<'a, B>
         ensures { result.inner ≡ inner }
     {
-        Watched { inner, progress }
+        ShownBook { inner, progress }
     }
 
     /// Gives the book back.
     pub(crate) fn into_inner(self) -> B
         ensures { result ≡ self.entry.inner }
     {
-        let Watched { inner, progress } = self;
+        let ShownBook { inner, progress } = self;
         progress.end();
         inner
     }
@@ -114,7 +114,7 @@ impl<'a, B: Book> Watched<'a, B> {
     }
 }
 
-impl<'a, B: Book> Book for Watched<'a, B> {
+impl<'a, B: Book> Book for ShownBook<'a, B> {
     ghost state = { λ w. B.state w.inner };
 
     ghost settled = { λ w. B.settled w.inner };

@@ -16,7 +16,7 @@ use crate::auditing::{Finding, audited_with_archive};
 use crate::cut::{find_cut, is_place};
 use crate::fault::{ArchiveFault, Fault};
 use crate::outcome::Pruning;
-use crate::progress::{Progress, Watched};
+use crate::progress::{Progress, ShownBook};
 use crate::with_archive::found_and_closed;
 use acd_book::{Book, BookFault};
 use acd_command::Retention;
@@ -85,7 +85,7 @@ fn decide<A: Book, B: Book>(
 // Audits the book with its archive. The replay is watched.
 fn audited_beside<A: Book, B: Book>(
     alloc: Global,
-    book: Watched<'_, B>,
+    book: ShownBook<'_, B>,
     archive: &mut A,
 ) -> (Result<Finding, WorkFault>, B)
     ensures { EndedWith (asking IsFindingInOrder (book_across A.state archive)
@@ -112,7 +112,7 @@ fn planned<A: Book, B: Book>(
     ensures { EndedWith (asking (IsPruningInOrder ending) (book_across A.state archive)
         B.state book) result }
 {
-    let watched = Watched::new(book, Progress::new(rt));
+    let watched = ShownBook::new(book, Progress::new(rt));
     let (asked, mut book) = audited_beside(rt.alloc(), watched, archive);
     match asked {
         Ok(found) => {

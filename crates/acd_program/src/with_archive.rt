@@ -3,17 +3,17 @@
 ghost use Rattle.std.specs.Prelude.{◌≡◌, false, Ok, IfOk, IfErr};
 ghost use Rattle.sqlite.specs.Held.{state};
 ghost use Rattle.sqlite_std_file.specs.File.{IsFresh};
-ghost use Rattle.acd_desk.specs.Standing.{standing};
+ghost use Rattle.acd_desk.specs.DeskState.{state_of};
 ghost use Rattle.acd_program.specs.FileTasks.{AsksWithArchive, AuditsWith, AuditsDatabase};
 ghost use Rattle.acd_program.specs.WithArchive.{AsksIn, AsksOver, IsShutWith, LeavesArchive, LeavesBeside};
 ghost use Rattle.acd_sessions.specs.Over.{OnlyAsked};
-ghost use Rattle.acd_program.specs.Found.{HasCount};
+ghost use Rattle.acd_program.specs.AuditFindings.{HasCount};
 ghost use Rattle.acd_sessions.specs.Over.{database, Unserved};
 
 use crate::auditing::{Finding, audited_with_archive};
 use crate::desk::Done;
 use crate::fault::{ArchiveFault, Fault};
-use crate::progress::{Progress, Watched};
+use crate::progress::{Progress, ShownBook};
 use acd_book::{Book, BookFault};
 use acd_desk::Desk;
 use acd_files::{close_connection, connect_archive};
@@ -35,7 +35,7 @@ fn asked_over<S: Alter, B: Book>(
     ensures asked { AsksOver (database S.Store false conn) B.Book desk.old desk.new result }
     // whatever comes of it, a reopening finds in the archive what it could find before
     ensures spared { Unserved false (state S.Store conn) (state S.Store result.1) }
-    ensures kept { OnlyAsked (standing B.Book desk.old).book (standing B.Book desk.new).book }
+    ensures kept { OnlyAsked (state_of B.Book desk.old).book (state_of B.Book desk.new).book }
 {
     let mut book = match archive_over(alloc, conn) {
         Ok(book) => book,
@@ -70,7 +70,7 @@ fn found_in<D: Disk + Drop, B: Book>(
     ensures counted { IfOk result (HasCount counts) }
     ensures asked { AsksIn conn B.Book desk.old desk.new result }
     ensures spared { IsShutWith (Unserved false) conn }
-    ensures kept { OnlyAsked (standing B.Book desk.old).book (standing B.Book desk.new).book }
+    ensures kept { OnlyAsked (state_of B.Book desk.old).book (state_of B.Book desk.new).book }
 {
     let (found, conn) = asked_over(alloc, desk, conn, counts);
     found_and_closed(found, close_connection(conn))
@@ -87,7 +87,7 @@ fn found_with_archive<'a, S: Start, B: Book>(
     ensures counted { IfOk result (HasCount counts) }
     ensures asked { AsksWithArchive ⟦<FileFrom<S> as Disk>⟧ B.Book desk.old desk.new result }
     ensures left { IfErr result (LeavesArchive ⟦<FileFrom<S> as Disk>⟧ IsFresh) }
-    ensures kept { OnlyAsked (standing B.Book desk.old).book (standing B.Book desk.new).book }
+    ensures kept { OnlyAsked (state_of B.Book desk.old).book (state_of B.Book desk.new).book }
 {
     let conn = connect_archive(rt, archive, start)?;
     match found_in(rt.alloc(), desk, conn, counts) {
@@ -99,7 +99,7 @@ fn found_with_archive<'a, S: Start, B: Book>(
 // Over a book whose replay is watched.
 fn audit_with_archive<'a, S: Start, B: Book>(
     rt: &HostRuntime,
-    book: Watched<'_, B>,
+    book: ShownBook<'_, B>,
     start: S,
     archive: &'a str,
     counts: bool,
@@ -133,7 +133,7 @@ fn audit_watched<'a, S: Start, B: Book>(
     ensures left { IfErr result.0 (LeavesBeside ⟦<FileFrom<S> as Disk>⟧ IsFresh) }
     ensures kept { OnlyAsked (B.state book) (B.state result.1) }
 {
-    let book = Watched::new(book, Progress::new(rt));
+    let book = ShownBook::new(book, Progress::new(rt));
     audit_with_archive(rt, book, start, archive, counts, ending)
 }
 

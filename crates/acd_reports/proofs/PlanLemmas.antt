@@ -3,9 +3,9 @@ use Rattle.std.proofs.Common.{◌≡◌, ℕ, ◌+◌, List, [], ◌∷◌, ◌+
 use Rattle.std.proofs.lemmas.List.{append-nil}
 use Rattle.acd_terms.specs.declared.command.Request.{Request}
 use Rattle.acd_terms.specs.Results.{◌>>=◌}
-use Rattle.acd_reports.specs.PlanRows.{command_in}
+use Rattle.acd_reports.specs.PlanRows.{command_in_record}
 use Rattle.acd_reports.specs.Plan.{IsPlanFault, request_of, requests_from}
-use Rattle.acd_reports.specs.PlanReading.{after}
+use Rattle.acd_reports.specs.PlanReaders.{after}
 use Rattle.acd_reports.specs.declared.fault.PlanFault.{PlanFault}
 use Rattle.acd_reports.specs.declared.fault.PlanFault.TheVariants.{TooLong, Header, Row, NoMemory}
 
@@ -27,12 +27,12 @@ after_one requests request (Err fault) = refl
 
 -- a row more
 pub row_done : (requests : List Request) (row : ℕ) (rows : List (List (List ℕ))) (wanted : Result (List Request) PlanFault) (fields : List (List ℕ)) (rest : List (List (List ℕ))) (request : Request)
-    → wanted ≡ after requests (requests_from row rows) → rows ≡ fields ∷ rest → request_of row (command_in fields) ≡ Ok request → wanted ≡ after (requests ++ request ∷ []) (requests_from (row + 1) rest)
+    → wanted ≡ after requests (requests_from row rows) → rows ≡ fields ∷ rest → request_of row (command_in_record fields) ≡ Ok request → wanted ≡ after (requests ++ request ∷ []) (requests_from (row + 1) rest)
 unfolding requests_from
 row_done requests row rows wanted fields rest request e one is = (rw (one, is) at e) ∙ after_one requests request (requests_from (row + 1) rest)
 
 -- a faulty row
 pub row_faulty : (requests : List Request) (row : ℕ) (rows : List (List (List ℕ))) (wanted : Result (List Request) PlanFault) (fields : List (List ℕ)) (rest : List (List (List ℕ))) (fault : PlanFault)
-    → wanted ≡ after requests (requests_from row rows) → rows ≡ fields ∷ rest → request_of row (command_in fields) ≡ Err fault → wanted ≡ Err fault
+    → wanted ≡ after requests (requests_from row rows) → rows ≡ fields ∷ rest → request_of row (command_in_record fields) ≡ Err fault → wanted ≡ Err fault
 unfolding requests_from
 row_faulty requests row rows wanted fields rest fault e one is = rw (one, is) at e

@@ -4,7 +4,7 @@ use Rattle.csv.specs.Machine.{Read, next_record, start_field, start_record, step
 use Rattle.csv.specs.Reading.{NextIs, ReadRecord, ReadsNext, ReadsOn, default_config, is_bom, pending_of, records_from, records_next, source_of, strip_bom}
 use Rattle.std.specs.Prelude.{unwrap_or}
 use Rattle.std.specs.Option.{IsSome}
-use Rattle.acd_reports.specs.PlanReading.{IsPlain, PlanReader, ReadsPlan, known, rows_left, unread}
+use Rattle.acd_reports.specs.PlanReaders.{IsPlanReader, PlanReader, ReadsPlan, known, rows_left, unread}
 use Rattle.csv.specs.declared.parser.State.{State}
 use Rattle.csv.specs.declared.parser.State.TheVariants as st
 use Rattle.csv.specs.declared.parser.Action.{Action}
@@ -115,7 +115,7 @@ reads_rows s s2 (Some xs) (Some ys) fields found between has r = by_read s s2 xs
 source_known : (reader : PlanReader) → reader.bom_checked ≡ true → pending_of (known reader.rdr) reader ≡ source_of known reader
 source_known reader checked = rw checked refl
 
-found_row : (old new : PlanReader) (fields : List (List ℕ)) → IsPlain old → ReadRecord known old new true fields → ReadsOn old new
+found_row : (old new : PlanReader) (fields : List (List ℕ)) → IsPlanReader old → ReadRecord known old new true fields → ReadsOn old new
     → ReadsRows true old.state (source_of known old) fields new.state (source_of known new) → ReadsPlan true old fields new
 unfolding rows_left
 found_row old new fields plain read on rows =
@@ -125,11 +125,11 @@ no_row : (old new : PlanReader) (fields : List (List ℕ)) → ReadsRows false o
 unfolding rows_left
 no_row old new fields rows = rows
 
-rows_of_read : (old new : PlanReader) (found : Bool) (fields : List (List ℕ)) → IsPlain old → ReadRecord known old new found fields → ReadsRows found old.state (source_of known old) fields new.state (source_of known new)
+rows_of_read : (old new : PlanReader) (found : Bool) (fields : List (List ℕ)) → IsPlanReader old → ReadRecord known old new found fields → ReadsRows found old.state (source_of known old) fields new.state (source_of known new)
 rows_of_read old new found fields plain read =
     reads_rows old.state new.state (source_of known old) (source_of known new) fields found plain.between plain.has (rw (plain.config, source_known new read.1) at read.0)
 
-pub next_rows : (old new : PlanReader) (found : Bool) (fields : List (List ℕ)) → IsPlain old → ReadRecord known old new found fields → (found ≡ true → ReadsOn old new) → ReadsPlan found old fields new
+pub next_rows : (old new : PlanReader) (found : Bool) (fields : List (List ℕ)) → IsPlanReader old → ReadRecord known old new found fields → (found ≡ true → ReadsOn old new) → ReadsPlan found old fields new
 next_rows old new true fields plain read on = found_row old new fields plain read (on refl) (rows_of_read old new true fields plain read)
 next_rows old new false fields plain read on = no_row old new fields (rows_of_read old new false fields plain read)
 
@@ -139,7 +139,7 @@ unfolding records_from next_record
 empty_left s [] between e = rw between refl
 empty_left s (x ∷ xs) between e = absurd (omega arith)
 
-pub rows_end : (reader : PlanReader) → IsPlain reader → length (unread reader) ≡ 0 → rows_left reader ≡ []
+pub rows_end : (reader : PlanReader) → IsPlanReader reader → length (unread reader) ≡ 0 → rows_left reader ≡ []
 unfolding rows_left
 rows_end reader plain e = empty_left reader.state (unread reader) plain.between e
 

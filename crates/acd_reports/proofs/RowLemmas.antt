@@ -14,7 +14,7 @@ use Rattle.acd_terms.proofs.Identifiers.{digit_at}
 use Rattle.csv.specs.Records.{field_at}
 use Rattle.csv.proofs.RecordFacts.{field-there}
 use Rattle.acd_terms.specs.Forms.{number_between}
-use Rattle.acd_reports.specs.PlanRows.{five_of, row_of, seconds_of}
+use Rattle.acd_reports.specs.PlanRows.{five_of, plan_row_of, seconds_of}
 
 -- a digit more
 pub next_value : (digits : List ℕ) (i v d : ℕ) → i < length digits → list_all is_ascii_digit digits ≡ true → v ≡ digits_value 10 (take i digits) → d ≡ get_or digits i 0 - 48 → v * 10 + d ≡ digits_value 10 (take (i + 1) digits)
@@ -58,18 +58,18 @@ not_five (f0 ∷ f1 ∷ f2 ∷ f3 ∷ []) n = refl
 not_five (f0 ∷ f1 ∷ f2 ∷ f3 ∷ f4 ∷ []) n = absurd (n refl)
 not_five (f0 ∷ f1 ∷ f2 ∷ f3 ∷ f4 ∷ f5 ∷ fs) n = refl
 
-by_test : (b : Bool) (fields : List (List ℕ)) → list_all is_utf8 fields ≡ b → five_of fields ≡ None → None ≡ row_of fields
-unfolding row_of
+by_test : (b : Bool) (fields : List (List ℕ)) → list_all is_utf8 fields ≡ b → five_of fields ≡ None → None ≡ plan_row_of fields
+unfolding plan_row_of
 by_test true fields e h = rw e (sym h)
 by_test false fields e h = rw e refl
 
-pub no_row : (fields : List (List ℕ)) → length fields ≢ 5 → None ≡ row_of fields
+pub no_row : (fields : List (List ℕ)) → length fields ≢ 5 → None ≡ plan_row_of fields
 no_row fields n = by_test (list_all is_utf8 fields) fields refl (not_five fields n)
 
 -- a row of five fields, by whether they are texts
 pub row_with : (t : Bool) (fields : List (List ℕ)) (a b c d e : List ℕ) → length fields ≡ 5 → field_at fields 0 ≡ Some a → field_at fields 1 ≡ Some b → field_at fields 2 ≡ Some c → field_at fields 3 ≡ Some d → field_at fields 4 ≡ Some e
-    → list_all is_utf8 (a ∷ b ∷ c ∷ d ∷ e ∷ []) ≡ t → (if t then Some (record { kind = a; number = b; name = c; ring = d; wrap = e }) else None) ≡ row_of fields
-unfolding row_of
+    → list_all is_utf8 (a ∷ b ∷ c ∷ d ∷ e ∷ []) ≡ t → (if t then Some (record { kind = a; number = b; name = c; ring = d; wrap = e }) else None) ≡ plan_row_of fields
+unfolding plan_row_of
 row_with t fields a b c d e n p0 p1 p2 p3 p4 h = rw (five_fields fields a b c d e n p0 p1 p2 p3 p4, h) refl
 
 -- a place within the fields has one

@@ -9,26 +9,26 @@ use Rattle.acd_terms.specs.declared.event.Columns.{Columns}
 use Rattle.acd_terms.specs.declared.event.Event.{Event}
 
 -- the text of a member, and nothing where it is absent
-abbrev pub written : {A : Type 0} → (A → List ℕ) → Option A → List ℕ
-written text (Some x) = text x
-written text None = []
+abbrev pub written_field : {A : Type 0} → (A → List ℕ) → Option A → List ℕ
+written_field text (Some x) = text x
+written_field text None = []
 
 -- the fields of a record
-abbrev pub event_fields : ℕ → ℕ → Columns → List (List ℕ)
-event_fields number moment c =
+abbrev pub export_fields : ℕ → ℕ → Columns → List (List ℕ)
+export_fields number moment c =
     decimal number ∷ decimal moment ∷ kind_name c.kind
-    ∷ written decimal c.call ∷ written digits_of c.device ∷ written digits_of c.agent
-    ∷ written digits_of c.group ∷ written digits_of c.to ∷ written cause_name c.cause ∷ written decimal c.waited ∷ []
+    ∷ written_field decimal c.call ∷ written_field digits_of c.device ∷ written_field digits_of c.agent
+    ∷ written_field digits_of c.group ∷ written_field digits_of c.to ∷ written_field cause_name c.cause ∷ written_field decimal c.waited ∷ []
 
-abbrev pub names : List (List ℕ)
-names =
+abbrev pub column_names : List (List ℕ)
+column_names =
     codes "number" ∷ codes "moment" ∷ codes "event"
     ∷ codes "call" ∷ codes "device" ∷ codes "agent"
     ∷ codes "group" ∷ codes "to" ∷ codes "cause" ∷ codes "waited" ∷ []
 
 -- those of an event's record
 abbrev pub fields_of_event : Event → List (List ℕ)
-fields_of_event e = event_fields e.number e.moment (columns_of e.report)
+fields_of_event e = export_fields e.number e.moment (columns_of e.report)
 
 -- a record as the default writer of CSV writes it
 abbrev pub record_text : List (List ℕ) → List ℕ
@@ -38,7 +38,7 @@ abbrev pub event_record : Event → List ℕ
 event_record e = record_text (fields_of_event e)
 
 unfoldable pub header_record : List ℕ
-header_record = record_text names
+header_record = record_text column_names
 
 -- the records of some events
 unfoldable pub records_text : List Event → List ℕ

@@ -3,8 +3,8 @@ use Rattle.std.specs.Prelude.{◌≡◌, ℕ, ◌-◌, List, ◌∷◌, ◌++◌
 use Rattle.std.specs.List.{concat}
 
 -- a text at the left of a column, or at its right; a text that is longer than its column remains as it is
-abbrev pub left : ℕ → List ℕ → List ℕ
-left width text = text ++ replicate (width - length text) 32
+abbrev pub left_aligned : ℕ → List ℕ → List ℕ
+left_aligned width text = text ++ replicate (width - length text) 32
 
 abbrev pub right : ℕ → List ℕ → List ℕ
 right width text = replicate (width - length text) 32 ++ text

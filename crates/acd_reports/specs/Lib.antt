@@ -2,6 +2,6 @@ pub mod Layout
 pub mod QueueReport
 pub mod PlanRows
 pub mod Plan
-pub mod PlanReading
+pub mod PlanReaders
 pub mod Export
-pub mod ExportWriting
+pub mod ExportWriters

@@ -8,7 +8,7 @@ use Rattle.acd_reports.specs.declared.fault.PlanMember.{PlanMember}
 use Rattle.acd_reports.specs.declared.fault.PlanFault.{PlanFault}
 use Rattle.acd_reports.specs.declared.fault.PlanFault.TheVariants.{TooLong, Header, Row, NoMemory}
 use Rattle.acd_terms.specs.Results.{◌>>=◌}
-use Rattle.acd_reports.specs.PlanRows.{PlanRow, row_of, command_in}
+use Rattle.acd_reports.specs.PlanRows.{PlanRow, plan_row_of, command_in_record}
 
 -- the fields before the times name their columns
 abbrev pub names_first_columns : PlanRow → Bool
@@ -28,14 +28,14 @@ request_of row (Err m) = Err (Row row m)
 unfoldable pub requests_from : ℕ → List (List (List ℕ)) → Result (List Request) PlanFault
 requests_from row [] = Ok []
 requests_from row (fields ∷ rows) = do
-  request ← request_of row (command_in fields)
+  request ← request_of row (command_in_record fields)
   requests ← requests_from (row + 1) rows
   Ok (request ∷ requests)
 
 -- the first record is the header, and the rows after it count from 1
 abbrev pub requests_of : List (List (List ℕ)) → Result (List Request) PlanFault
 requests_of [] = Err Header
-requests_of (first ∷ rows) = if names_columns (row_of first) then requests_from 1 rows else Err Header
+requests_of (first ∷ rows) = if names_columns (plan_row_of first) then requests_from 1 rows else Err Header
 
 -- a text without the bytes EF BB BF at its beginning
 unfoldable pub without_mark : List ℕ → List ℕ

@@ -15,13 +15,13 @@ use Rattle.acd_reports.specs.declared.rows.Fields.{Fields}
 use Rattle.acd_terms.specs.Results.{◌>>=◌}
 
 -- the name of a member as it is written
-abbrev pub member_name : PlanMember → List ℕ
-member_name member.Fields = codes "fields"
-member_name member.Kind = codes "kind"
-member_name member.Number = codes "number"
-member_name member.Name = codes "name"
-member_name member.Ring = codes "ring"
-member_name member.Wrap = codes "wrap"
+abbrev pub plan_member_name : PlanMember → List ℕ
+plan_member_name member.Fields = codes "fields"
+plan_member_name member.Kind = codes "kind"
+plan_member_name member.Number = codes "number"
+plan_member_name member.Name = codes "name"
+plan_member_name member.Ring = codes "ring"
+plan_member_name member.Wrap = codes "wrap"
 
 -- the fields of a row
 pub record PlanRow : Type 0 where
@@ -32,8 +32,8 @@ pub record PlanRow : Type 0 where
   pub wrap : List ℕ
 
 -- the fields as the program holds them
-abbrev pub seen : Fields → PlanRow
-seen f = record { kind = f.kind.now; number = f.number.now; name = f.name.now; ring = f.ring.now; wrap = f.wrap.now }
+abbrev pub plan_row : Fields → PlanRow
+plan_row f = record { kind = f.kind.now; number = f.number.now; name = f.name.now; ring = f.ring.now; wrap = f.wrap.now }
 
 abbrev pub texts_of : PlanRow → List (List ℕ)
 texts_of row = row.kind ∷ row.number ∷ row.name ∷ row.ring ∷ row.wrap ∷ []
@@ -43,44 +43,44 @@ five_of (kind ∷ number ∷ name ∷ ring ∷ wrap ∷ []) = Some (record { kin
 five_of _ = None
 
 -- five fields, and all of them text
-unfoldable pub row_of : List (List ℕ) → Option PlanRow
-row_of fields = if list_all is_utf8 fields then five_of fields else None
+unfoldable pub plan_row_of : List (List ℕ) → Option PlanRow
+plan_row_of fields = if list_all is_utf8 fields then five_of fields else None
 
 -- 1 to 15 digits, 1 to 9 digits, and 1 to 40 printable characters
-abbrev pub device_in : List ℕ → Result ℕ PlanMember
-device_in text = ok_or (result_ok (read_id device_digits text)) member.Number
+abbrev pub device_in_field : List ℕ → Result ℕ PlanMember
+device_in_field text = ok_or (result_ok (read_id device_digits text)) member.Number
 
-abbrev pub agent_in : List ℕ → Result ℕ PlanMember
-agent_in text = ok_or (result_ok (read_id agent_digits text)) member.Number
+abbrev pub agent_in_field : List ℕ → Result ℕ PlanMember
+agent_in_field text = ok_or (result_ok (read_id agent_digits text)) member.Number
 
-abbrev pub name_in : List ℕ → Result (List ℕ) PlanMember
-name_in text = ok_or (result_ok (read_text is_name_byte 40 text)) member.Name
+abbrev pub name_in_field : List ℕ → Result (List ℕ) PlanMember
+name_in_field text = ok_or (result_ok (read_text is_name_byte 40 text)) member.Name
 
 -- 1 to 4 digits, from 0 to 3600
 unfoldable pub seconds_of : List ℕ → Option ℕ
 seconds_of text =
     if nat_le 1 (length text) && nat_le (length text) 4 && list_all is_ascii_digit text then number_between 0 3600 (digits_value 10 text) else None
 
-abbrev pub seconds_in : PlanMember → List ℕ → Result ℕ PlanMember
-seconds_in m text = ok_or (seconds_of text) m
+abbrev pub seconds_in_field : PlanMember → List ℕ → Result ℕ PlanMember
+seconds_in_field m text = ok_or (seconds_of text) m
 
 -- a field that is to be empty
 abbrev pub nothing_in : PlanMember → List ℕ → Result (Unit {0}) PlanMember
 nothing_in m text = if length text == 0 then Ok tt else Err m
 
 -- a group has all five fields, the first faulty one first
-unfoldable pub group_in : PlanRow → Result Command PlanMember
-group_in row = do
-  device ← device_in row.number
-  name ← name_in row.name
-  ring ← seconds_in member.Ring row.ring
-  wrap ← seconds_in member.Wrap row.wrap
+unfoldable pub group_in_row : PlanRow → Result Command PlanMember
+group_in_row row = do
+  device ← device_in_field row.number
+  name ← name_in_field row.name
+  ring ← seconds_in_field member.Ring row.ring
+  wrap ← seconds_in_field member.Wrap row.wrap
   Ok (AddGroup device name ring wrap)
 
 -- a station has no name, ring and wrap
-unfoldable pub station_in : PlanRow → Result Command PlanMember
-station_in row = do
-  device ← device_in row.number
+unfoldable pub station_in_row : PlanRow → Result Command PlanMember
+station_in_row row = do
+  device ← device_in_field row.number
   no_name ← nothing_in member.Name row.name
   no_ring ← nothing_in member.Ring row.ring
   no_wrap ← nothing_in member.Wrap row.wrap
@@ -89,8 +89,8 @@ station_in row = do
 -- an agent has no ring and wrap
 unfoldable pub agent_row_in : PlanRow → Result Command PlanMember
 agent_row_in row = do
-  agent ← agent_in row.number
-  name ← name_in row.name
+  agent ← agent_in_field row.number
+  name ← name_in_field row.name
   no_ring ← nothing_in member.Ring row.ring
   no_wrap ← nothing_in member.Wrap row.wrap
   Ok (AddAgent agent name)
@@ -108,13 +108,13 @@ is_agent_row row = bytes_eq row.kind (codes "agent")
 -- the kind of a row decides its command
 unfoldable pub command_of : PlanRow → Result Command PlanMember
 command_of row =
-    if is_group_row row then group_in row
-    else (if is_station_row row then station_in row
+    if is_group_row row then group_in_row row
+    else (if is_station_row row then station_in_row row
     else (if is_agent_row row then agent_row_in row
     else Err member.Kind))
 
 -- the command that some fields represent, or the first faulty member
-unfoldable pub command_in : List (List ℕ) → Result Command PlanMember
-command_in fields = do
-  row ← ok_or (row_of fields) member.Fields
+unfoldable pub command_in_record : List (List ℕ) → Result Command PlanMember
+command_in_record fields = do
+  row ← ok_or (plan_row_of fields) member.Fields
   command_of row

@@ -9,7 +9,7 @@ use Rattle.acd_terms.specs.declared.record.ConnectionRecord.{ConnectionRecord}
 use Rattle.acd_model.specs.Scans.{waiting_in}
 use Rattle.acd_model.specs.Rules.Occupied.{rings_from}
 use Rattle.acd_reports.specs.declared.queues.GroupState.{GroupState}
-use Rattle.acd_reports.specs.Layout.{left, columns_text, numbers_as_texts}
+use Rattle.acd_reports.specs.Layout.{left_aligned, columns_text, numbers_as_texts}
 
 -- how long an answered call waited on average, whole seconds downwards
 unfoldable pub average_wait : Figures → Option ℕ
@@ -33,7 +33,7 @@ state_of s g = record { group = g; waiting = length (waiting_in s g.device); rin
 
 -- a line: the group, the columns and the name
 abbrev pub line : List ℕ → List (ℕ × List ℕ) → List ℕ → List ℕ
-line group columns name = left 15 group ++ columns_text columns ++ 32 ∷ (name ++ 10 ∷ [])
+line group columns name = left_aligned 15 group ++ columns_text columns ++ 32 ∷ (name ++ 10 ∷ [])
 
 unfoldable pub header_line : List ℕ
 header_line =
@@ -55,9 +55,9 @@ unfoldable pub group_line : ℕ → GroupState → List ℕ
 group_line moment x = line (digits_of x.group.device) (numbers_as_texts (group_numbers moment x)) x.group.name
 
 -- the text of the report of these groups at a moment
-unfoldable pub report_of : List GroupState → ℕ → List ℕ
-report_of groups moment = header_line ++ concat (map (group_line moment) groups)
+unfoldable pub report_text : List GroupState → ℕ → List ℕ
+report_text groups moment = header_line ++ concat (map (group_line moment) groups)
 
 -- and of the groups of these rows
 unfoldable pub queue_report : Rows → ℕ → List ℕ
-queue_report s moment = report_of (map (state_of s) s.groups) moment
+queue_report s moment = report_text (map (state_of s) s.groups) moment

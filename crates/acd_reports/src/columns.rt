@@ -1,7 +1,7 @@
 //! Columns of text.
 
 ghost use Rattle.std.specs.Prelude.{◌-◌, length, replicate};
-ghost use Rattle.acd_reports.specs.Layout.{left, right, number_or_hyphen, Appends, numbers_text};
+ghost use Rattle.acd_reports.specs.Layout.{left_aligned, right, number_or_hyphen, Appends, numbers_text};
 
 use itoa::Buffer;
 use std::alloc::AllocError;
@@ -18,7 +18,7 @@ fn push_spaces(line: &mut String, width: usize, text: &str) -> Result<(), AllocE
 
 /// Text at the left of a column.
 pub(crate) fn push_left(line: &mut String, width: usize, text: &str) -> Result<(), AllocError>
-    ensures { Appends result line.old line.new (left width text.now) }
+    ensures { Appends result line.old line.new (left_aligned width text.now) }
 {
     line.push_str(text)?;
     push_spaces(line, width, text)

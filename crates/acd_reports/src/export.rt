@@ -4,8 +4,8 @@ ghost use Rattle.std.specs.Prelude.{◌≡◌, [], map, IfOk, OnOk, string_bytes
 ghost use Rattle.csv.specs.Records.{fields_of, partial_of};
 ghost use Rattle.acd_terms.specs.Forms.{digits_of};
 ghost use Rattle.acd_terms.specs.EventNames.{cause_name};
-ghost use Rattle.acd_reports.specs.Export.{written, header_record, records_text, events_csv, PagesJoin, fields_of_event, record_text};
-ghost use Rattle.acd_reports.specs.ExportWriting.{IsPlain, Adds, all_written, AddsField};
+ghost use Rattle.acd_reports.specs.Export.{written_field, header_record, records_text, events_csv, PagesJoin, fields_of_event, record_text};
+ghost use Rattle.acd_reports.specs.ExportWriters.{IsExportWriter, Adds, all_written, AddsField};
 
 use acd_terms::{AgentId, Cause, DeviceId, Event};
 use csv::{ByteRecord, Writer, WriterBuilder};
@@ -22,7 +22,7 @@ fn push(row: &mut ByteRecord, field: &[u8]) -> Result<(), AllocError>
 
 fn push_number(row: &mut ByteRecord, number: Option<u64>) -> Result<(), AllocError>
     requires { partial_of row.old ≡ [] }
-    ensures fields { AddsField result row.old row.new (written decimal number) }
+    ensures fields { AddsField result row.old row.new (written_field decimal number) }
     ensures partial { OnOk result (partial_of row.new ≡ []) }
 {
     let mut buffer = Buffer::new();
@@ -34,7 +34,7 @@ fn push_number(row: &mut ByteRecord, number: Option<u64>) -> Result<(), AllocErr
 
 fn push_device(row: &mut ByteRecord, device: Option<DeviceId>) -> Result<(), AllocError>
     requires { partial_of row.old ≡ [] }
-    ensures fields { AddsField result row.old row.new (written digits_of device) }
+    ensures fields { AddsField result row.old row.new (written_field digits_of device) }
     ensures partial { OnOk result (partial_of row.new ≡ []) }
 {
     match device {
@@ -45,7 +45,7 @@ fn push_device(row: &mut ByteRecord, device: Option<DeviceId>) -> Result<(), All
 
 fn push_agent(row: &mut ByteRecord, agent: Option<AgentId>) -> Result<(), AllocError>
     requires { partial_of row.old ≡ [] }
-    ensures fields { AddsField result row.old row.new (written digits_of agent) }
+    ensures fields { AddsField result row.old row.new (written_field digits_of agent) }
     ensures partial { OnOk result (partial_of row.new ≡ []) }
 {
     match agent {
@@ -56,7 +56,7 @@ fn push_agent(row: &mut ByteRecord, agent: Option<AgentId>) -> Result<(), AllocE
 
 fn push_cause(row: &mut ByteRecord, cause: Option<Cause>) -> Result<(), AllocError>
     requires { partial_of row.old ≡ [] }
-    ensures fields { AddsField result row.old row.new (written cause_name cause) }
+    ensures fields { AddsField result row.old row.new (written_field cause_name cause) }
     ensures partial { OnOk result (partial_of row.new ≡ []) }
 {
     match cause {
@@ -84,14 +84,14 @@ fn fill(row: &mut ByteRecord, event: &Event) -> Result<(), AllocError>
 }
 
 fn writer_of(alloc: Global) -> Writer<Vec<u8>>
-    ensures plain { IsPlain result }
+    ensures plain { IsExportWriter result }
     ensures empty { all_written result ≡ [] }
 {
     WriterBuilder::new().from_writer(Vec::new(alloc))
 }
 
 fn write(writer: &mut Writer<Vec<u8>>, row: &ByteRecord) -> Result<(), AllocError>
-    requires { IsPlain writer.old }
+    requires { IsExportWriter writer.old }
     ensures { OnOk result (Adds writer.old (record_text (fields_of row.now)) writer.new) }
 {
     let Ok(()) = writer.write_byte_record(row) else {
@@ -101,7 +101,7 @@ fn write(writer: &mut Writer<Vec<u8>>, row: &ByteRecord) -> Result<(), AllocErro
 }
 
 fn write_fields(writer: &mut Writer<Vec<u8>>, fields: &[&[u8]]) -> Result<(), AllocError>
-    requires { IsPlain writer.old }
+    requires { IsExportWriter writer.old }
     ensures { OnOk result (Adds writer.old (record_text (map (λ f. f.now) fields.now)) writer.new) }
 {
     let Ok(()) = writer.write_fields(fields) else {
@@ -112,7 +112,7 @@ fn write_fields(writer: &mut Writer<Vec<u8>>, fields: &[&[u8]]) -> Result<(), Al
 
 #[tactic(auto, unfolding(crate::specs::Export::header_record))]
 fn write_header(writer: &mut Writer<Vec<u8>>) -> Result<(), AllocError>
-    requires { IsPlain writer.old }
+    requires { IsExportWriter writer.old }
     ensures { OnOk result (Adds writer.old header_record writer.new) }
 {
     let header: [&[u8]; 10] = [
@@ -129,7 +129,7 @@ fn write_events(
     alloc: Global,
     events: &[Event],
 ) -> Result<(), AllocError>
-    requires { IsPlain writer.old }
+    requires { IsExportWriter writer.old }
     ensures { OnOk result (Adds writer.old (records_text events.now) writer.new) }
 {
     let mut row = ByteRecord::new(alloc);

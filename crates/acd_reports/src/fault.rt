@@ -1,7 +1,7 @@
 //! Why bytes are not read as a plan.
 
 ghost use Rattle.std.specs.Prelude.{◌≡◌};
-ghost use Rattle.acd_reports.specs.PlanRows.{member_name};
+ghost use Rattle.acd_reports.specs.PlanRows.{plan_member_name};
 ghost use Rattle.acd_reports.specs.declared.fault.PlanFault.TheVariants.{NoMemory};
 
 use std::alloc::AllocError;
@@ -22,7 +22,7 @@ pub enum PlanMember {
 impl PlanMember {
     /// The name as it is written.
     pub fn name(self) -> &'static str
-        ensures { result.now ≡ member_name self }
+        ensures { result.now ≡ plan_member_name self }
     {
         match self {
             PlanMember::Fields => "fields",

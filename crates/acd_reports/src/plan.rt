@@ -3,12 +3,12 @@
 ghost use Rattle.std.specs.Prelude.{◌≡◌, ◌≤◌, ◌+◌, ◌++◌, ◌∷◌, [], codes, length, IfOk, IfErr, OnOk};
 ghost use Rattle.csv.specs.Records.{fields_of};
 ghost use Rattle.csv.specs.Reading.{records, default_config, strip_bom};
-ghost use Rattle.acd_reports.specs.PlanRows.{command_in};
+ghost use Rattle.acd_reports.specs.PlanRows.{command_in_record};
 ghost use Rattle.acd_reports.specs.Plan.{request_of, requests_from, requests_of, records_of, without_mark, plan_requests, GivesPlan};
-ghost use Rattle.acd_reports.specs.PlanReading.{IsPlain, ReadsPlan, rows_left, unread};
+ghost use Rattle.acd_reports.specs.PlanReaders.{IsPlanReader, ReadsPlan, rows_left, unread};
 
 use crate::fault::PlanFault;
-use crate::rows::{command_in, names_columns};
+use crate::rows::{command_in_record, names_columns};
 use acd_terms::{Invoke, Request, Requester};
 use csv::{ByteRecord, Reader, ReaderBuilder};
 use std::alloc::{AllocError, Global};
@@ -29,7 +29,7 @@ fn without_mark(bytes: &[u8]) -> &[u8]
 
 // A reader of all records. A record of another length than the header is a faulty row, and no fault of the reader.
 fn reader_of(alloc: Global, text: &[u8]) -> Reader<&[u8]>
-    ensures plain { IsPlain result }
+    ensures plain { IsPlanReader result }
     ensures rows { rows_left result ≡ records_of text.now }
     ensures short { length (unread result) ≤ length text.now }
 {
@@ -41,7 +41,7 @@ fn reader_of(alloc: Global, text: &[u8]) -> Reader<&[u8]>
 
 // ReadsPlan the next record, if there is one.
 fn read_row(reader: &mut Reader<&[u8]>, row: &mut ByteRecord) -> Result<bool, PlanFault>
-    requires { IsPlain reader.old }
+    requires { IsPlanReader reader.old }
     ensures reads { IfOk result
         (λ found. ReadsPlan found reader.old (fields_of row.new) reader.new) }
     ensures fault { IfErr result (λ e. e ≡ PlanFault.NoMemory) }
@@ -63,9 +63,9 @@ fn planner() -> Requester
 fn request_in(number: u64, row: &ByteRecord) -> Result<Request, PlanFault>
     requires low { 1 ≤ number }
     requires high { number ≤ 1048576 }
-    ensures { result ≡ request_of number (command_in (fields_of row.now)) }
+    ensures { result ≡ request_of number (command_in_record (fields_of row.now)) }
 {
-    match command_in(row) {
+    match command_in_record(row) {
         Ok(command) => Ok(Request {
             requester: planner(),
             invoke: Invoke::new(number).unwrap(),
@@ -92,7 +92,7 @@ fn requests_in(
     reader: &mut Reader<&[u8]>,
     most: usize,
 ) -> Result<Vec<Request>, PlanFault>
-    requires plain { IsPlain reader.old }
+    requires plain { IsPlanReader reader.old }
     requires short { length (unread reader.old) ≤ most }
     requires bound { most ≤ 1048576 }
     ensures { GivesPlan result (requests_from 1 (rows_left reader.old)) }
@@ -117,7 +117,7 @@ fn requests_of(
     reader: &mut Reader<&[u8]>,
     most: usize,
 ) -> Result<Vec<Request>, PlanFault>
-    requires plain { IsPlain reader.old }
+    requires plain { IsPlanReader reader.old }
     requires short { length (unread reader.old) ≤ most }
     requires bound { most ≤ 1048576 }
     ensures { GivesPlan result (requests_of (rows_left reader.old)) }

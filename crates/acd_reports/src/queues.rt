@@ -2,7 +2,7 @@
 
 ghost use Rattle.std.specs.Prelude.{◌≡◌, length, map, IfOk, string_bytes};
 ghost use Rattle.acd_model.specs.Scans.{waiting_in};
-ghost use Rattle.acd_reports.specs.QueueReport.{average_wait, first_queued, longest_wait, ringing_from, state_of, group_line, report_of, queue_report};
+ghost use Rattle.acd_reports.specs.QueueReport.{average_wait, first_queued, longest_wait, ringing_from, state_of, group_line, report_text, queue_report};
 ghost use Rattle.acd_reports.specs.Layout.{Appends};
 
 use crate::columns::{push_left, push_numbers};
@@ -122,13 +122,13 @@ fn push_group(report: &mut String, moment: u32, state: &GroupState) -> Result<()
 
 /// The queue report of these groups at a moment: a header line, and a line for each group, in their order. Calls that
 /// entered their queue after the moment have waited for 0 seconds.
-#[tactic(auto, unfolding(crate::specs::QueueReport::report_of, crate::specs::QueueReport::header_line))]
+#[tactic(auto, unfolding(crate::specs::QueueReport::report_text, crate::specs::QueueReport::header_line))]
 pub fn groups_report(
     alloc: Global,
     groups: &[GroupState],
     moment: u32,
 ) -> Result<String, AllocError>
-    ensures { IfOk result (λ s. string_bytes s ≡ report_of groups.now moment) }
+    ensures { IfOk result (λ s. string_bytes s ≡ report_text groups.now moment) }
 {
     let mut report = String::from_str(alloc, HEADER)?;
     for state in groups {

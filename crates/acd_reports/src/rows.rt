@@ -7,7 +7,7 @@ ghost use Rattle.std.specs.Str.{is_utf8};
 ghost use Rattle.std.specs.Str.Parse.{digits_value};
 ghost use Rattle.csv.specs.Records.{field_at, fields_of};
 ghost use Rattle.acd_reports.specs.Plan.{names_columns};
-ghost use Rattle.acd_reports.specs.PlanRows.{seen, texts_of, row_of, device_in, agent_in, name_in, seconds_of, seconds_in, nothing_in, group_in, station_in, agent_row_in, command_of, command_in};
+ghost use Rattle.acd_reports.specs.PlanRows.{plan_row, texts_of, plan_row_of, device_in_field, agent_in_field, name_in_field, seconds_of, seconds_in_field, nothing_in, group_in_row, station_in_row, agent_row_in, command_of, command_in_record};
 
 use crate::fault::PlanMember;
 use acd_terms::{AgentId, Command, DeviceId, Name, Seconds};
@@ -30,20 +30,20 @@ fn is_text(field: &[u8]) -> bool
     str::from_utf8(field).is_ok()
 }
 
-fn device_in(text: &[u8]) -> Result<DeviceId, PlanMember>
-    ensures { result ≡ device_in text.now }
+fn device_in_field(text: &[u8]) -> Result<DeviceId, PlanMember>
+    ensures { result ≡ device_in_field text.now }
 {
     DeviceId::read(text).ok().ok_or(PlanMember::Number)
 }
 
-fn agent_in(text: &[u8]) -> Result<AgentId, PlanMember>
-    ensures { result ≡ agent_in text.now }
+fn agent_in_field(text: &[u8]) -> Result<AgentId, PlanMember>
+    ensures { result ≡ agent_in_field text.now }
 {
     AgentId::read(text).ok().ok_or(PlanMember::Number)
 }
 
-fn name_in(text: &[u8]) -> Result<Name, PlanMember>
-    ensures { result ≡ name_in text.now }
+fn name_in_field(text: &[u8]) -> Result<Name, PlanMember>
+    ensures { result ≡ name_in_field text.now }
 {
     Name::read(text).ok().ok_or(PlanMember::Name)
 }
@@ -76,8 +76,8 @@ fn seconds_of(text: &[u8]) -> Option<Seconds>
     Seconds::new(number_of(text))
 }
 
-fn seconds_in(member: PlanMember, text: &[u8]) -> Result<Seconds, PlanMember>
-    ensures { result ≡ seconds_in member text.now }
+fn seconds_in_field(member: PlanMember, text: &[u8]) -> Result<Seconds, PlanMember>
+    ensures { result ≡ seconds_in_field member text.now }
 {
     seconds_of(text).ok_or(member)
 }
@@ -96,7 +96,7 @@ fn field(row: &ByteRecord, place: usize) -> &[u8]
 }
 
 fn are_texts(fields: Fields<'_>) -> bool
-    ensures { result ≡ list_all is_utf8 (texts_of (seen fields.entry)) }
+    ensures { result ≡ list_all is_utf8 (texts_of (plan_row fields.entry)) }
 {
     is_text(fields.kind)
         && is_text(fields.number)
@@ -106,7 +106,7 @@ fn are_texts(fields: Fields<'_>) -> bool
 }
 
 fn fields_in(row: &ByteRecord) -> Option<Fields<'_>>
-    ensures { option_map seen result ≡ row_of (fields_of row.now) }
+    ensures { option_map plan_row result ≡ plan_row_of (fields_of row.now) }
 {
     if row.len() != 5 {
         return None;
@@ -124,14 +124,14 @@ fn fields_in(row: &ByteRecord) -> Option<Fields<'_>>
     Some(fields)
 }
 
-#[tactic(auto, unfolding(crate::specs::PlanRows::group_in))]
-fn group_in(fields: Fields<'_>) -> Result<Command, PlanMember>
-    ensures { result ≡ group_in (seen fields.entry) }
+#[tactic(auto, unfolding(crate::specs::PlanRows::group_in_row))]
+fn group_in_row(fields: Fields<'_>) -> Result<Command, PlanMember>
+    ensures { result ≡ group_in_row (plan_row fields.entry) }
 {
-    let device = device_in(fields.number)?;
-    let name = name_in(fields.name)?;
-    let ring = seconds_in(PlanMember::Ring, fields.ring)?;
-    let wrap = seconds_in(PlanMember::Wrap, fields.wrap)?;
+    let device = device_in_field(fields.number)?;
+    let name = name_in_field(fields.name)?;
+    let ring = seconds_in_field(PlanMember::Ring, fields.ring)?;
+    let wrap = seconds_in_field(PlanMember::Wrap, fields.wrap)?;
     Ok(Command::AddGroup {
         device,
         name,
@@ -140,11 +140,11 @@ fn group_in(fields: Fields<'_>) -> Result<Command, PlanMember>
     })
 }
 
-#[tactic(auto, unfolding(crate::specs::PlanRows::station_in))]
-fn station_in(fields: Fields<'_>) -> Result<Command, PlanMember>
-    ensures { result ≡ station_in (seen fields.entry) }
+#[tactic(auto, unfolding(crate::specs::PlanRows::station_in_row))]
+fn station_in_row(fields: Fields<'_>) -> Result<Command, PlanMember>
+    ensures { result ≡ station_in_row (plan_row fields.entry) }
 {
-    let device = device_in(fields.number)?;
+    let device = device_in_field(fields.number)?;
     nothing_in(PlanMember::Name, fields.name)?;
     nothing_in(PlanMember::Ring, fields.ring)?;
     nothing_in(PlanMember::Wrap, fields.wrap)?;
@@ -153,10 +153,10 @@ fn station_in(fields: Fields<'_>) -> Result<Command, PlanMember>
 
 #[tactic(auto, unfolding(crate::specs::PlanRows::agent_row_in))]
 fn agent_row_in(fields: Fields<'_>) -> Result<Command, PlanMember>
-    ensures { result ≡ agent_row_in (seen fields.entry) }
+    ensures { result ≡ agent_row_in (plan_row fields.entry) }
 {
-    let agent = agent_in(fields.number)?;
-    let name = name_in(fields.name)?;
+    let agent = agent_in_field(fields.number)?;
+    let name = name_in_field(fields.name)?;
     nothing_in(PlanMember::Ring, fields.ring)?;
     nothing_in(PlanMember::Wrap, fields.wrap)?;
     Ok(Command::AddAgent { agent, name })
@@ -164,13 +164,13 @@ fn agent_row_in(fields: Fields<'_>) -> Result<Command, PlanMember>
 
 #[tactic(auto, unfolding(crate::specs::PlanRows::command_of))]
 fn command_of(fields: Fields<'_>) -> Result<Command, PlanMember>
-    ensures { result ≡ command_of (seen fields.entry) }
+    ensures { result ≡ command_of (plan_row fields.entry) }
 {
     if fields.kind == b"group".as_slice() {
-        return group_in(fields);
+        return group_in_row(fields);
     }
     if fields.kind == b"station".as_slice() {
-        return station_in(fields);
+        return station_in_row(fields);
     }
     if fields.kind == b"agent".as_slice() {
         return agent_row_in(fields);
@@ -180,7 +180,7 @@ fn command_of(fields: Fields<'_>) -> Result<Command, PlanMember>
 
 /// The five fields name the columns.
 pub(crate) fn names_columns(row: &ByteRecord) -> bool
-    ensures { result ≡ names_columns (row_of (fields_of row.now)) }
+    ensures { result ≡ names_columns (plan_row_of (fields_of row.now)) }
 {
     match fields_in(row) {
         None => false,
@@ -195,9 +195,9 @@ pub(crate) fn names_columns(row: &ByteRecord) -> bool
 }
 
 /// The command of a row, or its first faulty member.
-#[tactic(auto, unfolding(crate::specs::PlanRows::command_in))]
-pub(crate) fn command_in(row: &ByteRecord) -> Result<Command, PlanMember>
-    ensures { result ≡ command_in (fields_of row.now) }
+#[tactic(auto, unfolding(crate::specs::PlanRows::command_in_record))]
+pub(crate) fn command_in_record(row: &ByteRecord) -> Result<Command, PlanMember>
+    ensures { result ≡ command_in_record (fields_of row.now) }
 {
     match fields_in(row) {
         None => Err(PlanMember::Fields),

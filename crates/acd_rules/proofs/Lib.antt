@@ -1,3 +1,3 @@
-pub mod Alike
-pub mod Looking
+pub mod EqualNumbers
+pub mod LookUpLemmas
 pub mod RuleLists

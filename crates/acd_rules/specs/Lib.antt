@@ -1,2 +1,2 @@
-pub mod Grouping
+pub mod SortedRecords
 pub mod Groups

@@ -2,8 +2,8 @@
 
 ghost use Rattle.std.specs.Prelude.{◌≡◌, ◌&&◌, ◌||◌, ◌==◌, length, filter};
 ghost use Rattle.acd_terms.specs.Lists.{count};
-ghost use Rattle.acd_model.specs.Watched.{is_caller};
-ghost use Rattle.acd_model.specs.Rules.Calls.{keeps_call, is_bare, is_placed, has_columns, is_group_or_none, may_stand, keeps_connection, is_open, parties_of, initiated_of, initiated_at, open_of, is_being_made, has_two_parties, keeps_parties, live_at, alerting_at, hold_at, keeps_live, has_one_live};
+ghost use Rattle.acd_model.specs.Watcher.{is_caller};
+ghost use Rattle.acd_model.specs.Rules.Calls.{keeps_call, is_bare, is_placed, has_members, is_group_or_none, may_stand, keeps_connection, is_open, parties_of, initiated_of, initiated_at, open_of, is_being_made, has_two_parties, keeps_parties, live_at, alerting_at, hold_at, keeps_live, has_one_live};
 
 use crate::lookups::Lookups;
 use acd_terms::{CallRecord, ConnectionRecord, ConnectionState, DeviceId};
@@ -36,8 +36,8 @@ fn is_placed(connection: &ConnectionRecord) -> bool
 }
 
 // The connection has the columns of its state and no other.
-fn has_columns(connection: &ConnectionRecord) -> bool
-    ensures { result ≡ has_columns connection.now.state connection.now }
+fn has_members(connection: &ConnectionRecord) -> bool
+    ensures { result ≡ has_members connection.now.state connection.now }
 {
     match connection.state {
         ConnectionState::Queued => {
@@ -97,7 +97,7 @@ pub fn keeps_connection(lookups: &Lookups) -> bool
         let call = lookups.call(x.call);
         call.is_some()
             && (is_caller(call, x.device) || lookups.is_planned(x.device))
-            && has_columns(x)
+            && has_members(x)
             && is_group_or_none(lookups, x.group)
             && may_stand(lookups, x)
     })

@@ -14,7 +14,7 @@ pub struct Grouped<'a, T: Copy> {
 }
 
 impl<'a, T: Copy> Grouped<'a, T> {
-    ghost use Rattle.acd_rules.specs.Grouping.{IsGrouped, LooksUp};
+    ghost use Rattle.acd_rules.specs.SortedRecords.{IsGrouped, LooksUp};
 
     /// These records, in any order, by a number of theirs.
     pub fn by<F: Fn(&T) -> u64>(alloc: Global, whole: &'a [T], number: F) -> Self

@@ -4,7 +4,7 @@ ghost use Rattle.std.specs.Prelude.{◌≡◌, find};
 ghost use Rattle.acd_terms.specs.declared.record.AgentRecord.{AgentRecord};
 ghost use Rattle.acd_model.specs.Scans.{group_of, station_of, call_of, is_group, is_station, is_planned, agent_at, has};
 ghost use Rattle.acd_rules.specs.Groups.{HasAllWith, number_or_none, group_number, station_number, call_number, seat_number, party_call, party_device, party_place, party_group};
-ghost use Rattle.acd_rules.specs.Grouping.{IsGrouped};
+ghost use Rattle.acd_rules.specs.SortedRecords.{IsGrouped};
 
 use crate::grouped::Grouped;
 use acd_terms::{
@@ -115,7 +115,7 @@ impl<'a> Lookups<'a> {
     }
 
     /// The agents logged on at the station, and maybe others.
-    #[tactic(auto, using(crate::proofs::Looking::looked_up))]
+    #[tactic(auto, using(crate::proofs::LookUpLemmas::looked_up))]
     pub fn agents_at(&self, station: DeviceId) -> &[AgentRecord]
         ensures { HasAllWith seat_number station result.now self.now.rows.now.agents }
     {
@@ -124,7 +124,7 @@ impl<'a> Lookups<'a> {
     }
 
     /// The connections of the call, and maybe others.
-    #[tactic(auto, using(crate::proofs::Looking::looked_up))]
+    #[tactic(auto, using(crate::proofs::LookUpLemmas::looked_up))]
     pub fn of_call(&self, call: u64) -> &[ConnectionRecord]
         ensures { HasAllWith party_call call result.now self.now.rows.now.connections }
     {
@@ -132,7 +132,7 @@ impl<'a> Lookups<'a> {
     }
 
     /// The connections at the device, and maybe others.
-    #[tactic(auto, using(crate::proofs::Looking::looked_up))]
+    #[tactic(auto, using(crate::proofs::LookUpLemmas::looked_up))]
     pub fn at_device(&self, device: DeviceId) -> &[ConnectionRecord]
         ensures { HasAllWith party_device device result.now self.now.rows.now.connections }
     {
@@ -140,7 +140,7 @@ impl<'a> Lookups<'a> {
     }
 
     /// The connections with the place, and maybe others.
-    #[tactic(auto, using(crate::proofs::Looking::looked_up))]
+    #[tactic(auto, using(crate::proofs::LookUpLemmas::looked_up))]
     pub fn with_place(&self, place: u64) -> &[ConnectionRecord]
         ensures { HasAllWith party_place place result.now self.now.rows.now.connections }
     {
@@ -148,7 +148,7 @@ impl<'a> Lookups<'a> {
     }
 
     /// The connections with the group, and maybe others.
-    #[tactic(auto, using(crate::proofs::Looking::looked_up))]
+    #[tactic(auto, using(crate::proofs::LookUpLemmas::looked_up))]
     pub fn of_group(&self, group: DeviceId) -> &[ConnectionRecord]
         ensures { HasAllWith party_group group result.now self.now.rows.now.connections }
     {

@@ -1,2 +1,2 @@
 pub mod NoTick
-pub mod Making
+pub mod MovesOnTables

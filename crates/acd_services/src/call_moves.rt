@@ -1,7 +1,7 @@
 //! The moves of calls and connections.
 
 ghost use Rattle.std.specs.Prelude.{◌≡◌};
-ghost use Rattle.acd_model.specs.CallMoves.{plain, queueing, begin, connect_caller, initiate, originate, destination_of, arriving, arrival, arrive, waited_by, answer, hold, retrieve, offer, go_back, divert, transfer, clear, end_call};
+ghost use Rattle.acd_model.specs.CallMoves.{unqueued, queueing, begin, connect_caller, initiate, originate, destination_of, arriving, arrival, arrive, waited_by, answer, hold, retrieve, offer, go_back, divert, transfer, clear, end_call};
 
 use acd_model::{Change, Destination, Move, reported, silent};
 use acd_tables::Tables;
@@ -9,8 +9,8 @@ use acd_terms::{
     CallRecord, Cause, ConnectionRecord, ConnectionState, DeviceId, Report, Turn, Waited,
 };
 
-fn plain(call: u64, device: DeviceId, state: ConnectionState) -> ConnectionRecord
-    ensures { result ≡ plain call device state }
+fn unqueued(call: u64, device: DeviceId, state: ConnectionState) -> ConnectionRecord
+    ensures { result ≡ unqueued call device state }
 {
     ConnectionRecord {
         call,
@@ -48,7 +48,7 @@ pub fn begin(call: CallRecord) -> Move
 pub fn connect_caller(call: u64, caller: DeviceId) -> Move
     ensures { result ≡ connect_caller call caller }
 {
-    silent(Change::PutConnection(plain(call, caller, ConnectionState::Connected)))
+    silent(Change::PutConnection(unqueued(call, caller, ConnectionState::Connected)))
 }
 
 /// A station begins a call.
@@ -56,7 +56,7 @@ pub fn initiate(call: u64, station: DeviceId) -> Move
     ensures { result ≡ initiate call station }
 {
     reported(
-        Change::PutConnection(plain(call, station, ConnectionState::Initiated)),
+        Change::PutConnection(unqueued(call, station, ConnectionState::Initiated)),
         Report::ServiceInitiated { call, station },
     )
 }
@@ -96,8 +96,8 @@ fn arriving(destination: Destination, at: Turn, call: u64, to: DeviceId) -> Conn
 {
     match destination {
         Destination::Queue => queueing(call, to, Some(at.stamp), Some(at.moment)),
-        Destination::Idle => plain(call, to, ConnectionState::Alerting),
-        Destination::Busy => plain(call, to, ConnectionState::Fail),
+        Destination::Idle => unqueued(call, to, ConnectionState::Alerting),
+        Destination::Busy => unqueued(call, to, ConnectionState::Fail),
     }
 }
 

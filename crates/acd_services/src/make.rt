@@ -2,7 +2,7 @@
 
 ghost use Rattle.std.specs.Prelude.{◌≡◌, ◌++◌, [], OnOk};
 ghost use Rattle.acd_model.specs.Moves.{changed, with_event};
-ghost use Rattle.acd_services.specs.Making.{AreMade};
+ghost use Rattle.acd_services.specs.MovesOnTables.{AreMade};
 
 use acd_model::{Change, Move};
 use acd_tables::Tables;

@@ -1,9 +1,9 @@
 //! One service on the tables.
 
 ghost use Rattle.std.specs.Prelude.{◌≡◌, ◌<◌, ◌^◌, ◌-◌, IfOk, OnOk};
-ghost use Rattle.acd_model.specs.Served.{outcome_of, moves_of};
+ghost use Rattle.acd_model.specs.ServiceAnswers.{outcome_of, moves_of};
 ghost use Rattle.acd_model.specs.Services.Serve.{serve};
-ghost use Rattle.acd_services.specs.Making.{AreMade};
+ghost use Rattle.acd_services.specs.MovesOnTables.{AreMade};
 ghost use Rattle.acd_services.specs.NoTick.{IsNoTick};
 
 use crate::add_agent::add_agent;

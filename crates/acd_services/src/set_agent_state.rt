@@ -29,7 +29,7 @@ fn is_in(state: AgentState, wanted: Pending) -> bool
 }
 
 // Each is a planned group.
-#[tactic(auto, unfolding(acd_model::specs::Served::refuse_if))]
+#[tactic(auto, unfolding(acd_model::specs::ServiceAnswers::refuse_if))]
 fn all_groups(tables: &Tables, groups: &[DeviceId]) -> Result<(), Refusal>
     ensures { result ≡ all_groups tables.now groups.now }
 {
@@ -41,7 +41,7 @@ fn all_groups(tables: &Tables, groups: &[DeviceId]) -> Result<(), Refusal>
 }
 
 // An agent in null logs on at a station, in some groups.
-#[tactic(auto, unfolding(acd_model::specs::Services::SetAgentState::log_on, acd_model::specs::Served::refuse_if))]
+#[tactic(auto, unfolding(acd_model::specs::Services::SetAgentState::log_on, acd_model::specs::ServiceAnswers::refuse_if))]
 fn log_on(tables: &Tables, at: Turn, agent: AgentId, device: DeviceId, groups: SomeGroups) -> Served
     ensures { result ≡ log_on tables.now at agent device groups }
 {

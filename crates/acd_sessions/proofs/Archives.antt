@@ -8,13 +8,13 @@ use Rattle.sqlite.specs.Held.{Held, state}
 use Rattle.sqlite_trees.specs.declared.store.Store.{Ghosts}
 use Rattle.sqlite.specs.declared.error.Error.{Error}
 use Rattle.acd_sql_columns.specs.AnyRows.{schema_of}
-use Rattle.acd_sql_columns.specs.Seeing.{HasLooked}
-use Rattle.acd_sql_schema.specs.Inspecting.{IsFound}
+use Rattle.acd_sql_columns.specs.DatabaseView.{HasLooked}
+use Rattle.acd_sql_schema.specs.Inspection.{IsFound}
 use Rattle.acd_sql_schema.specs.declared.fault.Found.{Found}
 use Rattle.acd_sql_columns.specs.Schema.{book_schema, old_schema}
 use Rattle.acd_sql_columns.specs.declared.tables.Version.{Version}
 use Rattle.acd_sql_columns.specs.declared.tables.Version.TheVariants as version
-use Rattle.acd_sqlbook.specs.Adopting.{IsAdopted, IsUntouched}
+use Rattle.acd_sqlbook.specs.Adoption.{IsAdopted, IsUntouched}
 use Rattle.acd_sqlbook.specs.State.{book_state}
 use Rattle.acd_sqlbook.specs.View.{BookView}
 

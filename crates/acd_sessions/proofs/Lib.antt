@@ -1,11 +1,11 @@
-pub mod Answering
+pub mod MemoryDesk
 pub mod Over
-pub mod Taking
+pub mod BooksOfConnections
 pub mod Called
-pub mod Seen
+pub mod LeftDesks
 pub mod Asking
 pub mod ServeDone
-pub mod StandingBy
+pub mod StandbyRuns
 pub mod LinesOver
 pub mod Inputs
 pub mod Archives

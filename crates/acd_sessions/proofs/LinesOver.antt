@@ -12,26 +12,26 @@ use Rattle.acd_book.specs.State.{BookState}
 use Rattle.acd_sqlbook.specs.View.{BookView, book_of}
 use Rattle.acd_desk.specs.declared.desk.Desk.{Desk}
 use Rattle.acd_desk.specs.Opening.{Opened}
-use Rattle.acd_desk.specs.Ran.{IsFault}
-use Rattle.acd_desk.specs.Standing.{Standing, standing}
-use Rattle.acd_io.specs.Sent.{Begins}
+use Rattle.acd_desk.specs.DeskCalls.{IsFault}
+use Rattle.acd_desk.specs.DeskState.{DeskState, state_of}
+use Rattle.acd_io.specs.SentBytes.{Begins}
 use Rattle.acd_terms.proofs.Results.{ok_err, same_error}
 use Rattle.acd_lines.specs.Laws.{RequestsRun}
 use Rattle.acd_lines.specs.Lines.{LinesAnswered, AllLines, FirstLines, RunInTurn, Streams, streams, LinesDone}
 use Rattle.acd_lines.specs.declared.fault.LinesFault.{LinesFault}
-use Rattle.acd_lines.proofs.Weaker.{answered_so, arrivals_so}
+use Rattle.acd_lines.proofs.WeakerAnswers.{answered_so, arrivals_so}
 use Rattle.acd_sessions.specs.Faults.{lines_fault, open_fault, command_result}
 use Rattle.acd_sessions.specs.Desks.{OverDesk, in_database}
 use Rattle.acd_sessions.specs.LinesOver.{in_turn, Whole, LinesLeave, LinesOver, LinesIn, DatabaseAnswered}
 use Rattle.acd_sessions.specs.Over.{IsSession, IsSessionTo, IsFailedSession, AnswersOver, LeavesBooks, OverConnection, Unserved}
-use Rattle.acd_sessions.specs.Seen.{Seen, seen, InDatabase, left_of}
+use Rattle.acd_sessions.specs.DeskAsLeft.{Seen, seen, InDatabase, left_of}
 use Rattle.acd_sessions.specs.Sessions.{SessionLeaves, DatabaseLeaves, LinesAreSessions}
-use Rattle.acd_sessions.specs.Taking.{IsOf, IsTaken}
+use Rattle.acd_sessions.specs.ConnectionBook.{IsHeldBook, IsTaken}
 use Rattle.acd_sessions.specs.declared.fault.WorkFault.{WorkFault}
 use Rattle.acd_sessions.proofs.Over.{lines_over, lines_well, lines_failed, lines_since, well_lines_since, failed_lines_since, over_connection, over_makes}
 use Rattle.acd_sessions.proofs.Called.{called, leaves_books, session_called}
-use Rattle.acd_sessions.proofs.Seen.{view, views, IsKept, lines_ended_seen, seen_in, seen_made, seen_so}
-use Rattle.acd_sessions.proofs.Taking.{unserved_refused}
+use Rattle.acd_sessions.proofs.LeftDesks.{view, views, IsKept, lines_ended_seen, seen_in, seen_made, seen_so}
+use Rattle.acd_sessions.proofs.BooksOfConnections.{unserved_refused}
 
 -- ---- what is printed
 
@@ -41,7 +41,7 @@ command_whole u v true true h is = absurd (ok_err h)
 command_whole u v true false h is = refl
 command_whole u v false b h is = absurd (true≢false (sym is))
 
-module _ {D : Type 0} (stands : D → Standing) (T : D → D → List (List ℕ) → List (List ℕ) → Type 0) (ends : Bool) (io : Streams) where
+module _ {D : Type 0} (stands : D → DeskState) (T : D → D → List (List ℕ) → List (List ℕ) → Type 0) (ends : Bool) (io : Streams) where
   -- a fault of lines is the command's
   pub lines_ended_fault : (r : Result (Unit {0}) WorkFault) (why : LinesFault) (d e : D) → IsErrAnd r (λ (y : WorkFault). y ≡ lines_fault why) → LinesDone stands T ends io d e (Err why) → LinesLeave stands T ends io r d e
   lines_ended_fault r why d e is h = let p = err_from_is_err_and r is in record { ended = Err why; lines = h; outcome = p.1 ∙ ap Err p.2 }
@@ -73,24 +73,24 @@ module _ {S : Type 0} (store : Ghosts S) where
     lines_in s taken last r conn settles of back (inr some) = inr (record { taken = taken; last = last; of_old = of; over = some; back = back })
 
   -- reads among them, as the desk is seen
-  pub seen_lines : (makes ends : Bool) (io : Streams) (s : State) (r : Result (Unit {0}) WorkFault) (conn : Held S) → LinesIn store (in_turn true (standing (in_database store))) makes ends io s r conn → DatabaseLeaves store makes true ends io s r conn
+  pub seen_lines : (makes ends : Bool) (io : Streams) (s : State) (r : Result (Unit {0}) WorkFault) (conn : Held S) → LinesIn store (in_turn true (state_of (in_database store))) makes ends io s r conn → DatabaseLeaves store makes true ends io s r conn
   seen_lines makes ends io s r conn (inl none) = inl none
   seen_lines makes ends io s r conn (inr some) =
-      inr (seen_in store (LinesLeave (standing (in_database store)) (in_turn true (standing (in_database store))) ends io r) (λ (stands : Seen (InDatabase S) → Standing). LinesLeave stands (in_turn true stands) ends io r)
-      (λ Clean began d e k h. lines_ended_seen (standing (in_database store)) (seen (left_of store began)) (view store) (IsKept store Clean began) (views store Clean began) d e k ends io r h) makes s conn some)
+      inr (seen_in store (LinesLeave (state_of (in_database store)) (in_turn true (state_of (in_database store))) ends io r) (λ (stands : Seen (InDatabase S) → DeskState). LinesLeave stands (in_turn true stands) ends io r)
+      (λ Clean began d e k h. lines_ended_seen (state_of (in_database store)) (seen (left_of store began)) (view store) (IsKept store Clean began) (views store Clean began) d e k ends io r h) makes s conn some)
 
   -- without a fault the whole input was answered
   pub whole_in : (makes ends : Bool) (io : Streams) (s : State) (r : Result (Unit {0}) WorkFault) (conn : Held S) → DatabaseLeaves store makes true ends io s r conn → OnOk r (DatabaseAnswered store makes true ends io s conn)
   whole_in makes ends io s (Err why) conn h = tt
   whole_in makes ends io s (Ok u) conn (inl none) = absurd (ok_err none.outcome)
   whole_in makes ends io s (Ok u) conn (inr some) =
-      seen_so store (λ (stands : Seen (InDatabase S) → Standing). LinesLeave stands (in_turn true stands) ends io (Ok u)) (λ (stands : Seen (InDatabase S) → Standing). Whole stands (in_turn true stands) ends io)
+      seen_so store (λ (stands : Seen (InDatabase S) → DeskState). LinesLeave stands (in_turn true stands) ends io (Ok u)) (λ (stands : Seen (InDatabase S) → DeskState). Whole stands (in_turn true stands) ends io)
       (λ stands d e h. whole_lines stands (in_turn true stands) ends io u d e h) makes s conn some
 
 -- ---- requests alone
 
 -- the session over a book that came of another
-ended_since : (ends : Bool) (io : Streams) (r : Result (Unit {0}) WorkFault) (old mid new : BookState) → IsOf old mid → SessionLeaves ends io r mid new → SessionLeaves ends io r old new
+ended_since : (ends : Bool) (io : Streams) (r : Result (Unit {0}) WorkFault) (old mid new : BookState) → IsHeldBook old mid → SessionLeaves ends io r mid new → SessionLeaves ends io r old new
 ended_since ends io (Ok u) old mid new of h = well_lines_since (AllLines io.old_input) (Appends io.old_output io.new_output) ends old mid new of h
 ended_since ends io (Err fault) old mid new of (inl h) = inl (record { why = h.why; outcome = h.outcome; session = lines_since (FirstLines io.old_input) (Begins io.old_output io.new_output) old mid new of h.session })
 ended_since ends io (Err fault) old mid new of (inr h) = inr (record { outcome = h.outcome; asked = h.asked; session = failed_lines_since (FirstLines io.old_input) (Appends io.old_output io.new_output) old mid new of h.session })
@@ -123,36 +123,36 @@ both_asked false b h = absurd (true≢false (sym h))
 
 module _ {B : Type 0} (says : book.Ghosts B) (runs : RequestsRun says) (ends : Bool) (io : Streams) where
   abbrev Asks : Desk B → Desk B → List (List ℕ) → List (List ℕ) → Type 0
-  Asks = in_turn false (standing says)
+  Asks = in_turn false (state_of says)
 
   ran : (P : List (List ℕ) → Type 0) (W : List ℕ → Type 0) (d e : Desk B) → LinesAnswered P (Asks d e) W → LinesAnswered P (RunInTurn says d e) W
   ran P W d e h = answered_so P (Asks d e) (RunInTurn says d e) W (runs d e) h
 
   -- by how the lines ended, and whether the desk has failed where that was to end them
-  session_of_lines : (r : Result (Unit {0}) WorkFault) (ended : Result (Unit {0}) LinesFault) (failed : Bool) (old : BookState) (d e : Desk B) → (ends && (standing says e).failed) ≡ failed → r ≡ command_result ended failed
-      → Opened old (standing says d) → LinesDone (standing says) Asks ends io d e ended → SessionLeaves ends io r old (standing says e).book
+  session_of_lines : (r : Result (Unit {0}) WorkFault) (ended : Result (Unit {0}) LinesFault) (failed : Bool) (old : BookState) (d e : Desk B) → (ends && (state_of says e).failed) ≡ failed → r ≡ command_result ended failed
+      → Opened old (state_of says d) → LinesDone (state_of says) Asks ends io d e ended → SessionLeaves ends io r old (state_of says e).book
   session_of_lines (Ok u) (Err why) failed old d e is outcome o h = absurd (ok_err outcome)
   session_of_lines (Ok u) (Ok v) true old d e is outcome o h = absurd (ok_err outcome)
   session_of_lines (Ok u) (Ok v) false old d e is outcome o h =
-      let well : ends ≡ true → (standing says e).failed ≡ false = λ asked. ap (λ (b : Bool). b && (standing says e).failed) (sym asked) ∙ is in
-      lines_well (AllLines io.old_input) (Appends io.old_output io.new_output) ends old (standing says d) (standing says e) o well (ran (AllLines io.old_input) (Appends io.old_output io.new_output) d e (h.all well))
+      let well : ends ≡ true → (state_of says e).failed ≡ false = λ asked. ap (λ (b : Bool). b && (state_of says e).failed) (sym asked) ∙ is in
+      lines_well (AllLines io.old_input) (Appends io.old_output io.new_output) ends old (state_of says d) (state_of says e) o well (ran (AllLines io.old_input) (Appends io.old_output io.new_output) d e (h.all well))
   session_of_lines (Err fault) (Err why) failed old d e is outcome o h = inl (record {
     why = why;
     outcome = same_error outcome;
-    session = lines_over (FirstLines io.old_input) (Begins io.old_output io.new_output) old (standing says d) (standing says e) o (ran (FirstLines io.old_input) (Begins io.old_output io.new_output) d e h.begun);
+    session = lines_over (FirstLines io.old_input) (Begins io.old_output io.new_output) old (state_of says d) (state_of says e) o (ran (FirstLines io.old_input) (Begins io.old_output io.new_output) d e h.begun);
   })
   session_of_lines (Err fault) (Ok v) true old d e is outcome o h = inr (record {
     outcome = same_error outcome;
-    asked = (both_asked ends (standing says e).failed is).0;
-    session = lines_failed (FirstLines io.old_input) (Appends io.old_output io.new_output) old (standing says d) (standing says e) o (both_asked ends (standing says e).failed is).1
+    asked = (both_asked ends (state_of says e).failed is).0;
+    session = lines_failed (FirstLines io.old_input) (Appends io.old_output io.new_output) old (state_of says d) (state_of says e) o (both_asked ends (state_of says e).failed is).1
         (ran (FirstLines io.old_input) (Appends io.old_output io.new_output) d e h.first);
   })
   session_of_lines (Err fault) (Ok v) false old d e is outcome o h = absurd (ok_err (sym outcome))
 
-  session_of_desk : (r : Result (Unit {0}) WorkFault) (old : BookState) (last : B) → OverDesk says (LinesLeave (standing says) Asks ends io r) old last → SessionLeaves ends io r old (says.state last)
+  session_of_desk : (r : Result (Unit {0}) WorkFault) (old : BookState) (last : B) → OverDesk says (LinesLeave (state_of says) Asks ends io r) old last → SessionLeaves ends io r old (says.state last)
   session_of_desk r old last h =
       subst (λ (b : B). SessionLeaves ends io r old (says.state b)) (sym h.back)
-      (session_of_lines r h.did.ended (ends && (standing says h.final).failed) old h.first h.final refl h.did.outcome h.opened h.did.lines)
+      (session_of_lines r h.did.ended (ends && (state_of says h.final).failed) old h.first h.final refl h.did.outcome h.opened h.did.lines)
 
 pub lines_are_sessions : {S R W : Type 0} (store : Ghosts S) (remaining : R → Option (List ℕ)) (contents : W → Option (List ℕ)) → RequestsRun (in_database store) → LinesAreSessions store remaining contents
 lines_are_sessions {S} store remaining contents runs makes ends reader writer r given conn h =
@@ -166,7 +166,7 @@ lines_are_sessions {S} store remaining contents runs makes ends reader writer r 
 
 -- whole, or its beginning
 pub ended_in : {S R W : Type 0} (store : Ghosts S) (remaining : R → Option (List ℕ)) (contents : W → Option (List ℕ)) → LinesAreSessions store remaining contents → (makes ends : Bool) (reader : R × R) (writer : W × W) (given : Held S) (r : Result (Unit {0}) WorkFault) (conn : Held S)
-    → LinesIn store (in_turn false (standing (in_database store))) makes ends (streams remaining contents reader writer) (state store given) r conn
+    → LinesIn store (in_turn false (state_of (in_database store))) makes ends (streams remaining contents reader writer) (state store given) r conn
     → DatabaseLeaves store makes false ends (streams remaining contents reader writer) (state store given) r conn
 ended_in store remaining contents law makes ends reader writer given r conn (inl none) = inl none
 ended_in store remaining contents law makes ends reader writer given r conn (inr some) = inr (law makes ends reader writer r given conn some)

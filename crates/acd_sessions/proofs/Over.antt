@@ -8,50 +8,50 @@ use Rattle.acd_book.specs.Content.{Content, IsCounted, HasRisen}
 use Rattle.acd_book.specs.State.{BookState}
 use Rattle.acd_book.proofs.BookSteps.{step_then}
 use Rattle.acd_sqlbook.specs.declared.cache.Cache.{Cache}
-use Rattle.acd_sqlbook.specs.Caching.{followed}
+use Rattle.acd_sqlbook.specs.Caches.{followed}
 use Rattle.acd_sqlbook.specs.State.{book_state}
 use Rattle.acd_desk.specs.declared.taken.Taken.{Taken}
 use Rattle.acd_desk.specs.declared.taken.Taken.TheVariants.{StoreFault}
-use Rattle.acd_desk.specs.Accepted.{accepted, maybe_last, sent}
-use Rattle.acd_desk.specs.Standing.{Standing}
-use Rattle.acd_desk.specs.Stands.{IsSound, replies, StopsAt}
+use Rattle.acd_desk.specs.AcceptedArrivals.{accepted, maybe_last, sent}
+use Rattle.acd_desk.specs.DeskState.{DeskState}
+use Rattle.acd_desk.specs.SoundContent.{IsSound, replies, StopsAt}
 use Rattle.acd_desk.specs.Opening.{Opened}
-use Rattle.acd_desk.specs.Ran.{Ran, IsFault, Holds}
+use Rattle.acd_desk.specs.DeskCalls.{Ran, IsFault, Holds}
 use Rattle.acd_desk.specs.Session.{Session}
-use Rattle.acd_desk.specs.Leads.{Leads}
+use Rattle.acd_desk.specs.AnyContent.{Leads}
 use Rattle.acd_desk.proofs.Desks.Sessions.{session_ran}
 use Rattle.acd_lines.specs.Lines.{LinesAnswered, ArrivalsAnswered}
-use Rattle.acd_lines.proofs.Weaker.{arrivals_so}
+use Rattle.acd_lines.proofs.WeakerAnswers.{arrivals_so}
 use Rattle.acd_sessions.specs.Over.{IsSession, IsSessionTo, IsFailedSession, OverConnection, left}
-use Rattle.acd_sessions.specs.Taking.{IsOf, IsTaken}
+use Rattle.acd_sessions.specs.ConnectionBook.{IsHeldBook, IsTaken}
 
 -- lines over a desk of the book
-pub lines_over : (P : List (List ℕ) → Type 0) (W : List ℕ → Type 0) (old : BookState) (d e : Standing) → Opened old d → LinesAnswered P (ArrivalsAnswered (λ (l : List Arrival) (ts : List Taken). Ran d l ts e)) W
+pub lines_over : (P : List (List ℕ) → Type 0) (W : List ℕ → Type 0) (old : BookState) (d e : DeskState) → Opened old d → LinesAnswered P (ArrivalsAnswered (λ (l : List Arrival) (ts : List Taken). Ran d l ts e)) W
     → LinesAnswered P (ArrivalsAnswered (IsSession old e.book)) W
 lines_over P W old d e opened h = arrivals_so P (λ (l : List Arrival) (ts : List Taken). Ran d l ts e) (IsSession old e.book) W (λ l ts ran. session_ran IsFault old d e l ts opened ran ran.later) h
 
 -- without a storeFault, where the desk hasn't failed
-pub lines_well : (P : List (List ℕ) → Type 0) (W : List ℕ → Type 0) (ends : Bool) (old : BookState) (d e : Standing) → Opened old d → (ends ≡ true → e.failed ≡ false)
+pub lines_well : (P : List (List ℕ) → Type 0) (W : List ℕ → Type 0) (ends : Bool) (old : BookState) (d e : DeskState) → Opened old d → (ends ≡ true → e.failed ≡ false)
     → LinesAnswered P (ArrivalsAnswered (λ (l : List Arrival) (ts : List Taken). Ran d l ts e)) W → LinesAnswered P (ArrivalsAnswered (IsSessionTo ends old e.book)) W
 lines_well P W ends old d e opened well h =
     arrivals_so P (λ (l : List Arrival) (ts : List Taken). Ran d l ts e) (IsSessionTo ends old e.book) W
     (λ l ts ran. (session_ran IsFault old d e l ts opened ran ran.later, λ asked found. true≢false (sym (ran.desk.shuts found) ∙ well asked))) h
 
 -- a desk that was just opened hadn't failed
-failed_since : (old : BookState) (d e : Standing) (l : List Arrival) (ts : List Taken) → Opened old d → Ran d l ts e → e.failed ≡ true → Contains ts StoreFault
+failed_since : (old : BookState) (d e : DeskState) (l : List Arrival) (ts : List Taken) → Opened old d → Ran d l ts e → e.failed ≡ true → Contains ts StoreFault
 failed_since old d e l ts opened ran failed = elim (ran.desk.answers failed) [
   | inl before ↦ absurd (true≢false (sym before ∙ opened.working))
   | inr found ↦ found
 ]
 
-pub lines_failed : (P : List (List ℕ) → Type 0) (W : List ℕ → Type 0) (old : BookState) (d e : Standing) → Opened old d → e.failed ≡ true → LinesAnswered P (ArrivalsAnswered (λ (l : List Arrival) (ts : List Taken). Ran d l ts e)) W
+pub lines_failed : (P : List (List ℕ) → Type 0) (W : List ℕ → Type 0) (old : BookState) (d e : DeskState) → Opened old d → e.failed ≡ true → LinesAnswered P (ArrivalsAnswered (λ (l : List Arrival) (ts : List Taken). Ran d l ts e)) W
     → LinesAnswered P (ArrivalsAnswered (IsFailedSession old e.book)) W
 lines_failed P W old d e opened failed h =
     arrivals_so P (λ (l : List Arrival) (ts : List Taken). Ran d l ts e) (IsFailedSession old e.book) W (λ l ts ran. (session_ran IsFault old d e l ts opened ran ran.later, failed_since old d e l ts opened ran failed)) h
 
 -- ---- over a book that came of another
 
-pub session_of : (P : Taken → Type 0) (old mid new : BookState) (l : List Arrival) (ts : List Taken) → IsOf old mid → Session P mid l ts new → Session P old l ts new
+pub session_of : (P : Taken → Type 0) (old mid new : BookState) (l : List Arrival) (ts : List Taken) → IsHeldBook old mid → Session P mid l ts new → Session P old l ts new
 session_of P old mid new l ts of s =
     let sound : new.is_clean → old.is_sound → mid.is_sound = λ clean sound. of.step.sound (s.step.clean clean) sound in
     let same : new.is_clean → old.is_sound → mid.content ≡ old.content = λ clean sound. of.content (s.step.clean clean) sound in
@@ -71,19 +71,19 @@ session_of P old mid new l ts of s =
       cause = λ clean is whole found. subst (λ (k : ℕ). HasRisen k new.failures) (of.step.quiet (λ none. none)) (s.cause clean (sound clean is) (well clean is whole) found);
     }
 
-pub lines_since : (P : List (List ℕ) → Type 0) (W : List ℕ → Type 0) (old mid new : BookState) → IsOf old mid → LinesAnswered P (ArrivalsAnswered (IsSession mid new)) W → LinesAnswered P (ArrivalsAnswered (IsSession old new)) W
+pub lines_since : (P : List (List ℕ) → Type 0) (W : List ℕ → Type 0) (old mid new : BookState) → IsHeldBook old mid → LinesAnswered P (ArrivalsAnswered (IsSession mid new)) W → LinesAnswered P (ArrivalsAnswered (IsSession old new)) W
 lines_since P W old mid new of h = arrivals_so P (IsSession mid new) (IsSession old new) W (λ l ts s. session_of IsFault old mid new l ts of s) h
 
-pub well_lines_since : (P : List (List ℕ) → Type 0) (W : List ℕ → Type 0) (ends : Bool) (old mid new : BookState) → IsOf old mid → LinesAnswered P (ArrivalsAnswered (IsSessionTo ends mid new)) W
+pub well_lines_since : (P : List (List ℕ) → Type 0) (W : List ℕ → Type 0) (ends : Bool) (old mid new : BookState) → IsHeldBook old mid → LinesAnswered P (ArrivalsAnswered (IsSessionTo ends mid new)) W
     → LinesAnswered P (ArrivalsAnswered (IsSessionTo ends old new)) W
 well_lines_since P W ends old mid new of h = arrivals_so P (IsSessionTo ends mid new) (IsSessionTo ends old new) W (λ l ts s. (session_of IsFault old mid new l ts of s.0, s.1)) h
 
-pub failed_lines_since : (P : List (List ℕ) → Type 0) (W : List ℕ → Type 0) (old mid new : BookState) → IsOf old mid → LinesAnswered P (ArrivalsAnswered (IsFailedSession mid new)) W → LinesAnswered P (ArrivalsAnswered (IsFailedSession old new)) W
+pub failed_lines_since : (P : List (List ℕ) → Type 0) (W : List ℕ → Type 0) (old mid new : BookState) → IsHeldBook old mid → LinesAnswered P (ArrivalsAnswered (IsFailedSession mid new)) W → LinesAnswered P (ArrivalsAnswered (IsFailedSession old new)) W
 failed_lines_since P W old mid new of h = arrivals_so P (IsFailedSession mid new) (IsFailedSession old new) W (λ l ts s. (session_of IsFault old mid new l ts of s.0, s.1)) h
 
 -- whatever carries over to what a book came of is said of the database
 pub over_connection : (P Q : BookState → BookState → Type 0) (makes : Bool) (s t : State) (mid : BookState) (cache : Cache) (failures : ℕ)
-    → ((old : BookState) → IsOf old mid → P mid (followed cache (book_state t failures)) → Q old (followed cache (book_state t failures)))
+    → ((old : BookState) → IsHeldBook old mid → P mid (followed cache (book_state t failures)) → Q old (followed cache (book_state t failures)))
     → ((old : BookState) → Q old (followed cache (book_state t failures)) → Q old (left t failures)) → (P mid (followed cache (book_state t failures)) → (followed cache (book_state t failures)).is_clean → mid.is_clean) → IsTaken makes s mid → P mid (followed cache (book_state t failures)) → OverConnection Q makes s t
 over_connection P Q makes s t mid cache failures carries leaves clean taken h = (
   failures,

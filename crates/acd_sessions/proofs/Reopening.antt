@@ -60,18 +60,18 @@ use Rattle.sqlite_wal.proofs.LogLemmas.{SeenMayStay}
 use Rattle.sqlite_wal.proofs.RecoveryLemmas.{recovers_once as raw_once}
 use Rattle.sqlite.specs.Opening.{HoldsIn}
 use Rattle.acd_book.specs.Content.{Content}
-use Rattle.acd_desk.specs.Carried.{Archive, together}
-use Rattle.acd_desk.specs.Stands.{IsSound}
+use Rattle.acd_desk.specs.CarriedContent.{Archive, together}
+use Rattle.acd_desk.specs.SoundContent.{IsSound}
 use Rattle.acd_desk.specs.Opening.{Opens}
 use Rattle.acd_sql_columns.specs.AnyRows.{has_meta}
 use Rattle.acd_sql_columns.specs.Schema.{book_schema, no_schema}
 use Rattle.acd_sql_columns.specs.InTables.{content_of}
 use Rattle.acd_sql_columns.specs.Transactions.{IsBook}
-use Rattle.acd_sqlbook.specs.Caching.{IsBlank}
+use Rattle.acd_sqlbook.specs.Caches.{IsBlank}
 use Rattle.acd_sqlbook.specs.StoreLaws.{IsAdoptAnswer, IsOverBook}
 use Rattle.acd_sqlbook.specs.View.{BookView, book_of}
-use Rattle.acd_sqlbook.proofs.Followed.{blank_of}
-use Rattle.acd_sqlbook.proofs.Reopened.{over_book, books_are_adopted}
+use Rattle.acd_sqlbook.proofs.CachedCalls.{blank_of}
+use Rattle.acd_sqlbook.proofs.ReopenedBooks.{over_book, books_are_adopted}
 use Rattle.acd_sessions.specs.Desks.{in_database}
 use Rattle.acd_files.specs.Files.{new_page, created, read_only, AreReadOnly, AreReady, IsMade, IsCreateRefused, IsOpenedIn}
 use Rattle.acd_sessions.specs.Over.{held, LeavesBooks}

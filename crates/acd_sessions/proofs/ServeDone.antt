@@ -7,8 +7,8 @@ use Rattle.sqlite.specs.Held.{Held, state}
 use Rattle.sqlite_trees.specs.Tree.{Trees}
 use Rattle.sqlite_trees.specs.declared.store.Store.{Ghosts}
 use Rattle.acd_sqlbook.specs.View.{BookView, book_of}
-use Rattle.acd_desk.specs.Standing.{Standing, standing}
-use Rattle.acd_io.specs.Sent.{Begins, WasSent}
+use Rattle.acd_desk.specs.DeskState.{DeskState, state_of}
+use Rattle.acd_io.specs.SentBytes.{Begins, WasSent}
 use Rattle.acd_io.proofs.Sends.{begins_so}
 use Rattle.acd_http.specs.declared.serving.Span.{Span}
 use Rattle.acd_http.specs.Turns.{turn_lines}
@@ -16,13 +16,13 @@ use Rattle.acd_terms.proofs.Results.{ok_err}
 use Rattle.acd_sessions.specs.Desks.{in_database}
 use Rattle.acd_sessions.specs.Faults.{open_fault, command_result}
 use Rattle.acd_sessions.specs.Over.{Unserved}
-use Rattle.acd_sessions.specs.Seen.{Seen, seen, InDatabase, left_of, SeenIn}
-use Rattle.acd_sessions.specs.Taking.{IsTaken}
+use Rattle.acd_sessions.specs.DeskAsLeft.{Seen, seen, InDatabase, left_of, SeenIn}
+use Rattle.acd_sessions.specs.ConnectionBook.{IsTaken}
 use Rattle.acd_sessions.specs.Serving.{PrintsServiceFaults, TurnsOf, ServeDone, listening_line, ends_failed, ListeningLeaves, ServiceLeaves, ServeOver, ServeIn}
 use Rattle.acd_sessions.specs.declared.fault.WorkFault.{WorkFault}
 use Rattle.acd_command.specs.declared.asked.Address.{Address}
-use Rattle.acd_sessions.proofs.Seen.{view, views, IsKept, serve_seen, seen_in, seen_made, seen_so}
-use Rattle.acd_sessions.proofs.Taking.{unserved_refused, unserved_makes}
+use Rattle.acd_sessions.proofs.LeftDesks.{view, views, IsKept, serve_seen, seen_in, seen_made, seen_so}
+use Rattle.acd_sessions.proofs.BooksOfConnections.{unserved_refused, unserved_makes}
 
 -- a text that was written whole is a beginning of itself
 pub begins_whole : (a b : Option (List ℕ)) (text : List ℕ) → Appends a b text → Begins a b text
@@ -37,11 +37,11 @@ begun (Ok u) a b text h = begins_whole a b text h
 begun (Err e) a b text h = begins_so a b text h
 
 -- and so after the turns of a service
-pub begins_turns : {D E : Type 0} (stands : D → Standing) (span : Span) (d e : D) (r : Result (Unit {0}) E) (a b : Option (List ℕ)) → TurnsOf stands span d e (WasSent r a b) → TurnsOf stands span d e (Begins a b)
+pub begins_turns : {D E : Type 0} (stands : D → DeskState) (span : Span) (d e : D) (r : Result (Unit {0}) E) (a b : Option (List ℕ)) → TurnsOf stands span d e (WasSent r a b) → TurnsOf stands span d e (Begins a b)
 begins_turns stands span d e r a b h =
     (h.0, record { turns = h.1.turns; count = h.1.count; turned = h.1.turned; well = h.1.well; out = begun r a b (turn_lines 1 h.1.turns) h.1.out }, h.2)
 
-pub printed_for : {D : Type 0} (stands : D → Standing) (span : Span) (d e : D) (a b : Option (List ℕ)) → TurnsOf stands span d e (Begins a b) → PrintsServiceFaults a b
+pub printed_for : {D : Type 0} (stands : D → DeskState) (span : Span) (d e : D) (a b : Option (List ℕ)) → TurnsOf stands span d e (Begins a b) → PrintsServiceFaults a b
 printed_for stands span d e a b h = (h.1.turns, h.1.out)
 
 -- an endless service without a fault is by a desk that hasn't failed
@@ -51,7 +51,7 @@ well_for u None true outcome is = absurd (ok_err outcome)
 well_for u (Some many) true outcome is = absurd (cc is)
 
 module _ (span : Span) (a b : Option (List ℕ)) (address : Address) (old_output new_output : Option (List ℕ)) where
-  module _ {D : Type 0} (stands : D → Standing) where
+  module _ {D : Type 0} (stands : D → DeskState) where
     -- connections are waited for once the whole line is written
     pub serve_ended : (r : Result (Unit {0}) WorkFault) (d e : D) → Appends old_output new_output (listening_line address) → ListeningLeaves span a b stands r d e → ServiceLeaves span a b address old_output new_output stands r d e
     serve_ended r d e line (inl none) = inl (none, begins_whole old_output new_output (listening_line address) line)
@@ -75,8 +75,8 @@ module _ (span : Span) (a b : Option (List ℕ)) (address : Address) (old_output
       unsaid = none.unsaid;
     })
     serve_in makes taken last settles of back (inr some) =
-        inr (seen_in store (ServiceLeaves span a b address old_output new_output (standing (in_database store)) r) (λ (stands : Seen (InDatabase S) → Standing). ServiceLeaves span a b address old_output new_output stands r)
-        (λ Clean began d e k h. serve_seen (standing (in_database store)) (seen (left_of store began)) (view store) (IsKept store Clean began) (views store Clean began) d e k span a b address old_output new_output r h) makes s conn (record { taken = taken; last = last; of_old = of; over = some; back = back }))
+        inr (seen_in store (ServiceLeaves span a b address old_output new_output (state_of (in_database store)) r) (λ (stands : Seen (InDatabase S) → DeskState). ServiceLeaves span a b address old_output new_output stands r)
+        (λ Clean began d e k h. serve_seen (state_of (in_database store)) (seen (left_of store began)) (view store) (IsKept store Clean began) (views store Clean began) d e k span a b address old_output new_output r h) makes s conn (record { taken = taken; last = last; of_old = of; over = some; back = back }))
 
     -- where it was known whether a new book may be made
     pub serve_made : (is_new makes : Bool) → (is_new ≡ true → makes ≡ true) → ServeIn span a b address old_output new_output store is_new s r conn → ServeIn span a b address old_output new_output store makes s r conn
@@ -86,9 +86,9 @@ module _ (span : Span) (a b : Option (List ℕ)) (address : Address) (old_output
 
   -- without a fault the connections were answered as was asked for
   pub serve_done_in : {S : Type 0} (store : Ghosts S) (s : State) (r : Result (Unit {0}) WorkFault) (conn : Held S) (makes : Bool) → ServeIn span a b address old_output new_output store makes s r conn
-      → OnOk r (SeenIn store (λ (stands : Seen (InDatabase S) → Standing). ServeDone stands span a b) makes s conn)
+      → OnOk r (SeenIn store (λ (stands : Seen (InDatabase S) → DeskState). ServeDone stands span a b) makes s conn)
   serve_done_in store s (Err e) conn makes h = tt
   serve_done_in store s (Ok u) conn makes (inl none) = absurd (ok_err none.ended)
   serve_done_in {S} store s (Ok u) conn makes (inr some) =
-      seen_so store (λ (stands : Seen (InDatabase S) → Standing). ServiceLeaves span a b address old_output new_output stands (Ok u)) (λ (stands : Seen (InDatabase S) → Standing). ServeDone stands span a b)
+      seen_so store (λ (stands : Seen (InDatabase S) → DeskState). ServiceLeaves span a b address old_output new_output stands (Ok u)) (λ (stands : Seen (InDatabase S) → DeskState). ServeDone stands span a b)
       (λ stands d e h. serve_done stands u d e h) makes s conn some

@@ -9,15 +9,15 @@ use Rattle.acd_book.specs.State.{BookState}
 use Rattle.acd_sqlbook.specs.View.{BookView, book_of}
 use Rattle.acd_desk.specs.declared.desk.Desk.{Desk}
 use Rattle.acd_desk.specs.Opening.{Opened}
-use Rattle.acd_desk.specs.Standing.{standing}
-use Rattle.acd_sessions.specs.Answered.{in_memory, IsNewDesk}
-use Rattle.acd_sessions.specs.Taking.{IsTaken}
+use Rattle.acd_desk.specs.DeskState.{state_of}
+use Rattle.acd_sessions.specs.MemoryAnswers.{in_memory, IsNewDesk}
+use Rattle.acd_sessions.specs.ConnectionBook.{IsTaken}
 
 -- a desk was opened over the book and did this, and the book came back
 pub record OverDesk {B : Type 0} (says : book.Ghosts B) (Did : Desk B → Desk B → Type 0) (old : BookState) (last : B) : Type 0 where
   pub first : Desk B
   pub final : Desk B
-  pub opened : Opened old (standing says first)
+  pub opened : Opened old (state_of says first)
   pub did : Did first final
   pub back : last ≡ final.book
 
@@ -25,7 +25,7 @@ pub record OverDesk {B : Type 0} (says : book.Ghosts B) (Did : Desk B → Desk B
 pub record OverNewDesk (Did : Desk Content → Desk Content → Type 0) : Type 0 where
   pub first : Desk Content
   pub final : Desk Content
-  pub opened : IsNewDesk (standing in_memory first)
+  pub opened : IsNewDesk (state_of in_memory first)
   pub did : Did first final
 
 module _ {S : Type 0} (store : Ghosts S) where

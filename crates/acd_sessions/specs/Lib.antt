@@ -1,11 +1,11 @@
 pub mod ToDo
 pub mod Output
 pub mod Faults
-pub mod Answered
+pub mod MemoryAnswers
 pub mod Over
-pub mod Taking
+pub mod ConnectionBook
 pub mod Desks
-pub mod Seen
+pub mod DeskAsLeft
 pub mod Serving
 pub mod Standby
 pub mod LinesOver

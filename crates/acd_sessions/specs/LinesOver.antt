@@ -12,28 +12,28 @@ use Rattle.acd_sqlbook.specs.View.{BookView}
 use Rattle.acd_desk.specs.declared.desk.Desk.{Desk}
 use Rattle.acd_desk.specs.declared.open_fault.OpenFault.{OpenFault}
 use Rattle.acd_desk.specs.Opening.{Refused}
-use Rattle.acd_desk.specs.Standing.{Standing, standing}
+use Rattle.acd_desk.specs.DeskState.{DeskState, state_of}
 use Rattle.acd_lines.specs.Answers.{Answers}
 use Rattle.acd_lines.specs.Input.{line_of}
 use Rattle.acd_lines.specs.Lines.{LinesAnswered, AllLines, Streams, Untouched, Manner, LinesDone}
 use Rattle.acd_lines.specs.Parts.{InTurn}
 use Rattle.acd_lines.specs.declared.fault.LinesFault.{LinesFault}
 use Rattle.acd_lines.specs.declared.fault.LinesFault.TheVariants.{NoMemory}
-use Rattle.acd_http.specs.ReadingLines.{reading_line_of, ReadingAnswers}
-use Rattle.acd_sessions.specs.Answered.{in_memory}
+use Rattle.acd_http.specs.LinesWithReads.{reading_line_of, ReadingAnswers}
+use Rattle.acd_sessions.specs.MemoryAnswers.{in_memory}
 use Rattle.acd_sessions.specs.Desks.{OverDesk, OverNewDesk, OverDatabase, in_database}
 use Rattle.acd_sessions.specs.Faults.{open_fault, command_result}
 use Rattle.acd_sessions.specs.Over.{AnswersOver, Database, OverConnection, Unserved}
-use Rattle.acd_sessions.specs.Seen.{SeenIn}
+use Rattle.acd_sessions.specs.DeskAsLeft.{SeenIn}
 use Rattle.acd_sessions.specs.declared.fault.WorkFault.{WorkFault}
 use denote.Triple.Both.{Both}
 
 -- how the lines of a command are answered: requests alone or, where it `reads`, these and the reads among them
-abbrev pub in_turn : {D : Type 0} → Bool → (D → Standing) → D → D → List (List ℕ) → List (List ℕ) → Type 0
+abbrev pub in_turn : {D : Type 0} → Bool → (D → DeskState) → D → D → List (List ℕ) → List (List ℕ) → Type 0
 in_turn true stands = InTurn reading_line_of (ReadingAnswers stands)
 in_turn false stands = InTurn line_of (Answers stands)
 
-module _ {D : Type 0} (stands : D → Standing) (AnsweredInTurn : D → D → List (List ℕ) → List (List ℕ) → Type 0) (ends : Bool) (io : Streams) where
+module _ {D : Type 0} (stands : D → DeskState) (AnsweredInTurn : D → D → List (List ℕ) → List (List ℕ) → Type 0) (ends : Bool) (io : Streams) where
   -- the whole input was answered, by a desk that hasn't failed where that was to end it
   pub record Whole (d e : D) : Type 0 where
     pub answered : LinesAnswered (AllLines io.old_input) (AnsweredInTurn d e) (Appends io.old_output io.new_output)
@@ -55,7 +55,7 @@ module _ {B : Type 0} (says : book.Ghosts B) (AnsweredInTurn : Desk B → Desk B
 
   -- lines over the book
   abbrev pub LinesOver : BookState → Result (Unit {0}) WorkFault → B → Type 0
-  LinesOver old result last = NoDesk old result last ⊎ OverDesk says (LinesLeave (standing says) AnsweredInTurn ends io result) old last
+  LinesOver old result last = NoDesk old result last ⊎ OverDesk says (LinesLeave (state_of says) AnsweredInTurn ends io result) old last
 
 -- lines over a desk ended so, where they are answered in this manner
 abbrev pub LinesLeaveDesk : {D : Type 0} → Manner D → Streams → Both (MutBor D) (MutBor D) → Result (Unit {0}) WorkFault → Type 0
@@ -76,7 +76,7 @@ module _ {S : Type 0} (store : Ghosts S) (makes : Bool) (io : Streams) where
 -- lines over the book of the database
 abbrev pub LinesIn : {S : Type 0} → (store : Ghosts S) → (Desk (BookView S) → Desk (BookView S) → List (List ℕ) → List (List ℕ) → Type 0) → Bool → Bool → Streams → State → Result (Unit {0}) WorkFault → Held S → Type 0
 LinesIn store AnsweredInTurn makes ends io old result new =
-    NoneMade store makes io old result new ⊎ OverDatabase store makes (LinesLeave (standing (in_database store)) AnsweredInTurn ends io result) old new
+    NoneMade store makes io old result new ⊎ OverDatabase store makes (LinesLeave (state_of (in_database store)) AnsweredInTurn ends io result) old new
 
 -- lines over a database that was handed in ended so, with the connection that came back, where a line leads from one desk to another so
 abbrev pub LinesLeaveEach : {S : Type 0} → Database S → (Desk (BookView S) → Desk (BookView S) → List (List ℕ) → List (List ℕ) → Type 0) → Bool → Streams → Result (Unit {0}) WorkFault × Held S → Type 0
@@ -90,8 +90,8 @@ DatabaseAnswered store makes true ends io old new = SeenIn store (λ stands. Who
 module _ (AnsweredInTurn : Desk Content → Desk Content → List (List ℕ) → List (List ℕ) → Type 0) (io : Streams) where
   -- lines over a new desk in memory, for which there may be no room
   abbrev pub LinesInMemory : Result (Unit {0}) LinesFault → Type 0
-  LinesInMemory result = ((result ≡ Err NoMemory) × Untouched io) ⊎ OverNewDesk (λ (d e : Desk Content). LinesDone (standing in_memory) AnsweredInTurn false io d e result)
+  LinesInMemory result = ((result ≡ Err NoMemory) × Untouched io) ⊎ OverNewDesk (λ (d e : Desk Content). LinesDone (state_of in_memory) AnsweredInTurn false io d e result)
 
 -- the whole input was answered over a new desk in memory
 abbrev pub NewAnswered : Bool → Streams → Type 0
-NewAnswered reads io = OverNewDesk (Whole (standing in_memory) (in_turn reads (standing in_memory)) false io)
+NewAnswered reads io = OverNewDesk (Whole (state_of in_memory) (in_turn reads (state_of in_memory)) false io)

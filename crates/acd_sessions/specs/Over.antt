@@ -14,13 +14,13 @@ use Rattle.acd_sql_columns.specs.declared.tables.Version.{Version}
 use Rattle.acd_sql_columns.specs.InTables.{content_of}
 use Rattle.acd_sql_columns.specs.Schema.{no_schema, old_schema}
 use Rattle.acd_sql_columns.specs.Transactions.{IsBook}
-use Rattle.acd_sql_schema.specs.Migrating.{IsMigration}
+use Rattle.acd_sql_schema.specs.Migration.{IsMigration}
 use Rattle.acd_desk.specs.declared.taken.Taken.{Taken}
 use Rattle.acd_desk.specs.declared.taken.Taken.TheVariants.{StoreFault}
-use Rattle.acd_desk.specs.Ran.{IsFault}
+use Rattle.acd_desk.specs.DeskCalls.{IsFault}
 use Rattle.acd_desk.specs.Session.{Session}
 use Rattle.acd_lines.specs.Lines.{LinesAnswered, AllLines, ArrivalsAnswered, Streams}
-use Rattle.acd_sessions.specs.Answered.{nothing}
+use Rattle.acd_sessions.specs.MemoryAnswers.{nothing}
 
 -- the answers to arrivals that are a session, from a book to what it is then
 abbrev pub IsSession : BookState → BookState → List Arrival → List Taken → Type 0

@@ -19,14 +19,14 @@ use Rattle.sqlite.specs.State.{HasCleanDisk}
 use Rattle.sqlite.specs.declared.error.Error.{Error}
 use Rattle.sqlite.specs.declared.file.Leftover.{Leftover}
 use Rattle.acd_book.specs.Content.{Content}
-use Rattle.acd_desk.specs.Carried.{Archive, together}
+use Rattle.acd_desk.specs.CarriedContent.{Archive, together}
 use Rattle.acd_desk.specs.Opening.{IsNoRule, Opens}
-use Rattle.acd_desk.specs.Standing.{switch_of}
-use Rattle.acd_desk.specs.Stands.{IsSound}
+use Rattle.acd_desk.specs.DeskState.{switch_of}
+use Rattle.acd_desk.specs.SoundContent.{IsSound}
 use Rattle.acd_desk.specs.declared.desk.Desk.{Desk}
 use Rattle.acd_desk.specs.declared.open_fault.OpenFault.{OpenFault}
 use Rattle.acd_sql_columns.specs.InTables.{content_of}
-use Rattle.acd_sqlbook.specs.Caching.{IsBlank}
+use Rattle.acd_sqlbook.specs.Caches.{IsBlank}
 use Rattle.acd_sqlbook.specs.StoreLaws.{AdoptResult, Adopts, IsAdoptAnswer, IsOverBook}
 use Rattle.acd_sqlbook.specs.View.{BookView}
 use Rattle.acd_sessions.specs.Desks.{in_database}

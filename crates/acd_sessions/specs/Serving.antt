@@ -11,8 +11,8 @@ use Rattle.acd_book.specs.State.{BookState}
 use Rattle.acd_desk.specs.declared.desk.Desk.{Desk}
 use Rattle.acd_desk.specs.declared.open_fault.OpenFault.{OpenFault}
 use Rattle.acd_desk.specs.Opening.{Refused}
-use Rattle.acd_desk.specs.Standing.{Standing, standing}
-use Rattle.acd_io.specs.Sent.{Begins}
+use Rattle.acd_desk.specs.DeskState.{DeskState, state_of}
+use Rattle.acd_io.specs.SentBytes.{Begins}
 use Rattle.acd_http.specs.declared.serving.Span.{Span}
 use Rattle.acd_http.specs.Turns.{TurnsUntil, Turn, turn_lines}
 use Rattle.acd_sessions.specs.Desks.{OverDesk}
@@ -21,17 +21,17 @@ use Rattle.acd_command.specs.declared.asked.Address.{Address}
 use Rattle.acd_command.specs.declared.asked.Address.TheVariants.{Port, Socket}
 use Rattle.acd_sessions.specs.Faults.{open_fault, command_result}
 use Rattle.acd_sessions.specs.Over.{Database, Unserved}
-use Rattle.acd_sessions.specs.Seen.{Seen, InDatabase, SeenIn}
+use Rattle.acd_sessions.specs.DeskAsLeft.{Seen, InDatabase, SeenIn}
 use Rattle.acd_sessions.specs.declared.fault.WorkFault.{WorkFault}
 use Rattle.acd_sessions.specs.declared.serving.Serving.{Serving}
 use denote.Triple.Both.{Both}
 
 -- turns were taken, one after another, with looks between connections where there is a step: so many connections, or until the desk failed
-abbrev pub TurnsOf : {D : Type 0} → (D → Standing) → Span → D → D → (List ℕ → Type 0) → Type 0
+abbrev pub TurnsOf : {D : Type 0} → (D → DeskState) → Span → D → D → (List ℕ → Type 0) → Type 0
 TurnsOf stands span d e WentOut = TurnsUntil stands (is_some span.step) span.connections d e WentOut
 
 -- they were; the lines of their faults were written, or a beginning of them
-pub record ServeDone {D : Type 0} (stands : D → Standing) (span : Span) (old_output new_output : Option (List ℕ)) (d e : D) : Type 0 where
+pub record ServeDone {D : Type 0} (stands : D → DeskState) (span : Span) (old_output new_output : Option (List ℕ)) (d e : D) : Type 0 where
   pub taken : TurnsOf stands span d e (Begins old_output new_output)
   -- an endless service doesn't end so where its store has failed
   pub well : span.connections ≡ None → (stands e).failed ≡ false
@@ -48,7 +48,7 @@ ends_failed None failed = failed
 
 -- `old_errors` was written of the faults of connections before, and `new_errors` is written after
 module _ (span : Span) (old_errors new_errors : Option (List ℕ)) where
-  module _ {D : Type 0} (stands : D → Standing) where
+  module _ {D : Type 0} (stands : D → DeskState) where
     -- nothing was asked of the desk
     pub record Unasked (result : Result (Unit {0}) WorkFault) (d e : D) : Type 0 where
       pub why : WorkFault
@@ -68,7 +68,7 @@ module _ (span : Span) (old_errors new_errors : Option (List ℕ)) where
   -- `old_output` was written on the output before, and `new_output` is written after
   module _ (address : Address) (old_output new_output : Option (List ℕ)) where
     -- connections are answered only after the whole line
-    abbrev pub ServiceLeaves : {D : Type 0} → (D → Standing) → Result (Unit {0}) WorkFault → D → D → Type 0
+    abbrev pub ServiceLeaves : {D : Type 0} → (D → DeskState) → Result (Unit {0}) WorkFault → D → D → Type 0
     ServiceLeaves stands result d e =
         (Unasked stands result d e × Begins old_output new_output (listening_line address))
         ⊎ (Answered stands result d e × Appends old_output new_output (listening_line address))
@@ -84,7 +84,7 @@ module _ (span : Span) (old_errors new_errors : Option (List ℕ)) where
 
       -- answering connections over the book
       abbrev pub ServeOver : BookState → Result (Unit {0}) WorkFault → B → Type 0
-      ServeOver old result last = NoDesk old result last ⊎ OverDesk says (ServiceLeaves (standing says) result) old last
+      ServeOver old result last = NoDesk old result last ⊎ OverDesk says (ServiceLeaves (state_of says) result) old last
 
     -- there was no desk: nothing was written, and a crash leaves what it left before, or a new book
     pub record NoneMade {S : Type 0} (store : Stores S) (makes : Bool) (old : State) (result : Result (Unit {0}) WorkFault) (new : Held S) : Type 0 where
@@ -97,7 +97,7 @@ module _ (span : Span) (old_errors new_errors : Option (List ℕ)) where
     -- answering connections over the book of the database
     abbrev pub ServeIn : {S : Type 0} → Stores S → Bool → State → Result (Unit {0}) WorkFault → Held S → Type 0
     ServeIn {S} store makes old result new =
-        NoneMade store makes old result new ⊎ SeenIn store (λ (stands : Seen (InDatabase S) → Standing). ServiceLeaves stands result) makes old new
+        NoneMade store makes old result new ⊎ SeenIn store (λ (stands : Seen (InDatabase S) → DeskState). ServiceLeaves stands result) makes old new
 
 -- ---- of a call
 
@@ -114,12 +114,12 @@ service serving says faults writer errors = record { span = serving.span; addres
 
 -- a desk answered connections, from what it was to what it is then
 abbrev pub ListensBy : {B : Type 0} → Ghosts B → Both (MutBor (Desk B)) (MutBor (Desk B)) → Result (Unit {0}) WorkFault → Span → Output → Type 0
-ListensBy books desk result span errors = ListeningLeaves span errors.before errors.after (standing books) result desk.entry.now desk.exit.now
+ListensBy books desk result span errors = ListeningLeaves span errors.before errors.after (state_of books) result desk.entry.now desk.exit.now
 
 -- it did after the line that says where was written
 abbrev pub ServesBy : {B : Type 0} → Ghosts B → Both (MutBor (Desk B)) (MutBor (Desk B)) → Result (Unit {0}) WorkFault → Service → Type 0
 ServesBy books desk result to_do =
-    ServiceLeaves to_do.span to_do.errors.before to_do.errors.after to_do.address to_do.said.before to_do.said.after (standing books) result desk.entry.now desk.exit.now
+    ServiceLeaves to_do.span to_do.errors.before to_do.errors.after to_do.address to_do.said.before to_do.said.after (state_of books) result desk.entry.now desk.exit.now
 
 -- a desk over a book did, with the book that came back
 abbrev pub ServesOver : {B : Type 0} → Ghosts B → B → Result (Unit {0}) WorkFault × B → Service → Type 0

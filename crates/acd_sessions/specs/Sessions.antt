@@ -6,19 +6,19 @@ use Rattle.sqlite.specs.Held.{Held, state}
 use Rattle.sqlite_trees.specs.declared.store.Store.{Ghosts}
 use Rattle.acd_book.specs.Content.{Content}
 use Rattle.acd_book.specs.State.{BookState}
-use Rattle.acd_io.specs.Sent.{Begins}
+use Rattle.acd_io.specs.SentBytes.{Begins}
 use Rattle.acd_lines.specs.Lines.{LinesAnswered, FirstLines, ArrivalsAnswered, Streams, streams, Untouched, LinesDone}
 use Rattle.acd_lines.specs.declared.fault.LinesFault.{LinesFault}
 use Rattle.acd_lines.specs.declared.fault.LinesFault.TheVariants.{NoMemory}
 use Rattle.acd_desk.specs.declared.desk.Desk.{Desk}
-use Rattle.acd_desk.specs.Standing.{Standing, standing}
+use Rattle.acd_desk.specs.DeskState.{DeskState, state_of}
 use Rattle.acd_sqlbook.specs.View.{BookView}
-use Rattle.acd_sessions.specs.Answered.{in_memory, AnsweredFromNothing, AnswersAll}
+use Rattle.acd_sessions.specs.MemoryAnswers.{in_memory, AnsweredFromNothing, AnswersAll}
 use Rattle.acd_sessions.specs.Faults.{lines_fault}
 use Rattle.acd_sessions.specs.Desks.{OverDatabase, in_database}
 use Rattle.acd_sessions.specs.LinesOver.{in_turn, LinesLeave, LinesInMemory, NewAnswered, NoneMade}
 use Rattle.acd_sessions.specs.Over.{IsSession, IsFailedSession, AnswersOver, Database, OverConnection}
-use Rattle.acd_sessions.specs.Seen.{Seen, SeenNew, SeenIn}
+use Rattle.acd_sessions.specs.DeskAsLeft.{Seen, SeenNew, SeenIn}
 use Rattle.acd_sessions.specs.ToDo.{ToDo}
 use Rattle.acd_sessions.specs.declared.fault.WorkFault.{WorkFault}
 use Rattle.acd_sessions.specs.declared.fault.WorkFault.TheVariants.{Store}
@@ -42,7 +42,7 @@ module _ (ends : Bool) (io : Streams) where
 
 -- lines that are requests alone ended so, by a desk of the database
 abbrev pub RequestsLeave : {S : Type 0} → Ghosts S → Bool → Streams → Result (Unit {0}) WorkFault → Desk (BookView S) → Desk (BookView S) → Type 0
-RequestsLeave store ends io result = LinesLeave (standing (in_database store)) (in_turn false (standing (in_database store))) ends io result
+RequestsLeave store ends io result = LinesLeave (state_of (in_database store)) (in_turn false (state_of (in_database store))) ends io result
 
 -- they ended as a session does
 abbrev pub AreASession : {S : Type 0} → Ghosts S → Bool → Bool → Streams → Type 0
@@ -72,7 +72,7 @@ AnswersLeave io (Err why) = LinesAnswered (FirstLines io.old_input) (ArrivalsAns
 
 -- lines over a new desk that are requests alone ended so
 abbrev pub AreFromNothing : Streams → Result (Unit {0}) LinesFault → Type 0
-AreFromNothing io result = LinesInMemory (in_turn false (standing in_memory)) io result → AnswersLeave io result
+AreFromNothing io result = LinesInMemory (in_turn false (state_of in_memory)) io result → AnswersLeave io result
 
 -- over any reader and any writer
 abbrev pub LinesAreFromNothing : {R W : Type 0} → (R → Option (List ℕ)) → (W → Option (List ℕ)) → Type 0
@@ -81,7 +81,7 @@ LinesAreFromNothing {R} {W} remaining contents = (reader : R × R) (writer : W �
 -- how lines over a new desk in memory ended by a fault: where they are requests alone, as the abstract desk answers a beginning of them; else each by the desk that the lines before it left
 abbrev pub MemoryLeft : Bool → Streams → LinesFault → Type 0
 MemoryLeft false io why = AnswersLeave io (Err why)
-MemoryLeft true io why = ((why ≡ NoMemory) × Untouched io) ⊎ SeenNew (λ (stands : Seen Content → Standing) (d e : Seen Content). LinesDone stands (in_turn true stands) false io d e (Err why))
+MemoryLeft true io why = ((why ≡ NoMemory) × Untouched io) ⊎ SeenNew (λ (stands : Seen Content → DeskState) (d e : Seen Content). LinesDone stands (in_turn true stands) false io d e (Err why))
 
 -- lines over a new desk in memory
 abbrev pub memory_lines : Bool → Streams → ToDo (Unit {0}) LinesFault

@@ -12,16 +12,16 @@ use Rattle.acd_book.specs.State.{BookState}
 use Rattle.acd_terms.specs.declared.command.Arrival.{Arrival}
 use Rattle.acd_desk.specs.declared.desk.Desk.{Desk}
 use Rattle.acd_desk.specs.declared.taken.Taken.{Taken}
-use Rattle.acd_desk.specs.Attended.{Attended}
-use Rattle.acd_desk.specs.Standing.{Standing, standing}
+use Rattle.acd_desk.specs.ArrivalsAndReads.{Attended}
+use Rattle.acd_desk.specs.DeskState.{DeskState, state_of}
 use Rattle.acd_lines.specs.Lines.{LinesAnswered, EndedLines, Streams, streams, LinesDone}
 use Rattle.acd_lines.specs.Output.{whole_lines}
 use Rattle.acd_lines.specs.declared.fault.LinesFault.{LinesFault}
 use Rattle.acd_http.specs.declared.serving.Span.{Span}
-use Rattle.acd_http.specs.ReadingLines.{AnswersReads, arrivals_of, answers_of}
+use Rattle.acd_http.specs.LinesWithReads.{AnswersReads, arrivals_of_reads, answers_of}
 use Rattle.acd_http.specs.Turns.{Turn, TurnedEach}
-use Rattle.acd_http.specs.TurnsAttended.{requests_handed, answers_handed}
-use Rattle.acd_io.specs.Left.{left_of}
+use Rattle.acd_http.specs.TurnRequests.{requests_handed, answers_handed}
+use Rattle.acd_io.specs.RestOfInput.{input_left}
 use Rattle.acd_io.specs.declared.until_order.UntilOrder.{UntilOrder}
 use Rattle.acd_io.specs.Order.{before_order, has_order, mark, marked}
 use Rattle.acd_sessions.specs.Desks.{OverDesk}
@@ -30,7 +30,7 @@ use Rattle.acd_sessions.specs.LinesOver.{in_turn}
 use Rattle.acd_sessions.specs.Output.{Output}
 use Rattle.acd_sessions.specs.Over.{Database}
 use Rattle.acd_sessions.specs.ToDo.{ToDo}
-use Rattle.acd_sessions.specs.Seen.{Seen, InDatabase, SeenIn}
+use Rattle.acd_sessions.specs.DeskAsLeft.{Seen, InDatabase, SeenIn}
 use Rattle.acd_sessions.specs.Serving.{ServeDone, ServiceLeaves, NoDesk, NoneMade, listening_line}
 use Rattle.acd_command.specs.declared.asked.Address.{Address}
 use Rattle.acd_sessions.specs.declared.fault.WorkFault.{WorkFault}
@@ -68,7 +68,7 @@ pub record OrderedService : Type 1 where
   pub old_errors : Option (List ℕ)
   pub new_errors : Option (List ℕ)
 
-module _ {D : Type 0} (stands : D → Standing) (to_do : OrderedService) where
+module _ {D : Type 0} (stands : D → DeskState) (to_do : OrderedService) where
   -- it could not listen: nothing was asked of the desk, and nothing written
   pub record Unheard (result : Result (Unit {0}) WorkFault) (d e : D) : Type 0 where
     pub why : WorkFault
@@ -107,23 +107,23 @@ module _ {D : Type 0} (stands : D → Standing) (to_do : OrderedService) where
 abbrev pub StandbyOver : {B : Type 0} → Ghosts B → BookState → OrderedService → Result (Unit {0}) WorkFault → B → Type 0
 StandbyOver says old to_do result last =
     NoDesk to_do.span to_do.old_errors to_do.new_errors to_do.address to_do.io.old_output to_do.io.new_output says old result last
-    ⊎ OverDesk says (StandbyLeaves (standing says) to_do result) old last
+    ⊎ OverDesk says (StandbyLeaves (state_of says) to_do result) old last
 
 -- over the book of a database
 abbrev pub StandbyIn : {S : Type 0} → Stores S → Bool → State → OrderedService → Result (Unit {0}) WorkFault → Held S → Type 0
 StandbyIn {S} store makes old to_do result new =
     NoneMade to_do.span to_do.old_errors to_do.new_errors to_do.address to_do.io.old_output to_do.io.new_output store makes old result new
-    ⊎ SeenIn store (λ (stands : Seen (InDatabase S) → Standing). StandbyLeaves stands to_do result) makes old new
+    ⊎ SeenIn store (λ (stands : Seen (InDatabase S) → DeskState). StandbyLeaves stands to_do result) makes old new
 
 -- it was told, and served without a fault, over the book of a database, or of a new one
 abbrev pub StandbyServed : {S : Type 0} → Stores S → OrderedService → State → Held S → Type 0
-StandbyServed {S} store to_do old new = SeenIn store (λ (stands : Seen (InDatabase S) → Standing). StandbyDone stands to_do) true old new
+StandbyServed {S} store to_do old new = SeenIn store (λ (stands : Seen (InDatabase S) → DeskState). StandbyDone stands to_do) true old new
 
 -- ---- of a call
 
 -- a standby's reader, which is fed lines, and its writer, over a call
 abbrev pub fed : {R W : Type 0} → read.Ghosts R → write.Ghosts W → Both (MutBor (UntilOrder R)) (MutBor (UntilOrder R)) → Both (MutBor W) (MutBor W) → Streams
-fed holds says reader writer = streams (left_of holds.remaining) says.contents (reader.entry.now, reader.exit.now) (writer.entry.now, writer.exit.now)
+fed holds says reader writer = streams (input_left holds.remaining) says.contents (reader.entry.now, reader.exit.now) (writer.entry.now, writer.exit.now)
 
 -- a service upon its order, by these streams
 abbrev pub upon : Serving → Streams → Output → OrderedService
@@ -146,23 +146,23 @@ upon_order span address io left errors =
     record { span = span; address = address; io = up_to_order io left; IsOrdered = LinesToOrder io.old_input; old_errors = errors.0; new_errors = errors.1 }
 
 -- lines were answered up to the order
-abbrev pub AnsweredToOrder : {D : Type 0} → (D → Standing) → Streams → D → D → Type 0
+abbrev pub AnsweredToOrder : {D : Type 0} → (D → DeskState) → Streams → D → D → Type 0
 AnsweredToOrder stands io d e = LinesAnswered (UpToOrder io) (in_turn true stands d e) (Appends io.old_output io.new_output)
 
 -- the order didn't come: lines ended so, and that is the fault
-abbrev pub IsUntold : {D : Type 0} → (D → Standing) → Streams → D → D → WorkFault → Type 0
+abbrev pub IsUntold : {D : Type 0} → (D → DeskState) → Streams → D → D → WorkFault → Type 0
 IsUntold stands io d e fault = (ended : Result (Unit {0}) LinesFault) × LinesDone stands (in_turn true stands) false io d e ended × (fault ≡ untold_fault ended)
 
 -- both
 abbrev pub lines_to_order : {B : Type 0} → Ghosts B → Both (MutBor (Desk B)) (MutBor (Desk B)) → Streams → ToDo (Unit {0}) WorkFault
 lines_to_order books desk io = record {
-  Done = λ done. AnsweredToOrder (standing books) io desk.entry.now desk.exit.now;
-  Left = IsUntold (standing books) io desk.entry.now desk.exit.now;
+  Done = λ done. AnsweredToOrder (state_of books) io desk.entry.now desk.exit.now;
+  Left = IsUntold (state_of books) io desk.entry.now desk.exit.now;
 }
 
 -- a desk stood by, from what it was to what it is then
 abbrev pub StandsBy : {B : Type 0} → Ghosts B → Both (MutBor (Desk B)) (MutBor (Desk B)) → Result (Unit {0}) WorkFault → OrderedService → Type 0
-StandsBy books desk result to_do = StandbyLeaves (standing books) to_do result desk.entry.now desk.exit.now
+StandsBy books desk result to_do = StandbyLeaves (state_of books) to_do result desk.entry.now desk.exit.now
 
 -- a desk over a book did, with the book that came back
 abbrev pub StandsByOver : {B : Type 0} → Ghosts B → B → Result (Unit {0}) WorkFault × B → OrderedService → Type 0
@@ -174,7 +174,7 @@ StandsByIn db result to_do = StandbyIn db.store db.makes (state db.store db.conn
 
 -- ---- the run
 
-module _ {D : Type 0} (stands : D → Standing) where
+module _ {D : Type 0} (stands : D → DeskState) where
   -- lines, and then turns
   pub record LinesThenTurns (looks : Bool) (d m e : D) : Type 0 where
     pub pieces : List (List ℕ)
@@ -185,7 +185,7 @@ module _ {D : Type 0} (stands : D → Standing) where
 
   -- the requests among the lines, and those of the turns, and the answers to them
   abbrev pub requests_in : (looks : Bool) (d m e : D) → LinesThenTurns looks d m e → List Arrival
-  requests_in looks d m e p = arrivals_of stands d p.pieces p.outs m p.lines ++ requests_handed stands looks m p.turns e p.turned
+  requests_in looks d m e p = arrivals_of_reads stands d p.pieces p.outs m p.lines ++ requests_handed stands looks m p.turns e p.turned
 
   abbrev pub answers_in : (looks : Bool) (d m e : D) → LinesThenTurns looks d m e → List Taken
   answers_in looks d m e p = answers_of stands d p.pieces p.outs m p.lines ++ answers_handed stands looks m p.turns e p.turned

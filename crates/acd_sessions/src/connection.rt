@@ -2,8 +2,8 @@
 
 ghost use Rattle.std.specs.Prelude.{◌≡◌, true, false, IfOk, IfErr};
 ghost use Rattle.sqlite.specs.Held.{state};
-ghost use Rattle.acd_sql_schema.specs.SettingUp.{IfClean};
-ghost use Rattle.acd_sqlbook.specs.Adopting.{IsUntouched};
+ghost use Rattle.acd_sql_schema.specs.Creation.{IfClean};
+ghost use Rattle.acd_sqlbook.specs.Adoption.{IsUntouched};
 ghost use Rattle.acd_sqlbook.specs.Opening.{IfOpened, IfHandedBack};
 ghost use Rattle.acd_sqlbook.specs.View.{book_of};
 ghost use Rattle.acd_lines.specs.Questions.{TakesTurns};
@@ -12,7 +12,7 @@ ghost use Rattle.acd_sessions.specs.LinesOver.{LinesLeaveEach};
 ghost use Rattle.acd_sessions.specs.Output.{streamed};
 ghost use Rattle.acd_sessions.specs.Over.{database, Unserved, unmade};
 ghost use Rattle.acd_sessions.specs.Sessions.{LinesLeaveIn};
-ghost use Rattle.acd_sessions.specs.Taking.{IsOf, IsTaken, MayMakeIn};
+ghost use Rattle.acd_sessions.specs.ConnectionBook.{IsHeldBook, IsTaken, MayMakeIn};
 
 use crate::fault::WorkFault;
 use crate::laws::lines_are_sessions;
@@ -46,7 +46,7 @@ fn create<S: Alter>(
     conn: Connection<S>,
 ) -> Result<SqlBook<S>, (AdoptFault, Connection<S>)>
     requires { conn.in_transaction ≡ false }
-    ensures made { IfOk result (λ b. IsOf (unmade (state S.Store conn)) (book_of S.Store b)) }
+    ensures made { IfOk result (λ b. IsHeldBook (unmade (state S.Store conn)) (book_of S.Store b)) }
     ensures idle { IfErr result (λ e. e.1.in_transaction ≡ false) }
     ensures stops { IfErr result (λ e. MayMakeIn S.Store conn e.1) }
 {

@@ -4,7 +4,7 @@ ghost use Rattle.sqlite_std_file.specs.File.{IsFresh};
 ghost use Rattle.acd_sessions.specs.Reopening.{BooksMakeDesks, ClosedOpens, FreshAreSynced, LeftOpens};
 ghost use Rattle.acd_sessions.specs.Sessions.{LinesAreSessions, LinesAreFromNothing};
 ghost use Rattle.acd_sessions.specs.Standby.{StandbyLeadsToTheRun};
-ghost use Rattle.acd_desk.specs.Standing.{standing};
+ghost use Rattle.acd_desk.specs.DeskState.{state_of};
 
 use acd_book::{Book, MemoryBook};
 use acd_http::laws::reads_answer_by_the_run;
@@ -57,7 +57,7 @@ pub fn fresh_are_synced<S: Start>()
 /// The lines that a standby answers before its order, and the connections and ticks after it, are one run of one desk, in
 /// the order in which it took them.
 pub fn standby_leads_to_the_run<B: Book>()
-    ensures { StandbyLeadsToTheRun (standing B.Book) }
+    ensures { StandbyLeadsToTheRun (state_of B.Book) }
 {
     reads_answer_by_the_run::<B>();
 }

@@ -1,8 +1,8 @@
 //! A desk in memory, whose replies last as long as the program runs.
 
 ghost use Rattle.std.specs.Prelude.{IfOk};
-ghost use Rattle.acd_desk.specs.Ran.{standing};
-ghost use Rattle.acd_sessions.specs.Answered.{in_memory, IsNewDesk};
+ghost use Rattle.acd_desk.specs.DeskCalls.{state_of};
+ghost use Rattle.acd_sessions.specs.MemoryAnswers.{in_memory, IsNewDesk};
 ghost use Rattle.acd_lines.specs.Questions.{TakesTurns};
 ghost use Rattle.acd_sessions.specs.LinesOver.{LinesInMemory};
 ghost use Rattle.acd_sessions.specs.Output.{streamed};
@@ -17,7 +17,7 @@ use std::io::{Read, Write};
 /// A desk over a new book in memory, with the greatest limits.
 #[tactic(auto, using(acd_desk::proofs::Contents::ContentLaws::empty_sound), unfolding(acd_terms::specs::Limits::limits_fit))]
 pub fn new_desk(alloc: Global) -> Result<Desk<MemoryBook>, AllocError>
-    ensures { IfOk result (λ d. IsNewDesk (standing in_memory d)) }
+    ensures { IfOk result (λ d. IsNewDesk (state_of in_memory d)) }
 {
     match Desk::open(alloc, MemoryBook::new(alloc, Limits::GREATEST)) {
         Ok(desk) => Ok(desk),

@@ -1,6 +1,6 @@
 //! The sending of lines that end in a number or a text.
 
-ghost use Rattle.acd_io.specs.Sent.{Sends};
+ghost use Rattle.acd_io.specs.SentBytes.{Sends};
 ghost use Rattle.acd_sessions.specs.Output.{number_between, number_line, text_line};
 
 use acd_io::{Stopped, send};

@@ -1,8 +1,8 @@
 //! The desk of a database, over HTTP.
 
 ghost use Rattle.std.specs.Prelude.{◌≡◌, false, Ok};
-ghost use Rattle.acd_io.specs.Sent.{Sends};
-ghost use Rattle.acd_desk.specs.Standing.{standing};
+ghost use Rattle.acd_io.specs.SentBytes.{Sends};
+ghost use Rattle.acd_desk.specs.DeskState.{state_of};
 ghost use Rattle.acd_sessions.specs.Faults.{command_result};
 ghost use Rattle.acd_sessions.specs.Output.{written};
 ghost use Rattle.acd_sessions.specs.Over.{database};
@@ -50,7 +50,7 @@ fn say<W: Write>(address: Address<'_>, writer: &mut W) -> Result<(), WorkFault>
 // it again.
 fn unless_endless<B: Book>(desk: &Desk<B>, connections: Option<u64>) -> Result<(), WorkFault>
     ensures { result ≡ command_result (Ok tt)
-        (ends_failed connections (standing B.Book desk.now).failed) }
+        (ends_failed connections (state_of B.Book desk.now).failed) }
 {
     match connections {
         Some(_) => Ok(()),

@@ -20,13 +20,13 @@ use Rattle.acd_sql_columns.specs.Content.{IsIn, with_part}
 use Rattle.acd_sql_columns.specs.Transactions.{HoldsUncommitted, HoldsContent}
 use Rattle.acd_sql_columns.specs.Relations.{pair_order, Relations, relations_of}
 use Rattle.acd_sql_columns.specs.Rows.{further_values}
-use Rattle.acd_sql_columns.specs.Schema.{book_schema, nine, two}
+use Rattle.acd_sql_columns.specs.Schema.{book_schema, tables_1, added_in_2}
 use Rattle.acd_sql_columns.specs.Schema as schema
 use Rattle.acd_sql_columns.specs.Tables.{agent_groups}
 use Rattle.acd_sql_columns.specs.Values.{id_value}
 use Rattle.acd_sql_columns.proofs.Common.{cast_id}
 use Rattle.acd_sql_columns.proofs.Frames.{framed}
-use Rattle.acd_sql_columns.proofs.Heaped.{Heaped, DeletesThose, SelectsAll, by_one, has_twin, inserted_in, deleted_in, of_one, shows_all}
+use Rattle.acd_sql_columns.proofs.CompositeKeyed.{Heaped, DeletesThose, SelectsAll, by_one, has_twin, inserted_in, deleted_in, of_one, shows_all}
 use Rattle.acd_sql_columns.proofs.Records.{further_stored}
 use Rattle.acd_sql_columns.proofs.Listings.{schema_is, whole_begins}
 
@@ -55,7 +55,7 @@ groups_deletes : DeletesThose agent_groups DELETE_AGENT_GROUPS.now by_one
 unfolding understood everything
 groups_deletes = record { deletes = refl; plain = (refl, refl) }
 
-pub groups_selects : SelectsAll agent_groups (nine ++ two) SELECT_AGENT_GROUPS.now
+pub groups_selects : SelectsAll agent_groups (tables_1 ++ added_in_2) SELECT_AGENT_GROUPS.now
 unfolding understood everything
 groups_selects = record { selects = λ rest s. refl; plain = λ rest s. (refl, refl); unlisted = λ rest s. refl }
 

@@ -10,7 +10,7 @@ use Rattle.acd_terms.specs.declared.state.Pending.{Pending}
 use Rattle.acd_terms.specs.declared.state.Pending.TheVariants as pending
 use Rattle.acd_terms.specs.declared.state.ConnectionState.{ConnectionState}
 use Rattle.acd_terms.specs.declared.state.ConnectionState.TheVariants as connection
-use Rattle.acd_sql_columns.specs.Codes.{agent_state_of, pending_of, connection_state_of, kind_of, cause_of, agent_code, pending_code, connection_code, kind_code, cause_code}
+use Rattle.acd_sql_columns.specs.Codes.{agent_state_of, pending_of, connection_state_of, event_kind_of, cause_of, agent_code, pending_code, connection_code, kind_code, cause_code}
 
 pub agent_state_back : (s : AgentState) → agent_state_of (agent_code s) ≡ Some s
 unfolding agent_state_of
@@ -45,8 +45,8 @@ cause_back cause.Transferred = refl
 cause_back cause.NoAnswer = refl
 cause_back cause.Busy = refl
 
-pub kind_back : (k : EventKind) → kind_of (kind_code k) ≡ Some k
-unfolding kind_of
+pub kind_back : (k : EventKind) → event_kind_of (kind_code k) ≡ Some k
+unfolding event_kind_of
 kind_back kind.ServiceInitiated = refl
 kind_back kind.Originated = refl
 kind_back kind.Queued = refl

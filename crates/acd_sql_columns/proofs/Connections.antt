@@ -13,7 +13,7 @@ use Rattle.sqlite_tied.specs.Compute.{everything}
 use Rattle.acd_terms.specs.Lists.{put_by, remove_by}
 use Rattle.acd_terms.specs.declared.record.ConnectionRecord.{ConnectionRecord}
 use Rattle.acd_model.specs.Scans.{at_connection}
-use Rattle.acd_lemmas.proofs.Keyed.{others_left}
+use Rattle.acd_lemmas.proofs.KeyedLists.{others_left}
 use Rattle.acd_lemmas.proofs.State.{by_connection}
 use Rattle.acd_book.specs.Content.{Content}
 use Rattle.acd_sql_columns.specs.declared.tables.Table.TheVariants as table
@@ -25,13 +25,13 @@ use Rattle.acd_sql_columns.specs.Content.{with_part}
 use Rattle.acd_sql_columns.specs.Transactions.{HoldsUncommitted, HoldsContent}
 use Rattle.acd_sql_columns.specs.Relations.{Relations}
 use Rattle.acd_sql_columns.specs.Rows.{connection_fields, connection_values}
-use Rattle.acd_sql_columns.specs.Schema.{nine, two, book_schema}
+use Rattle.acd_sql_columns.specs.Schema.{tables_1, added_in_2, book_schema}
 use Rattle.acd_sql_columns.specs.Schema as schema
 use Rattle.acd_sql_columns.specs.Tables.{connections}
 use Rattle.acd_sql_columns.specs.Values.{id_value}
 use Rattle.acd_sql_columns.proofs.FieldLaws.{casts_all}
 use Rattle.acd_sql_columns.proofs.Frames.{framed}
-use Rattle.acd_sql_columns.proofs.Heaped.{Heaped, UpdatesOne, DeletesThose, SelectsAll, by_two, has_twin, inserted_in, updated_in, unchanged_in, deleted_in, of_two, listing, shows_all}
+use Rattle.acd_sql_columns.proofs.CompositeKeyed.{Heaped, UpdatesOne, DeletesThose, SelectsAll, by_two, has_twin, inserted_in, updated_in, unchanged_in, deleted_in, of_two, listing, shows_all}
 use Rattle.acd_sql_columns.proofs.Listings.{Listing, held_begins}
 use Rattle.acd_sql_columns.proofs.Records.{connection_stored}
 
@@ -64,7 +64,7 @@ connections_deletes : DeletesThose connections DELETE_CONNECTION.now by_two
 unfolding understood everything
 connections_deletes = record { deletes = refl; plain = (refl, refl) }
 
-pub connections_selects : SelectsAll connections nine SELECT_CONNECTIONS.now
+pub connections_selects : SelectsAll connections tables_1 SELECT_CONNECTIONS.now
 unfolding understood everything
 connections_selects = record { selects = λ rest s. refl; plain = λ rest s. (refl, refl); unlisted = λ rest s. refl }
 
@@ -102,11 +102,11 @@ drops_connection call device c old new count d ran =
 
 -- ---- the query
 
-unfoldable pub connections_listing : Listing nine SELECT_CONNECTIONS.now
+unfoldable pub connections_listing : Listing tables_1 SELECT_CONNECTIONS.now
 connections_listing = listing connections connections_heaped SELECT_CONNECTIONS.now connections_selects
 
 pub connections_plain : IsPlain (understood book_schema SELECT_CONNECTIONS.now)
-connections_plain = connections_selects.plain two book_schema
+connections_plain = connections_selects.plain added_in_2 book_schema
 
 pub shows_connections : (old new : State) (rows : List Row) (c : Content) → HoldsContent old c → Shown SELECT_CONNECTIONS.now [] old new rows
     → rows ≡ map connection_values c.rows.connections

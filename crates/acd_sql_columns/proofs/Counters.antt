@@ -22,10 +22,10 @@ use Rattle.acd_sql_columns.specs.Schema.{book_schema, after_first}
 use Rattle.acd_sql_columns.specs.Schema as schema
 use Rattle.acd_sql_columns.specs.Values.{id_value}
 use Rattle.acd_sql_columns.specs.Rows.{meta_fields, meta_values, meta_row, meta_row_as}
-use Rattle.acd_sql_columns.proofs.Asked.{columns}
+use Rattle.acd_sql_columns.proofs.QueryAnswers.{columns}
 use Rattle.acd_sql_columns.specs.Relations.{Relations, relations_of}
 use Rattle.acd_sql_columns.specs.Content.{with_part, AreRows}
-use Rattle.acd_sql_columns.specs.Making.{Builds, no_rows, SetsSecondVersion}
+use Rattle.acd_sql_columns.specs.SchemaSteps.{Builds, no_rows, SetsSecondVersion}
 use Rattle.acd_sql_columns.specs.Transactions.{HoldsUncommitted, RanStatement}
 use Rattle.acd_sql_columns.specs.declared.texts.TheConstants.{INSERT_META, UPDATE_META, UPDATE_VERSION}
 use Rattle.acd_sql_columns.proofs.Frames.{holds_replaced, only_meta}
@@ -33,9 +33,9 @@ use Rattle.acd_sql_columns.proofs.Scans.{showing, passing}
 use Rattle.acd_sql_columns.proofs.KeyedRows.{id_tied}
 use Rattle.acd_sql_columns.proofs.Common.{run, inert, cast_id, cast_null}
 use Rattle.acd_sql_columns.proofs.FieldLaws.{casts_all}
-use Rattle.acd_sql_columns.proofs.Described.{by_id}
+use Rattle.acd_sql_columns.proofs.DescribedTable.{by_id}
 use Rattle.acd_sql_columns.proofs.Puts.{Inserts, inserted_row}
-use Rattle.acd_sql_columns.proofs.Ranged.{beside}
+use Rattle.acd_sql_columns.proofs.ValuesInRange.{beside}
 use Rattle.acd_sql_columns.proofs.Statements.{Insertion, inert_works, replaces}
 use Rattle.acd_sql_columns.proofs.Updates.{Updating, updating_edit, updated}
 

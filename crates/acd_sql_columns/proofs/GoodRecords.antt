@@ -20,8 +20,8 @@ use Rattle.acd_terms.specs.declared.record.ConnectionRecord.{ConnectionRecord}
 use Rattle.acd_terms.specs.declared.record.GroupRecord.{GroupRecord}
 use Rattle.acd_terms.specs.declared.record.MonitorRecord.{MonitorRecord}
 use Rattle.acd_terms.specs.declared.record.StationRecord.{StationRecord}
-use Rattle.acd_codec.specs.Formed.{IsAgent, IsDevice, IsPriority}
-use Rattle.acd_codec.specs.Reading.{reads_as}
+use Rattle.acd_codec.specs.RequestForms.{IsAgent, IsDevice, IsPriority}
+use Rattle.acd_codec.specs.RequestReading.{reads_as}
 use Rattle.acd_codec.specs.RequestTexts.{request_text}
 use Rattle.acd_codec.specs.KeptTexts.{request_of_text}
 use Rattle.acd_codec.proofs.KeptTexts.{text_again}

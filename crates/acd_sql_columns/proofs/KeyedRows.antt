@@ -12,7 +12,7 @@ use Rattle.sqlite_value.proofs.OrderLemmas.{value_cmp-Int}
 use Rattle.sqlite_trees.specs.Tree.{rowid, put_row}
 use Rattle.sqlite_rules.specs.Lists.{Has}
 use Rattle.acd_terms.specs.Lists.{Among, AllAfter, IsAscending, put_by}
-use Rattle.acd_lemmas.proofs.Keyed.{key_is, eq_key}
+use Rattle.acd_lemmas.proofs.KeyedLists.{key_is, eq_key}
 use Rattle.acd_lemmas.proofs.Lists.{after_among, after_lower, after_same, filter_all}
 use Rattle.acd_sql_columns.specs.Values.{id_value}
 

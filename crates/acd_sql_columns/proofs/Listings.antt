@@ -22,7 +22,7 @@ use Rattle.sqlite.specs.State.{State, HasCleanDisk, Shown}
 use Rattle.sqlite.proofs.Callers.{IsPlain, command_of, reads_as}
 use Rattle.acd_lemmas.proofs.Lists.{ascending-filter}
 use Rattle.acd_book.specs.Content.{Content}
-use Rattle.acd_sql_columns.specs.Schema.{book_schema, nine, two, with_later, BeginsSchema}
+use Rattle.acd_sql_columns.specs.Schema.{book_schema, tables_1, added_in_2, with_later, BeginsSchema}
 use Rattle.acd_sql_columns.specs.Values.{id_value}
 use Rattle.acd_sql_columns.specs.declared.tables.Table.{Table}
 use Rattle.acd_sql_columns.specs.declared.tables.Version.{Version}
@@ -31,9 +31,9 @@ use Rattle.acd_sql_columns.specs.AnyRows.{schema_of}
 use Rattle.acd_sql_columns.specs.Relations.{relations_of}
 use Rattle.acd_sql_columns.specs.Content.{AreRows, Stores, tree_of, part}
 use Rattle.acd_sql_columns.specs.Transactions.{HoldsContent, Quiet, NoStop}
-use Rattle.acd_sql_columns.specs.Finding.{Finds}
+use Rattle.acd_sql_columns.specs.ReadResults.{Finds}
 use Rattle.acd_sql_columns.proofs.KeyedRows.{by_key, by_key_total, id_cmp}
-use Rattle.acd_sql_columns.proofs.Ordered.{asking, given, answered}
+use Rattle.acd_sql_columns.proofs.OrderedQueries.{asking, given, answered}
 use Rattle.acd_sql_columns.proofs.Scans.{showing, passing, filter_like, each, filter_mapped}
 
 -- a text asks for this: the tests, the columns, the order and the limit of a query over one table; and so it does whatever tables come later than
@@ -56,17 +56,17 @@ begun base s b = ap (λ ts. record s { tables = ts }) b.1
 pub plain_of : (base : List Made) (text : List ℕ) → Listing base text → (s : Schema) → BeginsSchema base s → IsPlain (understood s text)
 plain_of base text it s b = subst (λ (x : Schema). IsPlain (understood x text)) (sym (begun base s b)) (it.plain b.0 s)
 
-pub book_begins : (s : Schema) → s ≡ book_schema → BeginsSchema nine s
-book_begins s is = subst (BeginsSchema nine) (sym is) (two, refl)
+pub book_begins : (s : Schema) → s ≡ book_schema → BeginsSchema tables_1 s
+book_begins s is = subst (BeginsSchema tables_1) (sym is) (added_in_2, refl)
 
 -- of each version
-pub version_begins : (v : Version) (s : Schema) → s ≡ schema_of v → BeginsSchema nine s
-version_begins version.First s is = subst (BeginsSchema nine) (sym is) ([], refl)
+pub version_begins : (v : Version) (s : Schema) → s ≡ schema_of v → BeginsSchema tables_1 s
+version_begins version.First s is = subst (BeginsSchema tables_1) (sym is) ([], refl)
 version_begins version.Second s is = book_begins s is
 
 -- all eleven
-pub whole_begins : (s : Schema) → s ≡ book_schema → BeginsSchema (nine ++ two) s
-whole_begins s is = subst (BeginsSchema (nine ++ two)) (sym is) ([], refl)
+pub whole_begins : (s : Schema) → s ≡ book_schema → BeginsSchema (tables_1 ++ added_in_2) s
+whole_begins s is = subst (BeginsSchema (tables_1 ++ added_in_2)) (sym is) ([], refl)
 
 abbrev pub query_of : {base : List Made} {text : List ℕ} → Listing base text → Query
 query_of it = asking it.tree it.terms it.project it.order it.limit
@@ -74,7 +74,7 @@ query_of it = asking it.tree it.terms it.project it.order it.limit
 pub schema_is : (old : State) (c : Content) → HoldsContent old c → old.now.schema ≡ book_schema
 schema_is old c held = ap (λ (d : Database). d.schema) held.idle ∙ held.schema
 
-pub held_begins : (old : State) (c : Content) → HoldsContent old c → BeginsSchema nine old.now.schema
+pub held_begins : (old : State) (c : Content) → HoldsContent old c → BeginsSchema tables_1 old.now.schema
 held_begins old c held = book_begins old.now.schema (schema_is old c held)
 
 pub stored : (t : Table) (old : State) (c : Content) → HoldsContent old c → Stores t (old.now.trees (tree_of t)) (part t (relations_of c))

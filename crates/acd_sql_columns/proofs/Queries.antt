@@ -15,7 +15,7 @@ use Rattle.sqlite_tied.specs.Compute.{everything}
 use Rattle.acd_sql_columns.specs.Schema.{book_schema}
 use Rattle.acd_book.specs.Content.{Content}
 use Rattle.acd_sql_columns.specs.Transactions.{HoldsContent, Quiet, NoStop}
-use Rattle.acd_sql_columns.proofs.Endings.{holds_still, rolled_back}
+use Rattle.acd_sql_columns.proofs.TransactionEnds.{holds_still, rolled_back}
 use Rattle.acd_sql_columns.proofs.Listings.{schema_is}
 
 fails_show : (old new : State) (sql : List ℕ) (c : Compiled) (params : Row) (e : Error) (r : Option Returning) → FailsToShow old new sql c params e r

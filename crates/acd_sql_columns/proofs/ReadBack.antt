@@ -5,15 +5,15 @@ use Rattle.std.specs.Result.{result_ok}
 use Rattle.sqlite_value.specs.Order.{Row, column}
 use Rattle.acd_terms.specs.Forms.{id_with, number_between, read_text, is_name_byte, IsNumberOf, IsBetween, IsName}
 use Rattle.acd_terms.proofs.ReadBack.{number_again, text_again}
-use Rattle.acd_codec.specs.Formed.{IsAgent, IsDevice, IsSeconds, IsSerial}
+use Rattle.acd_codec.specs.RequestForms.{IsAgent, IsDevice, IsSeconds, IsSerial}
 use Rattle.acd_lemmas.proofs.Lists.{head_is, tail_is}
-use Rattle.acd_sql_columns.specs.Codes.{agent_code, pending_code, kind_code, cause_code, connection_code, agent_state_of, pending_of, kind_of, cause_of, connection_state_of}
-use Rattle.acd_sql_columns.specs.Fields.{Field, Makes, Remade, written, read_from, read_whole}
+use Rattle.acd_sql_columns.specs.Codes.{agent_code, pending_code, kind_code, cause_code, connection_code, agent_state_of, pending_of, event_kind_of, cause_of, connection_state_of}
+use Rattle.acd_sql_columns.specs.Fields.{Field, Makes, Remade, written_row, read_from, read_whole}
 use Rattle.acd_sql_columns.specs.InRange.{IsStamp}
 use Rattle.acd_sql_columns.specs.Sorts.{Sort, whole, stamp, serial, moment, seconds, priority, device, agent, name, agent_state, pending, kind, cause, connection_state, Column, sure, maybe, Of, Means, value_of, value, read_of, read_at}
-use Rattle.acd_sql_columns.specs.Values.{◌>>=◌, id_value, cells, option_in, text_of, is_null, whole_at, at_least, stamp_at, serial_at, moment_at, seconds_at, priority_at, device_at, agent_at, name_at, agent_state_at, pending_at, kind_at, cause_at, connection_state_at}
+use Rattle.acd_sql_columns.specs.Values.{◌>>=◌, id_value, cells, option_in, text_value, is_null_value, whole_at, at_least, stamp_at, serial_at, moment_at, seconds_at, priority_at, device_at, agent_value_at, name_at, agent_state_at, pending_at, kind_at, cause_at, connection_state_at}
 use Rattle.acd_sql_columns.proofs.CodeLaws.{agent_state_back, pending_back, kind_back, cause_back, connection_state_back}
-use Rattle.acd_sql_columns.proofs.Ranged.{row_is}
+use Rattle.acd_sql_columns.proofs.ValuesInRange.{row_is}
 
 -- ---- a value in its range
 
@@ -64,7 +64,7 @@ moment_between : (n : ℕ) → n < 2 ^ 32 → IsBetween 0 4294967295 n
 moment_between n h = (omega arith, omega (arith, h))
 
 sort_again : (s : Sort) (x : Of s) → InSort s x → (r : Row) (at : ℕ) → column r at ≡ value_of s x → read_of s r at ≡ Some x
-unfolding stamp_at serial_at moment_at seconds_at priority_at device_at agent_at name_at agent_state_at pending_at kind_at cause_at connection_state_at
+unfolding stamp_at serial_at moment_at seconds_at priority_at device_at agent_value_at name_at agent_state_at pending_at kind_at cause_at connection_state_at
 sort_again whole n h r at is = ap option_in is
 sort_again stamp n h r at is = passed (at_least 1) r at n n (stamp_again n h) is
 sort_again serial n h r at is = passed (number_between 1 1000000000) r at n n (number_again 1 1000000000 n h) is
@@ -73,14 +73,14 @@ sort_again seconds n h r at is = passed (number_between 0 3600) r at n n (number
 sort_again priority n h r at is = passed (number_between 1 9) r at n n (number_again 1 9 n h) is
 sort_again device n h r at is = passed (id_with 15) r at n n (id_again 15 n h) is
 sort_again agent n h r at is = passed (id_with 9) r at n n (id_again 9 n h) is
-sort_again name t h r at is = ap (λ v. text_of v >>= (λ u. result_ok (read_text is_name_byte 40 u))) is ∙ ap result_ok (text_again is_name_byte 40 t h)
+sort_again name t h r at is = ap (λ v. text_value v >>= (λ u. result_ok (read_text is_name_byte 40 u))) is ∙ ap result_ok (text_again is_name_byte 40 t h)
 sort_again agent_state s h r at is = passed agent_state_of r at (agent_code s) s (agent_state_back s) is
 sort_again pending p h r at is = passed pending_of r at (pending_code p) p (pending_back p) is
-sort_again kind k h r at is = passed kind_of r at (kind_code k) k (kind_back k) is
+sort_again kind k h r at is = passed event_kind_of r at (kind_code k) k (kind_back k) is
 sort_again cause w h r at is = passed cause_of r at (cause_code w) w (cause_back w) is
 sort_again connection_state s h r at is = passed connection_state_of r at (connection_code s) s (connection_state_back s) is
 
-no_null : (s : Sort) (x : Of s) → is_null (value_of s x) ≡ false
+no_null : (s : Sort) (x : Of s) → is_null_value (value_of s x) ≡ false
 no_null whole x = refl
 no_null stamp x = refl
 no_null serial x = refl
@@ -98,24 +98,24 @@ no_null connection_state x = refl
 
 column_again : (c : Column) (x : Means c) → InColumn c x → (r : Row) (at : ℕ) → column r at ≡ value c x → read_at c r at ≡ Some x
 column_again (sure s) x h r at is = sort_again s x h r at is
-column_again (maybe s) None h r at is = ap (λ v. cond (is_null v) (Some None) (option_map Some (read_of s r at))) is
+column_again (maybe s) None h r at is = ap (λ v. cond (is_null_value v) (Some None) (option_map Some (read_of s r at))) is
 column_again (maybe s) (Some x) h r at is =
-    ap (λ b. cond b (Some None) (option_map Some (read_of s r at))) (ap is_null is ∙ no_null s x) ∙ ap (option_map Some) (sort_again s x h r at is)
+    ap (λ b. cond b (Some None) (option_map Some (read_of s r at))) (ap is_null_value is ∙ no_null s x) ∙ ap (option_map Some) (sort_again s x h r at is)
 
 module _ {R : Type 0} where
-  wide : (fs : List (Field R)) (x : R) → length (written fs x) ≡ length fs
+  wide : (fs : List (Field R)) (x : R) → length (written_row fs x) ≡ length fs
   wide [] x = refl
   wide (f ∷ fs) x = ap suc (wide fs x)
 
-  cells_again : (fs : List (Field R)) (make : Makes R fs) (row : Row) (at : ℕ) (x : R) → AllIn fs x → cells at (length fs) row ≡ written fs x → Remade fs make x
+  cells_again : (fs : List (Field R)) (make : Makes R fs) (row : Row) (at : ℕ) (x : R) → AllIn fs x → cells at (length fs) row ≡ written_row fs x → Remade fs make x
       → read_from fs make row at ≡ Some x
   cells_again [] make row at x all are same = ap Some same
   cells_again (f ∷ fs) make row at x all are same =
       ap (λ o. o >>= (λ v. read_from fs (make v) row (suc at))) (column_again f.column (f.get x) all.0 row at (head_is _ _ _ _ are))
       ∙ cells_again fs (make (f.get x)) row (suc at) x all.1 (tail_is _ _ _ _ are) same
 
-  pub read_again : (fs : List (Field R)) (make : Makes R fs) (x : R) → Remade fs make x → AllIn fs x → read_whole fs make (written fs x) ≡ Some x
+  pub read_again : (fs : List (Field R)) (make : Makes R fs) (x : R) → Remade fs make x → AllIn fs x → read_whole fs make (written_row fs x) ≡ Some x
   read_again fs make x same all =
-      let width : (length (written fs x) == length fs) ≡ true = eq-eqb (length (written fs x)) (length fs) (wide fs x) in
-      ap (λ b. cond b (read_from fs make (written fs x) 0) None) width
-      ∙ cells_again fs make (written fs x) 0 x all (sym (row_is (length fs) (written fs x) width)) same
+      let width : (length (written_row fs x) == length fs) ≡ true = eq-eqb (length (written_row fs x)) (length fs) (wide fs x) in
+      ap (λ b. cond b (read_from fs make (written_row fs x) 0) None) width
+      ∙ cells_again fs make (written_row fs x) 0 x all (sym (row_is (length fs) (written_row fs x) width)) same

@@ -13,8 +13,8 @@ use Rattle.acd_sql_columns.proofs.FieldLaws.{row_is_written, shown_back, fields_
 use Rattle.acd_sql_columns.specs.declared.decode.EventValues.{EventValues}
 use Rattle.acd_sql_columns.specs.declared.meta.Meta.{Meta}
 use Rattle.acd_sql_columns.specs.Decoding.{as_priority, as_further, as_group, as_station, as_agent, as_call, as_connection, as_monitor, as_meta}
-use Rattle.acd_sql_columns.specs.Fields.{read_whole, shown_whole, written, Agree}
-use Rattle.acd_sql_columns.specs.Ranges.{further_in, connection_in, monitor_in, counters_in}
+use Rattle.acd_sql_columns.specs.Fields.{read_whole, shown_whole, written_row, Agree}
+use Rattle.acd_sql_columns.specs.Ranges.{further_of_row, connection_of_row, monitor_of_row, counters_in}
 use Rattle.acd_sql_columns.specs.Rows.{priority_fields, priority_made, priority_values, further_fields, further_made, further_values, group_fields, group_made, group_values, station_fields, station_made, station_values, agent_fields, agent_made, agent_values, call_fields, call_made, call_values, connection_fields, connection_made, connection_values, monitor_fields, monitor_made, monitor_values, meta_fields, meta_made, meta_shown, event_fields, event_made}
 
 pub group_agrees : Agree group_fields group_made (λ r. ⊤)
@@ -32,10 +32,10 @@ priority_back p = shown_back priority_fields priority_made p refl
 further_agrees : Agree further_fields further_made (λ r. ⊤)
 further_agrees = search rules
 
-pub further_stored : (r : Row) (p : ℕ × ℕ) → further_in r ≡ Some p → r ≡ further_values p
+pub further_stored : (r : Row) (p : ℕ × ℕ) → further_of_row r ≡ Some p → r ≡ further_values p
 further_stored = row_is_written further_fields further_made further_agrees
 
-pub further_exact : (r : Row) (x y : ℕ × ℕ) → further_in r ≡ Some x → r ≡ further_values y → x ≡ y
+pub further_exact : (r : Row) (x y : ℕ × ℕ) → further_of_row r ≡ Some x → r ≡ further_values y → x ≡ y
 further_exact = fields_exact further_fields further_made further_agrees (λ p. refl)
 
 pub further_back : (p : ℕ × ℕ) → as_further (further_values p) ≡ p
@@ -62,10 +62,10 @@ call_back k = shown_back call_fields call_made k refl
 connection_agrees : Agree connection_fields connection_made (λ r. ⊤)
 connection_agrees = search rules
 
-pub connection_stored : (r : Row) (x : ConnectionRecord) → connection_in r ≡ Some x → r ≡ connection_values x
+pub connection_stored : (r : Row) (x : ConnectionRecord) → connection_of_row r ≡ Some x → r ≡ connection_values x
 connection_stored = row_is_written connection_fields connection_made connection_agrees
 
-pub connection_exact : (r : Row) (x y : ConnectionRecord) → connection_in r ≡ Some x → r ≡ connection_values y → x ≡ y
+pub connection_exact : (r : Row) (x y : ConnectionRecord) → connection_of_row r ≡ Some x → r ≡ connection_values y → x ≡ y
 connection_exact = fields_exact connection_fields connection_made connection_agrees (λ x. refl)
 
 pub connection_back : (x : ConnectionRecord) → as_connection (connection_values x) ≡ x
@@ -74,10 +74,10 @@ connection_back x = shown_back connection_fields connection_made x refl
 monitor_agrees : Agree monitor_fields monitor_made (λ r. ⊤)
 monitor_agrees = search rules
 
-pub monitor_stored : (r : Row) (w : MonitorRecord) → monitor_in r ≡ Some w → r ≡ monitor_values w
+pub monitor_stored : (r : Row) (w : MonitorRecord) → monitor_of_row r ≡ Some w → r ≡ monitor_values w
 monitor_stored = row_is_written monitor_fields monitor_made monitor_agrees
 
-pub monitor_exact : (r : Row) (x y : MonitorRecord) → monitor_in r ≡ Some x → r ≡ monitor_values y → x ≡ y
+pub monitor_exact : (r : Row) (x y : MonitorRecord) → monitor_of_row r ≡ Some x → r ≡ monitor_values y → x ≡ y
 monitor_exact = fields_exact monitor_fields monitor_made monitor_agrees (λ w. refl)
 
 pub monitor_back : (w : MonitorRecord) → as_monitor (monitor_values w) ≡ w
@@ -99,8 +99,8 @@ event_agrees : Agree event_fields event_made (λ r. ⊤)
 event_agrees = search rules
 
 -- of an event, before it is asked what its columns say together
-pub values_stored : (r : Row) (v : EventValues) → read_whole event_fields event_made r ≡ Some v → r ≡ written event_fields v
+pub values_stored : (r : Row) (v : EventValues) → read_whole event_fields event_made r ≡ Some v → r ≡ written_row event_fields v
 values_stored = row_is_written event_fields event_made event_agrees
 
-pub values_back : (v : EventValues) → shown_whole event_fields event_made (written event_fields v) ≡ v
+pub values_back : (v : EventValues) → shown_whole event_fields event_made (written_row event_fields v) ≡ v
 values_back v = shown_back event_fields event_made v refl

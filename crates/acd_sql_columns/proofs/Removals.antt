@@ -16,7 +16,7 @@ use Rattle.acd_sql_columns.proofs.KeyedRows.{by_key}
 use Rattle.acd_sql_columns.proofs.Puts.{Files}
 use Rattle.acd_sql_columns.proofs.Scans.{taken_out}
 use Rattle.acd_sql_columns.proofs.Statements.{Deletion, deletion_edit, deleted, Replaces, replaces}
-use Rattle.acd_lemmas.proofs.Keyed.{key_is}
+use Rattle.acd_lemmas.proofs.KeyedLists.{key_is}
 
 -- the text removes the row that has the number
 pub record Removes {R : Type 0} (schema : Schema) (text : List ℕ) (key : R → ℕ) (row : R → Row) : Type 0 where

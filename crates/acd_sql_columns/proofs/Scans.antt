@@ -17,7 +17,7 @@ use Rattle.sqlite_rules.specs.Edit.{without_all, id_in}
 use Rattle.sqlite_rules.specs.Calls.{ids_of}
 use Rattle.acd_lemmas.proofs.Numbers.{same_number}
 use Rattle.acd_lemmas.proofs.Lists.{filter_true}
-use Rattle.acd_lemmas.proofs.Keyed.{eqb_self}
+use Rattle.acd_lemmas.proofs.KeyedLists.{eqb_self}
 use Rattle.acd_lemmas.proofs.Bools.{and_yes, or_yes}
 
 abbrev pub scan : ℕ → List Term → List Term → List (Term × Key) → Query

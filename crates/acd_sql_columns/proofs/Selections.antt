@@ -17,7 +17,7 @@ use Rattle.sqlite.proofs.Callers.{IsPlain, command_of, reads_as, one_permutation
 use Rattle.sqlite_tied.specs.Compute.{everything}
 use Rattle.acd_book.specs.Content.{Content}
 use Rattle.acd_sql_columns.specs.declared.tables.Table.TheVariants as table
-use Rattle.acd_sql_columns.specs.Schema.{book_schema, nine, two, with_later, BeginsSchema, names_of}
+use Rattle.acd_sql_columns.specs.Schema.{book_schema, tables_1, added_in_2, with_later, BeginsSchema, names_of}
 use Rattle.acd_sql_columns.specs.Schema as schema
 use Rattle.acd_sql_columns.specs.Rows.{meta_shown}
 use Rattle.acd_sql_columns.specs.Relations.{meta_of}
@@ -48,7 +48,7 @@ selected schema text it params old new rows has h =
 
 -- ---- the limits and the counters
 
-unfoldable pub meta_selection : (rest : List Made) (s : Schema) → Selection (with_later nine rest s) SELECT_META.now
+unfoldable pub meta_selection : (rest : List Made) (s : Schema) → Selection (with_later tables_1 rest s) SELECT_META.now
 unfolding understood everything
 meta_selection rest s = record {
   tree = schema.meta.tree;
@@ -61,8 +61,8 @@ meta_selection rest s = record {
   unlisted = refl;
 }
 
-pub meta_plain : (s : Schema) → BeginsSchema nine s → IsPlain (understood s SELECT_META.now)
-meta_plain s b = subst (λ (x : Schema). IsPlain (understood x SELECT_META.now)) (sym (begun nine s b)) (meta_selection b.0 s).plain
+pub meta_plain : (s : Schema) → BeginsSchema tables_1 s → IsPlain (understood s SELECT_META.now)
+meta_plain s b = subst (λ (x : Schema). IsPlain (understood x SELECT_META.now)) (sym (begun tables_1 s b)) (meta_selection b.0 s).plain
 
 reads_meta : (old new : State) (rows : List Row) → Shown SELECT_META.now [] old new rows → (c : Content) → HoldsContent old c
     → rows ≡ meta_shown (meta_of c.rows) ∷ []
@@ -70,7 +70,7 @@ unfolding meta_selection
 reads_meta old new rows h c held =
     let has = ap (λ (d : Database). d.schema) held.idle ∙ held.schema in
     let table_is = ap (λ (d : Database). d.trees schema.meta.tree) held.idle ∙ held.encodes table.Meta in
-    let it = meta_selection two book_schema in
+    let it = meta_selection added_in_2 book_schema in
     let found = selected book_schema SELECT_META.now it [] old new rows has h in
     one_permutation _ rows
     (subst (λ l. IsPermutation l rows) (ap (map (showing [] it.project)) (filter_true (old.now.trees schema.meta.tree) ∙ table_is)) found)

@@ -4,7 +4,7 @@ use Rattle.sqlite_value.specs.declared.value.Value.TheVariants.{Null}
 use Rattle.sqlite_rules.specs.Cast.{cast}
 use Rattle.sqlite_value.specs.Order.{Row, column}
 use Rattle.acd_sql_columns.proofs.CodeLaws.{agent_state_back, pending_back, kind_back, cause_back, connection_state_back}
-use Rattle.acd_sql_columns.proofs.Ranged.{whole_stored, stamp_stored, serial_stored, moment_stored, seconds_stored, priority_stored, device_stored, agent_id_stored, name_stored, agent_state_stored, pending_stored, kind_stored, cause_stored, connection_state_stored, or_none_stored}
+use Rattle.acd_sql_columns.proofs.ValuesInRange.{whole_stored, stamp_stored, serial_stored, moment_stored, seconds_stored, priority_stored, device_stored, agent_id_stored, name_stored, agent_state_stored, pending_stored, kind_stored, cause_stored, connection_state_stored, or_none_stored}
 use Rattle.acd_sql_columns.specs.Sorts.{Sort, whole, stamp, serial, moment, seconds, priority, device, agent, name, agent_state, pending, kind, cause, connection_state, Column, sure, maybe, Of, Means, value_of, value, read_of, read_at, shown_of, shown_or_none, shown, type_of, type_in}
 use Rattle.acd_sql_columns.specs.Codes.{agent_code, pending_code, kind_code, cause_code, connection_code}
 use Rattle.acd_sql_columns.proofs.Common.{cast_id, cast_null}

@@ -7,15 +7,15 @@ use Rattle.acd_terms.specs.Lists.{Every}
 use Rattle.acd_sql_columns.specs.declared.tables.Table.TheVariants as table
 use Rattle.acd_sql_columns.specs.declared.texts.TheConstants.{SELECT_EVENTS_AFTER, SELECT_KEPT_AFTER}
 use Rattle.acd_sql_columns.specs.Rows.{priority_fields, priority_made, group_fields, group_made, station_fields, station_made, agent_fields, agent_made, call_fields, call_made, monitor_fields, event_fields, values_of_event}
-use Rattle.acd_sql_columns.specs.Schema.{two}
+use Rattle.acd_sql_columns.specs.Schema.{added_in_2}
 use Rattle.acd_sql_columns.specs.Schema as schema
 use Rattle.acd_sql_columns.specs.Tables.{groups, group_priority, stations, agents, calls, monitors, events, kept}
 use Rattle.acd_sql_columns.proofs.Common.{cast_id, cast_null}
 use Rattle.acd_sql_columns.proofs.FieldLaws.{row_is_written, fields_exact, fields_cast}
-use Rattle.acd_sql_columns.proofs.Described.{Described, Pages}
+use Rattle.acd_sql_columns.proofs.DescribedTable.{Described, Pages}
 use Rattle.acd_sql_columns.proofs.Frames.{framed}
 use Rattle.acd_sql_columns.proofs.Records.{priority_agrees, group_agrees, station_agrees, agent_agrees, call_agrees, monitor_stored, monitor_exact}
-use Rattle.acd_sql_columns.proofs.Reported.{event_stored, event_exact, kept_stored, kept_exact}
+use Rattle.acd_sql_columns.proofs.EventRows.{event_stored, event_exact, kept_stored, kept_exact}
 
 all_read : {R : Type 0} (rs : List R) → Every (λ _. ⊤) rs
 all_read [] = tt
@@ -37,7 +37,7 @@ groups_described = record {
   unchanged = λ c. refl;
   updates = record { updates = refl; plain = (refl, refl); changes = λ new r. refl };
   deletes = tt;
-  selects = record { begins = (two, refl); selects = λ rest s. refl; plain = λ rest s. (refl, refl); unlisted = λ rest s. refl };
+  selects = record { begins = (added_in_2, refl); selects = λ rest s. refl; plain = λ rest s. (refl, refl); unlisted = λ rest s. refl };
 }
 
 pub priorities_described : Described group_priority
@@ -75,7 +75,7 @@ stations_described = record {
   unchanged = λ c. refl;
   updates = tt;
   deletes = tt;
-  selects = record { begins = (two, refl); selects = λ rest s. refl; plain = λ rest s. (refl, refl); unlisted = λ rest s. refl };
+  selects = record { begins = (added_in_2, refl); selects = λ rest s. refl; plain = λ rest s. (refl, refl); unlisted = λ rest s. refl };
 }
 
 pub agents_described : Described agents
@@ -94,7 +94,7 @@ agents_described = record {
   unchanged = λ c. refl;
   updates = record { updates = refl; plain = (refl, refl); changes = λ new r. refl };
   deletes = tt;
-  selects = record { begins = (two, refl); selects = λ rest s. refl; plain = λ rest s. (refl, refl); unlisted = λ rest s. refl };
+  selects = record { begins = (added_in_2, refl); selects = λ rest s. refl; plain = λ rest s. (refl, refl); unlisted = λ rest s. refl };
 }
 
 pub calls_described : Described calls
@@ -113,7 +113,7 @@ calls_described = record {
   unchanged = λ c. refl;
   updates = record { updates = refl; plain = (refl, refl); changes = λ new r. refl };
   deletes = record { deletes = refl; plain = (refl, refl) };
-  selects = record { begins = (two, refl); selects = λ rest s. refl; plain = λ rest s. (refl, refl); unlisted = λ rest s. refl };
+  selects = record { begins = (added_in_2, refl); selects = λ rest s. refl; plain = λ rest s. (refl, refl); unlisted = λ rest s. refl };
 }
 
 pub monitors_described : Described monitors
@@ -132,7 +132,7 @@ monitors_described = record {
   unchanged = λ c. refl;
   updates = record { updates = refl; plain = (refl, refl); changes = λ new r. refl };
   deletes = record { deletes = refl; plain = (refl, refl) };
-  selects = record { begins = (two, refl); selects = λ rest s. refl; plain = λ rest s. (refl, refl); unlisted = λ rest s. refl };
+  selects = record { begins = (added_in_2, refl); selects = λ rest s. refl; plain = λ rest s. (refl, refl); unlisted = λ rest s. refl };
 }
 
 pub events_described : Described events

@@ -29,7 +29,7 @@ use Rattle.acd_sql_columns.specs.declared.texts.TheConstants.{DELETE_EVENTS_UP_T
 use Rattle.acd_sql_columns.specs.Transactions.{HoldsUncommitted}
 use Rattle.acd_sql_columns.specs.Values.{id_value}
 use Rattle.acd_sql_columns.proofs.Common.{inert}
-use Rattle.acd_sql_columns.proofs.Described.{Described, headed}
+use Rattle.acd_sql_columns.proofs.DescribedTable.{Described, headed}
 use Rattle.acd_sql_columns.proofs.KeyedRows.{id_cmp}
 use Rattle.acd_sql_columns.proofs.Puts.{truth_back}
 use Rattle.acd_sql_columns.proofs.Scans.{scan, taken_out, filter_like, each}

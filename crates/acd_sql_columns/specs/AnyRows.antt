@@ -20,25 +20,25 @@ use Rattle.acd_sql_columns.specs.Content.{tree_of, IsIn}
 use Rattle.acd_sql_columns.specs.Decoding.{as_group, as_priority, as_agent, as_further}
 use Rattle.acd_sql_columns.specs.Relations.{are_after, are_of_groups}
 use Rattle.acd_sql_columns.specs.Values.{id_value, cells}
-use Rattle.acd_sql_columns.specs.Schema.{Layout, after_first, nine, BeginsSchema, old_schema, book_schema}
+use Rattle.acd_sql_columns.specs.Schema.{Layout, after_first, tables_1, BeginsSchema, old_schema, book_schema}
 use Rattle.acd_sql_columns.specs.Schema as schema
-use Rattle.acd_sql_columns.specs.Ranges.{priority_in, further_in, group_in, station_in, agent_in, call_in, connection_in, monitor_in, counters_in, event_in, kept_in}
+use Rattle.acd_sql_columns.specs.Ranges.{priority_of_row, further_of_row, group_of_row, station_of_row, agent_of_row, call_in, connection_of_row, monitor_of_row, counters_in, event_in, kept_in}
 
 -- ---- ranges
 
 -- each value of the row is in its range
 abbrev pub is_good : Table → Row → Bool
 is_good table.Meta r = is_some (counters_in r)
-is_good table.Groups r = is_some (group_in r)
-is_good table.Stations r = is_some (station_in r)
-is_good table.Agents r = is_some (agent_in r)
+is_good table.Groups r = is_some (group_of_row r)
+is_good table.Stations r = is_some (station_of_row r)
+is_good table.Agents r = is_some (agent_of_row r)
 is_good table.Calls r = is_some (call_in r)
-is_good table.Connections r = is_some (connection_in r)
-is_good table.Monitors r = is_some (monitor_in r)
+is_good table.Connections r = is_some (connection_of_row r)
+is_good table.Monitors r = is_some (monitor_of_row r)
 is_good table.Events r = is_some (event_in r)
 is_good table.Kept r = is_some (kept_in r)
-is_good table.AgentGroups r = is_some (further_in r)
-is_good table.GroupPriority r = is_some (priority_in r)
+is_good table.AgentGroups r = is_some (further_of_row r)
+is_good table.GroupPriority r = is_some (priority_of_row r)
 
 unfoldable pub are_good : Table → List Row → Bool
 are_good t rows = list_all (is_good t) rows
@@ -150,7 +150,7 @@ IsCanonical d = (v : Version) → d.schema ≡ schema_of v → IsCanonicalAs v d
 abbrev pub Covers : Schema → Table → Type 0
 Covers s table.AgentGroups = s ≡ book_schema
 Covers s table.GroupPriority = s ≡ book_schema
-Covers s t = BeginsSchema nine s
+Covers s t = BeginsSchema tables_1 s
 
 -- ---- the first table
 

@@ -97,5 +97,5 @@ connection_state_of n = with_code connection_code connection_states n
 unfoldable pub cause_of : ℕ → Option Cause
 cause_of n = with_code cause_code causes n
 
-unfoldable pub kind_of : ℕ → Option EventKind
-kind_of n = with_code kind_code kinds n
+unfoldable pub event_kind_of : ℕ → Option EventKind
+event_kind_of n = with_code kind_code kinds n

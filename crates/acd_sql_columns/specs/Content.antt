@@ -130,9 +130,9 @@ IsIn version.First table.AgentGroups = ⊥
 IsIn version.First table.GroupPriority = ⊥
 IsIn v t = ⊤
 
-abbrev pub number_of : Version → ℕ
-number_of version.First = 1
-number_of version.Second = 2
+abbrev pub version_number : Version → ℕ
+version_number version.First = 1
+version_number version.Second = 2
 
 -- nothing is held that only a later version has a table of
 abbrev pub FitsIn : Version → Relations → Type 0
@@ -142,4 +142,4 @@ FitsIn version.Second r = ⊤
 -- the tables of a content, as a version has them
 pub record EncodesAs (v : Version) (db : Trees) (c : Content) : Type 0 where
   pub fits : FitsIn v (relations_of c)
-  pub tables : (t : Table) → IsIn v t → StoresAs (number_of v) t (db (tree_of t)) (part t (relations_of c))
+  pub tables : (t : Table) → IsIn v t → StoresAs (version_number v) t (db (tree_of t)) (part t (relations_of c))

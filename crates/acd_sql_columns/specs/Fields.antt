@@ -13,8 +13,8 @@ pub record Field (R : Type 0) : Type 0 where
   pub get : R → Means column
 
 -- a field that each record has
-abbrev pub has : {R : Type 0} → List ℕ → (s : Sort) → (R → Of s) → Field R
-has name s get = record { name = name; column = sure s; get = get }
+abbrev pub field_named : {R : Type 0} → List ℕ → (s : Sort) → (R → Of s) → Field R
+field_named name s get = record { name = name; column = sure s; get = get }
 
 -- a field that a record may lack
 abbrev pub may_have : {R : Type 0} → List ℕ → (s : Sort) → (R → Option (Of s)) → Field R
@@ -26,9 +26,9 @@ Makes R [] = R
 Makes R (f ∷ fs) = Means f.column → Makes R fs
 
 -- the values of the columns
-abbrev pub written : {R : Type 0} → List (Field R) → R → Row
-written [] r = []
-written (f ∷ fs) r = value f.column (f.get r) ∷ written fs r
+abbrev pub written_row : {R : Type 0} → List (Field R) → R → Row
+written_row [] r = []
+written_row (f ∷ fs) r = value f.column (f.get r) ∷ written_row fs r
 
 abbrev pub read_from : {R : Type 0} → (fs : List (Field R)) → Makes R fs → Row → ℕ → Option R
 read_from [] made row at = Some made

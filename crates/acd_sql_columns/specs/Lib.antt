@@ -7,13 +7,13 @@ pub mod Decoding
 pub mod Reports
 pub mod Ranges
 pub mod Schema
-pub mod Making
+pub mod SchemaSteps
 pub mod Relations
 pub mod Content
 pub mod Transactions
-pub mod Finding
+pub mod ReadResults
 pub mod InTables
-pub mod Seeing
+pub mod DatabaseView
 pub mod AnyRows
 pub mod InRange
 pub mod Descriptions

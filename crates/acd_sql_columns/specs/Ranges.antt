@@ -21,30 +21,30 @@ use Rattle.acd_sql_columns.specs.Reports.{report_in}
 use Rattle.acd_sql_columns.specs.Rows.{group_fields, group_made, priority_fields, priority_made, further_fields, further_made, station_fields, station_made, agent_fields, agent_made, call_fields, call_made, connection_fields, connection_made, monitor_fields, monitor_made, meta_fields, meta_made, event_fields, event_made}
 use Rattle.acd_sql_columns.specs.Values.{◌>>=◌, text_at, whole_at, stamp_at, moment_at, status_at, body_at}
 
-abbrev pub group_in : Row → Option GroupRow
-group_in r = read_whole group_fields group_made r
+abbrev pub group_of_row : Row → Option GroupRow
+group_of_row r = read_whole group_fields group_made r
 
-abbrev pub priority_in : Row → Option GroupPriority
-priority_in r = read_whole priority_fields priority_made r
+abbrev pub priority_of_row : Row → Option GroupPriority
+priority_of_row r = read_whole priority_fields priority_made r
 
 -- an agent and a group after its first
-abbrev pub further_in : Row → Option (ℕ × ℕ)
-further_in r = read_whole further_fields further_made r
+abbrev pub further_of_row : Row → Option (ℕ × ℕ)
+further_of_row r = read_whole further_fields further_made r
 
-abbrev pub station_in : Row → Option StationRecord
-station_in r = read_whole station_fields station_made r
+abbrev pub station_of_row : Row → Option StationRecord
+station_of_row r = read_whole station_fields station_made r
 
-abbrev pub agent_in : Row → Option AgentRow
-agent_in r = read_whole agent_fields agent_made r
+abbrev pub agent_of_row : Row → Option AgentRow
+agent_of_row r = read_whole agent_fields agent_made r
 
 abbrev pub call_in : Row → Option CallRecord
 call_in r = read_whole call_fields call_made r
 
-abbrev pub connection_in : Row → Option ConnectionRecord
-connection_in r = read_whole connection_fields connection_made r
+abbrev pub connection_of_row : Row → Option ConnectionRecord
+connection_of_row r = read_whole connection_fields connection_made r
 
-abbrev pub monitor_in : Row → Option MonitorRecord
-monitor_in r = read_whole monitor_fields monitor_made r
+abbrev pub monitor_of_row : Row → Option MonitorRecord
+monitor_of_row r = read_whole monitor_fields monitor_made r
 
 -- the limits and the counters as they are read, without key and version
 abbrev pub counters_in : Row → Option Meta

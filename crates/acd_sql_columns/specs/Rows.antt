@@ -8,7 +8,7 @@ use Rattle.acd_terms.specs.declared.record.StationRecord.{StationRecord}
 use Rattle.acd_terms.specs.declared.record.CallRecord.{CallRecord}
 use Rattle.acd_terms.specs.declared.record.ConnectionRecord.{ConnectionRecord}
 use Rattle.acd_terms.specs.declared.record.MonitorRecord.{MonitorRecord}
-use Rattle.acd_codec.specs.Reading.{reads_as}
+use Rattle.acd_codec.specs.RequestReading.{reads_as}
 use Rattle.acd_codec.specs.RequestTexts.{request_text}
 use Rattle.acd_book.specs.declared.kept.Kept.{Kept}
 use Rattle.acd_sql_columns.specs.declared.relations.GroupRow.{GroupRow}
@@ -16,7 +16,7 @@ use Rattle.acd_sql_columns.specs.declared.relations.AgentRow.{AgentRow}
 use Rattle.acd_sql_columns.specs.declared.relations.GroupPriority.{GroupPriority}
 use Rattle.acd_sql_columns.specs.declared.decode.EventValues.{EventValues}
 use Rattle.acd_sql_columns.specs.declared.meta.Meta.{Meta}
-use Rattle.acd_sql_columns.specs.Fields.{Field, Makes, has, may_have, written}
+use Rattle.acd_sql_columns.specs.Fields.{Field, Makes, field_named, may_have, written_row}
 use Rattle.acd_sql_columns.specs.Sorts.{whole, serial, stamp, moment, seconds, priority, device, agent, name, agent_state, pending, kind, cause, connection_state}
 use Rattle.acd_sql_columns.specs.Values.{id_value}
 
@@ -24,10 +24,10 @@ use Rattle.acd_sql_columns.specs.Values.{id_value}
 
 abbrev pub group_fields : List (Field GroupRow)
 group_fields =
-    has (codes "device") device (λ g. g.device) ∷ has (codes "name") name (λ g. g.name) ∷ has (codes "ring") seconds (λ g. g.ring)
-    ∷ has (codes "wrap") seconds (λ g. g.wrap) ∷ has (codes "entered") whole (λ g. g.figures.entered) ∷ has (codes "answered") whole (λ g. g.figures.answered)
-    ∷ has (codes "abandoned") whole (λ g. g.figures.abandoned) ∷ has (codes "moved") whole (λ g. g.figures.moved)
-    ∷ has (codes "waited") whole (λ g. g.figures.waited) ∷ []
+    field_named (codes "device") device (λ g. g.device) ∷ field_named (codes "name") name (λ g. g.name) ∷ field_named (codes "ring") seconds (λ g. g.ring)
+    ∷ field_named (codes "wrap") seconds (λ g. g.wrap) ∷ field_named (codes "entered") whole (λ g. g.figures.entered) ∷ field_named (codes "answered") whole (λ g. g.figures.answered)
+    ∷ field_named (codes "abandoned") whole (λ g. g.figures.abandoned) ∷ field_named (codes "moved") whole (λ g. g.figures.moved)
+    ∷ field_named (codes "waited") whole (λ g. g.figures.waited) ∷ []
 
 abbrev pub group_made : Makes GroupRow group_fields
 group_made = λ device name ring wrap entered answered abandoned moved waited. record {
@@ -40,7 +40,7 @@ group_made = λ device name ring wrap entered answered abandoned moved waited. r
 
 abbrev pub priority_fields : List (Field GroupPriority)
 priority_fields =
-    has (codes "device") device (λ p. p.device) ∷ has (codes "priority") priority (λ p. p.priority) ∷ []
+    field_named (codes "device") device (λ p. p.device) ∷ field_named (codes "priority") priority (λ p. p.priority) ∷ []
 
 abbrev pub priority_made : Makes GroupPriority priority_fields
 priority_made = λ device priority. record { device = device; priority = priority }
@@ -48,22 +48,22 @@ priority_made = λ device priority. record { device = device; priority = priorit
 -- an agent and a group after its first
 abbrev pub further_fields : List (Field (ℕ × ℕ))
 further_fields =
-    has (codes "agent") agent (λ p. p.0) ∷ has (codes "grp") device (λ p. p.1) ∷ []
+    field_named (codes "agent") agent (λ p. p.0) ∷ field_named (codes "grp") device (λ p. p.1) ∷ []
 
 abbrev pub further_made : Makes (ℕ × ℕ) further_fields
 further_made = λ agent group. (agent, group)
 
 abbrev pub station_fields : List (Field StationRecord)
-station_fields = has (codes "device") device (λ s. s.device) ∷ []
+station_fields = field_named (codes "device") device (λ s. s.device) ∷ []
 
 abbrev pub station_made : Makes StationRecord station_fields
 station_made = λ device. record { device = device }
 
 abbrev pub agent_fields : List (Field AgentRow)
 agent_fields =
-    has (codes "agent") agent (λ a. a.agent) ∷ has (codes "name") name (λ a. a.name) ∷ has (codes "state") agent_state (λ a. a.state)
+    field_named (codes "agent") agent (λ a. a.agent) ∷ field_named (codes "name") name (λ a. a.name) ∷ field_named (codes "state") agent_state (λ a. a.state)
     ∷ may_have (codes "pending") pending (λ a. a.pending) ∷ may_have (codes "station") device (λ a. a.station) ∷ may_have (codes "grp") device (λ a. a.group)
-    ∷ has (codes "stamp") stamp (λ a. a.stamp) ∷ has (codes "since") moment (λ a. a.since) ∷ []
+    ∷ field_named (codes "stamp") stamp (λ a. a.stamp) ∷ field_named (codes "since") moment (λ a. a.since) ∷ []
 
 abbrev pub agent_made : Makes AgentRow agent_fields
 agent_made = λ agent name state pending station group stamp since. record {
@@ -79,15 +79,15 @@ agent_made = λ agent name state pending station group stamp since. record {
 
 abbrev pub call_fields : List (Field CallRecord)
 call_fields =
-    has (codes "call") serial (λ k. k.call) ∷ has (codes "caller") device (λ k. k.caller) ∷ has (codes "called") device (λ k. k.called)
-    ∷ has (codes "since") moment (λ k. k.since) ∷ []
+    field_named (codes "call") serial (λ k. k.call) ∷ field_named (codes "caller") device (λ k. k.caller) ∷ field_named (codes "called") device (λ k. k.called)
+    ∷ field_named (codes "since") moment (λ k. k.since) ∷ []
 
 abbrev pub call_made : Makes CallRecord call_fields
 call_made = λ call caller called since. record { call = call; caller = caller; called = called; since = since }
 
 abbrev pub connection_fields : List (Field ConnectionRecord)
 connection_fields =
-    has (codes "call") serial (λ x. x.call) ∷ has (codes "device") device (λ x. x.device) ∷ has (codes "state") connection_state (λ x. x.state)
+    field_named (codes "call") serial (λ x. x.call) ∷ field_named (codes "device") device (λ x. x.device) ∷ field_named (codes "state") connection_state (λ x. x.state)
     ∷ may_have (codes "grp") device (λ x. x.group) ∷ may_have (codes "place") stamp (λ x. x.place) ∷ may_have (codes "queued") moment (λ x. x.queued)
     ∷ may_have (codes "offered") moment (λ x. x.offered) ∷ []
 
@@ -104,7 +104,7 @@ connection_made = λ call device state group place queued offered. record {
 
 abbrev pub monitor_fields : List (Field MonitorRecord)
 monitor_fields =
-    has (codes "monitor") serial (λ w. w.monitor) ∷ has (codes "device") device (λ w. w.device) ∷ has (codes "after_event") whole (λ w. w.after_event) ∷ []
+    field_named (codes "monitor") serial (λ w. w.monitor) ∷ field_named (codes "device") device (λ w. w.device) ∷ field_named (codes "after_event") whole (λ w. w.after_event) ∷ []
 
 abbrev pub monitor_made : Makes MonitorRecord monitor_fields
 monitor_made = λ monitor device after_event. record { monitor = monitor; device = device; after_event = after_event }
@@ -112,11 +112,11 @@ monitor_made = λ monitor device after_event. record { monitor = monitor; device
 -- the limits and the counters, after the key and the version
 abbrev pub meta_fields : List (Field Meta)
 meta_fields =
-    has (codes "max_requests") whole (λ m. m.limits.requests) ∷ has (codes "max_calls") whole (λ m. m.limits.calls)
-    ∷ has (codes "max_groups") whole (λ m. m.limits.groups) ∷ has (codes "max_stations") whole (λ m. m.limits.stations)
-    ∷ has (codes "max_agents") whole (λ m. m.limits.agents) ∷ has (codes "max_monitors") whole (λ m. m.limits.monitors)
-    ∷ has (codes "last_stamp") whole (λ m. m.last_stamp) ∷ has (codes "last_moment") moment (λ m. m.last_moment) ∷ has (codes "last_call") whole (λ m. m.last_call)
-    ∷ has (codes "last_monitor") whole (λ m. m.last_monitor) ∷ has (codes "last_event") whole (λ m. m.last_event) ∷ []
+    field_named (codes "max_requests") whole (λ m. m.limits.requests) ∷ field_named (codes "max_calls") whole (λ m. m.limits.calls)
+    ∷ field_named (codes "max_groups") whole (λ m. m.limits.groups) ∷ field_named (codes "max_stations") whole (λ m. m.limits.stations)
+    ∷ field_named (codes "max_agents") whole (λ m. m.limits.agents) ∷ field_named (codes "max_monitors") whole (λ m. m.limits.monitors)
+    ∷ field_named (codes "last_stamp") whole (λ m. m.last_stamp) ∷ field_named (codes "last_moment") moment (λ m. m.last_moment) ∷ field_named (codes "last_call") whole (λ m. m.last_call)
+    ∷ field_named (codes "last_monitor") whole (λ m. m.last_monitor) ∷ field_named (codes "last_event") whole (λ m. m.last_event) ∷ []
 
 abbrev pub meta_made : Makes Meta meta_fields
 meta_made = λ requests calls groups stations agents monitors last_stamp last_moment last_call last_monitor last_event. record {
@@ -131,7 +131,7 @@ meta_made = λ requests calls groups stations agents monitors last_stamp last_mo
 -- of an event its number, its moment and the columns of its report
 abbrev pub event_fields : List (Field EventValues)
 event_fields =
-    has (codes "number") stamp (λ v. v.number) ∷ has (codes "moment") moment (λ v. v.moment) ∷ has (codes "kind") kind (λ v. v.columns.kind)
+    field_named (codes "number") stamp (λ v. v.number) ∷ field_named (codes "moment") moment (λ v. v.moment) ∷ field_named (codes "kind") kind (λ v. v.columns.kind)
     ∷ may_have (codes "device") device (λ v. v.columns.device) ∷ may_have (codes "call") serial (λ v. v.columns.call)
     ∷ may_have (codes "agent") agent (λ v. v.columns.agent) ∷ may_have (codes "grp") device (λ v. v.columns.group)
     ∷ may_have (codes "target") device (λ v. v.columns.to) ∷ may_have (codes "cause") cause (λ v. v.columns.cause)
@@ -154,7 +154,7 @@ version = 2
 
 -- the limits and the counters as they are read
 abbrev pub meta_shown : Meta → Row
-meta_shown m = written meta_fields m
+meta_shown m = written_row meta_fields m
 
 abbrev pub meta_values_as : ℕ → Meta → Row
 meta_values_as v m = id_value 1 ∷ id_value v ∷ meta_shown m
@@ -163,25 +163,25 @@ abbrev pub meta_values : Meta → Row
 meta_values m = meta_values_as version m
 
 abbrev pub group_values : GroupRow → Row
-group_values g = written group_fields g
+group_values g = written_row group_fields g
 
 abbrev pub station_values : StationRecord → Row
-station_values s = written station_fields s
+station_values s = written_row station_fields s
 
 abbrev pub agent_values : AgentRow → Row
-agent_values a = written agent_fields a
+agent_values a = written_row agent_fields a
 
 abbrev pub call_values : CallRecord → Row
-call_values c = written call_fields c
+call_values c = written_row call_fields c
 
 abbrev pub connection_values : ConnectionRecord → Row
-connection_values x = written connection_fields x
+connection_values x = written_row connection_fields x
 
 abbrev pub monitor_values : MonitorRecord → Row
-monitor_values w = written monitor_fields w
+monitor_values w = written_row monitor_fields w
 
 abbrev pub event_values : Event → Row
-event_values e = written event_fields (values_of_event e)
+event_values e = written_row event_fields (values_of_event e)
 
 abbrev pub kept_values : Kept → Row
 kept_values k =
@@ -190,10 +190,10 @@ kept_values k =
 
 -- an agent and a further group
 abbrev pub further_values : ℕ × ℕ → Row
-further_values p = written further_fields p
+further_values p = written_row further_fields p
 
 abbrev pub priority_values : GroupPriority → Row
-priority_values p = written priority_fields p
+priority_values p = written_row priority_fields p
 
 -- ---- the rows: the column that is the number of the row is NULL
 

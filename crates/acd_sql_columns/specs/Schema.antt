@@ -160,11 +160,11 @@ kept_key = unique (codes "sqlite_autoindex_kept_1") 11 10 (2 ∷ 3 ∷ [])
 
 -- ---- version 1
 
-abbrev pub nine : List Table
-nine = table_of meta ∷ table_of groups ∷ table_of stations ∷ table_of agents ∷ table_of calls ∷ table_of connections ∷ table_of monitors ∷ table_of events ∷ table_of kept ∷ []
+abbrev pub tables_1 : List Table
+tables_1 = table_of meta ∷ table_of groups ∷ table_of stations ∷ table_of agents ∷ table_of calls ∷ table_of connections ∷ table_of monitors ∷ table_of events ∷ table_of kept ∷ []
 
 abbrev pub old_schema : Schema
-old_schema = record { tables = nine; indexes = agents_station ∷ connections_key ∷ kept_key ∷ []; views = [] }
+old_schema = record { tables = tables_1; indexes = agents_station ∷ connections_key ∷ kept_key ∷ []; views = [] }
 
 -- ---- version 2
 
@@ -192,11 +192,11 @@ group_priority = record (keyed (codes "group_priority") 14 (field_columns priori
   references = refers 0 (codes "acd_groups") ∷ [];
 }
 
-abbrev pub two : List Table
-two = table_of agent_groups ∷ table_of group_priority ∷ []
+abbrev pub added_in_2 : List Table
+added_in_2 = table_of agent_groups ∷ table_of group_priority ∷ []
 
 abbrev pub book_schema : Schema
-book_schema = record { tables = nine ++ two; indexes = agents_station ∷ connections_key ∷ kept_key ∷ agent_groups_key ∷ []; views = [] }
+book_schema = record { tables = tables_1 ++ added_in_2; indexes = agents_station ∷ connections_key ∷ kept_key ∷ agent_groups_key ∷ []; views = [] }
 
 -- ---- of either version
 

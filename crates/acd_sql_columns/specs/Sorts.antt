@@ -17,8 +17,8 @@ use Rattle.acd_terms.specs.declared.event.Cause.{Cause}
 use Rattle.acd_terms.specs.declared.event.Cause.TheVariants.{NewCall}
 use Rattle.acd_terms.specs.declared.state.ConnectionState.{ConnectionState}
 use Rattle.acd_terms.specs.declared.state.ConnectionState.TheVariants.{Initiated}
-use Rattle.acd_sql_columns.specs.Codes.{agent_code, pending_code, kind_code, cause_code, connection_code, agent_state_of, pending_of, kind_of, cause_of, connection_state_of}
-use Rattle.acd_sql_columns.specs.Values.{id_value, number_in, text_in, whole_at, stamp_at, serial_at, moment_at, seconds_at, priority_at, device_at, agent_at, name_at, agent_state_at, pending_at, kind_at, cause_at, connection_state_at, or_none}
+use Rattle.acd_sql_columns.specs.Codes.{agent_code, pending_code, kind_code, cause_code, connection_code, agent_state_of, pending_of, event_kind_of, cause_of, connection_state_of}
+use Rattle.acd_sql_columns.specs.Values.{id_value, number_in, text_in, whole_at, stamp_at, serial_at, moment_at, seconds_at, priority_at, device_at, agent_value_at, name_at, agent_state_at, pending_at, kind_at, cause_at, connection_state_at, or_none}
 
 pub data Sort : Type 0 where
   whole : Sort
@@ -87,7 +87,7 @@ read_of moment r at = moment_at r at
 read_of seconds r at = seconds_at r at
 read_of priority r at = priority_at r at
 read_of device r at = device_at r at
-read_of agent r at = agent_at r at
+read_of agent r at = agent_value_at r at
 read_of name r at = name_at r at
 read_of agent_state r at = agent_state_at r at
 read_of pending r at = pending_at r at
@@ -113,7 +113,7 @@ shown_of agent v = number_in v
 shown_of name v = text_in v
 shown_of agent_state v = unwrap_or (agent_state_of (number_in v)) NoState
 shown_of pending v = unwrap_or (pending_of (number_in v)) LoggedOff
-shown_of kind v = unwrap_or (kind_of (number_in v)) ServiceInitiated
+shown_of kind v = unwrap_or (event_kind_of (number_in v)) ServiceInitiated
 shown_of cause v = unwrap_or (cause_of (number_in v)) NewCall
 shown_of connection_state v = unwrap_or (connection_state_of (number_in v)) Initiated
 

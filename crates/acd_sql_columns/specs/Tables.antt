@@ -15,9 +15,9 @@ use Rattle.acd_sql_columns.specs.declared.tables.Table.TheVariants as table
 use Rattle.acd_sql_columns.specs.declared.texts.TheConstants.{UPDATE_GROUP, SELECT_GROUPS, SELECT_STATIONS, UPDATE_AGENT, SELECT_AGENTS, UPDATE_CALL, DELETE_CALL, SELECT_CALLS, UPDATE_MONITOR, DELETE_MONITOR, SELECT_MONITORS, UPDATE_GROUP_PRIORITY, DELETE_GROUP_PRIORITY, SELECT_GROUP_PRIORITY, INSERT_GROUP, INSERT_STATION, INSERT_AGENT, INSERT_CALL, INSERT_CONNECTION, INSERT_MONITOR, INSERT_EVENT, INSERT_KEPT, INSERT_AGENT_GROUP, INSERT_GROUP_PRIORITY}
 use Rattle.acd_sql_columns.specs.Descriptions.{Description, Heap}
 use Rattle.acd_sql_columns.specs.Transactions.{Fits, FiguresFitColumns}
-use Rattle.acd_sql_columns.specs.Ranges.{priority_in, further_in, group_in, station_in, agent_in, call_in, connection_in, monitor_in, event_in, kept_in}
+use Rattle.acd_sql_columns.specs.Ranges.{priority_of_row, further_of_row, group_of_row, station_of_row, agent_of_row, call_in, connection_of_row, monitor_of_row, event_in, kept_in}
 use Rattle.acd_sql_columns.specs.Rows.{group_values, priority_values, station_values, agent_values, call_values, connection_values, monitor_values, event_values, kept_values, further_values, IsReadable}
-use Rattle.acd_sql_columns.specs.Schema.{nine, two}
+use Rattle.acd_sql_columns.specs.Schema.{tables_1, added_in_2}
 use Rattle.acd_sql_columns.specs.Schema as schema
 
 abbrev pub groups : Description GroupRow
@@ -27,7 +27,7 @@ groups = record {
   layout = schema.groups;
   key = λ g. g.device;
   values = group_values;
-  in_row = group_in;
+  in_row = group_of_row;
   records = λ r. r.groups;
   with_records = with_part table.Groups;
   Fits = λ g. FiguresFitColumns g.figures;
@@ -36,7 +36,7 @@ groups = record {
   update = Some UPDATE_GROUP.now;
   delete = None;
   select = Some SELECT_GROUPS.now;
-  base = nine;
+  base = tables_1;
 }
 
 abbrev pub stations : Description StationRecord
@@ -46,7 +46,7 @@ stations = record {
   layout = schema.stations;
   key = λ s. s.device;
   values = station_values;
-  in_row = station_in;
+  in_row = station_of_row;
   records = λ r. r.stations;
   with_records = with_part table.Stations;
   Fits = λ _. ⊤;
@@ -55,7 +55,7 @@ stations = record {
   update = None;
   delete = None;
   select = Some SELECT_STATIONS.now;
-  base = nine;
+  base = tables_1;
 }
 
 abbrev pub agents : Description AgentRow
@@ -65,7 +65,7 @@ agents = record {
   layout = schema.agents;
   key = λ a. a.agent;
   values = agent_values;
-  in_row = agent_in;
+  in_row = agent_of_row;
   records = λ r. r.agents;
   with_records = with_part table.Agents;
   Fits = λ a. Fits a.stamp;
@@ -74,7 +74,7 @@ agents = record {
   update = Some UPDATE_AGENT.now;
   delete = None;
   select = Some SELECT_AGENTS.now;
-  base = nine;
+  base = tables_1;
 }
 
 abbrev pub calls : Description CallRecord
@@ -93,7 +93,7 @@ calls = record {
   update = Some UPDATE_CALL.now;
   delete = Some DELETE_CALL.now;
   select = Some SELECT_CALLS.now;
-  base = nine;
+  base = tables_1;
 }
 
 abbrev pub monitors : Description MonitorRecord
@@ -103,7 +103,7 @@ monitors = record {
   layout = schema.monitors;
   key = λ w. w.monitor;
   values = monitor_values;
-  in_row = monitor_in;
+  in_row = monitor_of_row;
   records = λ r. r.monitors;
   with_records = with_part table.Monitors;
   Fits = λ w. Fits w.monitor × Fits w.after_event;
@@ -112,7 +112,7 @@ monitors = record {
   update = Some UPDATE_MONITOR.now;
   delete = Some DELETE_MONITOR.now;
   select = Some SELECT_MONITORS.now;
-  base = nine;
+  base = tables_1;
 }
 
 abbrev pub events : Description Event
@@ -131,7 +131,7 @@ events = record {
   update = None;
   delete = None;
   select = None;
-  base = nine;
+  base = tables_1;
 }
 
 -- the request is read of its text
@@ -151,7 +151,7 @@ kept = record {
   update = None;
   delete = None;
   select = None;
-  base = nine;
+  base = tables_1;
 }
 
 abbrev pub group_priority : Description GroupPriority
@@ -161,7 +161,7 @@ group_priority = record {
   layout = schema.group_priority;
   key = λ p. p.device;
   values = priority_values;
-  in_row = priority_in;
+  in_row = priority_of_row;
   records = λ r. r.priorities;
   with_records = with_part table.GroupPriority;
   Fits = λ _. ⊤;
@@ -170,7 +170,7 @@ group_priority = record {
   update = Some UPDATE_GROUP_PRIORITY.now;
   delete = Some DELETE_GROUP_PRIORITY.now;
   select = Some SELECT_GROUP_PRIORITY.now;
-  base = nine ++ two;
+  base = tables_1 ++ added_in_2;
 }
 
 abbrev pub connections : Heap ConnectionRecord
@@ -181,7 +181,7 @@ connections = record {
   first = λ x. x.call;
   second = λ x. x.device;
   values = connection_values;
-  in_row = connection_in;
+  in_row = connection_of_row;
   records = λ r. r.connections;
   with_records = with_part table.Connections;
   insert = INSERT_CONNECTION.now;
@@ -196,7 +196,7 @@ agent_groups = record {
   first = λ p. p.0;
   second = λ p. p.1;
   values = further_values;
-  in_row = further_in;
+  in_row = further_of_row;
   records = λ r. r.further;
   with_records = with_part table.AgentGroups;
   insert = INSERT_AGENT_GROUP.now;

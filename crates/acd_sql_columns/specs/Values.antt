@@ -11,7 +11,7 @@ use Rattle.acd_terms.specs.declared.event.EventKind.{EventKind}
 use Rattle.acd_terms.specs.declared.state.AgentState.{AgentState}
 use Rattle.acd_terms.specs.declared.state.Pending.{Pending}
 use Rattle.acd_terms.specs.declared.state.ConnectionState.{ConnectionState}
-use Rattle.acd_sql_columns.specs.Codes.{agent_state_of, pending_of, connection_state_of, kind_of, cause_of}
+use Rattle.acd_sql_columns.specs.Codes.{agent_state_of, pending_of, connection_state_of, event_kind_of, cause_of}
 
 -- ---- whatever a value holds
 
@@ -23,9 +23,9 @@ abbrev pub cells : ℕ → ℕ → Row → Row
 cells start zero r = []
 cells start (suc k) r = column r start ∷ cells (suc start) k r
 
-abbrev pub is_null : Value → Bool
-is_null Null = true
-is_null _ = false
+abbrev pub is_null_value : Value → Bool
+is_null_value Null = true
+is_null_value _ = false
 
 -- a number, and none in place of another value
 abbrev pub option_in : Value → Option ℕ
@@ -37,9 +37,9 @@ abbrev pub number_in : Value → ℕ
 number_in (Int (pos n)) = n
 number_in _ = 0
 
-abbrev pub text_of : Value → Option (List ℕ)
-text_of (Text t) = Some t
-text_of _ = None
+abbrev pub text_value : Value → Option (List ℕ)
+text_value (Text t) = Some t
+text_value _ = None
 
 -- a text, and none of its bytes in place of another value
 abbrev pub text_in : Value → List ℕ
@@ -55,7 +55,7 @@ abbrev pub ◌>>=◌ : {A B : Type 0} → Option A → (A → Option B) → Opti
 None >>= f = None
 
 abbrev pub text_at : Row → ℕ → Option (List ℕ)
-text_at r at = text_of (column r at)
+text_at r at = text_value (column r at)
 
 -- a number from 0
 abbrev pub whole_at : Row → ℕ → Option ℕ
@@ -85,8 +85,8 @@ priority_at r at = whole_at r at >>= number_between 1 9
 unfoldable pub device_at : Row → ℕ → Option ℕ
 device_at r at = whole_at r at >>= id_with device_digits
 
-unfoldable pub agent_at : Row → ℕ → Option ℕ
-agent_at r at = whole_at r at >>= id_with agent_digits
+unfoldable pub agent_value_at : Row → ℕ → Option ℕ
+agent_value_at r at = whole_at r at >>= id_with agent_digits
 
 unfoldable pub name_at : Row → ℕ → Option (List ℕ)
 name_at r at = text_at r at >>= (λ t. result_ok (read_text is_name_byte 40 t))
@@ -101,7 +101,7 @@ unfoldable pub cause_at : Row → ℕ → Option Cause
 cause_at r at = whole_at r at >>= cause_of
 
 unfoldable pub kind_at : Row → ℕ → Option EventKind
-kind_at r at = whole_at r at >>= kind_of
+kind_at r at = whole_at r at >>= event_kind_of
 
 unfoldable pub status_at : Row → ℕ → Option ℕ
 status_at r at = whole_at r at >>= (λ n. if n == 200 || n == 409 then Some n else None)
@@ -118,4 +118,4 @@ connection_state_at r at = whole_at r at >>= connection_state_of
 
 -- nothing, where the column is NULL
 abbrev pub or_none : {A : Type 0} → (Row → ℕ → Option A) → Row → ℕ → Option (Option A)
-or_none read r at = if is_null (column r at) then Some None else option_map Some (read r at)
+or_none read r at = if is_null_value (column r at) then Some None else option_map Some (read r at)

@@ -1,7 +1,7 @@
 //! The numbers that represent states, kinds and causes, and the meaning of a number.
 
 ghost use Rattle.std.specs.Prelude.{◌≡◌};
-ghost use Rattle.acd_sql_columns.specs.Codes.{agent_code, pending_code, connection_code, kind_code, cause_code, agent_state_of, pending_of, connection_state_of, kind_of, cause_of};
+ghost use Rattle.acd_sql_columns.specs.Codes.{agent_code, pending_code, connection_code, kind_code, cause_code, agent_state_of, pending_of, connection_state_of, event_kind_of, cause_of};
 
 use acd_terms::{AgentState, Cause, ConnectionState, EventKind, Pending};
 
@@ -136,9 +136,9 @@ pub fn cause_of(code: u64) -> Option<Cause>
     }
 }
 
-#[tactic(auto, unfolding(crate::specs::Codes::kind_of))]
-pub fn kind_of(code: u64) -> Option<EventKind>
-    ensures { result ≡ kind_of code }
+#[tactic(auto, unfolding(crate::specs::Codes::event_kind_of))]
+pub fn event_kind_of(code: u64) -> Option<EventKind>
+    ensures { result ≡ event_kind_of code }
 {
     match code {
         1 => Some(EventKind::ServiceInitiated),

@@ -4,7 +4,7 @@
 //! made then.
 
 ghost use Rattle.std.specs.Prelude.{◌≡◌, option_map, option_and_then, IfOk};
-ghost use Rattle.acd_sql_columns.specs.Ranges.{further_in, priority_in, group_in, station_in, agent_in, call_in, connection_in, monitor_in, counters_in, event_from, event_in, event_number, request_at, kept_from, kept_in, kept_stamp};
+ghost use Rattle.acd_sql_columns.specs.Ranges.{further_of_row, priority_of_row, group_of_row, station_of_row, agent_of_row, call_in, connection_of_row, monitor_of_row, counters_in, event_from, event_in, event_number, request_at, kept_from, kept_in, kept_stamp};
 ghost use Rattle.acd_sql_columns.specs.Values.{body_at};
 
 use crate::columns::{
@@ -53,20 +53,20 @@ macro_rules! counters {
     };
 }
 
-pub fn group_in(row: &Row) -> Option<GroupRow>
-    ensures { result ≡ group_in row.now }
+pub fn group_of_row(row: &Row) -> Option<GroupRow>
+    ensures { result ≡ group_of_row row.now }
 {
     groups!(whole, row)
 }
 
-pub fn station_in(row: &Row) -> Option<StationRecord>
-    ensures { result ≡ station_in row.now }
+pub fn station_of_row(row: &Row) -> Option<StationRecord>
+    ensures { result ≡ station_of_row row.now }
 {
     stations!(whole, row)
 }
 
-pub fn agent_in(row: &Row) -> Option<AgentRow>
-    ensures { result ≡ agent_in row.now }
+pub fn agent_of_row(row: &Row) -> Option<AgentRow>
+    ensures { result ≡ agent_of_row row.now }
 {
     agents!(whole, row)
 }
@@ -77,27 +77,27 @@ pub fn call_in(row: &Row) -> Option<CallRecord>
     calls!(whole, row)
 }
 
-pub fn connection_in(row: &Row) -> Option<ConnectionRecord>
-    ensures { result ≡ connection_in row.now }
+pub fn connection_of_row(row: &Row) -> Option<ConnectionRecord>
+    ensures { result ≡ connection_of_row row.now }
 {
     connections!(whole, row)
 }
 
 /// An agent and a group after its first.
-pub fn further_in(row: &Row) -> Option<(AgentId, DeviceId)>
-    ensures { result ≡ further_in row.now }
+pub fn further_of_row(row: &Row) -> Option<(AgentId, DeviceId)>
+    ensures { result ≡ further_of_row row.now }
 {
     agent_groups!(whole, row)
 }
 
-pub fn priority_in(row: &Row) -> Option<GroupPriority>
-    ensures { result ≡ priority_in row.now }
+pub fn priority_of_row(row: &Row) -> Option<GroupPriority>
+    ensures { result ≡ priority_of_row row.now }
 {
     group_priority!(whole, row)
 }
 
-pub fn monitor_in(row: &Row) -> Option<MonitorRecord>
-    ensures { result ≡ monitor_in row.now }
+pub fn monitor_of_row(row: &Row) -> Option<MonitorRecord>
+    ensures { result ≡ monitor_of_row row.now }
 {
     monitors!(whole, row)
 }

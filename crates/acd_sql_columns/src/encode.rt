@@ -4,7 +4,7 @@ ghost use Rattle.std.specs.Prelude.{◌≡◌, IfSome};
 ghost use Rattle.sqlite.specs.Values.{bound};
 ghost use Rattle.acd_terms.specs.Columns.{columns_of};
 ghost use Rattle.acd_sql_columns.specs.Transactions.{Fits, FiguresFitColumns, MetaFits};
-ghost use Rattle.acd_sql_columns.specs.Fields.{written};
+ghost use Rattle.acd_sql_columns.specs.Fields.{written_row};
 ghost use Rattle.acd_sql_columns.specs.Rows.{group_values, priority_values, station_values, agent_values, call_values, connection_values, monitor_values, event_fields, values_of_event, event_values, meta_values, meta_shown};
 
 use crate::bind::{
@@ -111,7 +111,7 @@ fn values_of(event: &Event) -> EventValues
 fn all_of_event(item: &EventValues) -> [ValueRef<'static>; EVENTS]
     requires number { Fits item.now.number }
     requires call { IfSome item.now.columns.call Fits }
-    ensures { bound result ≡ written event_fields item.now }
+    ensures { bound result ≡ written_row event_fields item.now }
 {
     events!(all, item)
 }

@@ -5,7 +5,7 @@ ghost use Rattle.std.specs.Prelude.{◌≡◌, ◌≤◌, ◌<◌, ◌^◌, IfSo
 ghost use Rattle.std.specs.Ordering.{nat_cmp};
 ghost use Rattle.acd_terms.specs.Columns.{columns_of};
 ghost use Rattle.acd_terms.specs.Lists.{Every, ascends};
-ghost use Rattle.acd_codec.specs.Formed.{IsAgent, IsDevice, IsSerial};
+ghost use Rattle.acd_codec.specs.RequestForms.{IsAgent, IsDevice, IsSerial};
 ghost use Rattle.acd_sql_columns.specs.InRange.{IsGoodAgent, IsGoodCall, IsGoodConnection, IsGoodEvent, IsGoodGroup, IsGoodKept, IsGoodMeta, IsGoodMonitor, IsGoodStation, IsReported, IsStamp, IsStatus};
 ghost use Rattle.acd_sql_columns.specs.Reports.{is_formed};
 

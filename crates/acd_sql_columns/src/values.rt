@@ -3,9 +3,9 @@
 ghost use Rattle.std.specs.Prelude.{◌≡◌, option_map};
 ghost use Rattle.sqlite_value.specs.Value.{owned};
 ghost use Rattle.sqlite_value.specs.Order.{column};
-ghost use Rattle.acd_sql_columns.specs.Values.{is_null, text_at, whole_at, stamp_at, serial_at, moment_at, seconds_at, priority_at, device_at, agent_at, name_at, agent_state_at, pending_at, connection_state_at, kind_at, cause_at, status_at, utf8_of, body_at, or_none};
+ghost use Rattle.acd_sql_columns.specs.Values.{is_null_value, text_at, whole_at, stamp_at, serial_at, moment_at, seconds_at, priority_at, device_at, agent_value_at, name_at, agent_state_at, pending_at, connection_state_at, kind_at, cause_at, status_at, utf8_of, body_at, or_none};
 
-use crate::codes::{agent_state_of, cause_of, connection_state_of, kind_of, pending_of};
+use crate::codes::{agent_state_of, cause_of, connection_state_of, event_kind_of, pending_of};
 use acd_terms::{
     AgentId, AgentState, Cause, ConnectionState, DeviceId, EventKind, Name, Pending, Priority,
     Seconds, Serial,
@@ -24,8 +24,8 @@ fn value(row: &Row, at: usize) -> ValueRef<'_>
     }
 }
 
-fn is_null(row: &Row, at: usize) -> bool
-    ensures { result ≡ is_null (column row.now at) }
+fn is_null_value(row: &Row, at: usize) -> bool
+    ensures { result ≡ is_null_value (column row.now at) }
 {
     matches!(value(row, at), ValueRef::Null)
 }
@@ -106,9 +106,9 @@ pub fn device(row: &Row, at: usize) -> Option<DeviceId>
     DeviceId::from_number(whole(row, at)?)
 }
 
-#[tactic(auto, unfolding(crate::specs::Values::agent_at))]
+#[tactic(auto, unfolding(crate::specs::Values::agent_value_at))]
 pub fn agent(row: &Row, at: usize) -> Option<AgentId>
-    ensures { result ≡ agent_at row.now at }
+    ensures { result ≡ agent_value_at row.now at }
 {
     AgentId::from_number(whole(row, at)?)
 }
@@ -141,7 +141,7 @@ pub fn connection_state(row: &Row, at: usize) -> Option<ConnectionState>
 pub fn pending_or_none(row: &Row, at: usize) -> Option<Option<Pending>>
     ensures { result ≡ or_none pending_at row.now at }
 {
-    if is_null(row, at) {
+    if is_null_value(row, at) {
         return Some(None);
     }
     let pending = pending_of(whole(row, at)?)?;
@@ -151,7 +151,7 @@ pub fn pending_or_none(row: &Row, at: usize) -> Option<Option<Pending>>
 pub fn device_or_none(row: &Row, at: usize) -> Option<Option<DeviceId>>
     ensures { result ≡ or_none device_at row.now at }
 {
-    if is_null(row, at) {
+    if is_null_value(row, at) {
         return Some(None);
     }
     let device = device(row, at)?;
@@ -161,7 +161,7 @@ pub fn device_or_none(row: &Row, at: usize) -> Option<Option<DeviceId>>
 pub fn stamp_or_none(row: &Row, at: usize) -> Option<Option<u64>>
     ensures { result ≡ or_none stamp_at row.now at }
 {
-    if is_null(row, at) {
+    if is_null_value(row, at) {
         return Some(None);
     }
     let stamp = stamp(row, at)?;
@@ -171,7 +171,7 @@ pub fn stamp_or_none(row: &Row, at: usize) -> Option<Option<u64>>
 pub fn moment_or_none(row: &Row, at: usize) -> Option<Option<u32>>
     ensures { result ≡ or_none moment_at row.now at }
 {
-    if is_null(row, at) {
+    if is_null_value(row, at) {
         return Some(None);
     }
     let moment = moment(row, at)?;
@@ -182,14 +182,14 @@ pub fn moment_or_none(row: &Row, at: usize) -> Option<Option<u32>>
 pub fn kind(row: &Row, at: usize) -> Option<EventKind>
     ensures { result ≡ kind_at row.now at }
 {
-    kind_of(whole(row, at)?)
+    event_kind_of(whole(row, at)?)
 }
 
 #[tactic(auto, unfolding(crate::specs::Values::cause_at))]
 pub fn cause_or_none(row: &Row, at: usize) -> Option<Option<Cause>>
     ensures { result ≡ or_none cause_at row.now at }
 {
-    if is_null(row, at) {
+    if is_null_value(row, at) {
         return Some(None);
     }
     let cause = cause_of(whole(row, at)?)?;
@@ -199,7 +199,7 @@ pub fn cause_or_none(row: &Row, at: usize) -> Option<Option<Cause>>
 pub fn serial_or_none(row: &Row, at: usize) -> Option<Option<u64>>
     ensures { result ≡ or_none serial_at row.now at }
 {
-    if is_null(row, at) {
+    if is_null_value(row, at) {
         return Some(None);
     }
     let serial = serial(row, at)?;
@@ -207,9 +207,9 @@ pub fn serial_or_none(row: &Row, at: usize) -> Option<Option<u64>>
 }
 
 pub fn agent_or_none(row: &Row, at: usize) -> Option<Option<AgentId>>
-    ensures { result ≡ or_none agent_at row.now at }
+    ensures { result ≡ or_none agent_value_at row.now at }
 {
-    if is_null(row, at) {
+    if is_null_value(row, at) {
         return Some(None);
     }
     let agent = agent(row, at)?;

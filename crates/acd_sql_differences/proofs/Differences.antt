@@ -7,7 +7,7 @@ use Rattle.std.specs.Ordering.{match_ordering, ordering_reverse, is_eq}
 use Rattle.std.proofs.lemmas.Cmp.{tied_itself}
 use Rattle.acd_terms.specs.Lists.{Among, Every, AllAfter, IsAscending, put_by, remove_by}
 use Rattle.acd_lemmas.proofs.Lists.{after_among, after_lower, after_same}
-use Rattle.acd_sql_differences.specs.Differing.{Step, gone, put, record_of, stepped, IsNoKey, IsOther, AreSteps, replaced, merged_from, merged}
+use Rattle.acd_sql_differences.specs.DifferenceSteps.{Step, gone, put, record_of_step, stepped_list, IsNoKey, IsOtherRecord, AreSteps, replaced, merged_from, merged}
 
 module _ {T : Type 0} where
   is_gone : Step T → Bool
@@ -18,10 +18,10 @@ module _ {T : Type 0} where
   gone_not_put x y e = let k = ap is_gone e in cc
 
   gone_is : (x y : T) → gone x ≡ gone y → x ≡ y
-  gone_is x y e = ap record_of e
+  gone_is x y e = ap record_of_step e
 
   put_is : (x y : T) → put x ≡ put y → x ≡ y
-  put_is x y e = ap record_of e
+  put_is x y e = ap record_of_step e
 
   put_among : (z : T) (ys : List T) → Among (put z) (map put ys) → Among z ys
   put_among z [] a = absurd a
@@ -45,7 +45,7 @@ module _ {T : Type 0} (cmp : T → T → Ordering) (total : IsTotalOrder cmp) (s
   -- ---- in order
 
   abbrev Later : T → Step T → Type 0
-  Later z s = cmp z (record_of s) ≡ Less
+  Later z s = cmp z (record_of_step s) ≡ Less
 
   later : (z : T) (xs : List T) → AllAfter cmp z xs → Every (λ x. cmp z x ≡ Less) xs
   later z [] h = tt
@@ -53,26 +53,26 @@ module _ {T : Type 0} (cmp : T → T → Ordering) (total : IsTotalOrder cmp) (s
 
   -- a property of all records is one of those of the steps
   module _ (P : T → Type 0) where
-    every_put : (ys : List T) → Every P ys → Every (λ s. P (record_of s)) (map put ys)
+    every_put : (ys : List T) → Every P ys → Every (λ s. P (record_of_step s)) (map put ys)
     every_put [] h = tt
     every_put (y ∷ ys) h = (h.0, every_put ys h.1)
 
-    every_merged : (x : T) (rest : List T → List (Step T)) → P x → ((ys : List T) → Every P ys → Every (λ s. P (record_of s)) (rest ys)) → (ys : List T)
-        → Every P ys → Every (λ s. P (record_of s)) (merged_from cmp same x rest ys)
+    every_merged : (x : T) (rest : List T → List (Step T)) → P x → ((ys : List T) → Every P ys → Every (λ s. P (record_of_step s)) (rest ys)) → (ys : List T)
+        → Every P ys → Every (λ s. P (record_of_step s)) (merged_from cmp same x rest ys)
     every_merged x rest p more [] h = (p, more [] tt)
     every_merged x rest p more (y ∷ ys) h = go (cmp x y) (every_merged x rest p more ys h.1)
       where
-        either : (b : Bool) → Every (λ s. P (record_of s)) (cond b (rest ys) (put y ∷ rest ys))
+        either : (b : Bool) → Every (λ s. P (record_of_step s)) (cond b (rest ys) (put y ∷ rest ys))
         either true = more ys h.1
         either false = (h.0, more ys h.1)
 
-        go : (o : Ordering) → Every (λ s. P (record_of s)) (merged_from cmp same x rest ys)
-            → Every (λ s. P (record_of s)) (match_ordering o (gone x ∷ rest (y ∷ ys)) (replaced same x y (rest ys)) (put y ∷ merged_from cmp same x rest ys))
+        go : (o : Ordering) → Every (λ s. P (record_of_step s)) (merged_from cmp same x rest ys)
+            → Every (λ s. P (record_of_step s)) (match_ordering o (gone x ∷ rest (y ∷ ys)) (replaced same x y (rest ys)) (put y ∷ merged_from cmp same x rest ys))
         go Less ih = (p, more (y ∷ ys) h)
         go Equal ih = either (same y x)
         go Greater ih = (h.0, ih)
 
-    every_step : (held new : List T) → Every P held → Every P new → Every (λ s. P (record_of s)) (merged cmp same held new)
+    every_step : (held new : List T) → Every P held → Every P new → Every (λ s. P (record_of_step s)) (merged cmp same held new)
     every_step [] new h k = every_put new k
     every_step (x ∷ held) new h k = every_merged x (merged cmp same held) h.0 (λ ys l. every_step held ys h.1 l) new k
 
@@ -80,9 +80,9 @@ module _ {T : Type 0} (cmp : T → T → Ordering) (total : IsTotalOrder cmp) (s
   after_steps z held new h k = every_step (λ x. cmp z x ≡ Less) held new (later z held h) (later z new k)
 
   abbrev by_record : Step T → Step T → Ordering
-  by_record a b = cmp (record_of a) (record_of b)
+  by_record a b = cmp (record_of_step a) (record_of_step b)
 
-  all_later : (s : Step T) (steps : List (Step T)) → Every (Later (record_of s)) steps → AllAfter by_record s steps
+  all_later : (s : Step T) (steps : List (Step T)) → Every (Later (record_of_step s)) steps → AllAfter by_record s steps
   all_later s [] h = tt
   all_later s (t ∷ steps) h = (h.0, all_later s steps h.1)
 
@@ -134,10 +134,10 @@ module _ {T : Type 0} (cmp : T → T → Ordering) (total : IsTotalOrder cmp) (s
   passes_gone z x xs e = ap (λ o. cond (is_eq o) xs (z ∷ remove_by (cmp x) xs)) (turned z x Less e)
 
   -- steps after a record leave it where it is
-  past : (z : T) (xs : List T) (steps : List (Step T)) → begins z steps → stepped cmp (z ∷ xs) steps ≡ z ∷ stepped cmp xs steps
+  past : (z : T) (xs : List T) (steps : List (Step T)) → begins z steps → stepped_list cmp (z ∷ xs) steps ≡ z ∷ stepped_list cmp xs steps
   past z xs [] h = refl
-  past z xs (gone x ∷ steps) h = ap (λ l. stepped cmp l steps) (passes_gone z x xs h.0) ∙ past z (remove_by (cmp x) xs) steps h.1
-  past z xs (put y ∷ steps) h = ap (λ l. stepped cmp l steps) (passes_put z y xs h.0) ∙ past z (put_by (cmp y) xs y) steps h.1
+  past z xs (gone x ∷ steps) h = ap (λ l. stepped_list cmp l steps) (passes_gone z x xs h.0) ∙ past z (remove_by (cmp x) xs) steps h.1
+  past z xs (put y ∷ steps) h = ap (λ l. stepped_list cmp l steps) (passes_put z y xs h.0) ∙ past z (put_by (cmp y) xs y) steps h.1
 
   equal_itself : (x : T) → is_eq (cmp x x) ≡ true
   equal_itself x = ap is_eq (tied_itself total x)
@@ -146,39 +146,39 @@ module _ {T : Type 0} (cmp : T → T → Ordering) (total : IsTotalOrder cmp) (s
   first_gone x xs = ap (λ b. cond b xs (x ∷ remove_by (cmp x) xs)) (equal_itself x)
 
   module _ (exact : (x y : T) → same x y ≡ true → x ≡ y) where
-    made_put : (new : List T) → IsAscending cmp new → stepped cmp [] (map put new) ≡ new
+    made_put : (new : List T) → IsAscending cmp new → stepped_list cmp [] (map put new) ≡ new
     made_put [] up = refl
     made_put (y ∷ ys) up = past y [] (map put ys) (every_put (λ x. cmp y x ≡ Less) ys (later y ys up.0)) ∙ ap (λ l. y ∷ l) (made_put ys up.1)
 
-    made_merged : (x : T) (held : List T) → AllAfter cmp x held → ((ys : List T) → IsAscending cmp ys → stepped cmp held (merged cmp same held ys) ≡ ys)
+    made_merged : (x : T) (held : List T) → AllAfter cmp x held → ((ys : List T) → IsAscending cmp ys → stepped_list cmp held (merged cmp same held ys) ≡ ys)
         → (new : List T) → IsAscending cmp new
-        → stepped cmp (x ∷ held) (merged cmp same (x ∷ held) new) ≡ new
-    made_merged x held low more [] up = ap (λ l. stepped cmp l (merged cmp same held [])) (first_gone x held) ∙ more [] tt
+        → stepped_list cmp (x ∷ held) (merged cmp same (x ∷ held) new) ≡ new
+    made_merged x held low more [] up = ap (λ l. stepped_list cmp l (merged cmp same held [])) (first_gone x held) ∙ more [] tt
     made_merged x held low more (y ∷ ys) up = go (cmp x y) refl (made_merged x held low more ys up.1)
       where
         either : (b : Bool) → same y x ≡ b → cmp x y ≡ Equal
-            → stepped cmp (x ∷ held) (cond b (merged cmp same held ys) (put y ∷ merged cmp same held ys)) ≡ y ∷ ys
+            → stepped_list cmp (x ∷ held) (cond b (merged cmp same held ys) (put y ∷ merged cmp same held ys)) ≡ y ∷ ys
         either true k e =
             let is = exact y x k in
             past x held (merged cmp same held ys) (after_steps x held ys low (subst (λ z. AllAfter cmp z ys) is up.0)) ∙ ap (λ l. x ∷ l) (more ys up.1)
             ∙ ap (λ z. z ∷ ys) (sym is)
         either false k e =
-            ap (λ o. stepped cmp (match_ordering o (y ∷ x ∷ held) (y ∷ held) (x ∷ put_by (cmp y) held y)) (merged cmp same held ys)) (turned x y Equal e)
+            ap (λ o. stepped_list cmp (match_ordering o (y ∷ x ∷ held) (y ∷ held) (x ∷ put_by (cmp y) held y)) (merged cmp same held ys)) (turned x y Equal e)
             ∙ past y held (merged cmp same held ys) (after_steps y held ys (level_all x y held low e) up.0) ∙ ap (λ l. y ∷ l) (more ys up.1)
 
-        go : (o : Ordering) → cmp x y ≡ o → stepped cmp (x ∷ held) (merged cmp same (x ∷ held) ys) ≡ ys
-            → stepped cmp (x
+        go : (o : Ordering) → cmp x y ≡ o → stepped_list cmp (x ∷ held) (merged cmp same (x ∷ held) ys) ≡ ys
+            → stepped_list cmp (x
             ∷ held) (match_ordering o (gone x ∷ merged cmp same held (y ∷ ys)) (replaced same x y (merged cmp same held ys))
             (put y ∷ merged cmp same (x ∷ held) ys))
             ≡ y ∷ ys
-        go Less e ih = ap (λ l. stepped cmp l (merged cmp same held (y ∷ ys))) (first_gone x held) ∙ more (y ∷ ys) up
+        go Less e ih = ap (λ l. stepped_list cmp l (merged cmp same held (y ∷ ys))) (first_gone x held) ∙ more (y ∷ ys) up
         go Equal e ih = either (same y x) refl e
         go Greater e ih =
             let first = turned x y Greater e in
-            ap (λ o. stepped cmp (match_ordering o (y ∷ x ∷ held) (y ∷ held) (x ∷ put_by (cmp y) held y)) (merged cmp same (x ∷ held) ys)) first
+            ap (λ o. stepped_list cmp (match_ordering o (y ∷ x ∷ held) (y ∷ held) (x ∷ put_by (cmp y) held y)) (merged cmp same (x ∷ held) ys)) first
             ∙ past y (x ∷ held) (merged cmp same (x ∷ held) ys) (after_steps y (x ∷ held) ys (first, before_all x y held low e) up.0) ∙ ap (λ l. y ∷ l) ih
 
-    pub made_steps : (held new : List T) → IsAscending cmp held → IsAscending cmp new → stepped cmp held (merged cmp same held new) ≡ new
+    pub made_steps : (held new : List T) → IsAscending cmp held → IsAscending cmp new → stepped_list cmp held (merged cmp same held new) ≡ new
     made_steps [] new h k = made_put new k
     made_steps (x ∷ held) new h k = made_merged x held h.0 (λ ys l. made_steps held ys h.1 l) new k
 
@@ -196,7 +196,7 @@ module _ {T : Type 0} (cmp : T → T → Ordering) (total : IsTotalOrder cmp) (s
   none_keyed : (x z : T) → cmp x z ≡ Less → cmp z x ≡ Equal → ⊥
   none_keyed x z low k = not_equal z x Greater (turned x z Less low) refl k
 
-  other_after : (z : T) (xs : List T) → AllAfter cmp z xs → IsOther cmp same z xs
+  other_after : (z : T) (xs : List T) → AllAfter cmp z xs → IsOtherRecord cmp same z xs
   other_after z [] h = tt
   other_after z (x ∷ xs) h = (λ k. absurd (none_keyed z x h.0 k), other_after z xs h.1)
 
@@ -268,7 +268,7 @@ module _ {T : Type 0} (cmp : T → T → Ordering) (total : IsTotalOrder cmp) (s
   names_gone (x ∷ held) new h k z = names_merged x held h.0 (λ ys l. names_gone held ys h.1 l) new k z
 
   abbrev PutIn : T → List T → List T → List (Step T) → Type 0
-  PutIn z held new steps = (Among (put z) steps → Among z new × IsOther cmp same z held) × (Among z new × IsOther cmp same z held → Among (put z) steps)
+  PutIn z held new steps = (Among (put z) steps → Among z new × IsOtherRecord cmp same z held) × (Among z new × IsOtherRecord cmp same z held → Among (put z) steps)
 
   abbrev NamesPut : List T → List T → Type 0
   NamesPut held new = (z : T) → PutIn z held new (merged cmp same held new)
@@ -300,7 +300,7 @@ module _ {T : Type 0} (cmp : T → T → Ordering) (total : IsTotalOrder cmp) (s
         λ a. elim a [
           | inl is ↦ (
             inl (put_is z y is),
-            subst (λ v. IsOther cmp same v (x ∷ held)) (sym (put_is z y is)) (λ _. k, other_after y held (level_all x y held low e)),
+            subst (λ v. IsOtherRecord cmp same v (x ∷ held)) (sym (put_is z y is)) (λ _. k, other_after y held (level_all x y held low e)),
           )
           | inr b ↦ let m = (more ys up.1 z).0 b in (inr m.0, (ahead (after_level e m.0), m.1))
         ],
@@ -323,7 +323,7 @@ module _ {T : Type 0} (cmp : T → T → Ordering) (total : IsTotalOrder cmp) (s
         λ a. elim a [
           | inl is ↦ (
             inl (put_is z y is),
-            subst (λ v. IsOther cmp same v (x ∷ held)) (sym (put_is z y is)) (other_after y (x ∷ held) (turned x y Greater e, before_all x y held low e)),
+            subst (λ v. IsOtherRecord cmp same v (x ∷ held)) (sym (put_is z y is)) (other_after y (x ∷ held) (turned x y Greater e, before_all x y held low e)),
           )
           | inr b ↦ let m = ih.0 b in (inr m.0, m.1)
         ],

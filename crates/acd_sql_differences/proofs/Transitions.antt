@@ -20,8 +20,8 @@ use Rattle.acd_model.specs.declared.moves.Change.TheVariants.{Nothing, PutGroup,
 use Rattle.acd_model.proofs.ChangeLemmas.{changed_by_append}
 use Rattle.acd_lemmas.specs.Orders.{Orders}
 use Rattle.acd_lemmas.proofs.SameRecords.{same_group, same_station, same_agent, same_call, same_connection, same_monitor}
-use Rattle.acd_sql_differences.specs.Differing.{Step, gone, put, change_by, stepped, LeadTo, differences}
-use Rattle.acd_sql_differences.specs.Leading.{group_eq, station_eq, agent_eq, call_eq, connection_eq, monitor_eq, none_gone, call_gone, connection_gone, monitor_gone, unseated, stays, plan_differences, traffic_differences, rows_differences}
+use Rattle.acd_sql_differences.specs.DifferenceSteps.{Step, gone, put, change_by, stepped_list, LeadTo, differences}
+use Rattle.acd_sql_differences.specs.ChangeOrder.{group_eq, station_eq, agent_eq, call_eq, connection_eq, monitor_eq, none_gone, call_gone, connection_gone, monitor_gone, unseated, stays, plan_differences, traffic_differences, rows_differences}
 use Rattle.acd_sql_differences.specs.Transition.{HasTables, AreWhole, Lead, AddsSteps, with_plan}
 
 tables_on : (a b c : Rows) → HasTables a b → HasTables b c → HasTables a c
@@ -59,14 +59,14 @@ IsExact {T} same = (x y : T) → same x y ≡ true → x ≡ y
 
 module _ {T : Type 0} (cmp : T → T → Ordering) (off on : T → Change) (k : Kind cmp off on) where
   onward : (s next : Rows) (xs : List T) (steps : List (Step T)) → HasTables next (k.set s xs)
-      → HasTables (k.set next (stepped cmp (k.get next) steps)) (k.set s (stepped cmp xs steps))
+      → HasTables (k.set next (stepped_list cmp (k.get next) steps)) (k.set s (stepped_list cmp xs steps))
   onward s next xs steps h =
       let there : k.get next ≡ xs = k.get_same next (k.set s xs) h ∙ k.get_set s xs in
-      subst (λ l. HasTables (k.set next (stepped cmp l steps)) (k.set s (stepped cmp xs steps))) (sym there)
-      (tables_on _ _ _ (k.set_same next (k.set s xs) (stepped cmp xs steps) h) (k.set_twice s xs (stepped cmp xs steps)))
+      subst (λ l. HasTables (k.set next (stepped_list cmp l steps)) (k.set s (stepped_list cmp xs steps))) (sym there)
+      (tables_on _ _ _ (k.set_same next (k.set s xs) (stepped_list cmp xs steps) h) (k.set_twice s xs (stepped_list cmp xs steps)))
 
   steps_made : (s : Rows) (steps : List (Step T)) → AreWhole (map (change_by off on) steps)
-      → HasTables (changed_by s (map (change_by off on) steps)) (k.set s (stepped cmp (k.get s) steps))
+      → HasTables (changed_by s (map (change_by off on) steps)) (k.set s (stepped_list cmp (k.get s) steps))
   steps_made s [] whole = k.set_itself s
   steps_made s (gone x ∷ steps) whole =
       tables_on _ _ _ (steps_made (changed s (off x)) steps whole.1) (onward s (changed s (off x)) (remove_by (cmp x) (k.get s)) steps (k.outs s x whole.0))
@@ -79,7 +79,7 @@ module _ {T : Type 0} (cmp : T → T → Ordering) (off on : T → Change) (k : 
   leads same exact s t new more h up next lead whole =
       let found = lead up next in
       let made = steps_made s found.0 (subst AreWhole found.2 whole) in
-      let list : stepped cmp (k.get s) found.0 ≡ new = ap (λ l. stepped cmp l found.0) (k.get_same s t h) ∙ found.1.made exact in
+      let list : stepped_list cmp (k.get s) found.0 ≡ new = ap (λ l. stepped_list cmp l found.0) (k.get_same s t h) ∙ found.1.made exact in
       subst (λ c. HasTables (changed_by s c) (k.set t new)) (sym found.2)
       (tables_on _ _ _ (subst (λ l. HasTables (changed_by s (map (change_by off on) found.0)) (k.set s l)) list made) (k.set_same s t new h))
 

@@ -15,11 +15,11 @@ use Rattle.acd_model.specs.Rules.Plan.{group_order, station_order, agent_order, 
 use Rattle.acd_model.specs.declared.moves.Change.{Change}
 use Rattle.acd_model.specs.declared.moves.Change.TheVariants.{Nothing, PutGroup, PutStation, PutAgent, PutCall, PutConnection, PutMonitor}
 use Rattle.acd_lemmas.specs.Orders.{Orders}
-use Rattle.acd_lemmas.proofs.Keyed.{cmp_self}
+use Rattle.acd_lemmas.proofs.KeyedLists.{cmp_self}
 use Rattle.acd_lemmas.proofs.Lists.{every_among, every_from, every-append}
 use Rattle.acd_lemmas.proofs.State.{groups_total, stations_total, agents_total}
-use Rattle.acd_sql_differences.specs.Differing.{Step, gone, put, change_by, IsNoKey, merged, differences}
-use Rattle.acd_sql_differences.specs.Leading.{group_eq, station_eq, agent_eq, call_eq, connection_eq, monitor_eq, none_gone, call_gone, connection_gone, monitor_gone, unseated, stays, plan_differences, traffic_differences, rows_differences}
+use Rattle.acd_sql_differences.specs.DifferenceSteps.{Step, gone, put, change_by, IsNoKey, merged, differences}
+use Rattle.acd_sql_differences.specs.ChangeOrder.{group_eq, station_eq, agent_eq, call_eq, connection_eq, monitor_eq, none_gone, call_gone, connection_gone, monitor_gone, unseated, stays, plan_differences, traffic_differences, rows_differences}
 use Rattle.acd_sql_differences.specs.Transition.{AreWhole, KeepsPlan}
 use Rattle.acd_sql_differences.proofs.Differences.{names_gone}
 use Rattle.acd_sql_differences.proofs.Transitions.{ascending_same, unseated_numbers, whole_front, whole_back}

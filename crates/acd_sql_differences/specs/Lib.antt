@@ -1,3 +1,3 @@
-pub mod Differing
+pub mod DifferenceSteps
 pub mod Transition
-pub mod Leading
+pub mod ChangeOrder

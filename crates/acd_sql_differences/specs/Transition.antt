@@ -9,7 +9,7 @@ use Rattle.acd_model.specs.Changes.{changed_by}
 use Rattle.acd_model.specs.declared.moves.Change.{Change}
 use Rattle.acd_model.specs.declared.moves.Change.TheVariants.{Nothing}
 use Rattle.acd_lemmas.specs.Orders.{Orders}
-use Rattle.acd_sql_differences.specs.Differing.{IsNoKey, LeadTo, differences, Comparing}
+use Rattle.acd_sql_differences.specs.DifferenceSteps.{IsNoKey, LeadTo, differences, Comparing}
 
 -- the lists of one are those of the other; the limits and the counters are not asked for
 pub record HasTables (s t : Rows) : Type 0 where

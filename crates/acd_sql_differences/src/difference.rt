@@ -1,8 +1,8 @@
 //! The changes from the records that are held to new ones.
 
 ghost use Rattle.std.specs.Prelude.{◌≡◌, ◌++◌, [], None, option_to_list, IfSome, IfOk, OnOk};
-ghost use Rattle.acd_sql_differences.specs.Differing.{differences_of, keyed, AreDifferences, Changes, IsShorter, IsTurn};
-ghost use Rattle.acd_sql_differences.specs.Leading.{agent_changes, call_changes, connection_changes, group_changes, monitor_changes, station_changes};
+ghost use Rattle.acd_sql_differences.specs.DifferenceSteps.{differences_of, keyed_steps, AreDifferences, Changes, IsShorter, IsTurn};
+ghost use Rattle.acd_sql_differences.specs.ChangeOrder.{agent_changes, call_changes, connection_changes, group_changes, monitor_changes, station_changes};
 
 use acd_model::Change;
 use acd_terms::{
@@ -101,10 +101,10 @@ fn turn<'a, R: TableRecord>(
     new: &'a [R],
 ) -> Option<(Option<Change>, &'a [R], &'a [R])>
     ensures leads { IfSome result
-        (IsTurn (keyed R.key_of R.Key.cmp R.eq R.changes) held.now new.now) }
+        (IsTurn (keyed_steps R.key_of R.Key.cmp R.eq R.changes) held.now new.now) }
     ensures shorter { IfSome result (IsShorter held.now new.now) }
     ensures ends { result ≡ None
-        → differences_of (keyed R.key_of R.Key.cmp R.eq R.changes) held.now new.now ≡ [] }
+        → differences_of (keyed_steps R.key_of R.Key.cmp R.eq R.changes) held.now new.now ≡ [] }
 {
     match (held.split_first(), new.split_first()) {
         (None, None) => None,
@@ -139,7 +139,7 @@ pub fn row_changes<R: TableRecord>(
     new: &[R],
 ) -> Result<Vec<Change>, AllocError>
     ensures { IfOk result
-        (AreDifferences (keyed R.key_of R.Key.cmp R.eq R.changes) held.now new.now) }
+        (AreDifferences (keyed_steps R.key_of R.Key.cmp R.eq R.changes) held.now new.now) }
 {
     let mut changes = Vec::new(alloc);
     let mut left = held;

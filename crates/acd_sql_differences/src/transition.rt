@@ -2,9 +2,9 @@
 //! and keys as the schema wants them.
 
 ghost use Rattle.std.specs.Prelude.{◌≡◌, ◌↔◌, ◌++◌, filter, map, IfOk, OnOk, IsTrue};
-ghost use Rattle.acd_sql_differences.specs.Leading.{shared_station, station_in, unseated, stays, plan_differences, traffic_differences, rows_differences};
+ghost use Rattle.acd_sql_differences.specs.ChangeOrder.{shared_station, agent_station, unseated, stays, plan_differences, traffic_differences, rows_differences};
 ghost use Rattle.acd_sql_differences.specs.Transition.{with_plan, AddsDifferences, AreWhole, AreWholeIfKept, Lead};
-ghost use Rattle.acd_sql_differences.specs.Differing.{keyed};
+ghost use Rattle.acd_sql_differences.specs.DifferenceSteps.{keyed_steps};
 
 use crate::difference::{TableRecord, row_changes};
 use acd_model::Change;
@@ -25,7 +25,7 @@ fn add_changes<R: TableRecord>(
     held: &[R],
     new: &[R],
 ) -> Result<(), AllocError>
-    ensures { OnOk result (AddsDifferences (keyed R.key_of R.Key.cmp R.eq R.changes)
+    ensures { OnOk result (AddsDifferences (keyed_steps R.key_of R.Key.cmp R.eq R.changes)
         held.now new.now changes.old changes.new) }
 {
     let more = row_changes(alloc, held, new)?;
@@ -42,8 +42,8 @@ fn shared_station(one: Option<DeviceId>, other: Option<DeviceId>) -> Option<Devi
     }
 }
 
-fn station_in(agent: Option<AgentRecord>) -> Option<DeviceId>
-    ensures { result ≡ station_in agent }
+fn agent_station(agent: Option<AgentRecord>) -> Option<DeviceId>
+    ensures { result ≡ agent_station agent }
 {
     match agent {
         Some(agent) => agent.station,
@@ -52,11 +52,11 @@ fn station_in(agent: Option<AgentRecord>) -> Option<DeviceId>
 }
 
 // The agent as it is held, but without a station that is to be another's, or nobody's.
-#[tactic(auto, unfolding(crate::specs::Leading::unseated))]
+#[tactic(auto, unfolding(crate::specs::ChangeOrder::unseated))]
 fn unseated(agent: &AgentRecord, new: &[AgentRecord]) -> AgentRecord
     ensures { result ≡ unseated new.now agent.now }
 {
-    let next = station_in(find(new, agent.agent));
+    let next = agent_station(find(new, agent.agent));
     AgentRecord {
         station: shared_station(agent.station, next),
         ..*agent
@@ -79,7 +79,7 @@ fn all_unseated(
 }
 
 // Whether a connection of its key is among these.
-#[tactic(auto, unfolding(crate::specs::Leading::stays))]
+#[tactic(auto, unfolding(crate::specs::ChangeOrder::stays))]
 fn stays(new: &[ConnectionRecord], connection: &ConnectionRecord) -> bool
     ensures { result ≡ stays new.now connection.now }
 {

@@ -40,39 +40,39 @@ use Rattle.acd_sql_columns.specs.declared.tables.Table.TheVariants as table
 use Rattle.acd_sql_columns.specs.declared.tables.Version.{Version}
 use Rattle.acd_sql_columns.specs.declared.tables.Version.TheVariants as version
 use Rattle.acd_sql_columns.specs.AnyRows.{is_good, are_good, is_good_in, values_in, rows_in, schema_of, IsCanonicalAs, HaveAllColumns}
-use Rattle.acd_sql_schema.specs.Inspecting.{IsOfBook}
+use Rattle.acd_sql_schema.specs.Inspection.{IsOfBook}
 use Rattle.acd_sql_columns.specs.InRange.{is_good_table, IsInRange}
 use Rattle.acd_sql_columns.specs.declared.relations.AgentRow.{AgentRow}
 use Rattle.acd_sql_columns.specs.declared.relations.GroupRow.{GroupRow}
 use Rattle.acd_sql_columns.specs.declared.relations.GroupPriority.{GroupPriority}
-use Rattle.acd_sql_columns.specs.Content.{AreRows, AreHeaped, Encodes, EncodesAs, FitsIn, StoresAs, IsIn, number_of, part, tree_of}
+use Rattle.acd_sql_columns.specs.Content.{AreRows, AreHeaped, Encodes, EncodesAs, FitsIn, StoresAs, IsIn, version_number, part, tree_of}
 use Rattle.acd_sql_columns.specs.Descriptions.{Description, Heap, after_key, after_both, row_of, numbered_row, by_both}
 use Rattle.acd_sql_columns.specs.InTables.{in_order}
 use Rattle.acd_sql_columns.specs.Ranges.{counters_in}
 use Rattle.acd_sql_columns.specs.Relations.{Relations, pair_order, relations_of, group_part, agent_part, further_in, priorities_in, joined_group, joined_agent}
 use Rattle.acd_sql_columns.specs.Rows.{keyed_row, meta_row_as, meta_shown, group_row, agent_row, further_row, priority_row, group_values, agent_values, further_values, priority_values}
-use Rattle.acd_sql_columns.specs.Schema.{Layout, after_first, table_of, nine, with_later, book_schema, BeginsSchema}
+use Rattle.acd_sql_columns.specs.Schema.{Layout, after_first, table_of, tables_1, with_later, book_schema, BeginsSchema}
 use Rattle.acd_sql_columns.specs.Schema as schema
 use Rattle.acd_sql_columns.specs.Tables.{groups, stations, agents, calls, connections, monitors, events, kept, group_priority, agent_groups}
 use Rattle.acd_sql_columns.specs.Values.{id_value, cells}
 use Rattle.acd_sql_columns.proofs.AgentGroups.{groups_heaped}
-use Rattle.acd_sql_columns.proofs.Asked.{columns}
+use Rattle.acd_sql_columns.proofs.QueryAnswers.{columns}
 use Rattle.acd_sql_columns.proofs.Connections.{connections_heaped}
-use Rattle.acd_sql_columns.proofs.Decoded.{old_in, with_all, ordered, from_order, to_order}
-use Rattle.acd_sql_columns.proofs.Described.{Described, tree_is, good, headed, shows_values}
-use Rattle.acd_sql_columns.proofs.Heaped.{Heaped, key_columns, has_twin, no_twin, starts, agreed, heap_tree}
-use Rattle.acd_sql_columns.proofs.Heaps.{one_number, by_both_total, like_tied, key_met, met_key}
+use Rattle.acd_sql_columns.proofs.RowsOfRecords.{old_in, with_all, ordered, from_order, to_order}
+use Rattle.acd_sql_columns.proofs.DescribedTable.{Described, tree_is, good, headed, shows_values}
+use Rattle.acd_sql_columns.proofs.CompositeKeyed.{Heaped, key_columns, has_twin, no_twin, starts, agreed, heap_tree}
+use Rattle.acd_sql_columns.proofs.CompositeKeys.{one_number, by_both_total, like_tied, key_met, met_key}
 use Rattle.acd_sql_columns.proofs.KeyedRows.{id_cmp, id_tied}
 use Rattle.acd_sql_columns.proofs.Listings.{begun, version_begins}
-use Rattle.acd_sql_columns.proofs.Looked.{mapped_all, ascending_of, rising_of}
-use Rattle.acd_sql_columns.proofs.Ranged.{row_is, null_is, whole_stored}
+use Rattle.acd_sql_columns.proofs.QueryResults.{mapped_all, ascending_of, rising_of}
+use Rattle.acd_sql_columns.proofs.ValuesInRange.{row_is, null_is, whole_stored}
 use Rattle.acd_sql_columns.proofs.Records.{counters_stored}
-use Rattle.acd_sql_columns.proofs.Rejoined.{parts_rejoined, further_rejoined, groups_right, group_parts_rejoined, priorities_rejoined}
+use Rattle.acd_sql_columns.proofs.RejoinedRows.{parts_rejoined, further_rejoined, groups_right, group_parts_rejoined, priorities_rejoined}
 use Rattle.acd_sql_columns.proofs.Scans.{showing, each}
 use Rattle.acd_sql_columns.proofs.TablesDescribed.{priorities_described, groups_described, stations_described, agents_described, calls_described, monitors_described, events_described, kept_described}
 use Rattle.acd_sql_schema.proofs.Places.{Beside, NoneBefore, none_beside, all_beside, longer}
 use Rattle.acd_lemmas.proofs.Numbers.{same_number}
-use Rattle.acd_lemmas.proofs.Keyed.{eqb_self}
+use Rattle.acd_lemmas.proofs.KeyedLists.{eqb_self}
 use Rattle.acd_lemmas.proofs.Lists.{some_is, some_from as there}
 
 -- ---- lists of rows
@@ -387,8 +387,8 @@ module _ {R : Type 0} (h : Heap R) (f : Heaped h) where
 
 -- ---- the whole
 
-rules_of : (d : Database) (b : BeginsSchema nine d.schema) → IsDatabase d → (rule : Constraint) → Keeps rule (with_later nine b.0 d.schema) d.trees
-rules_of d b obeys rule = subst (λ s. Keeps rule s d.trees) (begun nine d.schema b) (obeys.obeys.rules rule)
+rules_of : (d : Database) (b : BeginsSchema tables_1 d.schema) → IsDatabase d → (rule : Constraint) → Keeps rule (with_later tables_1 b.0 d.schema) d.trees
+rules_of d b obeys rule = subst (λ s. Keeps rule s d.trees) (begun tables_1 d.schema b) (obeys.obeys.rules rule)
 
 good_rows : (t : Table) (db : Trees) → is_good_in t db ≡ true → AllByRecursion (λ r. is_good t (values_in t r) ≡ true) (db (tree_of t))
 unfolding is_good_in
@@ -397,7 +397,7 @@ good_rows t db h = of_mapped (λ r. is_good t r ≡ true) (values_in t) (db (tre
 -- the content of each table
 record Parts (v : Version) (db : Trees) : Type 0 where
   pub meta : Meta
-  pub meta_is : db (tree_of table.Meta) ≡ meta_row_as (number_of v) meta ∷ []
+  pub meta_is : db (tree_of table.Meta) ≡ meta_row_as (version_number v) meta ∷ []
   pub meta_good : is_some (counters_in (meta_shown meta)) ≡ true
   pub groups : AreOf groups groups_described (db (tree_of table.Groups))
   pub stations : AreOf stations stations_described (db (tree_of table.Stations))
@@ -421,22 +421,22 @@ module _ (v : Version) (d : Database) (book : IsOfBook v d) (obeys : IsDatabase 
   in_range : (t : Table) → IsIn v t → AllByRecursion (λ r. is_good t (values_in t r) ≡ true) (d.trees (tree_of t))
   in_range t here = good_rows t d.trees (book.in_range (as_first v d.trees canonical) t here)
 
-  nine_there : BeginsSchema nine d.schema
+  nine_there : BeginsSchema tables_1 d.schema
   nine_there = version_begins v d.schema book.schema_is
 
   abbrev its_schema : Schema
-  its_schema = with_later nine nine_there.0 d.schema
+  its_schema = with_later tables_1 nine_there.0 d.schema
 
   -- a rule on a table of the nine
-  ruled : (rule : Constraint) (l : Layout) (place : ℕ) → slice_get nine place ≡ Some (table_of l)
+  ruled : (rule : Constraint) (l : Layout) (place : ℕ) → slice_get tables_1 place ≡ Some (table_of l)
       → AllByRecursion (λ r. passes rule its_schema d.trees (table_of l) r ≡ true) (d.trees l.tree)
   ruled rule l place here =
-      all_has (λ t. AllByRecursion (λ r. passes rule its_schema d.trees t r ≡ true) (d.trees t.tree)) (nine ++ nine_there.0) (table_of l)
+      all_has (λ t. AllByRecursion (λ r. passes rule its_schema d.trees t r ≡ true) (d.trees t.tree)) (tables_1 ++ nine_there.0) (table_of l)
       (rules_of d nine_there obeys rule)
-      (has_left nine nine_there.0 (table_of l) (has_got nine place (table_of l) here))
+      (has_left tables_1 nine_there.0 (table_of l) (has_got tables_1 place (table_of l) here))
 
   -- each row has a value for each column where the last one is never NULL
-  whole_rows : (l : Layout) (place : ℕ) → slice_get nine place ≡ Some (table_of l) → l.key ≡ Some 0 → ends (drop 1 l.columns) ≡ true
+  whole_rows : (l : Layout) (place : ℕ) → slice_get tables_1 place ≡ Some (table_of l) → l.key ≡ Some 0 → ends (drop 1 l.columns) ≡ true
       → AllByRecursion (λ r. length r ≡ suc (length l.columns)) (d.trees l.tree)
   whole_rows l place here key end =
       let rows = d.trees l.tree in
@@ -446,7 +446,7 @@ module _ (v : Version) (d : Database) (book : IsOfBook v d) (obeys : IsDatabase 
       (all_has (λ r. are_present l.key 0 l.columns r ≡ true) rows r (ruled rule.NotNull l place here) k))
 
   module _ {R : Type 0} (e : Description R) (f : Described e) (old : IsIn version.First e.table)
-      (here : slice_get nine e.place ≡ Some (table_of e.layout)) where
+      (here : slice_get tables_1 e.place ≡ Some (table_of e.layout)) where
     described : AllByRecursion (λ r. length r ≡ suc (suc (after_key e))) (d.trees (tree_of e.table)) → AreOf e f (d.trees (tree_of e.table))
     described w =
         are_of e f (d.trees (tree_of e.table)) (canonical.rising e.table (old_in v e.table old)) w
@@ -508,7 +508,7 @@ module _ (v : Version) (d : Database) (book : IsOfBook v d) (obeys : IsDatabase 
   meta_whole : AllByRecursion (λ r. length r ≡ suc (length schema.meta.columns)) (d.trees (tree_of table.Meta))
   meta_whole = whole_rows v d book obeys canonical schema.meta 0 refl refl refl
 
-  one_row : (r : Row) × (d.trees (tree_of table.Meta) ≡ r ∷ []) × (rowid r ≡ id_value 1) × (column r 2 ≡ id_value (number_of v))
+  one_row : (r : Row) × (d.trees (tree_of table.Meta) ≡ r ∷ []) × (rowid r ≡ id_value 1) × (column r 2 ≡ id_value (version_number v))
   one_row =
       let version_row = book.version in
       let here =
@@ -517,7 +517,7 @@ module _ (v : Version) (d : Database) (book : IsOfBook v d) (obeys : IsDatabase 
         version_row.0,
         alone (d.trees (tree_of table.Meta)) version_row.0 version_row.1 here (canonical.rising table.Meta (old_in v table.Meta tt)),
         all_has (λ r. rowid r ≡ id_value 1) (d.trees (tree_of table.Meta)) version_row.0 here version_row.1,
-        whole_stored version_row.0 2 (number_of v) version_row.2,
+        whole_stored version_row.0 2 (version_number v) version_row.2,
       )
 
   its_groups : AreOf groups groups_described (d.trees (tree_of table.Groups))
@@ -541,7 +541,7 @@ module _ (v : Version) (d : Database) (book : IsOfBook v d) (obeys : IsDatabase 
         meta_is =
             row.1
             ∙ ap (λ r. r ∷ [])
-            (meta_form (number_of v) row.0 m.0 whole.0 row.2 (key_null schema.meta (after_first schema.meta) row.0 refl whole.0 typed.0) row.3 shown);
+            (meta_form (version_number v) row.0 m.0 whole.0 row.2 (key_null schema.meta (after_first schema.meta) row.0 refl whole.0 typed.0) row.3 shown);
         meta_good = ap (λ r. is_some (counters_in r)) (sym shown) ∙ good.0;
         groups = its_groups;
         stations = described v d book obeys canonical stations stations_described tt refl canonical.whole.0;
@@ -572,7 +572,7 @@ module _ (v : Version) (db : Trees) (p : Parts v db) where
   priorities_same : priorities_in (map (joined_group p.beside.priorities) p.groups.records) ≡ p.beside.priorities
   priorities_same = priorities_rejoined p.groups.records p.beside.priorities p.groups.are.ascending p.beside.priorities_rise p.beside.ranked p.beside.known
 
-  tables_are : (t : Table) → IsIn v t → StoresAs (number_of v) t (db (tree_of t)) (part t (relations_of whole_content))
+  tables_are : (t : Table) → IsIn v t → StoresAs (version_number v) t (db (tree_of t)) (part t (relations_of whole_content))
   tables_are table.Meta here = p.meta_is
   tables_are table.Groups here = subst (AreRows (λ (g : GroupRow). g.device) group_row (db (tree_of table.Groups))) (sym groups_same) p.groups.are
   tables_are table.Stations here = p.stations.are

@@ -11,23 +11,23 @@ use Rattle.acd_sql_columns.specs.declared.tables.Table.{Table}
 use Rattle.acd_sql_columns.specs.declared.tables.Version.{Version}
 use Rattle.acd_sql_columns.specs.declared.tables.Version.TheVariants as version
 use Rattle.acd_sql_columns.specs.AnyRows.{AreSameFirst, BeginsAsBook, Covers, IsCanonical, schema_of, FindsGood}
-use Rattle.acd_sql_columns.specs.Schema.{nine, old_schema, book_schema, BeginsSchema}
-use Rattle.acd_sql_columns.specs.Seeing.{HasDatabase, Sees}
-use Rattle.acd_sql_statements.specs.Comparing.{is_plain_schema, is_plain_first}
-use Rattle.acd_sql_statements.specs.Failing.{IsMemory}
-use Rattle.acd_sql_statements.specs.Looking.{HasLookCause}
-use Rattle.acd_sql_statements.proofs.Lookings.{looks_then}
+use Rattle.acd_sql_columns.specs.Schema.{tables_1, old_schema, book_schema, BeginsSchema}
+use Rattle.acd_sql_columns.specs.DatabaseView.{HasDatabase, Sees}
+use Rattle.acd_sql_statements.specs.ComparedSchemas.{is_plain_schema, is_plain_first}
+use Rattle.acd_sql_statements.specs.StoreFailures.{IsMemory}
+use Rattle.acd_sql_statements.specs.Looks.{HasLookCause}
+use Rattle.acd_sql_statements.proofs.LookCauses.{looks_then}
 use Rattle.acd_sql_schema.specs.declared.verdict.Page.{Page}
-use Rattle.acd_sql_schema.specs.Inspecting.{HasCanonical, IsNoBook, IsPaged, IsPageOfLog}
-use Rattle.acd_sql_schema.specs.SettingUp.{FailsToMake}
+use Rattle.acd_sql_schema.specs.Inspection.{HasCanonical, IsNoBook, IsPaged, IsPageOfLog}
+use Rattle.acd_sql_schema.specs.Creation.{FailsToMake}
 use Rattle.acd_sql_schema.proofs.Contents.{as_first}
-use Rattle.acd_sql_schema.proofs.Looks.{Good, Left, begins_not, every_at}
+use Rattle.acd_sql_schema.proofs.InspectionReads.{Good, Left, begins_not, every_at}
 
 -- ---- one after another
 
-module _ (l : Log) (n : ℕ) (old mid new : State) (seen : (d : Database) → BeginsSchema nine d.schema → Sees {A = Unit {0}} d old mid (Ok tt) (Left l n d.trees))
+module _ (l : Log) (n : ℕ) (old mid new : State) (seen : (d : Database) → BeginsSchema tables_1 d.schema → Sees {A = Unit {0}} d old mid (Ok tt) (Left l n d.trees))
     (first : HasLookCause {A = Unit {0}} (IsPaged l) old mid (Ok tt)) where
-  pub pages_looked : (r : Result Page Error) → ((d : Database) → BeginsSchema nine d.schema → Sees d mid new r (λ page. IsPageOfLog l n d.trees page))
+  pub pages_looked : (r : Result Page Error) → ((d : Database) → BeginsSchema tables_1 d.schema → Sees d mid new r (λ page. IsPageOfLog l n d.trees page))
       → HasLookCause (IsPaged l) mid new r → HasLookCause (IsPaged l) old new r
   pages_looked r last next =
       looks_then (IsPaged l) (IsPaged l) (IsPaged l) (λ (d : Database) (x : Unit {0}). Left l n d.trees x)

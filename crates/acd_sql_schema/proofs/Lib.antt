@@ -1,13 +1,13 @@
-mod Making
-mod Building
-mod Stopping
+mod TableTexts
+mod CreateTable
+mod CreationCauses
 pub mod Contents
-mod Paged
+mod LogPages
 mod Places
-mod Looks
-mod Migrated
-mod Taken
-mod Takings
+mod InspectionReads
+mod MigratedTables
+mod CreateAccepted
+mod CreatesAccepted
 mod Steps
 mod Faults
 mod NewBook

@@ -25,14 +25,14 @@ use Rattle.acd_sql_columns.specs.Decoding.{as_group, as_priority, as_agent, as_f
 use Rattle.acd_sql_columns.specs.InTables.{in_order}
 use Rattle.acd_sql_columns.specs.Relations.{pair_order, groups_beside, is_after, are_after, are_of_groups}
 use Rattle.acd_sql_columns.specs.Rows.{agent_row, group_row, priority_row, priority_values, further_row, further_values}
-use Rattle.acd_sql_columns.specs.Ranges.{priority_in}
+use Rattle.acd_sql_columns.specs.Ranges.{priority_of_row}
 use Rattle.acd_sql_columns.specs.Tables.{agent_groups}
 use Rattle.acd_sql_columns.specs.Values.{◌>>=◌, id_value, device_at, priority_at}
-use Rattle.acd_sql_columns.proofs.Decoded.{from_order, heap_back}
-use Rattle.acd_sql_columns.proofs.Heaps.{by_both_total}
-use Rattle.acd_sql_columns.proofs.Rejoined.{by_rank}
+use Rattle.acd_sql_columns.proofs.RowsOfRecords.{from_order, heap_back}
+use Rattle.acd_sql_columns.proofs.CompositeKeys.{by_both_total}
+use Rattle.acd_sql_columns.proofs.RejoinedRows.{by_rank}
 use Rattle.acd_sql_columns.proofs.Records.{group_back, priority_back, agent_back, further_back}
-use Rattle.acd_sql_schema.specs.Inspecting.{ArePlaced}
+use Rattle.acd_sql_schema.specs.Inspection.{ArePlaced}
 
 -- ---- pairs in their order
 
@@ -132,13 +132,13 @@ none_read : (o : Option ℕ) (next : ℕ → Option GroupPriority) → ((x : ℕ
 none_read None next none = refl
 none_read (Some x) next none = ap is_some (none x)
 
-no_rank : (d n : ℕ) → n ≡ 0 → is_some (priority_in (priority_values (record { device = d; priority = n }))) ≡ false
+no_rank : (d n : ℕ) → n ≡ 0 → is_some (priority_of_row (priority_values (record { device = d; priority = n }))) ≡ false
 unfolding priority_at number_between
 no_rank d n e =
-    subst (λ k. is_some (priority_in (priority_values (record { device = d; priority = k }))) ≡ false) (sym e)
+    subst (λ k. is_some (priority_of_row (priority_values (record { device = d; priority = k }))) ≡ false) (sym e)
     (none_read (device_at (id_value d ∷ id_value 0 ∷ []) 0) _ (λ x. refl))
 
-one_ranked : (p : GroupPriority) → is_some (priority_in (priority_values p)) ≡ true → (p.priority == 0) ≡ false
+one_ranked : (p : GroupPriority) → is_some (priority_of_row (priority_values p)) ≡ true → (p.priority == 0) ≡ false
 one_ranked p h = by (p.priority == 0) refl
   where
     by : (b : Bool) → (p.priority == 0) ≡ b → b ≡ false

@@ -10,14 +10,14 @@ use Rattle.sqlite.specs.Held.{Held, state}
 use Rattle.sqlite.specs.State.{State, HasCleanDisk}
 use Rattle.sqlite.specs.declared.error.Error.{Error}
 use Rattle.acd_sql_columns.specs.Transactions.{RanStatement}
-use Rattle.acd_sql_columns.specs.Making.{MakesTable, Builds}
-use Rattle.acd_sql_columns.proofs.Endings.{works_on}
-use Rattle.acd_sql_statements.specs.Failing.{FailsToWrite}
-use Rattle.acd_sql_statements.specs.Inside.{RunsText}
-use Rattle.acd_sql_schema.specs.SettingUp.{FailsToMake, MakesTables, stage}
-use Rattle.acd_sql_schema.proofs.Building.{builds}
-use Rattle.acd_sql_schema.proofs.Stopping.{step_failed, make_later_if}
-use Rattle.acd_sql_schema.proofs.Taken.{IsTaken}
+use Rattle.acd_sql_columns.specs.SchemaSteps.{MakesTable, Builds}
+use Rattle.acd_sql_columns.proofs.TransactionEnds.{works_on}
+use Rattle.acd_sql_statements.specs.StoreFailures.{FailsToWrite}
+use Rattle.acd_sql_statements.specs.InTransaction.{RunsText}
+use Rattle.acd_sql_schema.specs.Creation.{FailsToMake, MakesTables, stage}
+use Rattle.acd_sql_schema.proofs.CreateTable.{builds}
+use Rattle.acd_sql_schema.proofs.CreationCauses.{step_failed, make_later_if}
+use Rattle.acd_sql_schema.proofs.CreateAccepted.{IsTaken}
 
 one_built : (text : List ℕ) (old new : State) (r : Result (Unit {0}) Error) (s : Schema) (t : Table) (rows : List (List Row)) → MakesTable s text t
     → OnOk r (RanStatement text [] old new) → OnOk r (Builds old s rows → Builds new (created s t) (rows ++ [] ∷ []))

@@ -1,3 +1,3 @@
-pub mod SettingUp
-pub mod Migrating
-pub mod Inspecting
+pub mod Creation
+pub mod Migration
+pub mod Inspection

@@ -5,9 +5,9 @@ ghost use Rattle.sqlite.specs.State.{HasCleanDisk};
 ghost use Rattle.sqlite.specs.Held.{state};
 ghost use Rattle.acd_sql_columns.specs.Schema.{no_schema};
 ghost use Rattle.acd_sql_columns.specs.Transactions.{LimitsFit};
-ghost use Rattle.acd_sql_schema.specs.SettingUp.{MakesTables, MakesTwo, none_made, plan_made, state_made, made_of, HasNewBook, HasTablesOf, IfClean, IfSucceeds, MayMake, FailsBy, FailsToMake, FailsToSetUp};
-ghost use Rattle.acd_sql_statements.specs.Between.{IsUp};
-ghost use Rattle.acd_sql_statements.specs.Inside.{RunsText};
+ghost use Rattle.acd_sql_schema.specs.Creation.{MakesTables, MakesTwo, none_made, plan_made, state_made, made_of, HasNewBook, HasTablesOf, IfClean, IfSucceeds, MayMake, FailsBy, FailsToMake, FailsToSetUp};
+ghost use Rattle.acd_sql_statements.specs.ReadsBetween.{IsUp};
+ghost use Rattle.acd_sql_statements.specs.InTransaction.{RunsText};
 
 use acd_sql_columns::good::meta_is_good;
 use acd_sql_columns::texts::{

@@ -5,17 +5,19 @@ ghost use Rattle.sqlite.specs.Held.{state};
 ghost use Rattle.acd_sql_columns.specs.declared.tables.Table.TheVariants as table;
 ghost use Rattle.acd_sql_columns.specs.AnyRows.{are_good, schema_of, BeginsAsBook, IsCanonical};
 ghost use Rattle.acd_sql_columns.specs.Schema.{book_schema};
-ghost use Rattle.acd_sql_columns.specs.Seeing.{HasLooked};
+ghost use Rattle.acd_sql_columns.specs.DatabaseView.{HasLooked};
 ghost use Rattle.acd_sql_columns.specs.Transactions.{Fits};
-ghost use Rattle.acd_sql_schema.specs.Inspecting.{adopt_fault_of, bad_row, bad_table, found_in_rows, good_log, good_pages, good_table, last_good, log_page, misplaced_in, number_if_good, ranks_misplaced, tables_of, version_read_in, HasCanonical, HasCanonicalOf, HasCanonicalTable, HasCanonicalTables, HasGoodTables, HasNoRise, IsAdoptStoreFault, IsFound, IsLike, IsLikeFirst, IsLogPage, IsPageAbove, IsPaged, IsSchemaOf, IsVersionRead, PageFits, SeesNow};
-ghost use Rattle.acd_sql_statements.specs.Between.{IsBookSchema, SeesOver};
-ghost use Rattle.acd_sql_statements.specs.Failing.{IsMemory};
-ghost use Rattle.acd_sql_statements.specs.Looking.{over, BeginsNine, HasGood, HasLookCauseIn};
+ghost use Rattle.acd_sql_schema.specs.Inspection.{adopt_fault_of, bad_row, bad_table, found_in_rows, good_log, good_pages, good_table, last_good, log_page, misplaced_in, number_if_good, ranks_misplaced, tables_of, version_read_in, HasCanonical, HasCanonicalOf, HasCanonicalTable, HasCanonicalTables, HasGoodTables, HasNoRise, IsAdoptStoreFault, IsFound, IsLike, IsLikeFirst, IsLogPage, IsPageAbove, IsPaged, IsSchemaOf, IsVersionRead, PageFits, SeesNow};
+ghost use Rattle.acd_sql_statements.specs.ReadsBetween.{IsBookSchema, SeesOver};
+ghost use Rattle.acd_sql_statements.specs.StoreFailures.{IsMemory};
+ghost use Rattle.acd_sql_statements.specs.Looks.{over, BeginsNine, HasGood, HasLookCauseIn};
 
 use crate::create::set_up_empty;
 use crate::fault::{AdoptFault, Found};
 use crate::verdict::{Likeness, Page, VersionRead};
-use acd_sql_columns::decode::{KeptReader, connection_in, counters_in, event_number, further_in};
+use acd_sql_columns::decode::{
+    KeptReader, connection_of_row, counters_in, event_number, further_of_row,
+};
 use acd_sql_columns::{AgentRow, GroupPriority, GroupRow, Log, Table, Version, values};
 use acd_sql_statements::fitting::{number_of, too_large};
 use acd_sql_statements::look::{further_rows, has_meta, unordered_connection_rows, version_rows};
@@ -40,7 +42,7 @@ fn are_counters(rows: &[Row]) -> bool
 fn are_connections(rows: &[Row]) -> bool
     ensures { result ≡ are_good table.Connections rows.now }
 {
-    rows.iter().all(|row| connection_in(row).is_some())
+    rows.iter().all(|row| connection_of_row(row).is_some())
 }
 
 // Whether the limits and the counters are in their ranges.
@@ -65,7 +67,7 @@ fn are_good_connections<S: Alter>(conn: &mut Connection<S>) -> Result<bool, Erro
 fn are_further(rows: &[Row]) -> bool
     ensures { result ≡ are_good table.AgentGroups rows.now }
 {
-    rows.iter().all(|row| further_in(row).is_some())
+    rows.iter().all(|row| further_of_row(row).is_some())
 }
 
 // Whether each value of the further groups is in its range.

@@ -4,8 +4,8 @@ ghost use Rattle.std.specs.Prelude.{◌≡◌, ◌≤◌, false};
 ghost use Rattle.sqlite.specs.State.{HasCleanDisk};
 ghost use Rattle.sqlite.specs.Held.{state};
 ghost use Rattle.acd_sql_columns.specs.Transactions.{Works};
-ghost use Rattle.acd_sql_schema.specs.Migrating.{IfFailsRestored, IfFirst, IfFirstInside, IsAltered, IsMade, MayAlter, FailsToMigrate};
-ghost use Rattle.acd_sql_schema.specs.SettingUp.{IfFails, IfSucceeds, WasOpen};
+ghost use Rattle.acd_sql_schema.specs.Migration.{IfFailsRestored, IfFirst, IfFirstInside, IsAltered, IsMade, MayAlter, FailsToMigrate};
+ghost use Rattle.acd_sql_schema.specs.Creation.{IfFails, IfSucceeds, WasOpen};
 
 use crate::create::make_two;
 use acd_sql_statements::write::set_second_version;

@@ -12,7 +12,7 @@ use Rattle.sqlite.specs.Clock.{timed}
 use Rattle.sqlite.specs.Does.{Does}
 use Rattle.sqlite.specs.State.{State, HasCleanDisk, Survives, HasCause, Fails, IsNoStatement, IsNotRun, IsStatement, IsMisplaced, Escapes, EndsScope, RunsAlone, RunsCommand, ExecutesIn, ExecutesInside, mode_of, shows_rows, store_error, text_of}
 use Rattle.sqlite.specs.Steps.{FailsToCommit}
-use Rattle.acd_sql_statements.specs.Failing.{IsMemory, StoreHasFailed, IsUnreadText, IsEnding, IsAgainst, Refuses, FailsToWrite}
+use Rattle.acd_sql_statements.specs.StoreFailures.{IsMemory, StoreHasFailed, IsUnreadText, IsEnding, IsAgainst, Refuses, FailsToWrite}
 
 module _ (old new : State) where
   cause_of : (Big : Type 0) (e : Error) (cause : StoreError) → e ≡ store_error cause → HasCause old new Big cause → IsMemory e ⊎ (StoreHasFailed old new ⊎ Big)

@@ -1,20 +1,20 @@
-pub mod Named
-pub mod Chained
-mod Planned
-mod Beside
-pub mod FirstFound
+pub mod ListsByItem
+pub mod ReadsInTurn
+mod JoinedPlan
+mod RowsInAnyOrder
+pub mod FirstRecord
 mod Pages
 pub mod Failures
-pub mod Refused
-pub mod Answered
+pub mod RefusalCauses
+pub mod ReadTexts
 pub mod ReadCauses
-pub mod Lookings
+pub mod LookCauses
 mod RowCauses
 mod PlanCauses
-mod Grouped
-mod Picked
-mod Compared
-mod Unconnected
+mod RefusedGroups
+mod ReadsByNumber
+mod SameTerms
+mod MissingConnections
 mod TheTexts
 mod SeveralPut
 mod SeveralValues

@@ -12,7 +12,7 @@ use Rattle.sqlite.specs.State.{State}
 use Rattle.acd_terms.specs.declared.event.Event.{Event}
 use Rattle.acd_book.specs.Content.{Content, is_at, is_at_after}
 use Rattle.acd_sql_columns.specs.Transactions.{Fits}
-use Rattle.acd_sql_columns.specs.Finding.{Finds}
+use Rattle.acd_sql_columns.specs.ReadResults.{Finds}
 use Rattle.acd_lemmas.proofs.Numbers.{still_below}
 
 abbrev pub greatest : ℕ

@@ -13,16 +13,16 @@ use Rattle.acd_terms.specs.declared.record.AgentRecord.{AgentRecord}
 use Rattle.acd_book.specs.Content.{Content}
 use Rattle.acd_sql_columns.specs.declared.relations.AgentRow.{AgentRow}
 use Rattle.acd_sql_columns.specs.declared.tables.Table.TheVariants as table
-use Rattle.acd_sql_columns.specs.Finding.{Finds}
+use Rattle.acd_sql_columns.specs.ReadResults.{Finds}
 use Rattle.acd_sql_columns.specs.Relations.{group_part, agent_part, further_in, joined_agent}
 use Rattle.acd_sql_columns.specs.Rows.{group_values, agent_values}
 use Rattle.acd_sql_columns.specs.Tables.{groups, agents}
-use Rattle.acd_sql_columns.proofs.Decoded.{agents_rise}
-use Rattle.acd_sql_columns.proofs.Joined.{agents_joined}
+use Rattle.acd_sql_columns.proofs.RowsOfRecords.{agents_rise}
+use Rattle.acd_sql_columns.proofs.JoinedRecords.{agents_joined}
 use Rattle.acd_sql_columns.proofs.Listings.{stored}
-use Rattle.acd_sql_statements.specs.Failing.{IsMemory}
+use Rattle.acd_sql_statements.specs.StoreFailures.{IsMemory}
 use Rattle.acd_sql_columns.specs.InRange.{IsInRange}
-use Rattle.acd_sql_statements.specs.Reading.{HasStray, HasTableValues, FailsToRead, HasReadCause, HasReadCauseIf}
+use Rattle.acd_sql_statements.specs.ReadFailures.{HasStray, HasTableValues, FailsToRead, HasReadCause, HasReadCauseIf}
 
 pub groups_have_values : HasTableValues groups
 groups_have_values c = sym (map-map group_values group_part c.rows.groups)

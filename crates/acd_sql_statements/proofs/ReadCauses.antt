@@ -29,16 +29,16 @@ use Rattle.acd_sql_columns.specs.declared.tables.Table.{Table}
 use Rattle.acd_sql_columns.specs.declared.tables.Table.TheVariants as table
 use Rattle.acd_sql_columns.specs.AnyRows.{is_good}
 use Rattle.acd_sql_columns.specs.Transactions.{HoldsContent, Quiet}
-use Rattle.acd_sql_columns.specs.Finding.{Finds}
+use Rattle.acd_sql_columns.specs.ReadResults.{Finds}
 use Rattle.acd_sql_columns.specs.Relations.{meta_of}
 use Rattle.acd_sql_columns.specs.Rows.{meta_shown}
 use Rattle.acd_sql_columns.proofs.Listings.{schema_is}
-use Rattle.acd_sql_columns.proofs.Looked.{bad_among}
+use Rattle.acd_sql_columns.proofs.QueryResults.{bad_among}
 use Rattle.acd_sql_columns.proofs.Queries.{probe_text, probe_plain}
 use Rattle.acd_sql_columns.specs.InRange.{IsInRange, values_of, is_good_table}
-use Rattle.acd_sql_statements.specs.Failing.{IsMemory}
-use Rattle.acd_sql_statements.specs.Reading.{HasReadCauseIf, Spares, IsUnanswered, RefusesToShow, FailsToShow, IsAnswered, FailsToRead, HasReadCause}
-use Rattle.acd_sql_statements.proofs.Answered.{answered}
+use Rattle.acd_sql_statements.specs.StoreFailures.{IsMemory}
+use Rattle.acd_sql_statements.specs.ReadFailures.{HasReadCauseIf, Spares, IsUnanswered, RefusesToShow, FailsToShow, IsAnswered, FailsToRead, HasReadCause}
+use Rattle.acd_sql_statements.proofs.ReadTexts.{answered}
 use Rattle.acd_sql_statements.proofs.Failures.{not_run}
 
 -- ---- what a read spares

@@ -18,15 +18,15 @@ use Rattle.acd_lemmas.proofs.State.{monitor_find}
 use Rattle.acd_sql_columns.specs.declared.tables.Table.{Table}
 use Rattle.acd_sql_columns.specs.AnyRows.{is_good}
 use Rattle.acd_sql_columns.specs.Transactions.{Fits}
-use Rattle.acd_sql_columns.specs.Finding.{Finds}
+use Rattle.acd_sql_columns.specs.ReadResults.{Finds}
 use Rattle.acd_sql_columns.specs.Values.{whole_at}
-use Rattle.acd_sql_statements.specs.Failing.{IsMemory}
+use Rattle.acd_sql_statements.specs.StoreFailures.{IsMemory}
 use Rattle.acd_sql_columns.specs.InRange.{values_of}
-use Rattle.acd_sql_statements.specs.Reading.{FailsToDecode, HasFitting, FailsToRead, HasReadCause}
+use Rattle.acd_sql_statements.specs.ReadFailures.{FailsToDecode, HasFitting, FailsToRead, HasReadCause}
 use Rattle.acd_sql_statements.proofs.ReadCauses.{cause_on, bad_row}
 use Rattle.acd_sql_statements.proofs.Pages.{greatest, least_of_large}
 use Rattle.acd_lemmas.proofs.Numbers.{below_is}
-use Rattle.acd_sql_columns.proofs.Looked.{of_filter}
+use Rattle.acd_sql_columns.proofs.QueryResults.{of_filter}
 
 -- ---- lists
 

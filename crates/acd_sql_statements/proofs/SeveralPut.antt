@@ -30,7 +30,7 @@ use Rattle.acd_sql_columns.proofs.Frames.{holds_replaced}
 use Rattle.acd_sql_columns.proofs.KeyedRows.{by_key, by_key_total, puts}
 use Rattle.acd_sql_columns.proofs.Statements.{Insertion, insertion_edit, inserted, replaces, inert_works}
 use Rattle.acd_sql_columns.proofs.TablesDescribed.{events_described}
-use Rattle.acd_sql_statements.specs.Several.{values_of, text_of, with_all}
+use Rattle.acd_sql_statements.specs.SeveralEvents.{several_values, several_text, with_all_events}
 use Rattle.acd_sql_statements.specs.declared.several.TheConstants.{INSERT_TWO_EVENTS, INSERT_THREE_EVENTS, INSERT_FOUR_EVENTS}
 
 abbrev number : Event → ℕ
@@ -47,7 +47,7 @@ rows_from start (suc n) = col 0 start ∷ lit Null ∷ run (start + 1) 9 ++ rows
 record Puts (text : List ℕ) (terms : List Term) (es : List Event) : Type 0 where
   pub command : command_of (understood book_schema text) ≡ Insert 7 (Values terms 11)
   pub plain : IsPlain (understood book_schema text)
-  pub source : value_rows (values_of es) 11 (length terms / 11) terms ≡ map event_row es
+  pub source : value_rows (several_values es) 11 (length terms / 11) terms ≡ map event_row es
 
 puts_one : (a : Event) → Puts INSERT_EVENT.now (rows_from 0 1) (a ∷ [])
 unfolding understood everything
@@ -93,7 +93,7 @@ still_ascending : (es rs : List Event) → IsAscending (by_key number) rs → Is
 still_ascending [] rs up = up
 still_ascending (e ∷ es) rs up = still_ascending es (put_by (by_key number e) rs e) (ascending-put (by_key number) (by_key_total number) e rs up)
 
-all_are : (es : List Event) (r : Relations) → with_part table.Events (all_put es r.events) r ≡ with_all es r
+all_are : (es : List Event) (r : Relations) → with_part table.Events (all_put es r.events) r ≡ with_all_events es r
 all_are [] r = refl
 all_are (e ∷ es) r = all_are es (with_part table.Events (put_by (by_key number e) r.events e) r)
 
@@ -110,12 +110,12 @@ module _ (text : List ℕ) (terms : List Term) (es : List Event) (p : Puts text 
     inert = inert_works book_schema inert schema.events.tree;
   }
 
-  put_at_once : (r : Relations) (old new : State) (count : ℕ) → HoldsUncommitted old r → Executes text (values_of es) old new (Ok count)
-      → HoldsUncommitted new (with_all es r)
+  put_at_once : (r : Relations) (old new : State) (count : ℕ) → HoldsUncommitted old r → Executes text (several_values es) old new (Ok count)
+      → HoldsUncommitted new (with_all_events es r)
   put_at_once r old new count d ran =
       let db = old.now.trees in
       let are = d.tables table.Events in
-      let made = inserted book_schema text insertion (values_of es) old new count d.schema ran in
+      let made = inserted book_schema text insertion (several_values es) old new count d.schema ran in
       let rows = db schema.events.tree in
       let source = ap (λ (l : List Row). edited db (edit_of db (table_of schema.events) [] Chosen 0 l)) p.source in
       let numbers = ap (put_all rows) (are_numbered rows es) in
@@ -123,12 +123,12 @@ module _ (text : List ℕ) (terms : List Term) (es : List Event) (p : Puts text 
       subst (HoldsUncommitted new) (all_are es r)
       (holds_replaced table.Events (all_put es r.events) (map event_row (all_put es r.events)) old new r
       (record { rows_are = refl; ascending = still_ascending es r.events are.ascending })
-      (replaces book_schema old new (insertion_edit insertion (values_of es) db) (map event_row (all_put es r.events)) made
+      (replaces book_schema old new (insertion_edit insertion (several_values es) db) (map event_row (all_put es r.events)) made
       (source ∙ numbers ∙ before ∙ rows_put es r.events))
       d)
 
 pub put_several : (es : List Event) → es ≢ [] → length es ≤ 4 → (r : Relations) (old new : State) (count : ℕ) → HoldsUncommitted old r
-    → Executes (text_of (length es)) (values_of es) old new (Ok count) → HoldsUncommitted new (with_all es r)
+    → Executes (several_text (length es)) (several_values es) old new (Ok count) → HoldsUncommitted new (with_all_events es r)
 put_several [] some few = absurd (some refl)
 put_several (a ∷ []) some few = put_at_once _ _ _ (puts_one a)
 put_several (a ∷ b ∷ []) some few = put_at_once _ _ _ (puts_two a b)

@@ -13,8 +13,8 @@ use Rattle.acd_sql_columns.specs.Descriptions.{Description, the_text}
 use Rattle.acd_sql_columns.specs.Relations.{pair_order, with_agent_parts, with_group_parts, with_priority_of}
 use Rattle.acd_sql_columns.specs.Rows.{connection_values, further_values, kept_values, meta_shown}
 use Rattle.acd_sql_columns.specs.Values.{id_value}
-use Rattle.acd_sql_statements.specs.Refusing.{RefusesAgent, RefusesFurther, RefusesGroup, RefusesOn, RefusesPriority, RefusesPut, RefusesPutConnection, with_further_groups, without_further}
-use Rattle.acd_sql_statements.specs.Writing.{Writing, with_connection_row, with_kept_row, with_put, without, without_connection_row}
+use Rattle.acd_sql_statements.specs.WriteRefusals.{RefusesAgent, RefusesFurther, RefusesGroup, RefusesOn, RefusesPriority, RefusesPut, RefusesPutConnection, with_further_groups, without_further}
+use Rattle.acd_sql_statements.specs.StatementEffects.{Writing, with_connection_row, with_kept_row, with_put, without, without_connection_row}
 
 -- ---- of a record whose key is the number of its row
 

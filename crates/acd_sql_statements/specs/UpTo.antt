@@ -9,8 +9,8 @@ use Rattle.acd_sql_columns.specs.declared.tables.Log.{Log}
 use Rattle.acd_sql_columns.specs.declared.tables.Log.TheVariants as log
 use Rattle.acd_sql_columns.specs.declared.tables.Table.TheVariants as table
 use Rattle.acd_sql_columns.specs.declared.texts.TheConstants.{DELETE_EVENTS_UP_TO, DELETE_KEPT_UP_TO}
-use Rattle.acd_sql_statements.specs.Refusing.{RefusesOn}
-use Rattle.acd_sql_statements.specs.Writing.{Writing}
+use Rattle.acd_sql_statements.specs.WriteRefusals.{RefusesOn}
+use Rattle.acd_sql_statements.specs.StatementEffects.{Writing}
 
 -- the text that takes out the rows up to a number
 abbrev pub text_up_to : Log → List ℕ

@@ -5,9 +5,9 @@ ghost use Rattle.std.specs.Str.{bytes_eq};
 ghost use Rattle.acd_sql_columns.specs.declared.tables.Log.TheVariants as log;
 ghost use Rattle.acd_sql_columns.specs.declared.tables.Table.TheVariants as table;
 ghost use Rattle.acd_sql_columns.specs.AnyRows.{has_meta, BeginsAsBook};
-ghost use Rattle.acd_sql_statements.specs.Between.{LooksAt, IsBookSchema};
-ghost use Rattle.acd_sql_statements.specs.Looking.{BeginsNine, HasGood, HasLookCauseIn};
-ghost use Rattle.acd_sql_statements.specs.Queried.{low_rows, rows_of, versions};
+ghost use Rattle.acd_sql_statements.specs.ReadsBetween.{LooksAt, IsBookSchema};
+ghost use Rattle.acd_sql_statements.specs.Looks.{BeginsNine, HasGood, HasLookCauseIn};
+ghost use Rattle.acd_sql_statements.specs.QueryResults.{low_rows, table_rows, versions};
 
 use crate::read::read;
 use acd_sql_columns::texts::{
@@ -42,7 +42,7 @@ pub fn version_rows<S: Alter>(conn: &mut Connection<S>) -> Result<Vec<Row>, Erro
 /// The rows of connections in the order of the file. Their key isn't the number of a row, so that to put them in its
 /// order takes longer than to read them.
 pub fn unordered_connection_rows<S: Alter>(conn: &mut Connection<S>) -> Result<Vec<Row>, Error>
-    ensures looks { LooksAt S.Store conn.old conn.new result (rows_of table.Connections) }
+    ensures looks { LooksAt S.Store conn.old conn.new result (table_rows table.Connections) }
     ensures looked { HasLookCauseIn (HasGood BeginsNine []) S.Store conn.old conn.new result }
 {
     read(conn, SELECT_STANDING_CONNECTIONS, &[])
@@ -50,7 +50,7 @@ pub fn unordered_connection_rows<S: Alter>(conn: &mut Connection<S>) -> Result<V
 
 /// The rows of further groups, in the order of the file.
 pub fn further_rows<S: Alter>(conn: &mut Connection<S>) -> Result<Vec<Row>, Error>
-    ensures looks { LooksAt S.Store conn.old conn.new result (rows_of table.AgentGroups) }
+    ensures looks { LooksAt S.Store conn.old conn.new result (table_rows table.AgentGroups) }
     ensures looked { HasLookCauseIn (HasGood IsBookSchema []) S.Store conn.old conn.new result }
 {
     read(conn, SELECT_STANDING_AGENT_GROUPS, &[])

@@ -6,13 +6,13 @@
 ghost use Rattle.std.specs.Prelude.{◌≡◌, ◌⊎◌, ◌-◌, ◌^◌, ◌<◌, [], length, IfErr, IfOk, OnOk};
 ghost use Rattle.acd_book.specs.Content.{events_page, kept_under, monitor_page, records_page};
 ghost use Rattle.acd_sql_columns.specs.Transactions.{Fits};
-ghost use Rattle.acd_sql_statements.specs.Failing.{IsMemory};
-ghost use Rattle.acd_sql_statements.specs.Reading.{HasFitting};
-ghost use Rattle.acd_sql_statements.specs.Between.{LooksUpList, LooksUpItem};
-ghost use Rattle.acd_sql_statements.specs.Queried.{event_rows, event_rows_at, events_page_at, kept_rows, monitor_at};
+ghost use Rattle.acd_sql_statements.specs.StoreFailures.{IsMemory};
+ghost use Rattle.acd_sql_statements.specs.ReadFailures.{HasFitting};
+ghost use Rattle.acd_sql_statements.specs.ReadsBetween.{LooksUpList, LooksUpItem};
+ghost use Rattle.acd_sql_statements.specs.QueryResults.{event_rows, event_rows_at, events_page_at, kept_rows, monitor_at};
 
 use crate::fitting::{fits, number_of};
-use crate::query::{event_rows, event_rows_at, kept_row, kept_rows, monitor_row};
+use crate::query::{event_rows, event_rows_at, found_kept_row, found_monitor_row, kept_rows};
 use crate::reads::{first, records};
 use crate::select;
 use acd_book::Kept;
@@ -83,7 +83,7 @@ pub fn kept_under<S: Alter>(
 ) -> Result<Option<Kept>, Error>
     ensures { LooksUpItem S.Store conn.old conn.new result (kept_under requester.now invoke) }
 {
-    let rows = kept_row(conn, requester, invoke)?;
+    let rows = found_kept_row(conn, requester, invoke)?;
     first(alloc, &rows)
 }
 
@@ -139,7 +139,7 @@ pub fn monitor_at<S: Alter>(
         let monitors = select::records::<MonitorRecord, S>(alloc, conn)?;
         return Ok(find(&monitors, number));
     }
-    let rows = monitor_row(conn, number)?;
+    let rows = found_monitor_row(conn, number)?;
     first(alloc, &rows)
 }
 

@@ -1,9 +1,9 @@
 //! Reads of events by their numbers.
 
 ghost use Rattle.std.specs.Prelude.{◌≡◌, ◌++◌, IfErr, OnOk};
-ghost use Rattle.acd_sql_statements.specs.Between.{FindsIn, HasReadCauseIn};
-ghost use Rattle.acd_sql_statements.specs.Failing.{IsMemory};
-ghost use Rattle.acd_sql_statements.specs.Picking.{AddsPicked, ArePicked, FindsIfOpen, HasReadCauseIfOpen};
+ghost use Rattle.acd_sql_statements.specs.ReadsBetween.{FindsIn, HasReadCauseIn};
+ghost use Rattle.acd_sql_statements.specs.StoreFailures.{IsMemory};
+ghost use Rattle.acd_sql_statements.specs.EventsByNumber.{AddsPicked, ArePicked, FindsIfOpen, HasReadCauseIfOpen};
 
 use crate::lookups::events_after;
 use acd_terms::Event;

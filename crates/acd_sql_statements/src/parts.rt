@@ -1,7 +1,7 @@
 //! The statements that put a group and an agent, each with its rows in another table.
 
 ghost use Rattle.acd_sql_columns.specs.Transactions.{Fits, FiguresFitColumns};
-ghost use Rattle.acd_sql_statements.specs.Inside.{WritesRow};
+ghost use Rattle.acd_sql_statements.specs.InTransaction.{WritesRow};
 ghost use Rattle.acd_sql_statements.specs.Statements.{dropping_further, inserting_all, inserting_further, putting_agent, putting_group, putting_priority};
 
 use crate::put::{put, remove};

@@ -4,9 +4,9 @@ ghost use Rattle.std.specs.Prelude.{◌≡◌, ◌==◌, false, nat_le, length};
 ghost use Rattle.std.specs.List.{list_any, list_all};
 ghost use Rattle.acd_sql_columns.specs.declared.tables.Table.TheVariants as table;
 ghost use Rattle.acd_sql_columns.specs.Relations.{groups_beside, is_above, is_after, are_after, are_of_groups};
-ghost use Rattle.acd_sql_statements.specs.Between.{LooksAt};
-ghost use Rattle.acd_sql_statements.specs.Looking.{HasGoodOne, HasLookCauseIn};
-ghost use Rattle.acd_sql_statements.specs.Queried.{pairs_of_agents, pairs_there, placed_pairs, placed_priorities, priorities_of_groups, HasGoodPairs, HasGoodPriorities};
+ghost use Rattle.acd_sql_statements.specs.ReadsBetween.{LooksAt};
+ghost use Rattle.acd_sql_statements.specs.Looks.{HasGoodOne, HasLookCauseIn};
+ghost use Rattle.acd_sql_statements.specs.QueryResults.{pairs_of_agents, pairs_there, placed_pairs, placed_priorities, priorities_of_groups, HasGoodPairs, HasGoodPriorities};
 
 use crate::look::further_rows;
 use crate::reads::records;

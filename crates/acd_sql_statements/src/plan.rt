@@ -2,17 +2,17 @@
 
 ghost use Rattle.std.specs.Prelude.{◌≡◌, ◌⊎◌, ◌<◌, false, length, map, option_to_list, None, IfErr, IfOk, IfSome};
 ghost use Rattle.acd_terms.specs.Groups.{are_groups};
-ghost use Rattle.acd_sql_statements.specs.Failing.{IsMemory};
-ghost use Rattle.acd_sql_statements.specs.Reading.{HasStray};
+ghost use Rattle.acd_sql_statements.specs.StoreFailures.{IsMemory};
+ghost use Rattle.acd_sql_statements.specs.ReadFailures.{HasStray};
 ghost use Rattle.acd_sql_columns.specs.Relations.{priority_of, joined_group, joined_agent, further_in};
-ghost use Rattle.acd_sql_statements.specs.Between.{AreItems, FindsIn, HasReadCauseWhere, LooksUp, LooksUpList};
-ghost use Rattle.acd_sql_statements.specs.Queried.{groups_joined, AreAgentParts, AreAgentsOf, AreGroupsOf};
+ghost use Rattle.acd_sql_statements.specs.ReadsBetween.{AreItems, FindsIn, HasReadCauseWhere, LooksUp, LooksUpList};
+ghost use Rattle.acd_sql_statements.specs.QueryResults.{groups_joined, AreAgentParts, AreAgentsOf, AreGroupsOf};
 
 use crate::query::further_rows;
 use crate::reads::{add, records};
 use crate::select;
 use acd_sql_columns::{AgentRow, GroupPriority, GroupRow};
-use acd_terms::{AgentId, AgentRecord, DeviceId, Few, GroupRecord, Groups, Priority};
+use acd_terms::{AgentId, AgentRecord, DeviceArray, DeviceId, GroupRecord, Groups, Priority};
 use sqlite::{Alter, Connection, Error, ErrorCode};
 use std::alloc::Global;
 
@@ -74,17 +74,17 @@ pub(crate) fn groups<S: Alter>(
 
 // ---- agents
 
-fn first(group: Option<DeviceId>) -> Few
+fn first(group: Option<DeviceId>) -> DeviceArray
     ensures { result ≡ option_to_list group }
 {
     match group {
-        None => Few::none(),
-        Some(group) => Few::one(group),
+        None => DeviceArray::none(),
+        Some(group) => DeviceArray::one(group),
     }
 }
 
 // The groups of an agent: its first one, and those beside it. None where they are more than eight.
-fn groups_of(part: &AgentRow, further: &[(AgentId, DeviceId)]) -> Option<Few>
+fn groups_of(part: &AgentRow, further: &[(AgentId, DeviceId)]) -> Option<DeviceArray>
     ensures groups { IfSome result (λ groups. groups ≡ groups_joined further.now part.now) }
     ensures many { result ≡ None → 8 < length (groups_joined further.now part.now) }
 {
@@ -101,7 +101,7 @@ fn groups_of(part: &AgentRow, further: &[(AgentId, DeviceId)]) -> Option<Few>
 }
 
 // The same, where they ascend.
-fn ascending(list: &Few) -> Option<Groups>
+fn ascending(list: &DeviceArray) -> Option<Groups>
     ensures groups { IfSome result (λ groups. groups ≡ list.now) }
     ensures other { result ≡ None → are_groups list.now ≡ false }
 {

@@ -4,7 +4,7 @@
 ghost use Rattle.std.specs.Prelude.{◌≡◌, IsSome};
 ghost use Rattle.acd_sql_columns.specs.Descriptions.{the_text};
 ghost use Rattle.acd_sql_columns.specs.Transactions.{Fits};
-ghost use Rattle.acd_sql_statements.specs.Inside.{WritesRow};
+ghost use Rattle.acd_sql_statements.specs.InTransaction.{WritesRow};
 ghost use Rattle.acd_sql_statements.specs.Statements.{inserting, putting, removing};
 
 use crate::stored::Stored;

@@ -4,9 +4,9 @@ ghost use Rattle.std.specs.Prelude.{[]};
 ghost use Rattle.acd_sql_columns.specs.declared.tables.Log.TheVariants as log;
 ghost use Rattle.acd_sql_columns.specs.declared.tables.Table.TheVariants as table;
 ghost use Rattle.acd_sql_columns.specs.Transactions.{Fits};
-ghost use Rattle.acd_sql_statements.specs.Between.{FindsList, HasReadCauseIn, LooksUpList, SeesOver};
-ghost use Rattle.acd_sql_statements.specs.Looking.{BeginsNine, HasGood, HasLookCauseIn};
-ghost use Rattle.acd_sql_statements.specs.Queried.{connection_rows, event_rows, event_rows_at, further_rows, kept_row, kept_rows, monitor_row, page_rows, rows_of};
+ghost use Rattle.acd_sql_statements.specs.ReadsBetween.{FindsList, HasReadCauseIn, LooksUpList, SeesOver};
+ghost use Rattle.acd_sql_statements.specs.Looks.{BeginsNine, HasGood, HasLookCauseIn};
+ghost use Rattle.acd_sql_statements.specs.QueryResults.{connection_rows, event_rows, event_rows_at, further_rows, found_kept_row, kept_rows, found_monitor_row, page_rows, table_rows};
 
 use crate::read::read;
 use acd_sql_columns::bind;
@@ -18,9 +18,12 @@ use acd_terms::{DeviceId, Invoke, Requester};
 use sqlite::{Alter, Connection, Error, Row};
 
 /// The row of a monitor, if it is running.
-pub fn monitor_row<S: Alter>(conn: &mut Connection<S>, monitor: u64) -> Result<Vec<Row>, Error>
+pub fn found_monitor_row<S: Alter>(
+    conn: &mut Connection<S>,
+    monitor: u64,
+) -> Result<Vec<Row>, Error>
     requires number { Fits monitor }
-    ensures { LooksUpList S.Store conn.old conn.new result (monitor_row monitor) }
+    ensures { LooksUpList S.Store conn.old conn.new result (found_monitor_row monitor) }
 {
     read(conn, SELECT_MONITOR, &[bind::integer(monitor)])
 }
@@ -66,12 +69,12 @@ pub fn kept_rows<S: Alter>(
 }
 
 /// The row of what is kept under a key.
-pub fn kept_row<S: Alter>(
+pub fn found_kept_row<S: Alter>(
     conn: &mut Connection<S>,
     requester: &Requester,
     invoke: Invoke,
 ) -> Result<Vec<Row>, Error>
-    ensures { LooksUpList S.Store conn.old conn.new result (kept_row requester.now invoke) }
+    ensures { LooksUpList S.Store conn.old conn.new result (found_kept_row requester.now invoke) }
 {
     read(
         conn,
@@ -85,7 +88,7 @@ pub fn kept_row<S: Alter>(
 
 pub fn connection_rows<S: Alter>(conn: &mut Connection<S>) -> Result<Vec<Row>, Error>
     ensures found { FindsList S.Store conn.old conn.new result connection_rows }
-    ensures seen { SeesOver S.Store conn.old conn.new result (rows_of table.Connections) }
+    ensures seen { SeesOver S.Store conn.old conn.new result (table_rows table.Connections) }
     ensures cause { HasReadCauseIn S.Store conn.old conn.new result }
 {
     read(conn, SELECT_CONNECTIONS, &[])

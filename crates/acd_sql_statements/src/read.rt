@@ -4,9 +4,9 @@ ghost use Rattle.std.specs.Prelude.{[], ⊤};
 ghost use Rattle.sqlite.specs.Held.{state};
 ghost use Rattle.sqlite.specs.Values.{bound};
 ghost use Rattle.acd_sql_columns.specs.declared.tables.Table.TheVariants as table;
-ghost use Rattle.acd_sql_statements.specs.Between.{AddsNoStop, AddsNoStopWhere, FindsList, HasReadCauseAt, HasReadCauseIn, IsPlainText, IsUp, QuietIn, SeesEach, SeesOver, SeesShown, ShowsRows};
-ghost use Rattle.acd_sql_statements.specs.Looking.{BeginsNine, HasGood, HasLookCauseAt, HasLookCauseIn};
-ghost use Rattle.acd_sql_statements.specs.Queried.{meta_rows, rows_of};
+ghost use Rattle.acd_sql_statements.specs.ReadsBetween.{AddsNoStop, AddsNoStopWhere, FindsList, HasReadCauseAt, HasReadCauseIn, IsPlainText, IsUp, QuietIn, SeesEach, SeesOver, SeesShown, ShowsRows};
+ghost use Rattle.acd_sql_statements.specs.Looks.{BeginsNine, HasGood, HasLookCauseAt, HasLookCauseIn};
+ghost use Rattle.acd_sql_statements.specs.QueryResults.{meta_rows, table_rows};
 
 use acd_sql_columns::texts::SELECT_META;
 use sqlite::types::ValueRef;
@@ -45,7 +45,7 @@ pub(crate) fn read<S: Alter>(
 /// The row of the limits and the counters.
 pub fn meta_rows<S: Alter>(conn: &mut Connection<S>) -> Result<Vec<Row>, Error>
     ensures found { FindsList S.Store conn.old conn.new result meta_rows }
-    ensures seen { SeesOver S.Store conn.old conn.new result (rows_of table.Meta) }
+    ensures seen { SeesOver S.Store conn.old conn.new result (table_rows table.Meta) }
     ensures cause { HasReadCauseIn S.Store conn.old conn.new result }
     ensures looked { HasLookCauseIn (HasGood BeginsNine []) S.Store conn.old conn.new result }
 {

@@ -5,11 +5,11 @@ ghost use Rattle.sqlite_value.specs.Order.{Row as Values};
 ghost use Rattle.acd_sql_columns.specs.Relations.{meta_of};
 ghost use Rattle.acd_sql_columns.specs.Rows.{meta_shown};
 ghost use Rattle.acd_sql_columns.specs.declared.meta.Meta.{Meta as MetaRow};
-ghost use Rattle.acd_sql_statements.specs.Failing.{IsMemory};
-ghost use Rattle.acd_sql_statements.specs.Reading.{FailsToDecode, HasBadMeta, IsFirst};
-ghost use Rattle.acd_sql_columns.specs.Ranges.{further_in, connection_in, monitor_in, event_in, kept_in};
-ghost use Rattle.acd_sql_statements.specs.Between.{LooksUp, LooksUpItem, LooksUpList};
-ghost use Rattle.acd_sql_statements.specs.Queried.{rows_joined, IsPlan, IsTraffic};
+ghost use Rattle.acd_sql_statements.specs.StoreFailures.{IsMemory};
+ghost use Rattle.acd_sql_statements.specs.ReadFailures.{FailsToDecode, HasBadMeta, IsFirst};
+ghost use Rattle.acd_sql_columns.specs.Ranges.{further_of_row, connection_of_row, monitor_of_row, event_in, kept_in};
+ghost use Rattle.acd_sql_statements.specs.ReadsBetween.{LooksUp, LooksUpItem, LooksUpList};
+ghost use Rattle.acd_sql_statements.specs.QueryResults.{rows_joined, IsPlan, IsTraffic};
 
 use crate::query::connection_rows;
 use crate::read::meta_rows;
@@ -44,12 +44,12 @@ pub(crate) trait Decoded: Drop {
 impl Decoded for ConnectionRecord {
     type Reader = ();
 
-    ghost in_row = { connection_in };
+    ghost in_row = { connection_of_row };
 
     fn reader(_alloc: Global) {}
 
     fn decode(_reader: &mut (), row: &Row) -> Result<Option<ConnectionRecord>, AllocError> {
-        Ok(decode::connection_in(row))
+        Ok(decode::connection_of_row(row))
     }
 }
 
@@ -57,24 +57,24 @@ impl Decoded for ConnectionRecord {
 impl Decoded for (AgentId, DeviceId) {
     type Reader = ();
 
-    ghost in_row = { further_in };
+    ghost in_row = { further_of_row };
 
     fn reader(_alloc: Global) {}
 
     fn decode(_reader: &mut (), row: &Row) -> Result<Option<(AgentId, DeviceId)>, AllocError> {
-        Ok(decode::further_in(row))
+        Ok(decode::further_of_row(row))
     }
 }
 
 impl Decoded for MonitorRecord {
     type Reader = ();
 
-    ghost in_row = { monitor_in };
+    ghost in_row = { monitor_of_row };
 
     fn reader(_alloc: Global) {}
 
     fn decode(_reader: &mut (), row: &Row) -> Result<Option<MonitorRecord>, AllocError> {
-        Ok(decode::monitor_in(row))
+        Ok(decode::monitor_of_row(row))
     }
 }
 

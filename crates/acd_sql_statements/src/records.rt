@@ -31,7 +31,7 @@ impl Stored for GroupRow {
     }
 
     fn decode(row: &Row) -> Option<GroupRow> {
-        decode::group_in(row)
+        decode::group_of_row(row)
     }
 
     ghost use Rattle.acd_sql_columns.proofs.TablesDescribed.{groups_described};
@@ -60,7 +60,7 @@ impl Stored for GroupPriority {
     }
 
     fn decode(row: &Row) -> Option<GroupPriority> {
-        decode::priority_in(row)
+        decode::priority_of_row(row)
     }
 
     ghost use Rattle.acd_sql_columns.proofs.TablesDescribed.{priorities_described};
@@ -89,7 +89,7 @@ impl Stored for StationRecord {
     }
 
     fn decode(row: &Row) -> Option<StationRecord> {
-        decode::station_in(row)
+        decode::station_of_row(row)
     }
 
     ghost use Rattle.acd_sql_columns.proofs.TablesDescribed.{stations_described};
@@ -118,7 +118,7 @@ impl Stored for AgentRow {
     }
 
     fn decode(row: &Row) -> Option<AgentRow> {
-        decode::agent_in(row)
+        decode::agent_of_row(row)
     }
 
     ghost use Rattle.acd_sql_columns.proofs.TablesDescribed.{agents_described};
@@ -176,7 +176,7 @@ impl Stored for MonitorRecord {
     }
 
     fn decode(row: &Row) -> Option<MonitorRecord> {
-        decode::monitor_in(row)
+        decode::monitor_of_row(row)
     }
 
     ghost use Rattle.acd_sql_columns.proofs.TablesDescribed.{monitors_described};

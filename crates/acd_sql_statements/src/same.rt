@@ -5,7 +5,7 @@ ghost use Rattle.std.specs.List.{list_all};
 ghost use Rattle.sqlite_sql.specs.Term.{Term};
 ghost use Rattle.sqlite_schema.specs.Code.{op_term, term_to, terms_in};
 ghost use Rattle.acd_sql_columns.specs.AnyRows.{AreSameFirst};
-ghost use Rattle.acd_sql_statements.specs.Comparing.{is_plain_value, is_plain_term, are_plain_terms, is_plain_column, is_plain_reference, is_plain_stamps, is_plain_table, is_plain_schema, is_plain_first, leaf_value, leaf_of, IsBinaryAt};
+ghost use Rattle.acd_sql_statements.specs.ComparedSchemas.{is_plain_value, is_plain_term, are_plain_terms, is_plain_column, is_plain_reference, is_plain_stamps, is_plain_table, is_plain_schema, is_plain_first, leaf_value, leaf_of, IsBinaryAt};
 
 use sqlite_items::Items;
 use sqlite_schema::code::{Op, Terms};

@@ -3,9 +3,9 @@
 ghost use Rattle.std.specs.Prelude.{◌≡◌, ◌∷◌, [], Some, map, IfErr, IfOk, IsSome};
 ghost use Rattle.acd_sql_columns.specs.Relations.{relations_of};
 ghost use Rattle.acd_sql_columns.specs.Descriptions.{are_read, the_text};
-ghost use Rattle.acd_sql_statements.specs.Reading.{FailsToDecode};
-ghost use Rattle.acd_sql_statements.specs.Between.{FindsList, HasReadCauseAt, LooksAt, SeesOver};
-ghost use Rattle.acd_sql_statements.specs.Queried.{described_rows, good_there, records_there, rows_there, HasRecordsCause, HasRecordsLookCause, HasRowsLookCause};
+ghost use Rattle.acd_sql_statements.specs.ReadFailures.{FailsToDecode};
+ghost use Rattle.acd_sql_statements.specs.ReadsBetween.{FindsList, HasReadCauseAt, LooksAt, SeesOver};
+ghost use Rattle.acd_sql_statements.specs.QueryResults.{described_rows, good_there, records_there, rows_there, HasRecordsCause, HasRecordsLookCause, HasRowsLookCause};
 
 use crate::read::read;
 use crate::reads::add;

@@ -4,8 +4,8 @@ ghost use Rattle.std.specs.Prelude.{◌≡◌, ◌≢◌, ◌≤◌, ◌+◌, �
 ghost use Rattle.sqlite.specs.Values.{bound};
 ghost use Rattle.acd_terms.specs.Lists.{Every};
 ghost use Rattle.acd_sql_columns.specs.Tables.{events};
-ghost use Rattle.acd_sql_statements.specs.Inside.{WritesRow};
-ghost use Rattle.acd_sql_statements.specs.Several.{inserting_events, values_of, text_of};
+ghost use Rattle.acd_sql_statements.specs.InTransaction.{WritesRow};
+ghost use Rattle.acd_sql_statements.specs.SeveralEvents.{inserting_events, several_values, several_text};
 
 use crate::write::write;
 use acd_sql_columns::encode::event_values;
@@ -44,8 +44,8 @@ pub const INSERT_FOUR_EVENTS: &str = insert_rows!(
 );
 
 // The text that puts so many events.
-fn text_of(count: usize) -> &'static str
-    ensures { result.now ≡ text_of count }
+fn several_text(count: usize) -> &'static str
+    ensures { result.now ≡ several_text count }
 {
     match count {
         1 => INSERT_EVENT,
@@ -70,10 +70,10 @@ fn fill(values: &mut [ValueRef<'static>], at: usize, event: &Event) -> usize
 }
 
 // The values of the events, one event after the other, and NULL after them.
-fn values_of(items: &[Event]) -> [ValueRef<'static>; MOST * COLUMNS]
+fn several_values(items: &[Event]) -> [ValueRef<'static>; MOST * COLUMNS]
     requires fits { Every events.Fits items.now }
     requires few { length items.now ≤ 4 }
-    ensures { bound (take (length items.now * 10) result) ≡ values_of items.now }
+    ensures { bound (take (length items.now * 10) result) ≡ several_values items.now }
 {
     let mut values = [ValueRef::Null; MOST * COLUMNS];
     let mut end = 0;
@@ -90,6 +90,10 @@ pub fn insert_events<S: Alter>(tx: &mut Transaction<'_, S>, items: &[Event]) -> 
     requires few { length items.now ≤ 4 }
     ensures { WritesRow S.Store tx.old.conn tx.new.conn result (inserting_events items.now) }
 {
-    let values = values_of(items);
-    write(tx, text_of(items.len()), &values[..items.len() * COLUMNS])
+    let values = several_values(items);
+    write(
+        tx,
+        several_text(items.len()),
+        &values[..items.len() * COLUMNS],
+    )
 }

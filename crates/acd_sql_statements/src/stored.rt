@@ -3,7 +3,7 @@
 
 ghost use Rattle.std.specs.Prelude.{◌≡◌};
 ghost use Rattle.acd_sql_columns.specs.Descriptions.{Description, AreTexts};
-ghost use Rattle.acd_sql_statements.specs.Inside.{CountsRows};
+ghost use Rattle.acd_sql_statements.specs.InTransaction.{CountsRows};
 
 use acd_sql_columns::texts::Texts;
 use sqlite::{Alter, Error, Row, Transaction};
@@ -26,7 +26,7 @@ pub trait Stored: Drop {
     fn decode(row: &Row) -> Option<Self>
         ensures { result ≡ descr.in_row row.now };
 
-    ghost use Rattle.acd_sql_columns.proofs.Described.{Described};
+    ghost use Rattle.acd_sql_columns.proofs.DescribedTable.{Described};
 
     ghost described: { Described descr };
 

@@ -3,10 +3,10 @@
 
 ghost use Rattle.std.specs.Prelude.{◌≡◌, []};
 ghost use Rattle.acd_sql_columns.specs.Transactions.{Fits};
-ghost use Rattle.acd_sql_statements.specs.Between.{LooksAt};
-ghost use Rattle.acd_sql_statements.specs.Inside.{WritesRow};
-ghost use Rattle.acd_sql_statements.specs.Looking.{BeginsNine, HasGood, HasLookCauseIn};
-ghost use Rattle.acd_sql_statements.specs.Queried.{low_rows, page_rows};
+ghost use Rattle.acd_sql_statements.specs.ReadsBetween.{LooksAt};
+ghost use Rattle.acd_sql_statements.specs.InTransaction.{WritesRow};
+ghost use Rattle.acd_sql_statements.specs.Looks.{BeginsNine, HasGood, HasLookCauseIn};
+ghost use Rattle.acd_sql_statements.specs.QueryResults.{low_rows, page_rows};
 ghost use Rattle.acd_sql_statements.specs.UpTo.{removing_up_to, text_up_to};
 
 use crate::look::{low_event_rows, low_kept_rows};

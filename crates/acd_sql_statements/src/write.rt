@@ -7,8 +7,8 @@ ghost use Rattle.sqlite.specs.Held.{state};
 ghost use Rattle.sqlite.specs.Values.{bound};
 ghost use Rattle.acd_codec.specs.RequestTexts.{request_text};
 ghost use Rattle.acd_sql_columns.specs.Transactions.{Works, Fits, MetaFits};
-ghost use Rattle.acd_sql_statements.specs.Failing.{FailsToSetVersion, FailsToStart};
-ghost use Rattle.acd_sql_statements.specs.Inside.{CountsRows, FailsInside, NamesSecondVersion, OnOkInside, RunsText, StartsBook, WritesRow};
+ghost use Rattle.acd_sql_statements.specs.StoreFailures.{FailsToSetVersion, FailsToStart};
+ghost use Rattle.acd_sql_statements.specs.InTransaction.{CountsRows, FailsInside, NamesSecondVersion, OnOkInside, RunsText, StartsBook, WritesRow};
 ghost use Rattle.acd_sql_statements.specs.Statements.{dropping_connection, inserting_connection, inserting_kept, putting_connection, setting_meta};
 
 use acd_book::Kept;

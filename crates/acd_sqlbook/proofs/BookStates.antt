@@ -9,7 +9,7 @@ use Rattle.acd_terms.specs.declared.rows.Limits.{Limits}
 use Rattle.acd_terms.specs.declared.rows.Rows.{Rows}
 use Rattle.acd_terms.specs.declared.event.Event.{Event}
 use Rattle.acd_model.specs.declared.moves.Change.{Change}
-use Rattle.acd_book.proofs.Reading.{Finding}
+use Rattle.acd_book.proofs.ReadsInTurn.{Finding}
 use Rattle.acd_book.specs.declared.kept.Kept.{Kept}
 use Rattle.acd_book.specs.Content.{Content, HasRisen, empty_content, Follows, committed, FollowsBy, committed_by}
 use Rattle.acd_book.specs.State.{Reads, Commits}
@@ -22,10 +22,10 @@ use Rattle.acd_sqlbook.specs.Calls.{HasRead, HasCommitted, HasReplaced}
 use Rattle.acd_sqlbook.specs.Counters.{AreCounters}
 use Rattle.acd_sql_columns.specs.declared.meta.Meta.{Meta}
 use Rattle.acd_sql_columns.specs.Transactions.{HoldsContent, IsBook}
-use Rattle.acd_sqlbook.specs.State.{IsSoundState, IsNewBook, book_state, answered, failures_after}
-use Rattle.acd_sqlbook.proofs.Committing.{commit_is}
-use Rattle.acd_sql_columns.proofs.Decoded.{decoded}
-use Rattle.acd_sql_columns.proofs.Endings.{is_book}
+use Rattle.acd_sqlbook.specs.State.{IsSoundState, IsNewBook, book_state, book_result, failures_after}
+use Rattle.acd_sqlbook.proofs.CommitWrites.{commit_is}
+use Rattle.acd_sql_columns.proofs.RowsOfRecords.{decoded}
+use Rattle.acd_sql_columns.proofs.TransactionEnds.{is_book}
 
 -- ---- the laws of a store, of its state
 
@@ -53,7 +53,7 @@ quiet_count (Err Store) n h = absurd (h refl)
 
 -- ---- answers
 
-ok_kept : {A : Type 0} (P Q : A → Type 0) (r : Result A Error) → ((a : A) → P a → Q a) → IfOk r P → IfOk (answered r) Q
+ok_kept : {A : Type 0} (P Q : A → Type 0) (r : Result A Error) → ((a : A) → P a → Q a) → IfOk r P → IfOk (book_result r) Q
 ok_kept P Q (Ok a) f h = f a h
 ok_kept P Q (Err e) f h = tt
 
@@ -61,7 +61,7 @@ open_then : {A : Type 0} (P : A → Type 0) (Q : Type 0) (r : Result A Error) �
 open_then P Q (Ok a) up h = (up, h)
 open_then P Q (Err e) up h = tt
 
-ok_imply : {A : Type 0} (P Q : Type 0) (r : Result A Error) → (P → OnOk r Q) → OnOk (answered r) (P → Q)
+ok_imply : {A : Type 0} (P Q : Type 0) (r : Result A Error) → (P → OnOk r Q) → OnOk (book_result r) (P → Q)
 ok_imply P Q (Ok a) h = h
 ok_imply P Q (Err e) h = tt
 
@@ -77,7 +77,7 @@ module _ {A : Type 0} (old new : State) (failures : ℕ) (r : Result A Error) (I
       (was, held_is new held.0 (h.quiet.same k held.0 held.1 up) ∙ sym (held_is old held.0 held.1))
 
   read_value : HasRead old new r IsAnswer → HasCleanDisk new → IsSoundState old
-      → IfOk (answered r) (λ a. IsTrue old.is_open × IsAnswer (content_of old.committed.trees) a)
+      → IfOk (book_result r) (λ a. IsTrue old.is_open × IsAnswer (content_of old.committed.trees) a)
   read_value h k sound =
       ok_kept (λ a. IsTrue new.is_open × ((c : Content) → HoldsContent old c → IsAnswer c a))
       (λ a. IsTrue old.is_open × IsAnswer (content_of old.committed.trees) a) r
@@ -91,17 +91,17 @@ module _ {A : Type 0} (old new : State) (failures : ℕ) (r : Result A Error) (I
     left = λ db left. sound.left db (h.stops k sound.stands db left);
   }
 
-  pub reads : failures ≤ failures_after (answered r) failures → Settles old → Stays new → HasRead old new r IsAnswer
-      → Reads (book_state old failures) (book_state new (failures_after (answered r) failures)) (answered r) IsAnswer
+  pub reads : failures ≤ failures_after (book_result r) failures → Settles old → Stays new → HasRead old new r IsAnswer
+      → Reads (book_state old failures) (book_state new (failures_after (book_result r) failures)) (book_result r) IsAnswer
   reads low settles stays h = record {
-    step = record { clean = h.quiet.clean; sound = still_sound h; quiet = quiet_count (answered r) failures; counts = low };
+    step = record { clean = h.quiet.clean; sound = still_sound h; quiet = quiet_count (book_result r) failures; counts = low };
     unchanged = record { same = same_content h; stops = λ k sound c stop. (stop.0, h.stops k sound.stands stop.0 stop.1, stop.2) };
     value = read_value h;
     stays = ok_imply (HasCleanDisk new) (IsSoundState old → IsTrue new.is_open) r (λ k. on_up k r (h.up k));
     keeps = λ k sound up c stop.
         let same = same_content h k sound up in
         (new.committed.trees, stays up, stop.2 ∙ ap content_of (settles stop.0 same.0 stop.1) ∙ sym same.1);
-    cause = risen (answered r) failures;
+    cause = risen (book_result r) failures;
   }
     where
       on_up : HasCleanDisk new → (r : Result A Error) → OnOk r (IsTrue new.is_open) → OnOk r (IsSoundState old → IsTrue new.is_open)
@@ -139,25 +139,25 @@ module _ (old new : State) (failures : ℕ) (r : Result (Unit {0}) Error) (writt
   made_after : HasCleanDisk new → (r : Result (Unit {0}) Error) → IsSoundState old → Follows (content_of old.committed.trees)
       → OnOk r (IsTrue old.is_open × IsTrue new.is_open)
       → OnOk r ((c : Content) → HoldsContent old c → HoldsContent new (written c))
-      → OnOk (answered r) (content_of new.committed.trees ≡ after (content_of old.committed.trees))
+      → OnOk (book_result r) (content_of new.committed.trees ≡ after (content_of old.committed.trees))
   made_after k (Ok a) sound follows up made = let held = sound.stands up.0 in
       held_is new (written held.0) (made held.0 held.1) ∙ followed k held.0 held.1 follows
   made_after k (Err e) sound follows up made = tt
 
   undone_after : (r : Result (Unit {0}) Error) → (c : Content) → HoldsContent old c → IsTrue new.is_open
       → OnErr r ((c : Content) → HoldsContent old c → IsTrue new.is_open → HoldsContent new c)
-      → OnErr (answered r) (IsTrue old.is_open × (content_of new.committed.trees ≡ content_of old.committed.trees))
+      → OnErr (book_result r) (IsTrue old.is_open × (content_of new.committed.trees ≡ content_of old.committed.trees))
   undone_after (Ok a) c held up undone = tt
   undone_after (Err e) c held up undone = (held.is_open, held_is new c (undone c held up) ∙ sym (held_is old c held))
 
-  opened_after : (r : Result (Unit {0}) Error) → OnOk r (IsTrue old.is_open × IsTrue new.is_open) → OnOk (answered r) (IsTrue old.is_open × IsTrue new.is_open)
+  opened_after : (r : Result (Unit {0}) Error) → OnOk r (IsTrue old.is_open × IsTrue new.is_open) → OnOk (book_result r) (IsTrue old.is_open × IsTrue new.is_open)
   opened_after (Ok a) up = up
   opened_after (Err e) up = tt
 
-  pub commits : failures ≤ failures_after (answered r) failures → HasCommitted old new r written
-      → Commits (book_state old failures) (book_state new (failures_after (answered r) failures)) (answered r) Follows after
+  pub commits : failures ≤ failures_after (book_result r) failures → HasCommitted old new r written
+      → Commits (book_state old failures) (book_state new (failures_after (book_result r) failures)) (book_result r) Follows after
   commits low h = record {
-    step = record { clean = h.clean; sound = sound_after h; quiet = quiet_count (answered r) failures; counts = low };
+    step = record { clean = h.clean; sound = sound_after h; quiet = quiet_count (book_result r) failures; counts = low };
     opened = λ k sound. opened_after r (h.up k);
     made = λ k sound follows. made_after k r sound follows (h.up k) (h.made k);
     undone = λ k sound up. let held = was_open h k sound up in undone_after r held.0 held.1 up (h.undone k);
@@ -167,14 +167,14 @@ module _ (old new : State) (failures : ℕ) (r : Result (Unit {0}) Error) (writt
           | inr new ↦ let held = sound.stands new.0 in
               inr (new.0, λ follows. stop.2 ∙ decoded stop.0 (written held.0) (new.1 held.0 held.1).encodes ∙ followed k held.0 held.1 follows)
         ];
-    cause = risen (answered r) failures;
+    cause = risen (book_result r) failures;
   }
 
 -- ---- with the answer and the count as they are recorded
 
 pub reads_recorded : {A : Type 0} (old new : State) (failures next : ℕ) (r : Result A Error) (answer : Result A BookFault) (IsAnswer : Finding A)
     → Settles old → Stays new
-    → answer ≡ answered r → next ≡ failures_after answer failures → failures ≤ next → HasRead old new r IsAnswer
+    → answer ≡ book_result r → next ≡ failures_after answer failures → failures ≤ next → HasRead old new r IsAnswer
     → Reads (book_state old failures) (book_state new next) answer IsAnswer
 reads_recorded old new failures next r answer IsAnswer settles stays is count low h =
     let counted = count ∙ ap (λ a. failures_after a failures) is in
@@ -183,7 +183,7 @@ reads_recorded old new failures next r answer IsAnswer settles stays is count lo
 
 pub commits_recorded : (old new : State) (failures next : ℕ) (r : Result (Unit {0}) Error) (answer : Result (Unit {0}) BookFault)
     (Follows : Content → Type 0) (after : Content → Content)
-    → answer ≡ answered r → next ≡ failures_after answer failures → failures ≤ next → HasReplaced old new r Follows after
+    → answer ≡ book_result r → next ≡ failures_after answer failures → failures ≤ next → HasReplaced old new r Follows after
     → Commits (book_state old failures) (book_state new next) answer Follows after
 commits_recorded old new failures next r answer Follows after is count low h =
     let counted = count ∙ ap (λ a. failures_after a failures) is in
@@ -192,7 +192,7 @@ commits_recorded old new failures next r answer Follows after is count low h =
 
 pub changes_recorded : (old new : State) (failures next : ℕ) (r : Result (Unit {0}) Error) (answer : Result (Unit {0}) BookFault) (held : Option Meta)
     (changes : List Change) (events : List Event) (kept : Kept)
-    → answer ≡ answered r → next ≡ failures_after answer failures → failures ≤ next → HasReplaced old new r (AreCounters held) (written_by changes events kept)
+    → answer ≡ book_result r → next ≡ failures_after answer failures → failures ≤ next → HasReplaced old new r (AreCounters held) (written_by changes events kept)
     → Commits (book_state old failures) (book_state new next) answer (λ c. AreCounters held c × FollowsBy changes events kept c)
     (committed_by changes events kept)
 changes_recorded old new failures next r answer held changes events kept is count low h =
@@ -205,7 +205,7 @@ changes_recorded old new failures next r answer held changes events kept is coun
 
 pub rows_recorded : (old new : State) (failures next : ℕ) (r : Result (Unit {0}) Error) (answer : Result (Unit {0}) BookFault) (rows : Rows)
     (events : List Event) (kept : Kept)
-    → answer ≡ answered r → next ≡ failures_after answer failures → failures ≤ next
+    → answer ≡ book_result r → next ≡ failures_after answer failures → failures ≤ next
     → HasReplaced old new r (Follows rows events kept) (committed rows events kept)
     → Commits (book_state old failures) (book_state new next) answer (Follows rows events kept) (committed rows events kept)
 rows_recorded old new failures next r answer rows events kept is count low h =

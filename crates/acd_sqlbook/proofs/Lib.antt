@@ -1,20 +1,20 @@
-mod Applying
-mod Skipping
-mod Committing
-mod Standing
-mod Replacing
+mod WritesInTurn
+mod ElidedPuts
+mod CommitWrites
+mod AfterProbe
+mod TableReplacement
 mod BookStates
-mod Rising
-mod Adopted
-pub mod Reopened
-mod Stopped
-mod Counting
-mod Caused
-mod Indexed
-mod PageFound
-mod Beginning
-pub mod Followed
-mod ReadAhead
-mod Unmet
-mod Ranging
+mod AscendingContent
+mod AdoptedBooks
+pub mod ReopenedBooks
+mod PartCauses
+mod CommitCauses
+mod FailureCauses
+mod IndexedEvents
+mod MonitorPage
+mod IndexRebuild
+pub mod CachedCalls
+mod RecordsReadAhead
+mod FreshKeys
+mod CommitsInRange
 mod Pruning

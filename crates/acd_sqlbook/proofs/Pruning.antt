@@ -5,7 +5,7 @@ use Rattle.sqlite.specs.State.{State, HasCleanDisk}
 use Rattle.acd_terms.specs.declared.event.Event.{Event}
 use Rattle.acd_lemmas.proofs.Lists.{every-filter}
 use Rattle.acd_book.specs.Content.{Content}
-use Rattle.acd_book.specs.Pruned.{pruned}
+use Rattle.acd_book.specs.PrunedContent.{pruned}
 use Rattle.acd_book.specs.declared.fault.BookFault.{BookFault}
 use Rattle.acd_book.specs.declared.fault.BookFault.TheVariants.{Store}
 use Rattle.acd_book.specs.declared.kept.Kept.{Kept}
@@ -14,16 +14,16 @@ use Rattle.acd_sql_columns.specs.InTables.{content_of}
 use Rattle.acd_sql_columns.specs.Relations.{Relations, relations_of}
 use Rattle.acd_sql_columns.specs.Transactions.{HoldsContent, HoldsGood, HoldsUncommitted, Quiet, NoStop, AddsStop}
 use Rattle.acd_sql_columns.proofs.KeptInRange.{AllGood, goods, in_range}
-use Rattle.acd_sql_statements.specs.Reading.{FailsToRead, HasReadCause}
+use Rattle.acd_sql_statements.specs.ReadFailures.{FailsToRead, HasReadCause}
 use Rattle.acd_sqlbook.specs.Calls.{HasRead, HasReplaced}
 use Rattle.acd_sqlbook.specs.Causes.{StoreCause, prune, unfit, refused}
 use Rattle.acd_sqlbook.specs.Commit.{MakesOfEach}
 use Rattle.acd_sqlbook.specs.Pruning.{RefusesPrune, StopsPrune}
-use Rattle.acd_sqlbook.specs.State.{IsSoundState, answered}
-use Rattle.acd_sqlbook.specs.Stopping.{IsCausedByReadOr, IsUndone}
-use Rattle.acd_sqlbook.proofs.Caused.{commit_caused}
-use Rattle.acd_sqlbook.proofs.Counting.{counts_done, undone_after}
-use Rattle.acd_sqlbook.proofs.Standing.{CommitsAs, commits_after}
+use Rattle.acd_sqlbook.specs.State.{IsSoundState, book_result}
+use Rattle.acd_sqlbook.specs.CommitStops.{IsCausedByReadOr, IsUndone}
+use Rattle.acd_sqlbook.proofs.FailureCauses.{commit_caused}
+use Rattle.acd_sqlbook.proofs.CommitCauses.{counts_done, undone_after}
+use Rattle.acd_sqlbook.proofs.AfterProbe.{CommitsAs, commits_after}
 
 -- ---- each value that is left is in its range
 
@@ -96,7 +96,7 @@ module _ (stamp number : ℕ) where
     prune_stops c is (inl large) = unfit large
     prune_stops c is (inr refuses) = refused (subst (RefusesPrune stamp number) (sym is) refuses)
 
-    pub prune_caused : (r : Result (Unit {0}) Error) (answer : Result (Unit {0}) BookFault) → answer ≡ answered r
+    pub prune_caused : (r : Result (Unit {0}) Error) (answer : Result (Unit {0}) BookFault) → answer ≡ book_result r
         → IsCausedByReadOr (StopsPrune stamp number) old new r → HasCleanDisk new → IsSoundState old → answer ≡ Err Store
         → StoreCause (prune stamp number) old new
     prune_caused = commit_caused (prune stamp number) old new (StopsPrune stamp number) free (λ out. out) prune_stops

@@ -10,7 +10,7 @@ use Rattle.acd_model.specs.declared.moves.Change.{Change}
 use Rattle.acd_lemmas.specs.Orders.{Orders}
 use Rattle.acd_book.specs.Content.{Content}
 use Rattle.acd_sql_columns.specs.Transactions.{HoldsContent, Quiet, NoStop, AddsStop, MayAdd}
-use Rattle.acd_sql_differences.specs.Leading.{rows_differences}
+use Rattle.acd_sql_differences.specs.ChangeOrder.{rows_differences}
 use Rattle.acd_sql_differences.specs.Transition.{HasTables}
 
 -- a disk that is clean after a call was so before it
@@ -67,6 +67,6 @@ abbrev pub LeadsBetween : Rows → Rows → List Change → Type 0
 LeadsBetween held rows changes = Orders held → Orders rows → HasTables (changed_by held changes) rows
 
 -- they lead from the tables of a content to those of the rows, and are the differences of both
-pub record LeadsTo (rows : Rows) (c : Content) (changes : List Change) : Type 0 where
+pub record ChangesLeadTo (rows : Rows) (c : Content) (changes : List Change) : Type 0 where
   pub exact : changes ≡ rows_differences c.rows rows
   pub leads : Orders rows → HasTables (changed_by c.rows changes) rows

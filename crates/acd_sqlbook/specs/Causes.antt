@@ -16,25 +16,25 @@ use Rattle.acd_book.specs.declared.fault.BookFault.TheVariants.{Store}
 use Rattle.acd_sql_columns.specs.Transactions.{LimitsFit}
 use Rattle.acd_sql_columns.specs.InTables.{content_of}
 use Rattle.acd_sql_columns.specs.Schema.{no_schema}
-use Rattle.acd_sql_differences.specs.Leading.{rows_differences}
+use Rattle.acd_sql_differences.specs.ChangeOrder.{rows_differences}
 use Rattle.acd_sql_columns.specs.InRange.{IsInRange}
-use Rattle.acd_sql_schema.specs.SettingUp.{IsUnstarted}
+use Rattle.acd_sql_schema.specs.Creation.{IsUnstarted}
 use Rattle.acd_sqlbook.specs.State.{IsSoundState}
 use Rattle.acd_sqlbook.specs.View.{BookView, book_of}
 use Rattle.acd_sqlbook.specs.Commit.{counted}
-use Rattle.acd_sqlbook.specs.Stopping.{AllNumbersFit, AreCounted, Drops, HasAbove, IsUncounted, RefusesInAll}
+use Rattle.acd_sqlbook.specs.CommitStops.{AllNumbersFit, AreCounted, Drops, HasAbove, IsUncounted, RefusesInAll}
 use Rattle.acd_sqlbook.specs.Pruning.{IsUnfitPrune, RefusesPrune}
 
 -- the calls of a book
-pub data BookCall : Type 0 where
-  create : Limits → BookCall
-  read : BookCall
-  change : List Change → List Event → Kept → BookCall
-  replace : Rows → List Event → Kept → BookCall
-  prune : ℕ → ℕ → BookCall
+pub data StoreCall : Type 0 where
+  create : Limits → StoreCall
+  read : StoreCall
+  change : List Change → List Event → Kept → StoreCall
+  replace : Rows → List Event → Kept → StoreCall
+  prune : ℕ → ℕ → StoreCall
 
 -- a number of it, of a change that it makes, or of the counters after it, doesn't fit its column or its range, or an event or the kept record isn't as each has to be
-abbrev pub IsUnfit : BookCall → State → Type 0
+abbrev pub IsUnfit : StoreCall → State → Type 0
 IsUnfit (create limits) s = ¬ (LimitsFit limits)
 IsUnfit read s = ⊥
 IsUnfit (change changes events kept) s =
@@ -44,7 +44,7 @@ IsUnfit (replace rows events kept) s =
 IsUnfit (prune stamp number) s = IsUnfitPrune stamp number
 
 -- it asks for a content with a value out of its range, which `adopt` would refuse
-abbrev pub IsUnreadable : BookCall → State → Type 0
+abbrev pub IsUnreadable : StoreCall → State → Type 0
 IsUnreadable (create limits) s = ⊥
 IsUnreadable read s = ¬ (IsInRange (content_of s.committed.trees))
 IsUnreadable (change changes events kept) s = ¬ (IsInRange (content_of s.committed.trees))
@@ -52,7 +52,7 @@ IsUnreadable (replace rows events kept) s = ¬ (IsInRange (content_of s.committe
 IsUnreadable (prune stamp number) s = ¬ (IsInRange (content_of s.committed.trees))
 
 -- it makes tables, and the database has some
-abbrev pub IsOccupied : BookCall → State → Type 0
+abbrev pub IsOccupied : StoreCall → State → Type 0
 IsOccupied (create limits) s = s.now.schema ≢ no_schema
 IsOccupied read s = ⊥
 IsOccupied (change changes events kept) s = ⊥
@@ -60,7 +60,7 @@ IsOccupied (replace rows events kept) s = ⊥
 IsOccupied (prune stamp number) s = ⊥
 
 -- it would drop a group, a station or an agent
-abbrev pub IsDropping : BookCall → State → Type 0
+abbrev pub IsDropping : StoreCall → State → Type 0
 IsDropping (create limits) s = ⊥
 IsDropping read s = ⊥
 IsDropping (change changes events kept) s = ⊥
@@ -73,7 +73,7 @@ RefusesToCommit changes events kept c = RefusesInAll (HasAbove (Some c.rows.last
 
 -- by what it says of such tables, the store refuses the row of the limits; it refuses no query, and no table of a book; of a commit or a prune it refuses a
 -- statement, on what those before it made
-abbrev pub IsRefusedByStore : BookCall → State → Type 0
+abbrev pub IsRefusedByStore : StoreCall → State → Type 0
 IsRefusedByStore (create limits) s = IsUnstarted None limits
 IsRefusedByStore read s = ⊥
 IsRefusedByStore (change changes events kept) s = RefusesToCommit changes events kept (content_of s.committed.trees)
@@ -81,7 +81,7 @@ IsRefusedByStore (replace rows events kept) s = RefusesInAll ⊥ (rows_differenc
 IsRefusedByStore (prune stamp number) s = RefusesPrune stamp number (content_of s.committed.trees)
 
 -- between these two states of its connection
-pub data StoreCause (asked : BookCall) (old new : State) : Type 0 where
+pub data StoreCause (asked : StoreCall) (old new : State) : Type 0 where
   -- the store's count of faults rose
   failed : MoreFaults old.faults new.faults → StoreCause asked old new
   -- the connection was shut before
@@ -93,14 +93,14 @@ pub data StoreCause (asked : BookCall) (old new : State) : Type 0 where
   refused : IsRefusedByStore asked old → StoreCause asked old new
 
 -- a connection that holds a content answers so, and its failures rise, only where there is a cause
-pub record HasCause {A : Type 0} (asked : BookCall) (old new : State) (failures next : ℕ) (result : Result A BookFault) : Type 0 where
+pub record HasCause {A : Type 0} (asked : StoreCall) (old new : State) (failures next : ℕ) (result : Result A BookFault) : Type 0 where
   pub answer : HasCleanDisk new → IsSoundState old → result ≡ Err Store → StoreCause asked old new
   pub count : HasCleanDisk new → IsSoundState old → failures < next → StoreCause asked old new
 
 -- so it is with a book
-abbrev pub IsCaused : {S A : Type 0} → BookCall → Ghosts S → BookView S → BookView S → Result A BookFault → Type 0
+abbrev pub IsCaused : {S A : Type 0} → StoreCall → Ghosts S → BookView S → BookView S → Result A BookFault → Type 0
 IsCaused asked g old new result = HasCause asked (state g old.conn) (state g new.conn) old.failures new.failures result
 
 -- the same of a book that is sound, its cache too
-abbrev pub IsCausedIfSound : {S A : Type 0} → BookCall → Ghosts S → BookView S → BookView S → Result A BookFault → Type 0
+abbrev pub IsCausedIfSound : {S A : Type 0} → StoreCall → Ghosts S → BookView S → BookView S → Result A BookFault → Type 0
 IsCausedIfSound asked g old new result = (book_of g old).is_sound → IsCaused asked g old new result

@@ -11,7 +11,7 @@ use Rattle.acd_terms.specs.declared.event.Event.{Event}
 use Rattle.acd_model.specs.Moves.{changed}
 use Rattle.acd_model.specs.declared.moves.Change.{Change}
 use Rattle.acd_model.specs.declared.moves.Change.TheVariants.{Nothing, PutGroup, PutStation, PutAgent, PutCall, PutConnection, PutMonitor, RemoveCall, RemoveConnection, RemoveMonitor}
-use Rattle.acd_codec.specs.Formed.{IsSerial}
+use Rattle.acd_codec.specs.RequestForms.{IsSerial}
 use Rattle.acd_book.specs.Content.{Content}
 use Rattle.acd_book.specs.declared.kept.Kept.{Kept}
 use Rattle.acd_sql_columns.specs.declared.meta.Meta.{Meta}
@@ -61,12 +61,12 @@ abbrev pub all_applied : Content → List Change → Content
 all_applied c [] = c
 all_applied c (change ∷ changes) = all_applied (applied c change) changes
 
-abbrev pub with_event : Content → Event → Content
-with_event c e = record c { events = put_by (λ (x : Event). nat_cmp e.number x.number) c.events e }
+abbrev pub content_with_event : Content → Event → Content
+content_with_event c e = record c { events = put_by (λ (x : Event). nat_cmp e.number x.number) c.events e }
 
 abbrev pub with_events : Content → List Event → Content
 with_events c [] = c
-with_events c (e ∷ es) = with_events (with_event c e) es
+with_events c (e ∷ es) = with_events (content_with_event c e) es
 
 abbrev pub with_kept : Content → Kept → Content
 with_kept c k = record c { kept = put_by (λ (x : Kept). nat_cmp k.stamp x.stamp) c.kept k }
@@ -96,8 +96,8 @@ abbrev pub MakesTablesOfEach : (Content → Content) → State → State → Typ
 MakesTablesOfEach change old new = (c : Content) → HoldsUncommitted old (relations_of c) → HoldsUncommitted new (relations_of (change c))
 
 -- so it is after a write that succeeded, if no disk broke a promise
-abbrev pub LeavesContent : {S : Type 0} → Ghosts S → MutBor (Held S) → MutBor (Held S) → Result (Unit {0}) Error → (Content → Content) → Type 0
-LeavesContent g old new result change = HasCleanDisk (state g new.now) → OnOk result (MakesOfEach change (state g old.now) (state g new.now))
+abbrev pub CommitLeaves : {S : Type 0} → Ghosts S → MutBor (Held S) → MutBor (Held S) → Result (Unit {0}) Error → (Content → Content) → Type 0
+CommitLeaves g old new result change = HasCleanDisk (state g new.now) → OnOk result (MakesOfEach change (state g old.now) (state g new.now))
 
 -- the tables of a change, after a write that succeeded
 abbrev pub PutsChange : {S : Type 0} → Ghosts S → MutBor (Held S) → MutBor (Held S) → Result (Unit {0}) Error → Change → Type 0
@@ -105,10 +105,10 @@ PutsChange g old new result change = HasCleanDisk (state g new.now) → OnOk res
 
 -- a write makes this change, or all of these
 abbrev pub WritesChange : {S : Type 0} → Ghosts S → MutBor (Held S) → MutBor (Held S) → Result (Unit {0}) Error → Change → Type 0
-WritesChange g old new result change = LeavesContent g old new result (λ c. applied c change)
+WritesChange g old new result change = CommitLeaves g old new result (λ c. applied c change)
 
 abbrev pub WritesChanges : {S : Type 0} → Ghosts S → MutBor (Held S) → MutBor (Held S) → Result (Unit {0}) Error → List Change → Type 0
-WritesChanges g old new result changes = LeavesContent g old new result (λ c. all_applied c changes)
+WritesChanges g old new result changes = CommitLeaves g old new result (λ c. all_applied c changes)
 
 -- ---- the counters of a commit
 

@@ -11,9 +11,9 @@ use Rattle.acd_sql_columns.specs.AnyRows.{IsCanonical}
 use Rattle.acd_sql_columns.specs.Schema.{no_schema, old_schema}
 use Rattle.acd_sql_schema.specs.declared.fault.AdoptFault.{AdoptFault}
 use Rattle.acd_sql_schema.specs.declared.fault.AdoptFault.TheVariants as adopt_fault
-use Rattle.acd_sql_schema.specs.Inspecting.{IsAdoptStoreFault}
-use Rattle.acd_sql_schema.specs.SettingUp.{IfClean}
-use Rattle.acd_sqlbook.specs.Adopting.{AdoptCause, HasAllColumns, IsAdopted, IsHandedBack, IsUntouched}
+use Rattle.acd_sql_schema.specs.Inspection.{IsAdoptStoreFault}
+use Rattle.acd_sql_schema.specs.Creation.{IfClean}
+use Rattle.acd_sqlbook.specs.Adoption.{AdoptCause, HasAllColumns, IsAdopted, IsHandedBack, IsUntouched}
 use Rattle.acd_sqlbook.specs.Causes.{StoreCause, create}
 use Rattle.acd_sqlbook.specs.State.{IsNewBook, book_state}
 use Rattle.acd_sqlbook.specs.View.{BookView}

@@ -10,11 +10,11 @@ use Rattle.acd_book.specs.Content.{Content, Commit}
 use Rattle.acd_book.specs.declared.kept.Kept.{Kept}
 use Rattle.acd_sql_columns.specs.declared.meta.Meta.{Meta}
 use Rattle.acd_sql_columns.specs.Transactions.{HoldsContent}
-use Rattle.acd_sql_statements.specs.Reading.{HasReadCause}
+use Rattle.acd_sql_statements.specs.ReadFailures.{HasReadCause}
 use Rattle.acd_sqlbook.specs.Calls.{HasRead, HasReplaced}
 use Rattle.acd_sqlbook.specs.Commit.{written_by}
 use Rattle.acd_sqlbook.specs.Counters.{AreCounters}
-use Rattle.acd_sqlbook.specs.Stopping.{HasReadCauseOr, IsCausedByReadOr}
+use Rattle.acd_sqlbook.specs.CommitStops.{HasReadCauseOr, IsCausedByReadOr}
 use Rattle.acd_sqlbook.specs.declared.ready.Ready.{Ready}
 
 -- ---- what it reads

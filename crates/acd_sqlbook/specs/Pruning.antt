@@ -5,7 +5,7 @@ use Rattle.acd_sql_columns.specs.Relations.{relations_of}
 use Rattle.acd_sql_columns.specs.Transactions.{Fits}
 use Rattle.acd_sql_columns.specs.Values.{id_value}
 use Rattle.acd_sql_columns.specs.declared.tables.Log.TheVariants as log
-use Rattle.acd_sql_statements.specs.Refusing.{RefusesOn}
+use Rattle.acd_sql_statements.specs.WriteRefusals.{RefusesOn}
 use Rattle.acd_sql_statements.specs.UpTo.{text_up_to, without_up_to}
 
 -- no column can hold the stamp, or the number

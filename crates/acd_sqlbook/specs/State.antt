@@ -44,9 +44,9 @@ abbrev pub fault_of : Error → BookFault
 fault_of (SqliteFailure OutOfMemory) = NoMemory
 fault_of _ = Store
 
-abbrev pub answered : {A : Type 0} → Result A Error → Result A BookFault
-answered (Ok found) = Ok found
-answered (Err error) = Err (fault_of error)
+abbrev pub book_result : {A : Type 0} → Result A Error → Result A BookFault
+book_result (Ok found) = Ok found
+book_result (Err error) = Err (fault_of error)
 
 -- the count of failures after an answer; it stays at its greatest value
 abbrev pub failures_after : {A : Type 0} → Result A BookFault → ℕ → ℕ

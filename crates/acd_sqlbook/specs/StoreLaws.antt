@@ -19,8 +19,8 @@ use Rattle.acd_sql_schema.specs.declared.fault.AdoptFault.{AdoptFault}
 use Rattle.acd_sql_schema.specs.declared.fault.AdoptFault.TheVariants.{WrongVersion, BadRow, NoMemory, Store}
 use Rattle.acd_sql_schema.specs.declared.fault.Found.{Found}
 use Rattle.acd_sql_schema.specs.declared.fault.Found.TheVariants.{Book}
-use Rattle.acd_sql_schema.specs.Inspecting.{IsFound, IsOfBook}
-use Rattle.acd_sql_statements.specs.Failing.{StoreHasFailed}
+use Rattle.acd_sql_schema.specs.Inspection.{IsFound, IsOfBook}
+use Rattle.acd_sql_statements.specs.StoreFailures.{StoreHasFailed}
 use Rattle.acd_sql_columns.specs.InRange.{IsInRange}
 use Rattle.acd_sqlbook.specs.Opening.{HasAdoptCause, IfHandedBack, IfOpened, IsAdoptedOver, IsHandedBackOver}
 use Rattle.acd_sqlbook.specs.State.{book_state}

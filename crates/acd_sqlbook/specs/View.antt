@@ -6,7 +6,7 @@ use Rattle.sqlite.specs.Held.{Held, held_code, state}
 use Rattle.acd_book.specs.Content.{Content, Commit}
 use Rattle.acd_book.specs.State.{BookState, BookReads, BookFinds, BookLists, BookCommits}
 use Rattle.acd_book.specs.declared.fault.BookFault.{BookFault}
-use Rattle.acd_sqlbook.specs.Caching.{followed}
+use Rattle.acd_sqlbook.specs.Caches.{followed}
 use Rattle.acd_sqlbook.specs.State.{book_state}
 use Rattle.acd_sqlbook.specs.contracts.cache.Cache.{the_row}
 use Rattle.acd_sqlbook.specs.declared.cache.Cache.{Cache}

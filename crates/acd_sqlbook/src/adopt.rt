@@ -2,10 +2,10 @@
 
 ghost use Rattle.std.specs.Prelude.{◌≡◌, false, None, IfOk, IfErr};
 ghost use Rattle.acd_sql_columns.specs.Schema.{old_schema, book_schema};
-ghost use Rattle.acd_sql_schema.specs.Migrating.{IsMade};
-ghost use Rattle.acd_sqlbook.specs.Adopting.{IsUntouched, MayMigrate};
+ghost use Rattle.acd_sql_schema.specs.Migration.{IsMade};
+ghost use Rattle.acd_sqlbook.specs.Adoption.{IsUntouched, MayMigrate};
 ghost use Rattle.acd_sqlbook.specs.Calls.{WasClean};
-ghost use Rattle.acd_sqlbook.specs.Caching.{IsBlank};
+ghost use Rattle.acd_sqlbook.specs.Caches.{IsBlank};
 ghost use Rattle.acd_sqlbook.specs.Opening.{HasAdoptCause, IfHandedBack, IfOpened, IfSchema, IsAdoptedOver, IsHandedBackOver, IsLeftAlone, WasCanonical};
 
 use crate::book::SqlBook;

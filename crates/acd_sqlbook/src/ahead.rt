@@ -2,7 +2,7 @@
 
 ghost use Rattle.std.specs.Prelude.{◌≡◌, [], None, IfSome, Some, reverse};
 ghost use Rattle.acd_book.specs.Content.{IsKeptAfter};
-ghost use Rattle.acd_sqlbook.specs.Ahead.{IfAhead, IsAhead};
+ghost use Rattle.acd_sqlbook.specs.RecordsAhead.{IfAhead, IsAhead};
 
 use acd_book::Kept;
 use std::alloc::Global;

@@ -3,14 +3,14 @@
 ghost use Rattle.std.specs.Prelude.{◌≡◌, ◌≤◌, false, None, Err, is_ok, IsTrue, IfOk, IfErr};
 ghost use Rattle.acd_sql_columns.specs.Transactions.{LimitsFit};
 ghost use Rattle.acd_sqlbook.specs.Calls.{WasClean};
-ghost use Rattle.acd_sqlbook.specs.State.{fault_of, answered, failures_after};
-ghost use Rattle.acd_sqlbook.specs.Caching.{IsBlank};
+ghost use Rattle.acd_sqlbook.specs.State.{fault_of, book_result, failures_after};
+ghost use Rattle.acd_sqlbook.specs.Caches.{IsBlank};
 ghost use Rattle.acd_sqlbook.specs.Opening.{HasCreateCause, HasNoTables, IfHandedBack, IsNewOver};
 ghost use Rattle.acd_sqlbook.specs.View.{book_of, SqlReads, SqlFinds, SqlLists, SqlCommits};
-ghost use Rattle.acd_sql_schema.specs.SettingUp.{MayMake};
+ghost use Rattle.acd_sql_schema.specs.Creation.{MayMake};
 ghost use Rattle.acd_sqlbook.specs.Causes.{IsCaused, IsCausedIfSound, read as reading, change as changing, prune as pruning, replace as replacing};
 ghost use Rattle.acd_book.specs.Content.{IsNextKept, events_page, kept_under, monitor_page, records_page, commit_by, commit_of};
-ghost use Rattle.acd_book.specs.Pruned.{prune_by};
+ghost use Rattle.acd_book.specs.PrunedContent.{prune_by};
 
 use crate::cache::Cache;
 use crate::following::kept_followed;
@@ -67,7 +67,7 @@ fn recorded<T>(
     known_open: &mut bool,
     failures: &mut u64,
 ) -> Result<T, BookFault>
-    ensures answer { result ≡ answered found }
+    ensures answer { result ≡ book_result found }
     ensures known_open { known_open.new ≡ is_ok found }
     ensures failures { failures.new ≡ failures_after result failures.old }
     ensures counts { failures.old ≤ failures.new }

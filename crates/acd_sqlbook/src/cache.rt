@@ -1,6 +1,6 @@
 //! What a book remembers beside its database.
 
-ghost use Rattle.acd_sqlbook.specs.Caching.{IsBlank};
+ghost use Rattle.acd_sqlbook.specs.Caches.{IsBlank};
 
 use crate::ahead::Ahead;
 use crate::index::Index;

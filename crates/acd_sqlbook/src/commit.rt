@@ -2,15 +2,15 @@
 
 ghost use Rattle.std.specs.Prelude.{◌≡◌, ◌≢◌, ◌↔◌, ◌<◌, ◌≤◌, [], length, filter, false, None, IfSome, IsTrue};
 ghost use Rattle.sqlite.specs.Held.{state};
-ghost use Rattle.acd_codec.specs.Formed.{IsSerial};
+ghost use Rattle.acd_codec.specs.RequestForms.{IsSerial};
 ghost use Rattle.acd_codec.specs.RequestTexts.{request_text};
 ghost use Rattle.acd_terms.specs.Lists.{Every};
 ghost use Rattle.acd_sqlbook.specs.Calls.{AddsOneStop, CommitsContent, KeepsContent, StaysOpen, WasClean};
-ghost use Rattle.acd_sqlbook.specs.Choosing.{is_taken_away, IsVainBefore, IsWrittenNext, IsNextPart, puts_the_same, is_put_once, is_above, is_new};
-ghost use Rattle.acd_sqlbook.specs.Commit.{LeavesContent, PutsChange, WritesChange, WritesChanges, ChangeFits, EventFits, KeptFits, StampFits, IsGoodChange, with_events, made_by, top_call, top_monitor, last_call, last_monitor, counted};
-ghost use Rattle.acd_sqlbook.specs.Stopping.{RefusesWrite, StopsWrite, StopsInWritten, StopsAtEvents, StopsInEvents, StopsInCommit, FailsAt, HasWriteCauseAt, IsUndoneAt};
-ghost use Rattle.acd_sql_schema.specs.SettingUp.{WasOpen};
-ghost use Rattle.acd_sql_statements.specs.Refusing.{RefusesAgent};
+ghost use Rattle.acd_sqlbook.specs.WriteChoice.{is_taken_away, IsVainBefore, IsWrittenNext, IsNextPart, puts_the_same, is_put_once, is_above, is_new};
+ghost use Rattle.acd_sqlbook.specs.Commit.{CommitLeaves, PutsChange, WritesChange, WritesChanges, ChangeFits, EventFits, KeptFits, StampFits, IsGoodChange, with_events, made_by, top_call, top_monitor, last_call, last_monitor, counted};
+ghost use Rattle.acd_sqlbook.specs.CommitStops.{RefusesWrite, StopsWrite, StopsInWritten, StopsAtEvents, StopsInEvents, StopsInCommit, FailsAt, HasWriteCauseAt, IsUndoneAt};
+ghost use Rattle.acd_sql_schema.specs.Creation.{WasOpen};
+ghost use Rattle.acd_sql_statements.specs.WriteRefusals.{RefusesAgent};
 ghost use Rattle.acd_sql_columns.specs.InRange.{IsGoodEvent, IsReported};
 ghost use Rattle.acd_sql_columns.specs.Transactions.{Works, Fits, FiguresFitColumns, MetaFits};
 
@@ -256,7 +256,7 @@ fn is_new(last: Option<u64>, changes: &[Change], change: &Change) -> bool
 }
 
 // Whether the second change removes the connection that the first one puts.
-fn is_taken_away(first: &Change, second: &Change) -> bool
+fn is_removed_next(first: &Change, second: &Change) -> bool
     ensures is { result ≡ is_taken_away first.now second.now }
     ensures vain { IsTrue result → IsVainBefore first.now second.now }
 {
@@ -269,7 +269,7 @@ fn is_taken_away(first: &Change, second: &Change) -> bool
 }
 
 // The change that is written next, and the rest: a connection that the very next change removes isn't put.
-fn next_written(changes: &[Change]) -> Option<(&Change, &[Change])>
+fn next_statement(changes: &[Change]) -> Option<(&Change, &[Change])>
     ensures some { IfSome result (λ p. IsWrittenNext changes.now p.0.now p.1.now) }
     ensures shorter { IfSome result (λ p. length p.1.now < length changes.now) }
     ensures none { result ≡ None → changes.now ≡ [] }
@@ -277,7 +277,7 @@ fn next_written(changes: &[Change]) -> Option<(&Change, &[Change])>
     let (first, remaining) = changes.split_first()?;
     match remaining.split_first() {
         Some((second, rest)) => {
-            if is_taken_away(first, second) {
+            if is_removed_next(first, second) {
                 return Some((second, rest));
             }
             Some((first, remaining))
@@ -300,7 +300,7 @@ fn write_changes<S: Alter>(
         (StopsInWritten last changes.now) }
 {
     let mut rest = changes;
-    while let Some((change, remaining)) = next_written(rest) {
+    while let Some((change, remaining)) = next_statement(rest) {
         write_change(tx, change, is_new(last, changes, change))?;
         rest = remaining;
     }
@@ -338,7 +338,7 @@ fn write_some<S: Alter>(tx: &mut Transaction<'_, S>, events: &[Event]) -> Result
     requires few { length events.now ≤ 4 }
     ensures same { tx.new.conn.ghost_name ≡ tx.old.conn.ghost_name }
     ensures works { Works (state S.Store tx.old.conn.now) (state S.Store tx.new.conn.now) }
-    ensures put { LeavesContent S.Store tx.old.conn tx.new.conn result
+    ensures put { CommitLeaves S.Store tx.old.conn tx.new.conn result
         (λ c. with_events c events.now) }
     ensures failed { FailsAt S.Store tx.old.conn tx.new.conn result
         (StopsAtEvents events.now) }
@@ -353,7 +353,7 @@ fn write_events<S: Alter>(tx: &mut Transaction<'_, S>, events: &[Event]) -> Resu
     requires { (state S.Store tx.old.conn.now).step_limit ≡ None }
     ensures same { tx.new.conn.ghost_name ≡ tx.old.conn.ghost_name }
     ensures works { Works (state S.Store tx.old.conn.now) (state S.Store tx.new.conn.now) }
-    ensures put { LeavesContent S.Store tx.old.conn tx.new.conn result
+    ensures put { CommitLeaves S.Store tx.old.conn tx.new.conn result
         (λ c. with_events c events.now) }
     ensures failed { FailsAt S.Store tx.old.conn tx.new.conn result
         (StopsInEvents events.now) }
@@ -438,7 +438,7 @@ fn write_all<S: Alter>(
     requires free { (state S.Store tx.old.conn.now).step_limit ≡ None }
     ensures same { tx.new.conn.ghost_name ≡ tx.old.conn.ghost_name }
     ensures works { Works (state S.Store tx.old.conn.now) (state S.Store tx.new.conn.now) }
-    ensures put { LeavesContent S.Store tx.old.conn tx.new.conn result
+    ensures put { CommitLeaves S.Store tx.old.conn tx.new.conn result
         (made_by changes.now events.now kept.now meta.now) }
     ensures failed { FailsAt S.Store tx.old.conn tx.new.conn result
         (StopsInCommit last changes.now events.now kept.now meta.now) }

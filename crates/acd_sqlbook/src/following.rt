@@ -1,6 +1,6 @@
 //! The kept records one after the other.
 
-ghost use Rattle.acd_sqlbook.specs.Ahead.{IsAheadOf, IsNextAfter};
+ghost use Rattle.acd_sqlbook.specs.RecordsAhead.{IsAheadOf, IsNextAfter};
 ghost use Rattle.acd_sqlbook.specs.OverReady.{Carries, ReadyFails, ReadyReads};
 
 use crate::ahead::Ahead;

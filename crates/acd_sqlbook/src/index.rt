@@ -1,10 +1,10 @@
 //! The events at the devices of the running monitors, as far as they are indexed.
 
 ghost use Rattle.std.specs.Prelude.{IfSome};
-ghost use Rattle.acd_book.specs.Watched.{IsPage};
-ghost use Rattle.acd_sqlbook.specs.Indexing.{IndexGoesOn, IsIndexAfter, RisesTo};
+ghost use Rattle.acd_book.specs.MonitorIndexes.{IsPage};
+ghost use Rattle.acd_sqlbook.specs.EventIndex.{IndexGoesOn, IsIndexAfter, RisesTo};
 
-use acd_book::Watched;
+use acd_book::MonitorIndex;
 use acd_model::Change;
 use acd_terms::{DeviceId, Event};
 use sqlite::Error;
@@ -12,7 +12,7 @@ use sqlite::Error;
 /// For the device of each running monitor the numbers of its events, and the greatest of all numbers.
 #[derive(Drop)]
 pub(crate) struct Index {
-    pub(crate) watched: Watched,
+    pub(crate) watched: MonitorIndex,
     pub(crate) last: u64,
 }
 

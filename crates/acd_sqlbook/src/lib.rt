@@ -18,7 +18,6 @@
 
 mod adopt;
 mod ahead;
-mod begun;
 mod book;
 mod cache;
 mod commit;
@@ -28,6 +27,7 @@ pub mod laws;
 mod page;
 mod prune;
 mod ready;
+mod rebuild;
 mod transition;
 
 pub use acd_sql_columns::Table;

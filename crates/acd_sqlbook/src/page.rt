@@ -1,14 +1,14 @@
 //! Pages of a monitor by the numbers that an index has of its events.
 
 ghost use Rattle.std.specs.Prelude.{Some};
-ghost use Rattle.acd_sql_statements.specs.Between.{FindsIn, HasReadCauseIn};
-ghost use Rattle.acd_sql_statements.specs.Picking.{FindsIfOpen, HasReadCauseIfOpen};
-ghost use Rattle.acd_sqlbook.specs.Indexing.{IsDevicePage, IsIndexIn, IsPageBy};
+ghost use Rattle.acd_sql_statements.specs.ReadsBetween.{FindsIn, HasReadCauseIn};
+ghost use Rattle.acd_sql_statements.specs.EventsByNumber.{FindsIfOpen, HasReadCauseIfOpen};
+ghost use Rattle.acd_sqlbook.specs.EventIndex.{IsDevicePage, IsIndexIn, IsPageBy};
 ghost use Rattle.acd_sqlbook.specs.OverReady.{Carries, ReadyFails, ReadyReads};
 
-use crate::begun::index_or_begun;
 use crate::index::Index;
 use crate::ready::Ready;
+use crate::rebuild::index_or_rebuild;
 use acd_sql_statements::{events_at, events_numbered, events_watched, monitor_at};
 use acd_terms::{DeviceId, Event};
 use sqlite::{Alter, Connection, Error};
@@ -90,7 +90,7 @@ pub(crate) fn page_followed<S: Alter>(
         (IsPageBy recorded.old monitor number limit) }
     ensures cause { ReadyFails ready.old ready.new result }
 {
-    let next = index_or_begun(alloc, ready, recorded.take())?;
+    let next = index_or_rebuild(alloc, ready, recorded.take())?;
     ready.known_open = false;
     let found = recorded_page(alloc, &mut ready.conn, &next, monitor, number, limit);
     *recorded = next;

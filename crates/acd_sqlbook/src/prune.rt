@@ -2,14 +2,14 @@
 
 ghost use Rattle.std.specs.Prelude.{◌≡◌, ◌↔◌, false, None, IsTrue};
 ghost use Rattle.sqlite.specs.Held.{state};
-ghost use Rattle.acd_book.specs.Pruned.{pruned, prune_by};
+ghost use Rattle.acd_book.specs.PrunedContent.{pruned, prune_by};
 ghost use Rattle.acd_sqlbook.specs.Calls.{AddsOneStop, CommitsContent, KeepsContent, StaysOpen, WasClean};
-ghost use Rattle.acd_sqlbook.specs.Commit.{LeavesContent};
+ghost use Rattle.acd_sqlbook.specs.Commit.{CommitLeaves};
 ghost use Rattle.acd_sqlbook.specs.OverReady.{ReadyCommits, ReadyStops};
 ghost use Rattle.acd_sqlbook.specs.Pruning.{RefusesPrune, StopsPrune};
-ghost use Rattle.acd_sqlbook.specs.Stopping.{FailsAt, IsUndoneAt};
+ghost use Rattle.acd_sqlbook.specs.CommitStops.{FailsAt, IsUndoneAt};
 ghost use Rattle.acd_sql_columns.specs.Transactions.{Fits, Works};
-ghost use Rattle.acd_sql_schema.specs.SettingUp.{WasOpen};
+ghost use Rattle.acd_sql_schema.specs.Creation.{WasOpen};
 
 use crate::ready::Ready;
 use acd_sql_columns::Log;
@@ -30,7 +30,7 @@ fn remove_old<S: Alter>(tx: &mut Transaction<'_, S>, stamp: u64, number: u64) ->
     requires free { (state S.Store tx.old.conn.now).step_limit ≡ None }
     ensures same { tx.new.conn.ghost_name ≡ tx.old.conn.ghost_name }
     ensures works { Works (state S.Store tx.old.conn.now) (state S.Store tx.new.conn.now) }
-    ensures put { LeavesContent S.Store tx.old.conn tx.new.conn result (pruned stamp number) }
+    ensures put { CommitLeaves S.Store tx.old.conn tx.new.conn result (pruned stamp number) }
     ensures failed { FailsAt S.Store tx.old.conn tx.new.conn result (RefusesPrune stamp number) }
 {
     remove_up_to(tx, Log::Kept, stamp)?;

@@ -9,9 +9,9 @@ ghost use Rattle.acd_sqlbook.specs.Commit.{KeptFits, counted, counters_of};
 ghost use Rattle.acd_sqlbook.specs.Counters.{StopsWith};
 ghost use Rattle.acd_sql_columns.specs.Relations.{meta_of};
 ghost use Rattle.acd_sql_columns.specs.Transactions.{Quiet, NoStop, LimitsFit, MetaFits};
-ghost use Rattle.acd_sql_schema.specs.SettingUp.{IfClean};
-ghost use Rattle.acd_sql_statements.specs.Between.{IsUp};
-ghost use Rattle.acd_sqlbook.specs.Stopping.{IsUncounted, StopsCommit};
+ghost use Rattle.acd_sql_schema.specs.Creation.{IfClean};
+ghost use Rattle.acd_sql_statements.specs.ReadsBetween.{IsUp};
+ghost use Rattle.acd_sqlbook.specs.CommitStops.{IsUncounted, StopsCommit};
 
 use crate::commit::{commit_all, counted, kept_fits};
 use acd_book::Kept;

@@ -2,14 +2,14 @@
 
 ghost use Rattle.std.specs.Prelude.{◌≡◌, ◌⊎◌, IfErr, IfOk, OnOk};
 ghost use Rattle.acd_book.specs.Content.{commit_of};
-ghost use Rattle.acd_sqlbook.specs.Calls.{LeadsBetween, LeadsTo};
+ghost use Rattle.acd_sqlbook.specs.Calls.{LeadsBetween, ChangesLeadTo};
 ghost use Rattle.acd_sqlbook.specs.Commit.{KeptFits};
 ghost use Rattle.acd_sqlbook.specs.OverReady.{ReadyCommits, ReadyFailsOr, ReadyReads, ReadyStops};
-ghost use Rattle.acd_sqlbook.specs.Stopping.{AreCounted, Drops, DropsOf, StopsReplace};
+ghost use Rattle.acd_sqlbook.specs.CommitStops.{AreCounted, Drops, DropsOf, StopsReplace};
 ghost use Rattle.acd_sql_columns.specs.Relations.{meta_of};
 ghost use Rattle.acd_sql_columns.specs.Transactions.{MetaFits};
-ghost use Rattle.acd_sql_differences.specs.Leading.{rows_differences};
-ghost use Rattle.acd_sql_statements.specs.Failing.{IsMemory};
+ghost use Rattle.acd_sql_differences.specs.ChangeOrder.{rows_differences};
+ghost use Rattle.acd_sql_statements.specs.StoreFailures.{IsMemory};
 
 use crate::commit::{commit_all, kept_fits};
 use crate::ready::{Ready, meta_fits};
@@ -48,7 +48,7 @@ fn changes_to<S: Alter>(
     rows: &Rows,
 ) -> Result<Vec<Change>, Error>
     ensures read { ReadyReads ready.old ready.new result
-        (λ c found. LeadsTo rows.now c found.items) }
+        (λ c found. ChangesLeadTo rows.now c found.items) }
     ensures cause { ReadyFailsOr ready.old ready.new result (Drops rows.now) }
 {
     let held = ready.rows(alloc)?;

@@ -1,8 +1,8 @@
-pub mod CarriedOn
-pub mod Closing
+pub mod MovesInTurn
+pub mod StepEnd
 pub mod RoomOfRules
-pub mod Refusing
-pub mod Beginning
-pub mod Growing
-pub mod Making
+pub mod RefusedSteps
+pub mod EmptyState
+pub mod RoomOfFigures
+pub mod ChangesOfRequests
 pub mod TickLemmas

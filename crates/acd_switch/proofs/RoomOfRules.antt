@@ -11,9 +11,9 @@ use Rattle.acd_terms.specs.declared.command.Command.{Command}
 use Rattle.acd_model.specs.Writes.{with_last}
 use Rattle.acd_model.specs.Step.{step, executed_moment, next_stamp}
 use Rattle.acd_model.specs.Rules.First.{BreaksNoRule}
-use Rattle.acd_switch.specs.Counting.{AreFitting, AllFit}
-use Rattle.acd_lemmas.proofs.Facts.{IsCountedUpTo, AddsUp}
-use Rattle.acd_laws.proofs.Rules.DecidedAll.{keeps_read}
+use Rattle.acd_switch.specs.FigureSums.{AreFitting, AllFit}
+use Rattle.acd_lemmas.proofs.RuleFacts.{IsCountedUpTo, AddsUp}
+use Rattle.acd_laws.proofs.Rules.AllRuleTests.{keeps_read}
 use Rattle.acd_switch.specs.Room.{HasRoom, CountersFit}
 use Rattle.acd_lemmas.proofs.Changes.{requests_few}
 

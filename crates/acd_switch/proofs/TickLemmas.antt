@@ -9,9 +9,9 @@ use Rattle.acd_terms.specs.States.{is_alerting, is_working_after_call}
 use Rattle.acd_terms.specs.declared.rows.Rows.{Rows}
 use Rattle.acd_terms.specs.declared.record.ConnectionRecord.{ConnectionRecord}
 use Rattle.acd_terms.specs.declared.record.AgentRecord.{AgentRecord}
-use Rattle.acd_model.specs.Tick.{is_overdue, is_overdue_offer, overdue_in, is_rested, is_over_in, rested_in}
+use Rattle.acd_model.specs.Tick.{is_overdue, is_overdue_offer, overdue_in, is_wrapped_up, is_over_in, wrapped_up_in}
 use Rattle.acd_model.specs.Scans.{agent_of, connection_of}
-use Rattle.acd_tables.specs.Indexed.{is_ringing, is_working}
+use Rattle.acd_tables.specs.IndexedRows.{is_ringing, is_working}
 use Rattle.acd_tables.specs.Uses.{kept}
 use Rattle.acd_lemmas.proofs.Lists.{filter-filter}
 
@@ -26,17 +26,17 @@ overdue_rings s m x e =
     let parts = and_parts (is_alerting x.state) (is_overdue_offer s m x.group x.offered) e in
     and_from (is_alerting x.state) (is_some x.group && is_some x.offered) parts.0 (offered s m x.group x.offered parts.1)
 
-rested_works : (s : Rows) (m : ℕ) (a : AgentRecord) → is_rested s m a ≡ true → is_working a ≡ true
-unfolding is_rested
+rested_works : (s : Rows) (m : ℕ) (a : AgentRecord) → is_wrapped_up s m a ≡ true → is_working a ≡ true
+unfolding is_wrapped_up
 rested_works s m a e = (and_parts (is_working_after_call a.state) (is_over_in s m a (least_group a.groups)) e).0
 
 pub overdue-ringing : (s : Rows) (m : ℕ) → filter (is_overdue s m) (filter is_ringing s.connections) ≡ overdue_in s m
 unfolding overdue_in
 overdue-ringing s m = filter-filter (is_overdue s m) is_ringing (overdue_rings s m) s.connections
 
-pub rested-working : (s : Rows) (m : ℕ) → filter (is_rested s m) (filter is_working s.agents) ≡ rested_in s m
-unfolding rested_in
-rested-working s m = filter-filter (is_rested s m) is_working (rested_works s m) s.agents
+pub rested-working : (s : Rows) (m : ℕ) → filter (is_wrapped_up s m) (filter is_working s.agents) ≡ wrapped_up_in s m
+unfolding wrapped_up_in
+rested-working s m = filter-filter (is_wrapped_up s m) is_working (rested_works s m) s.agents
 
 -- where nothing rings nothing is overdue, and where nobody works nobody has rested
 pub nothing_overdue : (s : Rows) (m : ℕ) (ringing : List ConnectionRecord) → length ringing ≡ 0 → ringing ≡ filter is_ringing s.connections
@@ -44,8 +44,8 @@ pub nothing_overdue : (s : Rows) (m : ℕ) (ringing : List ConnectionRecord) →
 nothing_overdue s m [] _ e = ap (filter (is_overdue s m)) e ∙ overdue-ringing s m
 nothing_overdue s m (_ ∷ _) z e = absurd (cc (z))
 
-pub nobody_rested : (s : Rows) (m : ℕ) (working : List AgentRecord) → length working ≡ 0 → working ≡ filter is_working s.agents → working ≡ rested_in s m
-nobody_rested s m [] _ e = ap (filter (is_rested s m)) e ∙ rested-working s m
+pub nobody_rested : (s : Rows) (m : ℕ) (working : List AgentRecord) → length working ≡ 0 → working ≡ filter is_working s.agents → working ≡ wrapped_up_in s m
+nobody_rested s m [] _ e = ap (filter (is_wrapped_up s m)) e ∙ rested-working s m
 nobody_rested s m (_ ∷ _) z e = absurd (cc (z))
 
 -- a filter that has tested all
@@ -113,5 +113,5 @@ pub overdue_given : (s : Rows) (m : ℕ) (keys : List (ℕ × ℕ))
 overdue_given s m keys e = any_given (is_overdue s m) is_ringing (overdue_rings s m) (λ p. connection_of s p.0 p.1) keys s.connections e
 
 pub rested_given : (s : Rows) (m : ℕ) (keys : List ℕ) → filter_map (λ n. kept is_working (agent_of s n)) keys ≡ filter is_working s.agents
-    → list_any (λ n. passes (is_rested s m) (agent_of s n)) keys ≡ list_any (is_rested s m) s.agents
-rested_given s m keys e = any_given (is_rested s m) is_working (rested_works s m) (λ n. agent_of s n) keys s.agents e
+    → list_any (λ n. passes (is_wrapped_up s m) (agent_of s n)) keys ≡ list_any (is_wrapped_up s m) s.agents
+rested_given s m keys e = any_given (is_wrapped_up s m) is_working (rested_works s m) (λ n. agent_of s n) keys s.agents e

@@ -1,6 +1,6 @@
-pub mod Counting
+pub mod FigureSums
 pub mod Room
 pub mod RowFaults
-pub mod Kept
-pub mod CarryingOut
-pub mod Executing
+pub mod SwitchAnswers
+pub mod CarriedOutMoves
+pub mod ExecutedRows

@@ -2,7 +2,7 @@
 use Rattle.std.specs.Prelude.{◌<◌, ◌-◌, ◌+◌, ◌^◌, List, length}
 use Rattle.acd_terms.specs.declared.command.Turn.{Turn}
 use Rattle.acd_terms.specs.Numbers.{EventNumber}
-use Rattle.acd_switch.specs.Counting.{AllFit}
+use Rattle.acd_switch.specs.FigureSums.{AllFit}
 use Rattle.acd_terms.specs.declared.rows.Rows.{Rows}
 use Rattle.acd_terms.specs.declared.event.Event.{Event}
 use Rattle.acd_model.specs.Writes.{with_last}

@@ -2,7 +2,7 @@
 
 ghost use Rattle.std.specs.Prelude.{OnOk};
 ghost use Rattle.acd_model.specs.Distribution.{offer_moves, distribution};
-ghost use Rattle.acd_switch.specs.CarryingOut.{Carries};
+ghost use Rattle.acd_switch.specs.CarriedOutMoves.{Carries};
 
 use crate::journal::Journal;
 use acd_model::Offer;

@@ -3,7 +3,7 @@
 ghost use Rattle.std.specs.Prelude.{◌≡◌, ◌∷◌, []};
 ghost use Rattle.acd_model.specs.Figures.{sum_of_figures, counting};
 ghost use Rattle.acd_model.specs.Changes.{counted_group};
-ghost use Rattle.acd_switch.specs.Counting.{figures_by, AreFitting};
+ghost use Rattle.acd_switch.specs.FigureSums.{figures_by, AreFitting};
 
 use acd_terms::{Cause, DeviceId, Event, Figures, GroupRecord, Report};
 
@@ -36,7 +36,7 @@ pub fn counted_group(report: &Report) -> Option<DeviceId>
 }
 
 // The counts of one report for the group.
-#[tactic(auto, unfolding(crate::specs::Counting::figures_by))]
+#[tactic(auto, unfolding(crate::specs::FigureSums::figures_by))]
 fn figures_by(group: DeviceId, report: &Report) -> Figures
     ensures { result ≡ figures_by group report.now }
 {

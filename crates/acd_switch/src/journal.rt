@@ -6,8 +6,8 @@ ghost use Rattle.acd_model.specs.Moves.{changed};
 ghost use Rattle.acd_model.specs.Changes.{with_change, changed_by, growth_by, growth};
 ghost use Rattle.acd_model.specs.Figures.{with_figures};
 ghost use Rattle.acd_model.specs.Rules.Plan.{group_order};
-ghost use Rattle.acd_switch.specs.Counting.{CountingFits};
-ghost use Rattle.acd_switch.specs.CarryingOut.{Carries, Extends, RecordsGrowth};
+ghost use Rattle.acd_switch.specs.FigureSums.{CountingFits};
+ghost use Rattle.acd_switch.specs.CarriedOutMoves.{Carries, ExtendsList, RecordsGrowth};
 
 use crate::figures::{counted_group, counting};
 use acd_model::{Change, Move};
@@ -90,7 +90,7 @@ fn make_change(
     changes: &mut Vec<Change>,
 ) -> Result<(), AllocError>
     ensures rows { OnOk result (tables.new ≡ changed tables.old one.now) }
-    ensures changes { Extends result changes.old changes.new (with_change one.now []) }
+    ensures changes { ExtendsList result changes.old changes.new (with_change one.now []) }
 {
     if let Change::Nothing = one {
         return Ok(());
@@ -101,7 +101,7 @@ fn make_change(
 
 // A separate addition, for any type. As a list, a change is copied into its place at once, and not by way of the stack.
 fn append<T: Copy + Drop>(more: &[T], list: &mut Vec<T>) -> Result<(), AllocError>
-    ensures { Extends result list.old list.new more.now }
+    ensures { ExtendsList result list.old list.new more.now }
 {
     list.extend_from_slice(more)
 }
@@ -111,7 +111,7 @@ fn grow_by(tables: &mut Tables, event: &Event, changes: &mut Vec<Change>) -> Res
     requires { CountingFits tables.old (event.now ∷ []) }
     ensures rows { OnOk result
         (tables.new ≡ changed_by tables.old (growth_by tables.old event.now)) }
-    ensures changes { Extends result changes.old changes.new (growth_by tables.old event.now) }
+    ensures changes { ExtendsList result changes.old changes.new (growth_by tables.old event.now) }
 {
     let Some(device) = counted_group(&event.report) else {
         return Ok(());
@@ -130,7 +130,7 @@ fn grow_by_all(
     requires order { IsAscending group_order tables.old.groups }
     requires room { CountingFits tables.old events.now }
     ensures rows { OnOk result (tables.new ≡ with_figures tables.old events.now) }
-    ensures changes { Extends result changes.old changes.new (growth tables.old events.now) }
+    ensures changes { ExtendsList result changes.old changes.new (growth tables.old events.now) }
 {
     for event in events {
         grow_by(tables, event, changes)?;

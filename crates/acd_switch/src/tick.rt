@@ -3,9 +3,9 @@
 ghost use Rattle.std.specs.Prelude.{◌≡◌, OnOk, IfOk, filter};
 ghost use Rattle.std.specs.List.{list_any};
 ghost use Rattle.acd_model.specs.Scans.{group_of};
-ghost use Rattle.acd_model.specs.Tick.{is_over, ring_of, wrap_of, is_overdue, overdue_in, return_moves, is_rested, rested_in, rest_moves, returns, rests, tick};
+ghost use Rattle.acd_model.specs.Tick.{is_over, ring_of, wrap_of, is_overdue, overdue_in, return_moves, is_wrapped_up, wrapped_up_in, wrap_up_moves, returns, wraps, tick};
 ghost use Rattle.acd_laws.specs.Due.{is_due};
-ghost use Rattle.acd_switch.specs.CarryingOut.{Carries, CarriesAt};
+ghost use Rattle.acd_switch.specs.CarriedOutMoves.{Carries, CarriesAt};
 
 use crate::journal::Journal;
 use acd_services::{go_from, return_to};
@@ -54,9 +54,9 @@ fn is_overdue(tables: &Tables, moment: u32, connection: &ConnectionRecord) -> bo
     }
 }
 
-#[tactic(auto, unfolding(acd_model::specs::Tick::is_rested))]
-fn is_rested(tables: &Tables, moment: u32, agent: &AgentRecord) -> bool
-    ensures { result ≡ is_rested tables.now moment agent.now }
+#[tactic(auto, unfolding(acd_model::specs::Tick::is_wrapped_up))]
+fn is_wrapped_up(tables: &Tables, moment: u32, agent: &AgentRecord) -> bool
+    ensures { result ≡ is_wrapped_up tables.now moment agent.now }
 {
     if !agent.state.is_working_after_call() {
         return false;
@@ -82,12 +82,12 @@ fn has_overdue(tables: &Tables, moment: u32) -> bool
 }
 
 // Some agent's after-call work lasted long enough. It looks at those in after-call work, and takes no memory.
-fn has_rested(tables: &Tables, moment: u32) -> bool
-    ensures { result ≡ list_any (is_rested tables.now moment) tables.now.agents }
+fn has_wrapped_up(tables: &Tables, moment: u32) -> bool
+    ensures { result ≡ list_any (is_wrapped_up tables.now moment) tables.now.agents }
 {
     for number in tables.working_keys() {
         if let Some(agent) = tables.agent(*number) {
-            if is_rested(tables, moment, &agent) {
+            if is_wrapped_up(tables, moment, &agent) {
                 return true;
             }
         }
@@ -100,7 +100,7 @@ fn has_rested(tables: &Tables, moment: u32) -> bool
 pub fn is_due(tables: &Tables, moment: u32) -> bool
     ensures { result ≡ is_due tables.now moment }
 {
-    has_overdue(tables, moment) || has_rested(tables, moment)
+    has_overdue(tables, moment) || has_wrapped_up(tables, moment)
 }
 
 // Those of the offers that rang too long.
@@ -140,17 +140,17 @@ fn overdue_in(
 
 // Those of the agents in after-call work that did it long enough.
 #[inline(never)]
-fn rested_among(
+fn wrapped_up_among(
     alloc: Global,
     tables: &Tables,
     moment: u32,
     working: &[AgentRecord],
 ) -> Result<Vec<AgentRecord>, AllocError>
-    ensures { IfOk result (λ v. v.items ≡ filter (is_rested tables.now moment) working.now) }
+    ensures { IfOk result (λ v. v.items ≡ filter (is_wrapped_up tables.now moment) working.now) }
 {
     let mut rested = Vec::new(alloc);
     for agent in working {
-        if is_rested(tables, moment, agent) {
+        if is_wrapped_up(tables, moment, agent) {
             rested.push(*agent)?;
         }
     }
@@ -158,15 +158,19 @@ fn rested_among(
 }
 
 // The agents whose after-call work lasted long enough, in ascending number.
-#[tactic(auto, unfolding(acd_model::specs::Tick::rested_in))]
-fn rested_in(alloc: Global, tables: &Tables, moment: u32) -> Result<Vec<AgentRecord>, AllocError>
-    ensures { IfOk result (λ v. v.items ≡ rested_in tables.now moment) }
+#[tactic(auto, unfolding(acd_model::specs::Tick::wrapped_up_in))]
+fn wrapped_up_in(
+    alloc: Global,
+    tables: &Tables,
+    moment: u32,
+) -> Result<Vec<AgentRecord>, AllocError>
+    ensures { IfOk result (λ v. v.items ≡ wrapped_up_in tables.now moment) }
 {
     let working = tables.working()?;
     if working.is_empty() {
         return Ok(working);
     }
-    rested_among(alloc, tables, moment, working.as_slice())
+    wrapped_up_among(alloc, tables, moment, working.as_slice())
 }
 
 // The call returns to the group that offered it, and the agent is released.
@@ -193,7 +197,7 @@ fn end_work(
     agent: &AgentRecord,
     journal: &mut Journal,
 ) -> Result<(), AllocError>
-    ensures { OnOk result (Carries at.moment (rest_moves at agent.now) (tables.old, journal.old)
+    ensures { OnOk result (Carries at.moment (wrap_up_moves at agent.now) (tables.old, journal.old)
         (tables.new, journal.new)) }
 {
     let moves = [go_from(at, agent, AgentState::Ready)];
@@ -216,15 +220,15 @@ fn return_overdue(
     Ok(())
 }
 
-fn end_rested(
+fn end_wrap_ups(
     alloc: Global,
     tables: &mut Tables,
     at: Turn,
     journal: &mut Journal,
 ) -> Result<(), AllocError>
-    ensures { OnOk result (CarriesAt at rests (tables.old, journal.old) (tables.new, journal.new)) }
+    ensures { OnOk result (CarriesAt at wraps (tables.old, journal.old) (tables.new, journal.new)) }
 {
-    let rested = rested_in(alloc, tables, at.moment)?;
+    let rested = wrapped_up_in(alloc, tables, at.moment)?;
     for agent in rested.as_slice() {
         end_work(tables, at, agent, journal)?;
     }
@@ -242,5 +246,5 @@ pub fn tick(
     ensures { OnOk result (CarriesAt at tick (tables.old, journal.old) (tables.new, journal.new)) }
 {
     return_overdue(alloc, tables, at, journal)?;
-    end_rested(alloc, tables, at, journal)
+    end_wrap_ups(alloc, tables, at, journal)
 }

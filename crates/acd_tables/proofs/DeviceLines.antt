@@ -11,8 +11,8 @@ use Rattle.std.specs.declared.ops.Bound.TheVariants.{Included, Excluded, Unbound
 use Rattle.std.proofs.lemmas.Bool.{and_parts, eqb-true}
 use Rattle.acd_terms.specs.Lists.{Among}
 use Rattle.acd_lemmas.proofs.Lists.{any_found, find_passes, find_among, among-filter, some_from}
-use Rattle.acd_lemmas.proofs.Keyed.{cmp_self}
-use Rattle.acd_tables.specs.Indexed.{pair_cmp, joins}
+use Rattle.acd_lemmas.proofs.KeyedLists.{cmp_self}
+use Rattle.acd_tables.specs.IndexedRows.{pair_cmp, joins}
 use Rattle.acd_tables.specs.Uses.{first_line, past_lines}
 use Rattle.acd_tables.proofs.NearLemmas.{less, greater}
 use Rattle.acd_tables.proofs.SwapLemmas.{pair_key}

@@ -7,14 +7,14 @@ use Rattle.std.specs.declared.cmp.Ordering.{Ordering}
 use Rattle.std.specs.Cmp.{IsTotalOrder}
 use Rattle.std.proofs.lemmas.Bool.{and_from, or_left, or_right, eqb-true}
 use Rattle.acd_terms.specs.Groups.{is_one_of}
-use Rattle.acd_tables.specs.Indexed.{PairSets, lists}
+use Rattle.acd_tables.specs.IndexedRows.{PairSets, lists}
 use Rattle.std.proofs.lemmas.Cmp.{nat_cmp_total}
 use Rattle.std.specs.BTreeMap.{BTreeMap}
 use Rattle.std.specs.BTreeSet.{BTreeSet}
 use Rattle.acd_tables.specs.Sets.{holds, is_at_key, Sets, Stays}
-use Rattle.acd_tables.specs.Swaps.{is_entry, Enters, Leaves, Undoes, KeepsWaiting}
+use Rattle.acd_tables.specs.Swaps.{is_swap_entry, Enters, Leaves, Undoes, KeepsWaiting}
 use Rattle.acd_tables.proofs.SetLemmas.{holds-same}
-use Rattle.acd_lemmas.proofs.Keyed.{eq_key}
+use Rattle.acd_lemmas.proofs.KeyedLists.{eq_key}
 
 pub any_last : {X : Type 0} (p : X → Bool) (xs : List X) (x : X) → list_any p (xs ++ x ∷ []) ≡ (list_any p xs || p x)
 any_last p [] x = by (p x)
@@ -46,7 +46,7 @@ entered false false q h = refl
 
 module _ {E : Type 0} (cmp : E → E → Ordering) where
   entry_last : (gs : List ℕ) (x : ℕ) (k : E) (g : ℕ) (e : E)
-      → is_entry cmp (Some (gs ++ x ∷ [], k)) g e ≡ ((list_any (λ h. h == g) gs || (x == g)) && is_eq (cmp k e))
+      → is_swap_entry cmp (Some (gs ++ x ∷ [], k)) g e ≡ ((list_any (λ h. h == g) gs || (x == g)) && is_eq (cmp k e))
   entry_last gs x k g e = ap (λ b. b && is_eq (cmp k e)) (any_last (λ h. h == g) gs x)
 
   at_key : (x : ℕ) (k : E) (g : ℕ) (e : E) → is_at_key nat_cmp cmp x k g e ≡ ((x == g) && is_eq (cmp k e))
@@ -86,7 +86,7 @@ module _ {E : Type 0} (cmp : E → E → Ordering) where
       → Undoes cmp old mid (Some (done, k)) → is_new ≡ not (holds nat_cmp cmp mid x k) → Sets nat_cmp cmp mid new x k true
       → Undoes cmp old new (Some (cond is_new (done ++ x ∷ []) done, k))
   undoes_more old mid new done x k is_new total u f s g e =
-      u g e ∙ by is_new f (x == g) refl (is_eq (cmp k e)) refl ∙ ap (λ h. not (is_entry cmp (Some (cond is_new (done ++ x ∷ []) done, k)) g e) && h) (sym now)
+      u g e ∙ by is_new f (x == g) refl (is_eq (cmp k e)) refl ∙ ap (λ h. not (is_swap_entry cmp (Some (cond is_new (done ++ x ∷ []) done, k)) g e) && h) (sym now)
     where
       a : Bool
       a = list_any (λ h. h == g) done
@@ -112,7 +112,7 @@ module _ {E : Type 0} (cmp : E → E → Ordering) where
 
       by : (w : Bool) → w ≡ not (holds nat_cmp cmp mid x k) → (b : Bool) → (x == g) ≡ b → (q : Bool) → is_eq (cmp k e) ≡ q
           → (not (a && is_eq (cmp k e)) && holds nat_cmp cmp mid g e)
-          ≡ (not (is_entry cmp (Some (cond w (done ++ x ∷ []) done, k)) g e) && cond ((x == g) && is_eq (cmp k e)) true (holds nat_cmp cmp mid g e))
+          ≡ (not (is_swap_entry cmp (Some (cond w (done ++ x ∷ []) done, k)) g e) && cond ((x == g) && is_eq (cmp k e)) true (holds nat_cmp cmp mid g e))
       by true w b p q r =
           table_new a (x == g) (is_eq (cmp k e)) (holds nat_cmp cmp mid g e) (λ m n. there m n ∙ flipped (holds nat_cmp cmp mid x k) w)
           ∙ ap (λ v. not v && cond ((x == g) && is_eq (cmp k e)) true (holds nat_cmp cmp mid g e)) (sym (entry_last done x k g e))
@@ -141,7 +141,7 @@ module _ {E : Type 0} (cmp : E → E → Ordering) where
       → Stays nat_cmp cmp old back
   all_undone old mid new back gs done k n u s l = record {
     sets = λ g. l.sets g ∙ s.sets g ∙ n.sets g;
-    members = λ g e. l.members g e ∙ ap (λ h. not (is_entry cmp (Some (done, k)) g e) && h) (s.members g e) ∙ sym (u g e);
+    members = λ g e. l.members g e ∙ ap (λ h. not (is_swap_entry cmp (Some (done, k)) g e) && h) (s.members g e) ∙ sym (u g e);
   }
 
 pub no_longer : (b : Bool) (x i : ℕ) (old new : List ℕ) → new ≡ cond b (old ++ x ∷ []) old → length old ≤ i → length new ≤ i + 1

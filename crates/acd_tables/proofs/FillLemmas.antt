@@ -8,7 +8,7 @@ use Rattle.acd_terms.specs.declared.record.ConnectionRecord.{ConnectionRecord}
 use Rattle.acd_model.specs.Rules.Plan.{group_order, agent_order, connection_order}
 use Rattle.acd_model.specs.Writes.{with_group, with_agent, with_connection}
 use Rattle.acd_lemmas.proofs.State.{groups_total, agents_total, connections_total}
-use Rattle.acd_lemmas.proofs.Decided.{ascending_from}
+use Rattle.acd_lemmas.proofs.RuleTests.{ascending_from}
 use Rattle.acd_tables.proofs.ListLemmas.{put_by-next}
 
 pub filled_group : (s : Rows) (xs : List GroupRecord) (i : ℕ) (r : GroupRecord) → ascends group_order xs ≡ true → i < length xs → r ≡ get_or xs i r

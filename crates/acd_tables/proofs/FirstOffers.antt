@@ -21,12 +21,12 @@ use Rattle.acd_model.specs.declared.moves.Offer.{Offer}
 use Rattle.acd_lemmas.proofs.Least.{least_is, none_foremost, foremost_is}
 use Rattle.acd_lemmas.proofs.Lists.{none_from, filter_among, among-filter, eq_is}
 use Rattle.acd_lemmas.proofs.State.{group_among, group_key, group_found}
-use Rattle.acd_tables.specs.Indexed.{IsIndexed, OfferKey, offer_cmp, offer_key}
+use Rattle.acd_tables.specs.IndexedRows.{IsIndexed, OfferKey, offer_cmp, offer_key}
 use Rattle.acd_tables.specs.FirstOffer.{if_ranked, offer_by_key, first_given}
 use Rattle.acd_tables.specs.declared.indexes.Indexes.{Indexes}
 use Rattle.acd_tables.proofs.Firsts.{waiting-among, eligible-among}
-use Rattle.acd_tables.proofs.FirstGiven.{IsFirst, one_first, first_sorted}
-use Rattle.acd_tables.proofs.Picked.{contained}
+use Rattle.acd_tables.proofs.FirstOfKeys.{IsFirst, one_first, first_sorted}
+use Rattle.acd_tables.proofs.ScansByIndex.{contained}
 use Rattle.acd_lemmas.proofs.Numbers.{then_equal}
 
 -- the order of keys

@@ -23,7 +23,7 @@ use Rattle.acd_lemmas.proofs.Lists.{among-filter, filter_among, mapped_among, am
 use Rattle.acd_lemmas.proofs.Least.{least_found}
 use Rattle.acd_lemmas.proofs.State.{connection_among, connection_found, found_key, agent_among, agent_found, agent_key}
 use Rattle.acd_tables.specs.Sets.{holds, holds_in, has_set}
-use Rattle.acd_tables.specs.Indexed.{PairSets, pair_cmp, lists, waits_at, is_busying, is_busy_at, is_free, is_able, is_able_since, IsFirstIn}
+use Rattle.acd_tables.specs.IndexedRows.{PairSets, pair_cmp, lists, waits_at, is_busying, is_busy_at, is_free, is_able, is_able_since, IsFirstIn}
 
 pair_is : (a b : ℕ) (p : ℕ × ℕ) → a ≡ p.0 → b ≡ p.1 → ◌≡◌ {A = ℕ × ℕ} (a, b) p
 pair_is a b p e f = λ i. (e i, f i)

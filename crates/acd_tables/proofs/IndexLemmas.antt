@@ -24,8 +24,8 @@ use Rattle.acd_model.specs.Rules.Plan.{group_order, agent_order, connection_orde
 use Rattle.acd_model.specs.Scans.{is_group, group_of, agent_of, connection_of, at_group, at_agent, at_connection, queued_in_all, has}
 use Rattle.acd_model.specs.Writes.{with_group, with_station, with_agent, with_call, with_connection, with_monitor, without_call, without_connection, without_monitor, with_last, with_last_ids}
 use Rattle.acd_tables.specs.Sets.{holds, holds_in, has_set, Stays, SameMembers, SameKeysBut, HasSet, Inserted, Removed}
-use Rattle.acd_tables.specs.Indexed.{PairSets, pair_cmp, lists, waits_at, is_busying, is_busy_at, is_free, is_able_since, rings, works, agent_station, Seats, Lines, Ringing, Working, IsIndexed, SeatMap, OfferKey, offer_cmp, offer_key, HasNoOffer, ListsOffers}
-use Rattle.acd_tables.specs.Swaps.{is_entry, Enters, Offers, Entered, Undone, Untouched, TakenOut, SwapsTo, IsAt, with_or_without, one_queued, IsBlank, has_rank, loses_rank}
+use Rattle.acd_tables.specs.IndexedRows.{PairSets, pair_cmp, lists, waits_at, is_busying, is_busy_at, is_free, is_able_since, rings, works, agent_station, Seats, Lines, Ringing, Working, IsIndexed, SeatMap, OfferKey, offer_cmp, offer_key, HasNoEntry, ListsOffers}
+use Rattle.acd_tables.specs.Swaps.{is_swap_entry, Enters, Offers, Entered, Undone, IndexesUntouched, TakenOut, SwapsTo, IsAt, with_or_without, one_queued, IsBlank, has_rank, loses_rank}
 use Rattle.acd_tables.specs.declared.indexes.Indexes.{Indexes}
 use Rattle.acd_tables.specs.declared.indexes.Entries.{Entries}
 use Rattle.acd_tables.specs.declared.indexes.Swap.{Swap}
@@ -34,10 +34,10 @@ use Rattle.acd_lemmas.proofs.State.{agents_total, groups_total, group_put, group
 use Rattle.acd_tables.proofs.OfferLemmas.{undone, offers-same, offers-of, offers-more, key_itself, key_number, key_priority}
 use Rattle.acd_tables.proofs.SwapLemmas.{Replaces-put, Replaces-removed}
 use Rattle.acd_tables.proofs.IndexingLemmas.{Ringing-put, Lines-removed, Working-kept, Seats-kept}
-use Rattle.acd_lemmas.proofs.Keyed.{eq_key}
+use Rattle.acd_lemmas.proofs.KeyedLists.{eq_key}
 
 -- where only the offers may have changed
-pub IsIndexed-untouched : (s : Rows) (x y : Indexes) → IsIndexed s x → Untouched s x y → IsIndexed s y
+pub IsIndexed-untouched : (s : Rows) (x y : Indexes) → IsIndexed s x → IndexesUntouched s x y → IsIndexed s y
 IsIndexed-untouched s x y h u = record {
   groups = h.groups;
   agents = h.agents;
@@ -101,12 +101,12 @@ IsIndexed-swapped s t x v z swap n h e o w groups agents connections queued = re
   queues = λ g f. o.queues.sets g ∙ e.queues.sets g ∙ h.queues g (sym (groups_same s t groups g) ∙ f);
   readies = λ g f. o.ready.sets g ∙ e.ready.sets g ∙ h.readies g (sym (groups_same s t groups g) ∙ f);
   waiting = λ g p. o.queues.members g p
-      ∙ ap (λ b. not (is_entry pair_cmp swap.leaving.queue g p) && b)
-      (e.queues.members g p ∙ ap (λ b. is_entry pair_cmp swap.entering.queue g p || b) (h.waiting g p))
+      ∙ ap (λ b. not (is_swap_entry pair_cmp swap.leaving.queue g p) && b)
+      (e.queues.members g p ∙ ap (λ b. is_swap_entry pair_cmp swap.entering.queue g p || b) (h.waiting g p))
       ∙ sym (w.waiting g p);
   able = λ g p. o.ready.members g p
-      ∙ ap (λ b. not (is_entry pair_cmp swap.leaving.ready g p) && b)
-      (e.ready.members g p ∙ ap (λ b. is_entry pair_cmp swap.entering.ready g p || b) (h.able g p))
+      ∙ ap (λ b. not (is_swap_entry pair_cmp swap.leaving.ready g p) && b)
+      (e.ready.members g p ∙ ap (λ b. is_swap_entry pair_cmp swap.entering.ready g p || b) (h.able g p))
       ∙ sym (w.able g p);
   offers = o.offers;
   seats = subst (Seats t) (sym o.rest.seats) e.seats;
@@ -249,7 +249,7 @@ kept-last_ids s c m x h = IsIndexed-kept s (with_last_ids s c m) refl refl x ref
 -- a group's key is indexed where it may have an offer
 pub record MayBeIndexed (x : Indexes) (item : GroupRecord) (inserted : BTreeSet OfferKey) : Type 0 where
   pub belongs : Bool
-  pub none : belongs ≡ false → HasNoOffer x.queues x.ready item.device
+  pub none : belongs ≡ false → HasNoEntry x.queues x.ready item.device
   pub insertion : Inserted offer_cmp x.offering inserted (offer_key item) belongs
 
 -- a group's record is put: its key is indexed before, and the one of its old priority is removed after

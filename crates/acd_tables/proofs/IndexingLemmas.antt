@@ -12,10 +12,10 @@ use Rattle.acd_model.specs.Scans.{agent_of, connection_of, has}
 use Rattle.acd_model.specs.Writes.{with_agent}
 use Rattle.acd_lemmas.proofs.State.{agent_put, has_is}
 use Rattle.acd_tables.specs.Sets.{HasExactly, Inserted, Removed}
-use Rattle.acd_tables.specs.Indexed.{pair_cmp, rings, works, agent_station, Ringing, Working, Lines, Seats, SeatMap, agent_seated}
+use Rattle.acd_tables.specs.IndexedRows.{pair_cmp, rings, works, agent_station, Ringing, Working, Lines, Seats, SeatMap, agent_seated}
 use Rattle.acd_tables.specs.Swaps.{IsFreeFor, Sits, GetsUp, quits}
 use Rattle.acd_tables.proofs.SwapLemmas.{Replaces, pair_key}
-use Rattle.acd_lemmas.proofs.Keyed.{eq_key}
+use Rattle.acd_lemmas.proofs.KeyedLists.{eq_key}
 
 -- x is whether a key was there, which at the key that changes is `was`
 put_table : (was is e x : Bool) → (e ≡ true → x ≡ was) → (not ((was && not is) && e) && ((is && e) || x)) ≡ cond e is x

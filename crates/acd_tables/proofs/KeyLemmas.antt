@@ -13,13 +13,13 @@ use Rattle.acd_terms.specs.declared.record.ConnectionRecord.{ConnectionRecord}
 use Rattle.acd_model.specs.Rules.Plan.{connection_order}
 use Rattle.acd_model.specs.Scans.{at_connection}
 use Rattle.acd_lemmas.proofs.Lists.{any_found, any_some, find_passes, find_among, some_from, filter_among, among-filter, ascending-filter, ascending-put, ascending-remove}
-use Rattle.acd_lemmas.proofs.Keyed.{found_among, found_has, found_itself, some_put}
+use Rattle.acd_lemmas.proofs.KeyedLists.{found_among, found_has, found_itself, some_put}
 use Rattle.acd_lemmas.proofs.State.{by_connection, connections_total, is_of, is_of_true, left_at}
-use Rattle.acd_tables.specs.Indexed.{pair_cmp}
+use Rattle.acd_tables.specs.IndexedRows.{pair_cmp}
 use Rattle.acd_tables.specs.Sets.{Inserted, Removed}
 use Rattle.acd_tables.specs.Near.{of_key, HasKeys}
 use Rattle.acd_tables.proofs.IndexingLemmas.{HasExactly-come, HasExactly-gone, HasExactly-left}
-use Rattle.acd_tables.proofs.Picked.{picked, contained, exact_pair}
+use Rattle.acd_tables.proofs.ScansByIndex.{picked, contained, exact_pair}
 use Rattle.acd_tables.proofs.SwapLemmas.{pair_key}
 
 pub flipped : (b c : Bool) → b ≡ not c → c ≡ not b

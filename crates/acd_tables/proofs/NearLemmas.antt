@@ -6,7 +6,7 @@ use Rattle.std.specs.declared.cmp.Ordering.TheVariants.{Less, Greater}
 use Rattle.std.specs.Range.Bound.{IsForward}
 use Rattle.std.specs.BTreeMap.Range.{IsLeBy, IsLtBy, range_contains}
 use Rattle.std.specs.declared.ops.Bound.TheVariants.{Excluded, Unbounded}
-use Rattle.acd_tables.specs.Indexed.{pair_cmp}
+use Rattle.acd_tables.specs.IndexedRows.{pair_cmp}
 use Rattle.acd_tables.specs.Near.{start, end}
 
 pub less : (a b : ℕ) → a < b → nat_cmp a b ≡ Less

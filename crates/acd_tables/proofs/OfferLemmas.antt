@@ -11,11 +11,11 @@ use Rattle.acd_terms.specs.declared.rows.Rows.{Rows}
 use Rattle.acd_terms.specs.declared.record.GroupRecord.{GroupRecord}
 use Rattle.acd_model.specs.Scans.{group_of}
 use Rattle.acd_lemmas.proofs.Lists.{eq_is, some_is}
-use Rattle.acd_lemmas.proofs.Keyed.{cmp_self}
+use Rattle.acd_lemmas.proofs.KeyedLists.{cmp_self}
 use Rattle.acd_lemmas.proofs.State.{group_key}
 use Rattle.acd_tables.specs.Sets.{Removed, KeepsKeys}
-use Rattle.acd_tables.specs.Indexed.{PairSets, pair_cmp, lists, OfferKey, offer_cmp, offer_key, HasOffer, HasNoOffer, ListsOffers}
-use Rattle.acd_tables.specs.Swaps.{is_entry, is_of_group, Enters, Leaves, Undoes, Offers, ListsEach, KeepsWaiting, GroupsJust, EntryJust, ListsNoMore}
+use Rattle.acd_tables.specs.IndexedRows.{PairSets, pair_cmp, lists, OfferKey, offer_cmp, offer_key, HasOffer, HasNoEntry, ListsOffers}
+use Rattle.acd_tables.specs.Swaps.{is_swap_entry, is_of_group, Enters, Leaves, Undoes, Offers, ListsEach, KeepsWaiting, GroupsJust, EntryJust, ListsNoMore}
 use Rattle.acd_tables.specs.declared.indexes.Indexes.{Indexes}
 use Rattle.acd_tables.proofs.Entries.{any_last}
 
@@ -41,7 +41,7 @@ came : (a b c : Bool) → c ≡ (a || b) → c ≡ true → a ≡ false → b �
 came true b c e h n = absurd cc
 came false b c e h n = sym e ∙ h
 
-of_its_group : (entry : Option (List ℕ × (ℕ × ℕ))) (g : ℕ) (p : ℕ × ℕ) → is_entry pair_cmp entry g p ≡ true → is_of_group entry g ≡ true
+of_its_group : (entry : Option (List ℕ × (ℕ × ℕ))) (g : ℕ) (p : ℕ × ℕ) → is_swap_entry pair_cmp entry g p ≡ true → is_of_group entry g ≡ true
 of_its_group None g p h = h
 of_its_group (Some k) g p h = (and_parts (is_one_of k.0 g) (is_eq (pair_cmp k.1 p)) h).0
 
@@ -58,14 +58,14 @@ module _ (s : Rows) where
       → KeepsKeys offer_cmp x.offering once → ListsEach s once (is_of_group e) → KeepsWaiting x.queues (is_of_group f) (is_of_group waiting)
       → KeepsKeys offer_cmp once listed × ListsEach s listed (is_of_group waiting) → ListsOffers s queues ready listed
   offers-entered x queues ready listed once e f waiting old eq er first of_queue waits more g r p q there h k =
-      by (is_entry pair_cmp e g p) refl (is_entry pair_cmp f g q) refl
+      by (is_swap_entry pair_cmp e g p) refl (is_swap_entry pair_cmp f g q) refl
     where
-      by : (a : Bool) → is_entry pair_cmp e g p ≡ a → (b : Bool) → is_entry pair_cmp f g q ≡ b → contains offer_cmp listed (offer_key r) ≡ true
+      by : (a : Bool) → is_swap_entry pair_cmp e g p ≡ a → (b : Bool) → is_swap_entry pair_cmp f g q ≡ b → contains offer_cmp listed (offer_key r) ≡ true
       by true x b y = more.0 (offer_key r) (of_queue g r (of_its_group e g p x) there)
-      by false x true y = more.1 g r (waits g p (of_its_group f g q y) (came (is_entry pair_cmp e g p) _ _ (eq.members g p) h x)) there
+      by false x true y = more.1 g r (waits g p (of_its_group f g q y) (came (is_swap_entry pair_cmp e g p) _ _ (eq.members g p) h x)) there
       by false x false y =
           more.0 (offer_key r) (first (offer_key r)
-          (old g r p q there (came (is_entry pair_cmp e g p) _ _ (eq.members g p) h x) (came (is_entry pair_cmp f g q) _ _ (er.members g q) k y)))
+          (old g r p q there (came (is_swap_entry pair_cmp e g p) _ _ (eq.members g p) h x) (came (is_swap_entry pair_cmp f g q) _ _ (er.members g q) k y)))
 
   was_there : (a b c : Bool) → c ≡ (not a && b) → c ≡ true → b ≡ true
   was_there true b c e h = absurd cc
@@ -76,12 +76,12 @@ module _ (s : Rows) where
       → ListsOffers s queues ready offering → Leaves pair_cmp queues queues' e → Leaves pair_cmp ready ready' f
       → ListsOffers s queues' ready' offering
   offers-left queues queues' ready ready' offering e f old lq lr g r p q there h k =
-      old g r p q there (was_there (is_entry pair_cmp e g p) _ _ (lq.members g p) h) (was_there (is_entry pair_cmp f g q) _ _ (lr.members g q) k)
+      old g r p q there (was_there (is_swap_entry pair_cmp e g p) _ _ (lq.members g p) h) (was_there (is_swap_entry pair_cmp f g q) _ _ (lr.members g q) k)
 
   -- a group with no offer may go
   pub offers-pruned : (queues ready : PairSets) (pruned offering : BTreeSet OfferKey) (n : ℕ) (z : GroupRecord) (gone : Bool)
       → ListsOffers s queues ready offering → group_of s n ≡ Some z
-      → (gone ≡ true → HasNoOffer queues ready n) → Removed offer_cmp offering pruned (offer_key z) gone
+      → (gone ≡ true → HasNoEntry queues ready n) → Removed offer_cmp offering pruned (offer_key z) gone
       → ListsOffers s queues ready pruned
   offers-pruned queues ready pruned offering n z gone old found none removal g r p q there h l =
       removal (offer_key r) ∙ by (gone && is_eq (offer_cmp (offer_key z) (offer_key r))) refl

@@ -16,14 +16,14 @@ use Rattle.acd_model.specs.Rules.Plan.{agent_order, connection_order}
 use Rattle.acd_model.specs.Scans.{agent_of, agent_at, connection_of}
 use Rattle.acd_model.specs.Writes.{with_agent, with_connection, without_connection}
 use Rattle.acd_lemmas.proofs.Lists.{eq_is, is_eq_of, some_is, ascending-put, ascending-remove}
-use Rattle.acd_lemmas.proofs.Keyed.{eq_key}
+use Rattle.acd_lemmas.proofs.KeyedLists.{eq_key}
 use Rattle.acd_lemmas.proofs.State.{connections_total, at_put, at_remove, agent_put, agent_key, found_key, agent_seat, agent_there}
-use Rattle.acd_tables.specs.Indexed.{pair_cmp, waits_at, is_busying, is_busy_at, is_free, is_able_since, Seats, SeatMap}
+use Rattle.acd_tables.specs.IndexedRows.{pair_cmp, waits_at, is_busying, is_busy_at, is_free, is_able_since, Seats, SeatMap}
 use Rattle.acd_tables.specs.Uses.{is_there_and, is_in_use}
 use Rattle.acd_tables.specs.declared.uses.Use.TheVariants.{Busying}
-use Rattle.acd_tables.specs.Swaps.{SwapsTo, differ, is_entry, IsAt, queue_entry, ready_entry, swapped_seat, with_or_without, LeavesBut, left_of}
+use Rattle.acd_tables.specs.Swaps.{SwapsTo, differ, is_swap_entry, IsAt, queue_entry, ready_entry, swapped_seat, with_or_without, LeavesBut, left_of}
 use Rattle.acd_tables.specs.declared.indexes.Swap.{Swap}
-use Rattle.acd_tables.proofs.Looking.{there-any, any-there, used_some, seated}
+use Rattle.acd_tables.proofs.ScanLookUps.{there-any, any-there, used_some, seated}
 use Rattle.acd_lemmas.proofs.Numbers.{eq_then}
 use Rattle.acd_lemmas.proofs.Bools.{or_no}
 
@@ -31,7 +31,7 @@ pub pair_key : (call device : ℕ) (p : ℕ × ℕ) → is_eq (pair_cmp (call, d
 pair_key call device p = rw (eq_then (nat_cmp call p.0) (nat_cmp device p.1), eq_key call p.0, eq_key device p.1) refl
 
 -- an entry's test, on numbers
-entry_test : (a b c : ℕ) (gs : List ℕ) (p : ℕ × ℕ) → is_entry pair_cmp (Some (gs, (a, b))) c p ≡ (is_one_of gs c && ((a == p.0) && (b == p.1)))
+entry_test : (a b c : ℕ) (gs : List ℕ) (p : ℕ × ℕ) → is_swap_entry pair_cmp (Some (gs, (a, b))) c p ≡ (is_one_of gs c && ((a == p.0) && (b == p.1)))
 entry_test a b c gs p = rw (eq_then (nat_cmp a p.0) (nat_cmp b p.1), eq_key a p.0, eq_key b p.1) refl
 
 turned : (a b c : Bool) → (a && (b && c)) ≡ (b && (c && a))
@@ -167,12 +167,12 @@ module _ (s t : Rows) (call device : ℕ) (new : Option ConnectionRecord) (ascen
       by (Some a) = ap (λ b. (a.stamp == p.0) && (is_one_of a.groups g && (is_ready a.state && b))) (free-still a.station)
 
 entry_waits : (call device : ℕ) (o : Option ConnectionRecord) → IsAt call device o → (g : ℕ) (p : ℕ × ℕ)
-    → is_entry pair_cmp (queue_entry o) g p ≡ (waits_at p.0 o && (call == p.1 && device == g))
+    → is_swap_entry pair_cmp (queue_entry o) g p ≡ (waits_at p.0 o && (call == p.1 && device == g))
 entry_waits call device None at g p = refl
 entry_waits call device (Some c) at g p = by (is_queued c.state)
   where
     by : (b : Bool)
-        → is_entry pair_cmp (cond b (Some (c.device ∷ [], (unwrap_or c.place 0, c.call))) None) g p
+        → is_swap_entry pair_cmp (cond b (Some (c.device ∷ [], (unwrap_or c.place 0, c.call))) None) g p
         ≡ ((b && unwrap_or c.place 0 == p.0) && (call == p.1 && device == g))
     by false = refl
     by true =
@@ -199,26 +199,26 @@ pub waiting-swapped : (s t : Rows) (call device : ℕ) (new : Option ConnectionR
     → (leaving : Option (List ℕ × (ℕ × ℕ))) → LeavesBut pair_cmp (queue_entry (connection_of s call device)) (queue_entry new) leaving
     → (g : ℕ) (p : ℕ × ℕ)
     → waits_at p.0 (connection_of t p.1 g)
-    ≡ (not (is_entry pair_cmp leaving g p) && (is_entry pair_cmp (queue_entry new) g p || waits_at p.0 (connection_of s p.1 g)))
+    ≡ (not (is_swap_entry pair_cmp leaving g p) && (is_swap_entry pair_cmp (queue_entry new) g p || waits_at p.0 (connection_of s p.1 g)))
 waiting-swapped s t call device new at r leaving out g p =
     ap (waits_at p.0) (r.found p.1 g)
     ∙ by (call == p.1 && device == g) refl
-    ∙ ap (λ b. not b && (is_entry pair_cmp (queue_entry new) g p || waits_at p.0 (connection_of s p.1 g))) (sym (out g p))
+    ∙ ap (λ b. not b && (is_swap_entry pair_cmp (queue_entry new) g p || waits_at p.0 (connection_of s p.1 g))) (sym (out g p))
   where
-    old : is_entry pair_cmp (queue_entry (connection_of s call device)) g p ≡ (waits_at p.0 (connection_of s call device) && (call == p.1 && device == g))
+    old : is_swap_entry pair_cmp (queue_entry (connection_of s call device)) g p ≡ (waits_at p.0 (connection_of s call device) && (call == p.1 && device == g))
     old = entry_waits call device (connection_of s call device) (found_at_key s call device (connection_of s call device) refl) g p
 
     table : (k : Bool) → (call == p.1 && device == g) ≡ k → (v : Bool) → waits_at p.0 (connection_of s call device) ≡ v → (w : Bool) → waits_at p.0 new ≡ w
         → (x y : Bool) → x ≡ (not ((v && k) && not (w && k)) && ((w && k) || y))
         → x
-        ≡ (not (is_entry pair_cmp (queue_entry (connection_of s call device)) g p && not (is_entry pair_cmp (queue_entry new) g p))
-        && (is_entry pair_cmp (queue_entry new) g p || y))
+        ≡ (not (is_swap_entry pair_cmp (queue_entry (connection_of s call device)) g p && not (is_swap_entry pair_cmp (queue_entry new) g p))
+        && (is_swap_entry pair_cmp (queue_entry new) g p || y))
     table k hk v hv w hw x y h = rw (old, entry_waits call device new at g p, hk, hv, hw) h
 
     by : (k : Bool) → (call == p.1 && device == g) ≡ k
         → waits_at p.0 (cond k new (connection_of s p.1 g))
-        ≡ (not (is_entry pair_cmp (queue_entry (connection_of s call device)) g p && not (is_entry pair_cmp (queue_entry new) g p))
-        && (is_entry pair_cmp (queue_entry new) g p || waits_at p.0 (connection_of s p.1 g)))
+        ≡ (not (is_swap_entry pair_cmp (queue_entry (connection_of s call device)) g p && not (is_swap_entry pair_cmp (queue_entry new) g p))
+        && (is_swap_entry pair_cmp (queue_entry new) g p || waits_at p.0 (connection_of s p.1 g)))
     by true h =
         let parts = and_parts (call == p.1) (device == g) h in
         let same : connection_of s call device ≡ connection_of s p.1 g =
@@ -232,7 +232,7 @@ waiting-swapped s t call device new at r leaving out g p =
 
 -- an agent's entry, by its parts
 pub entry_able : (a : AgentRecord) (g : ℕ) (p : ℕ × ℕ)
-    → is_entry pair_cmp (ready_entry (Some a)) g p ≡ ((a.agent == p.1) && ((a.stamp == p.0) && (is_one_of a.groups g && is_ready a.state)))
+    → is_swap_entry pair_cmp (ready_entry (Some a)) g p ≡ ((a.agent == p.1) && ((a.stamp == p.0) && (is_one_of a.groups g && is_ready a.state)))
 entry_able a g p = by (is_ready a.state)
   where
     none : (x y z : Bool) → false ≡ (x && (y && (z && false)))
@@ -252,12 +252,12 @@ entry_able a g p = by (is_ready a.state)
     all false false false = refl
 
     by : (b : Bool)
-        → is_entry pair_cmp (cond b (Some (a.groups, (a.stamp, a.agent))) None) g p ≡ ((a.agent == p.1) && ((a.stamp == p.0) && (is_one_of a.groups g && b)))
+        → is_swap_entry pair_cmp (cond b (Some (a.groups, (a.stamp, a.agent))) None) g p ≡ ((a.agent == p.1) && ((a.stamp == p.0) && (is_one_of a.groups g && b)))
     by false = none (a.agent == p.1) (a.stamp == p.0) (is_one_of a.groups g)
     by true = entry_test a.stamp a.agent g a.groups p ∙ all (a.agent == p.1) (a.stamp == p.0) (is_one_of a.groups g)
 
 -- the entry is of an agent who isn't the one with the number
-pub entry_other : (a : AgentRecord) (g : ℕ) (p : ℕ × ℕ) → (a.agent == p.1) ≡ false → is_entry pair_cmp (ready_entry (Some a)) g p ≡ false
+pub entry_other : (a : AgentRecord) (g : ℕ) (p : ℕ × ℕ) → (a.agent == p.1) ≡ false → is_swap_entry pair_cmp (ready_entry (Some a)) g p ≡ false
 entry_other a g p h = entry_able a g p ∙ and_left (a.agent == p.1) ((a.stamp == p.0) && (is_one_of a.groups g && is_ready a.state)) h
 
 still : (e l : Bool) (x : Bool) → e ≡ false → l ≡ false → x ≡ (not l && (e || x))
@@ -279,61 +279,61 @@ pub able-swapped : (s t : Rows) (call device : ℕ) (new : Option ConnectionReco
     → IsAscending agent_order s.agents → Seats s seats → IsAt call device new → Replaces s t call device new
     → (busy : Bool) → busy ≡ is_busy_at t device
     → (g : ℕ) (p : ℕ × ℕ) → is_able_since t g p.0 (agent_of t p.1)
-    ≡ (not (is_entry pair_cmp (cond busy (ready_entry (agent_at s device)) None) g p)
-    && (is_entry pair_cmp (cond busy None (ready_entry (agent_at s device))) g p || is_able_since s g p.0 (agent_of s p.1)))
+    ≡ (not (is_swap_entry pair_cmp (cond busy (ready_entry (agent_at s device)) None) g p)
+    && (is_swap_entry pair_cmp (cond busy None (ready_entry (agent_at s device))) g p || is_able_since s g p.0 (agent_of s p.1)))
 able-swapped s t call device new seats ascending agents listed at r busy is g p =
     ap (is_able_since t g p.0) (r.agents p.1) ∙ by (agent_of s p.1) refl
   where
     -- who isn't at the station stays
     apart : (o : Option AgentRecord) → agent_of s p.1 ≡ o → ((b : AgentRecord) → o ≡ Some b → b.station ≡ Some device → ⊥)
-        → is_entry pair_cmp (ready_entry (agent_at s device)) g p ≡ false
+        → is_swap_entry pair_cmp (ready_entry (agent_at s device)) g p ≡ false
     apart o e none = seat (agent_at s device) refl
       where
-        seat : (q : Option AgentRecord) → agent_at s device ≡ q → is_entry pair_cmp (ready_entry q) g p ≡ false
+        seat : (q : Option AgentRecord) → agent_at s device ≡ q → is_swap_entry pair_cmp (ready_entry q) g p ≡ false
         seat None f = refl
         seat (Some b) f = entry_other b g p (false_from_ne_true (b.agent == p.1) (λ h.
             none b (sym e ∙ ap (agent_of s) (sym (eqb-true b.agent p.1 h)) ∙ agent_there s agents device b f) (agent_seat s device b f).1))
 
-    kept : (x : Bool) → is_entry pair_cmp (ready_entry (agent_at s device)) g p ≡ false
+    kept : (x : Bool) → is_swap_entry pair_cmp (ready_entry (agent_at s device)) g p ≡ false
         → x
-        ≡ (not (is_entry pair_cmp (cond busy (ready_entry (agent_at s device)) None) g p)
-        && (is_entry pair_cmp (cond busy None (ready_entry (agent_at s device))) g p || x))
+        ≡ (not (is_swap_entry pair_cmp (cond busy (ready_entry (agent_at s device)) None) g p)
+        && (is_swap_entry pair_cmp (cond busy None (ready_entry (agent_at s device))) g p || x))
     kept x h = still _ _ x (side busy) (other busy)
       where
-        side : (b : Bool) → is_entry pair_cmp (cond b None (ready_entry (agent_at s device))) g p ≡ false
+        side : (b : Bool) → is_swap_entry pair_cmp (cond b None (ready_entry (agent_at s device))) g p ≡ false
         side true = refl
         side false = h
 
-        other : (b : Bool) → is_entry pair_cmp (cond b (ready_entry (agent_at s device)) None) g p ≡ false
+        other : (b : Bool) → is_swap_entry pair_cmp (cond b (ready_entry (agent_at s device)) None) g p ≡ false
         other true = h
         other false = refl
 
     here : (a : AgentRecord) → a.agent ≡ p.1 → agent_at s device ≡ Some a → (x : Bool) → (b : Bool)
         → ((a.stamp == p.0) && (is_one_of a.groups g && (is_ready a.state && not b)))
-        ≡ (not (is_entry pair_cmp (cond b (ready_entry (agent_at s device)) None) g p)
-        && (is_entry pair_cmp (cond b None (ready_entry (agent_at s device))) g p || ((a.stamp == p.0) && (is_one_of a.groups g && (is_ready a.state && x)))))
+        ≡ (not (is_swap_entry pair_cmp (cond b (ready_entry (agent_at s device)) None) g p)
+        && (is_swap_entry pair_cmp (cond b None (ready_entry (agent_at s device))) g p || ((a.stamp == p.0) && (is_one_of a.groups g && (is_ready a.state && x)))))
     here a n f x true =
-        let seat : is_entry pair_cmp (ready_entry (agent_at s device)) g p ≡ ((a.stamp == p.0) && (is_one_of a.groups g && is_ready a.state)) =
-        ap (λ o. is_entry pair_cmp (ready_entry o) g p) f ∙ entry_able a g p
+        let seat : is_swap_entry pair_cmp (ready_entry (agent_at s device)) g p ≡ ((a.stamp == p.0) && (is_one_of a.groups g && is_ready a.state)) =
+        ap (λ o. is_swap_entry pair_cmp (ready_entry o) g p) f ∙ entry_able a g p
         ∙ ap (λ b. b && ((a.stamp == p.0) && (is_one_of a.groups g && is_ready a.state))) (eq-eqb a.agent p.1 n) in
         becomes_busy (a.stamp == p.0) (is_one_of a.groups g) (is_ready a.state) x
         ∙ ap (λ b. not b && (false || ((a.stamp == p.0) && (is_one_of a.groups g && (is_ready a.state && x))))) (sym seat)
     here a n f x false =
-        let seat : is_entry pair_cmp (ready_entry (agent_at s device)) g p ≡ ((a.stamp == p.0) && (is_one_of a.groups g && is_ready a.state)) =
-        ap (λ o. is_entry pair_cmp (ready_entry o) g p) f ∙ entry_able a g p
+        let seat : is_swap_entry pair_cmp (ready_entry (agent_at s device)) g p ≡ ((a.stamp == p.0) && (is_one_of a.groups g && is_ready a.state)) =
+        ap (λ o. is_swap_entry pair_cmp (ready_entry o) g p) f ∙ entry_able a g p
         ∙ ap (λ b. b && ((a.stamp == p.0) && (is_one_of a.groups g && is_ready a.state))) (eq-eqb a.agent p.1 n) in
         becomes_free (a.stamp == p.0) (is_one_of a.groups g) (is_ready a.state) x
         ∙ ap (λ b. true && (b || ((a.stamp == p.0) && (is_one_of a.groups g && (is_ready a.state && x))))) (sym seat)
 
     by : (o : Option AgentRecord) → agent_of s p.1 ≡ o → is_able_since t g p.0 o
-        ≡ (not (is_entry pair_cmp (cond busy (ready_entry (agent_at s device)) None) g p)
-        && (is_entry pair_cmp (cond busy None (ready_entry (agent_at s device))) g p || is_able_since s g p.0 o))
+        ≡ (not (is_swap_entry pair_cmp (cond busy (ready_entry (agent_at s device)) None) g p)
+        && (is_swap_entry pair_cmp (cond busy None (ready_entry (agent_at s device))) g p || is_able_since s g p.0 o))
     by None e = kept false (apart None e (λ b f h. cc (f)))
     by (Some a) e = station a.station refl
       where
         station : (o : Option ℕ) → a.station ≡ o → ((a.stamp == p.0) && (is_one_of a.groups g && (is_ready a.state && is_free t a.station)))
-            ≡ (not (is_entry pair_cmp (cond busy (ready_entry (agent_at s device)) None) g p)
-            && (is_entry pair_cmp (cond busy None (ready_entry (agent_at s device))) g p
+            ≡ (not (is_swap_entry pair_cmp (cond busy (ready_entry (agent_at s device)) None) g p)
+            && (is_swap_entry pair_cmp (cond busy None (ready_entry (agent_at s device))) g p
             || ((a.stamp == p.0) && (is_one_of a.groups g && (is_ready a.state && is_free s a.station)))))
         station None f =
             ap (λ b. (a.stamp == p.0) && (is_one_of a.groups g && (is_ready a.state && b))) (ap (is_free t) f ∙ sym (ap (is_free s) f))
@@ -342,8 +342,8 @@ able-swapped s t call device new seats ascending agents listed at r busy is g p 
         station (Some d) f = at_device (device == d) refl
           where
             at_device : (v : Bool) → (device == d) ≡ v → ((a.stamp == p.0) && (is_one_of a.groups g && (is_ready a.state && is_free t a.station)))
-                ≡ (not (is_entry pair_cmp (cond busy (ready_entry (agent_at s device)) None) g p)
-                && (is_entry pair_cmp (cond busy None (ready_entry (agent_at s device))) g p
+                ≡ (not (is_swap_entry pair_cmp (cond busy (ready_entry (agent_at s device)) None) g p)
+                && (is_swap_entry pair_cmp (cond busy None (ready_entry (agent_at s device))) g p
                 || ((a.stamp == p.0) && (is_one_of a.groups g && (is_ready a.state && is_free s a.station)))))
             at_device false h =
                 ap (λ b. (a.stamp == p.0) && (is_one_of a.groups g && (is_ready a.state && b)))
@@ -372,8 +372,8 @@ module _ (s : Rows) (item : AgentRecord) (after leaving : Option (List ℕ × (�
   same_able g n (Some a) = ap (λ b. (a.stamp == n) && (is_one_of a.groups g && (is_ready a.state && b))) (same_free a.station)
 
   -- the item enters where it is able
-  enters : (g : ℕ) (p : ℕ × ℕ) → is_entry pair_cmp after g p ≡ ((item.agent == p.1) && is_able_since s g p.0 (Some item))
-  enters g p = ap (λ o. is_entry pair_cmp o g p) entered ∙ by (is_free s item.station)
+  enters : (g : ℕ) (p : ℕ × ℕ) → is_swap_entry pair_cmp after g p ≡ ((item.agent == p.1) && is_able_since s g p.0 (Some item))
+  enters g p = ap (λ o. is_swap_entry pair_cmp o g p) entered ∙ by (is_free s item.station)
     where
       none : (x y z w : Bool) → false ≡ (x && (y && (z && (w && false))))
       none true true true true = refl
@@ -390,14 +390,14 @@ module _ (s : Rows) (item : AgentRecord) (after leaving : Option (List ℕ × (�
       all false y z w = refl
 
       by : (b : Bool)
-          → is_entry pair_cmp (cond b (ready_entry (Some item)) None) g p
+          → is_swap_entry pair_cmp (cond b (ready_entry (Some item)) None) g p
           ≡ ((item.agent == p.1) && ((item.stamp == p.0) && (is_one_of item.groups g && (is_ready item.state && b))))
       by true = entry_able item g p ∙ all (item.agent == p.1) (item.stamp == p.0) (is_one_of item.groups g) (is_ready item.state)
       by false = none (item.agent == p.1) (item.stamp == p.0) (is_one_of item.groups g) (is_ready item.state)
 
   -- who was able had an entry before
   entry_of_able : (g : ℕ) (p : ℕ × ℕ) → (o : Option AgentRecord) → agent_of s p.1 ≡ o → is_able_since s g p.0 o ≡ true
-      → is_entry pair_cmp (ready_entry o) g p ≡ true
+      → is_swap_entry pair_cmp (ready_entry o) g p ≡ true
   entry_of_able g p None e h = h
   entry_of_able g p (Some a) e h =
       let one = and_parts (a.stamp == p.0) (is_one_of a.groups g && (is_ready a.state && is_free s a.station)) h in
@@ -407,7 +407,7 @@ module _ (s : Rows) (item : AgentRecord) (after leaving : Option (List ℕ × (�
       (and_from (a.stamp == p.0) (is_one_of a.groups g && is_ready a.state) one.0 (and_from (is_one_of a.groups g) (is_ready a.state) two.0 three.0))
 
   other_entry : (g : ℕ) (p : ℕ × ℕ) → (item.agent == p.1) ≡ false → (o : Option AgentRecord) → agent_of s item.agent ≡ o
-      → is_entry pair_cmp (ready_entry o) g p ≡ false
+      → is_swap_entry pair_cmp (ready_entry o) g p ≡ false
   other_entry g p h None e = refl
   other_entry g p h (Some a) e = entry_other a g p (ap (λ n. n == p.1) (agent_key s item.agent a e) ∙ h)
 
@@ -424,24 +424,24 @@ module _ (s : Rows) (item : AgentRecord) (after leaving : Option (List ℕ × (�
 
   pub agent-swapped : (g : ℕ) (p : ℕ × ℕ)
       → is_able_since (with_agent s item) g p.0 (agent_of (with_agent s item) p.1)
-      ≡ (not (is_entry pair_cmp leaving g p) && (is_entry pair_cmp after g p || is_able_since s g p.0 (agent_of s p.1)))
+      ≡ (not (is_swap_entry pair_cmp leaving g p) && (is_swap_entry pair_cmp after g p || is_able_since s g p.0 (agent_of s p.1)))
   agent-swapped g p =
       same_able g p.0 (agent_of (with_agent s item) p.1)
       ∙ ap (is_able_since s g p.0) (agent_put s item p.1)
       ∙ by (item.agent == p.1) refl
-      ∙ ap (λ b. not b && (is_entry pair_cmp after g p || is_able_since s g p.0 (agent_of s p.1))) (sym (out g p))
+      ∙ ap (λ b. not b && (is_swap_entry pair_cmp after g p || is_able_since s g p.0 (agent_of s p.1))) (sym (out g p))
     where
       by : (k : Bool) → (item.agent == p.1) ≡ k → is_able_since s g p.0 (cond k (Some item) (agent_of s p.1))
-          ≡ (not (is_entry pair_cmp (ready_entry (agent_of s item.agent)) g p && not (is_entry pair_cmp after g p))
-          && (is_entry pair_cmp after g p || is_able_since s g p.0 (agent_of s p.1)))
+          ≡ (not (is_swap_entry pair_cmp (ready_entry (agent_of s item.agent)) g p && not (is_swap_entry pair_cmp after g p))
+          && (is_swap_entry pair_cmp after g p || is_able_since s g p.0 (agent_of s p.1)))
       by true h =
           let same : agent_of s item.agent ≡ agent_of s p.1 = ap (agent_of s) (eqb-true item.agent p.1 h) in
-          let enter : is_entry pair_cmp after g p ≡ is_able_since s g p.0 (Some item) = enters g p ∙ ap (λ b. b && is_able_since s g p.0 (Some item)) h in
+          let enter : is_swap_entry pair_cmp after g p ≡ is_able_since s g p.0 (Some item) = enters g p ∙ ap (λ b. b && is_able_since s g p.0 (Some item)) h in
           sym enter
-          ∙ put_here (is_entry pair_cmp after g p) (is_able_since s g p.0 (agent_of s p.1)) (is_entry pair_cmp (ready_entry (agent_of s item.agent)) g p)
-          (λ v. ap (λ o. is_entry pair_cmp (ready_entry o) g p) same ∙ entry_of_able g p (agent_of s p.1) refl v)
+          ∙ put_here (is_swap_entry pair_cmp after g p) (is_able_since s g p.0 (agent_of s p.1)) (is_swap_entry pair_cmp (ready_entry (agent_of s item.agent)) g p)
+          (λ v. ap (λ o. is_swap_entry pair_cmp (ready_entry o) g p) same ∙ entry_of_able g p (agent_of s p.1) refl v)
       by false h =
-          put_there (is_able_since s g p.0 (agent_of s p.1)) (is_entry pair_cmp after g p) (is_entry pair_cmp (ready_entry (agent_of s item.agent)) g p)
+          put_there (is_able_since s g p.0 (agent_of s p.1)) (is_swap_entry pair_cmp after g p) (is_swap_entry pair_cmp (ready_entry (agent_of s item.agent)) g p)
           (enters g p ∙ ap (λ b. b && is_able_since s g p.0 (Some item)) h) (other_entry g p h (agent_of s item.agent) refl)
 
 -- where there is no entry, nothing is asked
@@ -477,17 +477,17 @@ connection-swap s seats call device old new swap ascending agents listed at foun
     let r = Replaces-either s call device new ascending at in
     let leaves : LeavesBut pair_cmp (queue_entry (connection_of s call device)) (queue_entry new) swap.leaving.queue =
     λ g p. m.goes g p
-    ∙ ap (λ o. is_entry pair_cmp o g p && not (is_entry pair_cmp swap.entering.queue g p)) (m.before_is ∙ ap queue_entry found)
-    ∙ ap (λ o. is_entry pair_cmp (queue_entry (connection_of s call device)) g p && not (is_entry pair_cmp o g p)) m.after_is in
+    ∙ ap (λ o. is_swap_entry pair_cmp o g p && not (is_swap_entry pair_cmp swap.entering.queue g p)) (m.before_is ∙ ap queue_entry found)
+    ∙ ap (λ o. is_swap_entry pair_cmp (queue_entry (connection_of s call device)) g p && not (is_swap_entry pair_cmp o g p)) m.after_is in
     let now : Bool = is_there_and is_busying new || is_in_use s device (Some call) Busying in
     let enters : swap.entering.ready ≡ cond now None seat = m.enters ∙ ap (λ b. cond b None seat) m.busy_is ∙ none_enters seat now in
     let exits : swap.leaving.ready ≡ cond now seat None = m.leaves ∙ ap (λ b. cond b seat None) m.busy_is ∙ none_leaves seat now in
     record {
       waiting = λ g p. waiting-swapped s t call device new at r swap.leaving.queue leaves g p
-          ∙ ap (λ o. not (is_entry pair_cmp swap.leaving.queue g p) && (is_entry pair_cmp o g p || waits_at p.0 (connection_of s p.1 g))) (sym m.after_is);
+          ∙ ap (λ o. not (is_swap_entry pair_cmp swap.leaving.queue g p) && (is_swap_entry pair_cmp o g p || waits_at p.0 (connection_of s p.1 g))) (sym m.after_is);
       able = λ g p. by (differ (is_there_and is_busying old) (is_there_and is_busying new)) refl m.seat_is g p
-          ∙ ap (λ o. not (is_entry pair_cmp o g p) && (is_entry pair_cmp (cond now None seat) g p || is_able_since s g p.0 (agent_of s p.1))) (sym exits)
-          ∙ ap (λ o. not (is_entry pair_cmp swap.leaving.ready g p) && (is_entry pair_cmp o g p || is_able_since s g p.0 (agent_of s p.1))) (sym enters);
+          ∙ ap (λ o. not (is_swap_entry pair_cmp o g p) && (is_swap_entry pair_cmp (cond now None seat) g p || is_able_since s g p.0 (agent_of s p.1))) (sym exits)
+          ∙ ap (λ o. not (is_swap_entry pair_cmp swap.leaving.ready g p) && (is_swap_entry pair_cmp o g p || is_able_since s g p.0 (agent_of s p.1))) (sym enters);
     }
   where
     t : Rows
@@ -497,22 +497,22 @@ connection-swap s seats call device old new swap ascending agents listed at foun
     now = is_there_and is_busying new || is_in_use s device (Some call) Busying
 
     -- nobody enters or leaves
-    nobody : (b : Bool) (g : ℕ) (p : ℕ × ℕ) (x : Bool) → x ≡ (not (is_entry pair_cmp (cond b None None) g p) && (is_entry pair_cmp (cond b None None) g p || x))
+    nobody : (b : Bool) (g : ℕ) (p : ℕ × ℕ) (x : Bool) → x ≡ (not (is_swap_entry pair_cmp (cond b None None) g p) && (is_swap_entry pair_cmp (cond b None None) g p || x))
     nobody true g p x = refl
     nobody false g p x = refl
 
     by : (d : Bool) → differ (is_there_and is_busying old) (is_there_and is_busying new) ≡ d → m.seat ≡ cond d (ready_entry (agent_at s device)) None
         → (g : ℕ) (p : ℕ × ℕ) → is_able_since t g p.0 (agent_of t p.1)
-        ≡ (not (is_entry pair_cmp (cond now m.seat None) g p) && (is_entry pair_cmp (cond now None m.seat) g p || is_able_since s g p.0 (agent_of s p.1)))
+        ≡ (not (is_swap_entry pair_cmp (cond now m.seat None) g p) && (is_swap_entry pair_cmp (cond now None m.seat) g p || is_able_since s g p.0 (agent_of s p.1)))
     by true d k g p =
         let r = Replaces-either s call device new ascending at in
         able-swapped s t call device new seats ascending agents listed at r now (busy-here s t call device new ascending at r) g p
-        ∙ ap (λ o. not (is_entry pair_cmp (cond now o None) g p) && (is_entry pair_cmp (cond now None o) g p || is_able_since s g p.0 (agent_of s p.1))) (sym k)
+        ∙ ap (λ o. not (is_swap_entry pair_cmp (cond now o None) g p) && (is_swap_entry pair_cmp (cond now None o) g p || is_able_since s g p.0 (agent_of s p.1))) (sym k)
     by false d k g p =
         able-still s t call device new ascending at (Replaces-either s call device new ascending at)
         (ap (λ o. differ (is_there_and is_busying o) (is_there_and is_busying new)) (sym found) ∙ d) g p
         ∙ nobody now g p (is_able_since s g p.0 (agent_of s p.1))
-        ∙ ap (λ o. not (is_entry pair_cmp (cond now o None) g p) && (is_entry pair_cmp (cond now None o) g p || is_able_since s g p.0 (agent_of s p.1))) (sym k)
+        ∙ ap (λ o. not (is_swap_entry pair_cmp (cond now o None) g p) && (is_swap_entry pair_cmp (cond now None o) g p || is_able_since s g p.0 (agent_of s p.1))) (sym k)
 
 -- the swap of an agent, by its parts
 pub agent-swap : (s : Rows) (item : AgentRecord) (swap : Swap) (before entry : Option (List ℕ × (ℕ × ℕ))) (free : Bool) → swap.entering.queue ≡ None
@@ -522,12 +522,12 @@ pub agent-swap : (s : Rows) (item : AgentRecord) (swap : Swap) (before entry : O
     → SwapsTo s (with_agent s item) swap
 unfolding with_agent connection_of
 agent-swap s item swap before entry free a b o e f h out = record {
-  waiting = λ g p. ap (λ v. not v && waits_at p.0 (connection_of s p.1 g)) (sym (ap (λ u. is_entry pair_cmp u g p) b))
-      ∙ ap (λ v. not (is_entry pair_cmp swap.leaving.queue g p) && (v || waits_at p.0 (connection_of s p.1 g))) (sym (ap (λ u. is_entry pair_cmp u g p) a));
+  waiting = λ g p. ap (λ v. not v && waits_at p.0 (connection_of s p.1 g)) (sym (ap (λ u. is_swap_entry pair_cmp u g p) b))
+      ∙ ap (λ v. not (is_swap_entry pair_cmp swap.leaving.queue g p) && (v || waits_at p.0 (connection_of s p.1 g))) (sym (ap (λ u. is_swap_entry pair_cmp u g p) a));
   able =
       agent-swapped s item swap.entering.ready swap.leaving.ready
       (h ∙ ap (λ v. cond v entry None) f ∙ none_leaves entry (is_free s item.station) ∙ ap (λ u. cond (is_free s item.station) u None) e)
-      (λ g p. out g p ∙ ap (λ u. is_entry pair_cmp u g p && not (is_entry pair_cmp swap.entering.ready g p)) o);
+      (λ g p. out g p ∙ ap (λ u. is_swap_entry pair_cmp u g p && not (is_swap_entry pair_cmp swap.entering.ready g p)) o);
 }
 
 -- the rest of the groups of an entry

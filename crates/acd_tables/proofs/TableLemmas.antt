@@ -11,9 +11,9 @@ use Rattle.std.proofs.lemmas.Cmp.{on_total}
 use Rattle.std.proofs.lemmas.Map.Lookups.{CmpEqualImpliesEq}
 use Rattle.acd_terms.specs.Lists.{find_by, put_by, remove_by, Among, IsAscending}
 use Rattle.acd_lemmas.proofs.Lists.{eq_is, is_eq_of, ascending-put, ascending-remove, count_all}
-use Rattle.acd_lemmas.proofs.Keyed.{Keyed, found_among, found_itself, found_put, found_left, counted_new}
+use Rattle.acd_lemmas.proofs.KeyedLists.{Keyed, found_among, found_itself, found_put, found_left, counted_new}
 use Rattle.acd_tables.specs.KeyedMaps.{placed, IsKeyed}
-use Rattle.acd_tables.proofs.Picked.{ascending-same}
+use Rattle.acd_tables.proofs.ScansByIndex.{ascending-same}
 
 -- the first, if there is one
 abbrev either : {X : Type 0} → Option X → Option X → Option X

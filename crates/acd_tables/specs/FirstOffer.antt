@@ -7,7 +7,7 @@ use Rattle.acd_terms.specs.declared.record.GroupRecord.{GroupRecord}
 use Rattle.acd_model.specs.Scans.{group_of}
 use Rattle.acd_model.specs.Choice.{offer_in}
 use Rattle.acd_model.specs.declared.moves.Offer.{Offer}
-use Rattle.acd_tables.specs.Indexed.{OfferKey}
+use Rattle.acd_tables.specs.IndexedRows.{OfferKey}
 
 -- the offer in the group, where it has the priority
 abbrev pub if_ranked : Rows → Priority → GroupRecord → Option Offer

@@ -1,9 +1,9 @@
 pub mod Kinds
 pub mod KeyedMaps
 pub mod Sets
-pub mod Indexed
+pub mod IndexedRows
 pub mod Uses
-pub mod Alone
+pub mod SingleGroups
 pub mod Swaps
 pub mod Near
 pub mod FirstOffer

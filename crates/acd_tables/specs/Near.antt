@@ -8,7 +8,7 @@ use Rattle.acd_terms.specs.Numbers.{Device, CallId}
 use Rattle.acd_terms.specs.declared.record.ConnectionRecord.{ConnectionRecord}
 use Rattle.acd_model.specs.Rules.Plan.{connection_order}
 use Rattle.acd_model.specs.Scans.{at_connection}
-use Rattle.acd_tables.specs.Indexed.{pair_cmp}
+use Rattle.acd_tables.specs.IndexedRows.{pair_cmp}
 use Rattle.acd_tables.specs.Sets.{HasExactly}
 
 -- after the device at the call before, if there is one

@@ -15,7 +15,7 @@ use Rattle.acd_model.specs.Scans.{group_of, agent_of, agent_at, connection_of, h
 use Rattle.acd_model.specs.Choice.{waiting_pair, ready_pair}
 use Rattle.acd_model.specs.Writes.{with_connection, without_connection}
 use Rattle.acd_tables.specs.Sets.{holds, has_set, Stays}
-use Rattle.acd_tables.specs.Indexed.{PairSets, HasOffer, lists, ListsRecord, is_busying, pair_cmp, waits_at, is_able_since, OfferKey, offer_cmp, offer_key, ListsOffers, SeatMap, agent_seated}
+use Rattle.acd_tables.specs.IndexedRows.{PairSets, HasOffer, lists, ListsRecord, is_busying, pair_cmp, waits_at, is_able_since, OfferKey, offer_cmp, offer_key, ListsOffers, SeatMap, agent_seated}
 use Rattle.acd_tables.specs.Uses.{is_there_and}
 use Rattle.acd_tables.specs.declared.indexes.Indexes.{Indexes}
 use Rattle.acd_tables.specs.declared.indexes.Entries.{Entries}
@@ -28,27 +28,27 @@ is_of_group (Some k) g = is_one_of k.0 g
 
 module _ {E : Type 0} (cmp : E → E → Ordering) where
   -- the entry is this member, in the set of one of its groups
-  abbrev pub is_entry : Option (List Device × E) → Device → E → Bool
-  is_entry None g e = false
-  is_entry (Some k) g e = is_one_of k.0 g && is_eq (cmp k.1 e)
+  abbrev pub is_swap_entry : Option (List Device × E) → Device → E → Bool
+  is_swap_entry None g e = false
+  is_swap_entry (Some k) g e = is_one_of k.0 g && is_eq (cmp k.1 e)
 
   -- the member is in the set of the group, once one entry has left and another has entered; it was there before, or not
   abbrev pub is_in_after : Option (List Device × E) → Option (List Device × E) → Device → E → Bool → Bool
-  is_in_after leaving entering g e before = not (is_entry leaving g e) && (is_entry entering g e || before)
+  is_in_after leaving entering g e before = not (is_swap_entry leaving g e) && (is_swap_entry entering g e || before)
 
   -- the sets with the entry
   pub record Enters (old new : BTreeMap Device (BTreeSet E)) (entry : Option (List Device × E)) : Type 0 where
     pub sets : (g : Device) → has_set nat_cmp cmp new g ≡ has_set nat_cmp cmp old g
-    pub members : (g : Device) (e : E) → holds nat_cmp cmp new g e ≡ (is_entry entry g e || holds nat_cmp cmp old g e)
+    pub members : (g : Device) (e : E) → holds nat_cmp cmp new g e ≡ (is_swap_entry entry g e || holds nat_cmp cmp old g e)
 
   -- the sets without the entry
   pub record Leaves (old new : BTreeMap Device (BTreeSet E)) (entry : Option (List Device × E)) : Type 0 where
     pub sets : (g : Device) → has_set nat_cmp cmp new g ≡ has_set nat_cmp cmp old g
-    pub members : (g : Device) (e : E) → holds nat_cmp cmp new g e ≡ (not (is_entry entry g e) && holds nat_cmp cmp old g e)
+    pub members : (g : Device) (e : E) → holds nat_cmp cmp new g e ≡ (not (is_swap_entry entry g e) && holds nat_cmp cmp old g e)
 
   -- removing the entry gives the sets of before
   abbrev pub Undoes : BTreeMap Device (BTreeSet E) → BTreeMap Device (BTreeSet E) → Option (List Device × E) → Type 0
-  Undoes old new entry = (g : Device) (e : E) → holds nat_cmp cmp old g e ≡ (not (is_entry entry g e) && holds nat_cmp cmp new g e)
+  Undoes old new entry = (g : Device) (e : E) → holds nat_cmp cmp old g e ≡ (not (is_swap_entry entry g e) && holds nat_cmp cmp new g e)
 
   -- the groups of the member, but for those of the other entry where it is the same member's
   abbrev pub left_of : List Device → E → Option (List Device × E) → List Device
@@ -57,7 +57,7 @@ module _ {E : Type 0} (cmp : E → E → Ordering) where
 
   -- the first entry, but where it is the second too
   abbrev pub LeavesBut : Option (List Device × E) → Option (List Device × E) → Option (List Device × E) → Type 0
-  LeavesBut before after leaving = (g : Device) (e : E) → is_entry leaving g e ≡ (is_entry before g e && not (is_entry after g e))
+  LeavesBut before after leaving = (g : Device) (e : E) → is_swap_entry leaving g e ≡ (is_swap_entry before g e && not (is_swap_entry after g e))
 
 -- the place of a queued connection
 abbrev pub queue_entry : Option ConnectionRecord → Option (List Device × (Stamp × CallId))
@@ -135,7 +135,7 @@ pub record Undone (old new : Indexes) (entries : Entries) : Type 0 where
   pub ready : Undoes pair_cmp old.ready new.ready entries.ready
 
 -- nothing but the offers may have changed
-pub record Untouched (s : Rows) (old new : Indexes) : Type 0 where
+pub record IndexesUntouched (s : Rows) (old new : Indexes) : Type 0 where
   pub queues : Stays nat_cmp pair_cmp old.queues new.queues
   pub ready : Stays nat_cmp pair_cmp old.ready new.ready
   pub offers : Offers s new

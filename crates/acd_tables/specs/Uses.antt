@@ -8,7 +8,7 @@ use Rattle.acd_terms.specs.Numbers.{Device, CallId}
 use Rattle.acd_terms.specs.declared.rows.Rows.{Rows}
 use Rattle.acd_terms.specs.declared.record.ConnectionRecord.{ConnectionRecord}
 use Rattle.acd_model.specs.Scans.{connection_of, has}
-use Rattle.acd_tables.specs.Indexed.{is_busying}
+use Rattle.acd_tables.specs.IndexedRows.{is_busying}
 use Rattle.acd_tables.specs.declared.uses.Use.{Use}
 use Rattle.acd_tables.specs.declared.uses.Use.TheVariants.{Live, Occupying, Distributed, Busying}
 

@@ -3,18 +3,18 @@
 ghost use Rattle.std.specs.Prelude.{◌≡◌, length, OnOk, OnErr};
 ghost use Rattle.acd_model.specs.Scans.{connection_of, queued_in_all};
 ghost use Rattle.acd_model.specs.Writes.{with_group, with_agent, with_connection, without_connection};
-ghost use Rattle.acd_tables.specs.Indexed.{IsIndexed, offer_cmp};
+ghost use Rattle.acd_tables.specs.IndexedRows.{IsIndexed, offer_cmp};
 ghost use Rattle.acd_tables.specs.Swaps.{IsAt, with_or_without, one_queued, has_rank, loses_rank};
 ghost use Rattle.acd_tables.specs.Sets.{SameKeysBut};
 
-use crate::alone::Alone;
 use crate::indexes::{Indexes, OfferKey, may_offer, offer_key};
 use crate::indexing::{put_listed, put_seated, rings};
 use crate::lines::unlist;
 use crate::records::Records;
 use crate::sets::{add_set, insert_if, remove_if};
+use crate::single_group::SingleGroup;
 use crate::swaps::{agent_swap, connection_swap};
-use acd_terms::{AgentRecord, ConnectionRecord, DeviceId, Few, GroupRecord, Priority};
+use acd_terms::{AgentRecord, ConnectionRecord, DeviceArray, DeviceId, GroupRecord, Priority};
 use std::alloc::{AllocError, Global};
 use std::collections::BTreeSet;
 
@@ -74,7 +74,7 @@ pub(crate) fn put_agent(
     ensures ok { OnOk result (records.new ≡ with_agent records.old item.now) }
     ensures err { OnErr result (records.new ≡ records.old) }
 {
-    let (_few, _alone) = (Few::none(), None::<Alone>);
+    let (_few, _alone) = (DeviceArray::none(), None::<SingleGroup>);
     let old = records.agent(item.agent);
     let swap = agent_swap(records, indexes, &old, item);
     let undo = indexes.enter(records, &swap.entering)?;
@@ -136,7 +136,7 @@ pub(crate) fn put_connection(
     ensures ok { OnOk result (records.new ≡ with_connection records.old item.now) }
     ensures err { OnErr result (records.new ≡ records.old) }
 {
-    let (_few, _alone) = (Few::none(), None::<Alone>);
+    let (_few, _alone) = (DeviceArray::none(), None::<SingleGroup>);
     let (call, device) = (item.call, item.device);
     let old = records.connection(call, device);
     let new = Some(*item);
@@ -174,7 +174,7 @@ pub(crate) fn remove_connection(
     ensures ok { OnOk result (records.new ≡ without_connection records.old call device) }
     ensures err { OnErr result (records.new ≡ records.old) }
 {
-    let (_few, _alone) = (Few::none(), None::<Alone>);
+    let (_few, _alone) = (DeviceArray::none(), None::<SingleGroup>);
     let old = records.connection(call, device);
     let swap = connection_swap(records, indexes, call, device, &old, &None);
     let queued = queued_after(records, indexes, call, device, &old, &None);

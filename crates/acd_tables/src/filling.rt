@@ -3,7 +3,7 @@
 ghost use Rattle.std.specs.Prelude.{◌≡◌, [], true, OnOk};
 ghost use Rattle.acd_terms.specs.Lists.{ascends};
 ghost use Rattle.acd_model.specs.Rules.Plan.{group_order, agent_order, connection_order};
-ghost use Rattle.acd_tables.specs.Indexed.{with_indexed};
+ghost use Rattle.acd_tables.specs.IndexedRows.{with_indexed};
 
 use crate::tables::Tables;
 use acd_terms::{AgentRecord, ConnectionRecord, GroupRecord, Rows, ascends};

@@ -5,13 +5,13 @@ ghost use Rattle.std.specs.Prelude.{◌≡◌, ◌≤◌, ℕ, true, false, not,
 ghost use Rattle.std.specs.Ordering.{nat_cmp};
 ghost use Rattle.acd_terms.specs.Groups.{is_one_of};
 ghost use Rattle.acd_tables.specs.Sets.{holds, Stays, KeepsKeys};
-ghost use Rattle.acd_tables.specs.Indexed.{offer_cmp, offer_key, HasOffer, ListsOffers, HasNoOffer};
-ghost use Rattle.acd_tables.specs.Swaps.{is_entry, Enters, Leaves, Undoes, LeavesBut, ListsGroups, EntryJust, ListsNoMore, IsPruned, left_of, is_of_group, Offers, Entered, Undone, Untouched, TakenOut, IsBlank, ListsGroup, ListsEach, KeepsWaiting, GroupJust, Pruned};
+ghost use Rattle.acd_tables.specs.IndexedRows.{offer_cmp, offer_key, HasOffer, ListsOffers, HasNoEntry};
+ghost use Rattle.acd_tables.specs.Swaps.{is_swap_entry, Enters, Leaves, Undoes, LeavesBut, ListsGroups, EntryJust, ListsNoMore, IsPruned, left_of, is_of_group, Offers, Entered, Undone, IndexesUntouched, TakenOut, IsBlank, ListsGroup, ListsEach, KeepsWaiting, GroupJust, Pruned};
 
-use crate::alone::Alone;
 use crate::records::Records;
 use crate::sets::{enter, enter_all, insert_if, leave, leave_all, push_if, remove_if};
-use acd_terms::{AgentId, DeviceId, Few, GroupRecord, Priority};
+use crate::single_group::SingleGroup;
+use acd_terms::{AgentId, DeviceArray, DeviceId, GroupRecord, Priority};
 use std::alloc::{AllocError, Global};
 use std::cmp::Reverse;
 use std::collections::{BTreeMap, BTreeSet, HashMap};
@@ -43,8 +43,8 @@ pub struct Indexes {
 /// One place in a queue and one among the ready agents of some groups, if there are such.
 #[derive(Clone, Copy)]
 pub struct Entries {
-    pub(crate) queue: Option<(Alone, (u64, u64))>,
-    pub(crate) ready: Option<(Few, (u64, AgentId))>,
+    pub(crate) queue: Option<(SingleGroup, (u64, u64))>,
+    pub(crate) ready: Option<(DeviceArray, (u64, AgentId))>,
 }
 
 /// The entries that a change adds and then removes.
@@ -80,7 +80,7 @@ impl Indexes {
         requires { Offers records.now self.old }
         ensures ok { OnOk result (Entered records.now self.old self.new entries.now) }
         ensures undo { IfOk result (Undone self.old self.new) }
-        ensures err { OnErr result (Untouched records.now self.old self.new) }
+        ensures err { OnErr result (IndexesUntouched records.now self.old self.new) }
     {
         insert_alone(records, &mut self.offering, &entries.queue)?;
         let waiting = with_waiting(&self.queues, &entries.ready);
@@ -184,7 +184,7 @@ fn insert_each(
 fn insert_alone<E: Copy>(
     records: &Records,
     offering: &mut BTreeSet<OfferKey>,
-    entry: &Option<(Alone, E)>,
+    entry: &Option<(SingleGroup, E)>,
 ) -> Result<(), AllocError>
     ensures kept { KeepsKeys offer_cmp offering.old offering.new }
     ensures ok { OnOk result (ListsEach records.now offering.new (is_of_group entry.now)) }
@@ -199,7 +199,7 @@ fn insert_alone<E: Copy>(
 fn insert_groups<E: Copy>(
     records: &Records,
     offering: &mut BTreeSet<OfferKey>,
-    entry: &Option<(Few, E)>,
+    entry: &Option<(DeviceArray, E)>,
 ) -> Result<(), AllocError>
     ensures kept { KeepsKeys offer_cmp offering.old offering.new }
     ensures ok { OnOk result (ListsEach records.now offering.new (is_of_group entry.now)) }
@@ -211,11 +211,14 @@ fn insert_groups<E: Copy>(
 }
 
 // The groups in which somebody waits.
-fn waiting_groups(queues: &BTreeMap<DeviceId, BTreeSet<(u64, u64)>>, groups: &[DeviceId]) -> Few
+fn waiting_groups(
+    queues: &BTreeMap<DeviceId, BTreeSet<(u64, u64)>>,
+    groups: &[DeviceId],
+) -> DeviceArray
     requires { length groups.now ≤ 8 }
     ensures { KeepsWaiting queues.now (is_one_of groups.now) (is_one_of result) }
 {
-    let mut waiting = Few::none();
+    let mut waiting = DeviceArray::none();
     for group in groups {
         let is_waiting = !has_none(queues, *group);
         push_if(&mut waiting, *group, is_waiting);
@@ -226,8 +229,8 @@ fn waiting_groups(queues: &BTreeMap<DeviceId, BTreeSet<(u64, u64)>>, groups: &[D
 // The entry in the groups in which somebody waits.
 fn with_waiting<E: Copy>(
     queues: &BTreeMap<DeviceId, BTreeSet<(u64, u64)>>,
-    entry: &Option<(Few, E)>,
-) -> Option<(Few, E)>
+    entry: &Option<(DeviceArray, E)>,
+) -> Option<(DeviceArray, E)>
     ensures { KeepsWaiting queues.now (is_of_group entry.now) (is_of_group result) }
 {
     match entry {
@@ -261,7 +264,7 @@ fn prune_alone<E: Copy>(
     queues: &BTreeMap<DeviceId, BTreeSet<(u64, u64)>>,
     ready: &BTreeMap<DeviceId, BTreeSet<(u64, AgentId)>>,
     offering: &mut BTreeSet<OfferKey>,
-    entry: &Option<(Alone, E)>,
+    entry: &Option<(SingleGroup, E)>,
 )
     requires { ListsOffers records.now queues.now ready.now offering.old }
     ensures offers { ListsOffers records.now queues.now ready.now offering.new }
@@ -279,7 +282,7 @@ fn prune_entry<E: Copy>(
     queues: &BTreeMap<DeviceId, BTreeSet<(u64, u64)>>,
     ready: &BTreeMap<DeviceId, BTreeSet<(u64, AgentId)>>,
     offering: &mut BTreeSet<OfferKey>,
-    entry: &Option<(Few, E)>,
+    entry: &Option<(DeviceArray, E)>,
 )
     requires { ListsOffers records.now queues.now ready.now offering.old }
     ensures offers { ListsOffers records.now queues.now ready.now offering.new }
@@ -299,7 +302,7 @@ pub(crate) fn may_offer(
     ready: &BTreeMap<DeviceId, BTreeSet<(u64, AgentId)>>,
     group: DeviceId,
 ) -> bool
-    ensures none { result ≡ false → HasNoOffer queues.now ready.now group }
+    ensures none { result ≡ false → HasNoEntry queues.now ready.now group }
     ensures some { result ≡ true → HasOffer queues.now ready.now group }
 {
     !has_none(queues, group) && !has_none(ready, group)
@@ -324,10 +327,10 @@ fn is_among(groups: &[DeviceId], group: DeviceId) -> bool
 }
 
 // The groups that are none of the others.
-fn without(groups: &Few, others: &[DeviceId]) -> Few
+fn without(groups: &DeviceArray, others: &[DeviceId]) -> DeviceArray
     ensures { result ≡ filter (λ (g : ℕ). not (is_one_of others.now g)) groups.now }
 {
-    let mut left = Few::none();
+    let mut left = DeviceArray::none();
     for group in groups.as_slice() {
         let is_left = !is_among(others, *group);
         push_if(&mut left, *group, is_left);
@@ -336,7 +339,11 @@ fn without(groups: &Few, others: &[DeviceId]) -> Few
 }
 
 // The groups of the member, but for those of the other entry where it is the same member's.
-fn left_of<E: Ord + Copy>(groups: &Few, member: E, other: &Option<(Few, E)>) -> Few
+fn left_of<E: Ord + Copy>(
+    groups: &DeviceArray,
+    member: E,
+    other: &Option<(DeviceArray, E)>,
+) -> DeviceArray
     ensures { result ≡ left_of E.cmp groups.now member other.now }
 {
     match other {
@@ -353,9 +360,9 @@ fn left_of<E: Ord + Copy>(groups: &Few, member: E, other: &Option<(Few, E)>) -> 
 
 /// The first entry, but where it is the second too.
 pub(crate) fn leaving_but<E: Ord + Copy>(
-    before: &Option<(Few, E)>,
-    after: &Option<(Few, E)>,
-) -> Option<(Few, E)>
+    before: &Option<(DeviceArray, E)>,
+    after: &Option<(DeviceArray, E)>,
+) -> Option<(DeviceArray, E)>
     ensures { LeavesBut E.cmp before.now after.now result }
 {
     match before {
@@ -365,8 +372,12 @@ pub(crate) fn leaving_but<E: Ord + Copy>(
 }
 
 // The entry is this member, in the set of the group.
-fn is_entry<E: Ord + Copy>(entry: &Option<(Alone, E)>, group: DeviceId, member: E) -> bool
-    ensures { result ≡ is_entry E.cmp entry.now group member }
+fn is_swap_entry<E: Ord + Copy>(
+    entry: &Option<(SingleGroup, E)>,
+    group: DeviceId,
+    member: E,
+) -> bool
+    ensures { result ≡ is_swap_entry E.cmp entry.now group member }
 {
     match entry {
         None => false,
@@ -376,15 +387,15 @@ fn is_entry<E: Ord + Copy>(entry: &Option<(Alone, E)>, group: DeviceId, member: 
 
 /// The first entry, but where it is the second too.
 pub(crate) fn leaving_alone<E: Ord + Copy>(
-    before: &Option<(Alone, E)>,
-    after: &Option<(Alone, E)>,
-) -> Option<(Alone, E)>
+    before: &Option<(SingleGroup, E)>,
+    after: &Option<(SingleGroup, E)>,
+) -> Option<(SingleGroup, E)>
     ensures { LeavesBut E.cmp before.now after.now result }
 {
     match before {
         None => None,
         Some((alone, member)) => {
-            if is_entry(after, alone.group(), *member) {
+            if is_swap_entry(after, alone.group(), *member) {
                 None
             } else {
                 *before
@@ -403,8 +414,8 @@ pub(crate) fn only<E: Copy>(entry: &Option<E>, taken: bool) -> Option<E>
 // Puts the entry into its set, and gives what is to be removed to undo it.
 fn enter_alone<E: Ord + Copy>(
     sets: &mut BTreeMap<DeviceId, BTreeSet<E>>,
-    entry: &Option<(Alone, E)>,
-) -> Result<Option<(Alone, E)>, AllocError>
+    entry: &Option<(SingleGroup, E)>,
+) -> Result<Option<(SingleGroup, E)>, AllocError>
     ensures ok { OnOk result (Enters E.cmp sets.old sets.new entry.now) }
     ensures undo { IfOk result (Undoes E.cmp sets.old sets.new) }
     ensures err { OnErr result (Stays nat_cmp E.cmp sets.old sets.new) }
@@ -421,7 +432,7 @@ fn enter_alone<E: Ord + Copy>(
 // Takes the entry out of its set.
 fn leave_alone<E: Ord + Copy>(
     sets: &mut BTreeMap<DeviceId, BTreeSet<E>>,
-    entry: &Option<(Alone, E)>,
+    entry: &Option<(SingleGroup, E)>,
 )
     ensures { Leaves E.cmp sets.old sets.new entry.now }
 {
@@ -433,8 +444,8 @@ fn leave_alone<E: Ord + Copy>(
 // Puts the entry into its sets, and gives what is to be removed to undo it.
 fn enter_entry<E: Ord + Copy>(
     sets: &mut BTreeMap<DeviceId, BTreeSet<E>>,
-    entry: &Option<(Few, E)>,
-) -> Result<Option<(Few, E)>, AllocError>
+    entry: &Option<(DeviceArray, E)>,
+) -> Result<Option<(DeviceArray, E)>, AllocError>
     ensures ok { OnOk result (Enters E.cmp sets.old sets.new entry.now) }
     ensures undo { IfOk result (Undoes E.cmp sets.old sets.new) }
     ensures err { OnErr result (Stays nat_cmp E.cmp sets.old sets.new) }
@@ -449,7 +460,10 @@ fn enter_entry<E: Ord + Copy>(
 }
 
 // Takes the entry out of its sets.
-fn leave_entry<E: Ord + Copy>(sets: &mut BTreeMap<DeviceId, BTreeSet<E>>, entry: &Option<(Few, E)>)
+fn leave_entry<E: Ord + Copy>(
+    sets: &mut BTreeMap<DeviceId, BTreeSet<E>>,
+    entry: &Option<(DeviceArray, E)>,
+)
     ensures { Leaves E.cmp sets.old sets.new entry.now }
 {
     if let Some((groups, member)) = entry {

@@ -7,7 +7,7 @@ ghost use Rattle.acd_terms.specs.Lists.{IsAscending};
 ghost use Rattle.acd_model.specs.Rules.Plan.{connection_order};
 ghost use Rattle.acd_model.specs.Scans.{agent_of, connection_of, has};
 ghost use Rattle.acd_model.specs.Writes.{with_agent, with_connection};
-ghost use Rattle.acd_tables.specs.Indexed.{agent_seated, agent_station, rings, works, Seats, Lines, Ringing, Working};
+ghost use Rattle.acd_tables.specs.IndexedRows.{agent_seated, agent_station, rings, works, Seats, Lines, Ringing, Working};
 ghost use Rattle.acd_tables.specs.Swaps.{IsFreeFor, Sits, GetsUp};
 
 use crate::lines::{list, unlist};

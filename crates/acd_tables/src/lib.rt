@@ -12,7 +12,6 @@
 //! ```
 #![tactic(auto)]
 
-mod alone;
 mod changes;
 mod connections;
 mod filling;
@@ -23,6 +22,7 @@ mod lines;
 mod records;
 mod scans;
 mod sets;
+mod single_group;
 mod swaps;
 mod table;
 mod tables;

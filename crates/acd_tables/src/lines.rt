@@ -4,7 +4,7 @@ ghost use Rattle.std.specs.Prelude.{◌≡◌, ℕ, true, OnOk, OnErr};
 ghost use Rattle.std.specs.List.Sorted.{IsStrictlySortedBy};
 ghost use Rattle.acd_terms.specs.Lists.{Among};
 ghost use Rattle.acd_tables.specs.Sets.{Inserted, Removed, SameKeys};
-ghost use Rattle.acd_tables.specs.Indexed.{pair_cmp, joins};
+ghost use Rattle.acd_tables.specs.IndexedRows.{pair_cmp, joins};
 ghost use Rattle.acd_tables.specs.Uses.{first_line, past_lines};
 
 use crate::sets::{insert_if, remove_if};

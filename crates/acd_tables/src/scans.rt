@@ -4,7 +4,7 @@ ghost use Rattle.std.specs.Prelude.{◌≡◌, None, length, filter, is_some, If
 ghost use Rattle.acd_terms.specs.Lists.{first_two};
 ghost use Rattle.acd_model.specs.Scans.{is_group, agent_of, agent_at, connection_of, connections_of, other_of, is_live_at, is_idle, is_occupied, is_eligible, is_calling, is_used, queued_in_all};
 ghost use Rattle.acd_model.specs.Choice.{first_waiting, first_eligible, offer_of};
-ghost use Rattle.acd_tables.specs.Indexed.{pair_cmp, is_ringing, is_working, waiting_pairs, ready_pairs};
+ghost use Rattle.acd_tables.specs.IndexedRows.{pair_cmp, is_ringing, is_working, waiting_pairs, ready_pairs};
 ghost use Rattle.acd_tables.specs.Sets.{IsSetOf};
 ghost use Rattle.acd_tables.specs.Uses.{kept, is_in_use};
 ghost use Rattle.acd_tables.specs.FirstOffer.{offer_by_key};

@@ -2,12 +2,12 @@
 
 ghost use Rattle.std.specs.Prelude.{◌≡◌, ◌≤◌, ◌<◌, ◌++◌, [], ◌∷◌, length, not, Some, OnOk, OnErr, IfOk, if◌then◌else◌};
 ghost use Rattle.std.specs.Ordering.{nat_cmp};
-ghost use Rattle.acd_tables.specs.Indexed.{IsFirstIn};
+ghost use Rattle.acd_tables.specs.IndexedRows.{IsFirstIn};
 ghost use Rattle.acd_tables.specs.Sets.{holds, Stays, HasSet, Inserted, Removed, InsertedAt, RemovedAt};
 ghost use Rattle.acd_tables.specs.Swaps.{Enters, Leaves, Undoes};
 ghost use Rattle.std.specs.BTreeSet.{contains};
 
-use acd_terms::{DeviceId, Few};
+use acd_terms::{DeviceArray, DeviceId};
 use std::alloc::{AllocError, Global};
 use std::collections::{BTreeMap, BTreeSet};
 
@@ -57,7 +57,7 @@ pub(crate) fn leave_all<E: Ord + Copy>(
 }
 
 /// Puts the group after the others, if it is new.
-pub(crate) fn push_if(entered: &mut Few, group: DeviceId, new: bool)
+pub(crate) fn push_if(entered: &mut DeviceArray, group: DeviceId, new: bool)
     requires { length entered.old < 8 }
     ensures { entered.new ≡ (if new then entered.old ++ group ∷ [] else entered.old) }
 {
@@ -72,13 +72,13 @@ pub(crate) fn enter_all<E: Ord + Copy>(
     sets: &mut BTreeMap<DeviceId, BTreeSet<E>>,
     groups: &[DeviceId],
     member: E,
-) -> Result<Few, AllocError>
+) -> Result<DeviceArray, AllocError>
     requires { length groups.now ≤ 8 }
     ensures ok { OnOk result (Enters E.cmp sets.old sets.new (Some (groups.now, member))) }
     ensures undo { IfOk result (λ new. Undoes E.cmp sets.old sets.new (Some (new, member))) }
     ensures err { OnErr result (Stays nat_cmp E.cmp sets.old sets.new) }
 {
-    let mut entered = Few::none();
+    let mut entered = DeviceArray::none();
     for group in groups {
         match enter(sets, *group, member) {
             Ok(new) => push_if(&mut entered, *group, new),

@@ -3,25 +3,25 @@
 ghost use Rattle.std.specs.Prelude.{◌≡◌, ◌&&◌, ◌||◌, Some, None, is_some, if◌then◌else◌};
 ghost use Rattle.acd_model.specs.Scans.{agent_of, connection_of};
 ghost use Rattle.acd_model.specs.Writes.{with_agent};
-ghost use Rattle.acd_tables.specs.Indexed.{IsIndexed, is_free, is_busying};
+ghost use Rattle.acd_tables.specs.IndexedRows.{IsIndexed, is_free, is_busying};
 ghost use Rattle.acd_tables.specs.Uses.{is_there_and, is_busy_with};
 ghost use Rattle.acd_tables.specs.Swaps.{SwapsTo, differ, IsAt, queue_entry, ready_entry, with_or_without, swapped_seat};
 
-use crate::alone::Alone;
 use crate::indexes::{Entries, Indexes, Swap, leaving_alone, leaving_but, only};
 use crate::records::Records;
+use crate::single_group::SingleGroup;
 use crate::uses::{Use, agent_at, is_in_use, uses};
-use acd_terms::{AgentId, AgentRecord, ConnectionRecord, DeviceId, Few};
+use acd_terms::{AgentId, AgentRecord, ConnectionRecord, DeviceArray, DeviceId};
 
 // The place of a queued connection.
-fn queue_entry(connection: &Option<ConnectionRecord>) -> Option<(Alone, (u64, u64))>
+fn queue_entry(connection: &Option<ConnectionRecord>) -> Option<(SingleGroup, (u64, u64))>
     ensures { result ≡ queue_entry connection.now }
 {
     match connection {
         None => None,
         Some(c) => {
             if c.state.is_queued() {
-                Some((Alone::new(c.device), (c.place.unwrap_or(0), c.call)))
+                Some((SingleGroup::new(c.device), (c.place.unwrap_or(0), c.call)))
             } else {
                 None
             }
@@ -30,7 +30,7 @@ fn queue_entry(connection: &Option<ConnectionRecord>) -> Option<(Alone, (u64, u6
 }
 
 // The place of the agent in each of its groups, if ready.
-fn able_entry(agent: &AgentRecord) -> Option<(Few, (u64, AgentId))>
+fn able_entry(agent: &AgentRecord) -> Option<(DeviceArray, (u64, AgentId))>
     ensures { result ≡ ready_entry (Some agent.now) }
 {
     if agent.state.is_ready() {
@@ -40,7 +40,7 @@ fn able_entry(agent: &AgentRecord) -> Option<(Few, (u64, AgentId))>
     }
 }
 
-fn ready_entry(agent: &Option<AgentRecord>) -> Option<(Few, (u64, AgentId))>
+fn ready_entry(agent: &Option<AgentRecord>) -> Option<(DeviceArray, (u64, AgentId))>
     ensures { result ≡ ready_entry agent.now }
 {
     match agent {
@@ -86,7 +86,7 @@ fn is_kept(
     call: u64,
     device: DeviceId,
     new: &Option<ConnectionRecord>,
-    seat: &Option<(Few, (u64, AgentId))>,
+    seat: &Option<(DeviceArray, (u64, AgentId))>,
 ) -> bool
     requires { IsIndexed records.now indexes.now }
     ensures { result ≡ (is_some seat.now && is_busy_with records.now device call new.now) }
@@ -108,7 +108,7 @@ fn swapped_seat(
     device: DeviceId,
     old: &Option<ConnectionRecord>,
     new: &Option<ConnectionRecord>,
-) -> Option<(Few, (u64, AgentId))>
+) -> Option<(DeviceArray, (u64, AgentId))>
     requires { IsIndexed records.now indexes.now }
     ensures { result ≡ swapped_seat records.now device old.now new.now }
 {
@@ -151,7 +151,7 @@ pub(crate) fn connection_swap(
 }
 
 // No connection at the station, if there is one, keeps it from an offer.
-#[tactic(auto, unfolding(crate::specs::Indexed::is_busy_at))]
+#[tactic(auto, unfolding(crate::specs::IndexedRows::is_busy_at))]
 fn is_free(records: &Records, indexes: &Indexes, station: Option<DeviceId>) -> bool
     requires { IsIndexed records.now indexes.now }
     ensures { result ≡ is_free records.now station }
@@ -166,7 +166,7 @@ fn is_free(records: &Records, indexes: &Indexes, station: Option<DeviceId>) -> b
 fn may_be_offered(
     records: &Records,
     indexes: &Indexes,
-    entry: &Option<(Few, (u64, AgentId))>,
+    entry: &Option<(DeviceArray, (u64, AgentId))>,
     station: Option<DeviceId>,
 ) -> bool
     requires { IsIndexed records.now indexes.now }

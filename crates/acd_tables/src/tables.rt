@@ -30,7 +30,7 @@ impl Model for Tables {
 
     ghost Value = { Rows };
 
-    ghost use Rattle.acd_tables.specs.Indexed.{IsIndexed};
+    ghost use Rattle.acd_tables.specs.IndexedRows.{IsIndexed};
 
     ghost view = { λ t. t.records };
 

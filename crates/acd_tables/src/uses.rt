@@ -6,7 +6,7 @@ ghost use Rattle.acd_terms.specs.Lists.{IsAscending};
 ghost use Rattle.acd_model.specs.Rules.Plan.{agent_order, connection_order};
 ghost use Rattle.acd_model.specs.Scans.{agent_at};
 ghost use Rattle.acd_tables.specs.Uses.{uses, is_in_use, call_uses};
-ghost use Rattle.acd_tables.specs.Indexed.{is_ringing, Lines, Seats};
+ghost use Rattle.acd_tables.specs.IndexedRows.{is_ringing, Lines, Seats};
 
 use crate::lines::lines_at;
 use crate::records::Records;

@@ -3,5 +3,5 @@ pub mod Results
 pub mod Texts
 pub mod Identifiers
 pub mod ReadBack
-mod Placing
-mod Held
+mod NumbersInOrder
+mod DevicesInPlace

@@ -8,6 +8,6 @@ pub mod Rows
 pub mod Columns
 pub mod Lists
 pub mod Results
-pub mod Few
+pub mod DeviceArrays
 pub mod Groups
 pub mod EventNames

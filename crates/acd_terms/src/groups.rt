@@ -7,14 +7,14 @@ ghost use Rattle.std.specs.Cmp.Lexicographic.{pointwise, lists_equiv};
 ghost use Rattle.acd_terms.specs.Lists.{ascends, put_by};
 ghost use Rattle.acd_terms.specs.Groups.{is_one_of, is_choice, least_group, further_groups, only_group, with_one_more, with_all, some_of};
 
-use crate::few::Few;
+use crate::device_array::DeviceArray;
 use crate::id::DeviceId;
 use std::marker::Model;
 
 /// At most eight devices in ascending number.
 #[derive(Clone, Copy, Debug)]
 pub struct Groups {
-    list: Few,
+    list: DeviceArray,
 }
 
 impl Model for Groups {
@@ -35,14 +35,16 @@ impl Groups {
     pub fn none() -> Groups
         ensures { result ≡ [] }
     {
-        Groups { list: Few::none() }
+        Groups {
+            list: DeviceArray::none(),
+        }
     }
 
     pub fn one(group: DeviceId) -> Groups
         ensures { result ≡ group ∷ [] }
     {
         Groups {
-            list: Few::one(group),
+            list: DeviceArray::one(group),
         }
     }
 
@@ -66,7 +68,7 @@ impl Groups {
     }
 
     /// The same devices.
-    pub fn to_few(&self) -> Few
+    pub fn to_few(&self) -> DeviceArray
         ensures { result ≡ self.now }
     {
         self.list
@@ -129,11 +131,11 @@ impl Groups {
 }
 
 // The device in its place among others.
-fn put(others: &[DeviceId], group: DeviceId) -> Few
+fn put(others: &[DeviceId], group: DeviceId) -> DeviceArray
     requires { length others.now < 8 }
     ensures { result ≡ put_by (nat_cmp group) others.now group }
 {
-    let mut list = Few::none();
+    let mut list = DeviceArray::none();
     let mut placed = false;
     for other in others {
         if !placed && group <= *other {

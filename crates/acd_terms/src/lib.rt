@@ -13,8 +13,8 @@
 
 mod answer;
 mod command;
+mod device_array;
 mod event;
-mod few;
 mod groups;
 mod id;
 mod keyed;
@@ -28,8 +28,8 @@ mod state;
 
 pub use answer::{Answer, Outcome, Refusal};
 pub use command::{Arrival, Command, Request, Requested, Turn};
+pub use device_array::DeviceArray;
 pub use event::{Cause, Columns, Event, EventKind, Report, Waited};
-pub use few::Few;
 pub use groups::{Groups, SomeGroups};
 pub use id::{AgentId, DeviceId, IdFault};
 pub use keyed::{Keyed, ascends, find};

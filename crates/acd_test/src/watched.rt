@@ -1,7 +1,7 @@
 //! The numbers of the events at watched devices: which are lent, and when none are.
 
 use crate::comparing::same;
-use acd_book::Watched;
+use acd_book::MonitorIndex;
 use acd_model::Change;
 use acd_terms::{DeviceId, Event, MonitorRecord, Report};
 use std::process::Abort;
@@ -31,7 +31,7 @@ fn monitor(monitor: u64, device: DeviceId, after_event: u64) -> MonitorRecord {
 // The numbers that the book lends of a device, above these.
 fn expect(
     rt: &impl Abort,
-    watched: &Watched,
+    watched: &MonitorIndex,
     device: DeviceId,
     lent: &[(u64, usize, Option<&[u64]>)],
 ) {
@@ -46,7 +46,7 @@ fn expect(
 #[test]
 fn numbers_of_a_watched_device(rt: HostRuntime) {
     let [first, second] = devices(&rt);
-    let mut watched = Watched::new(rt.alloc());
+    let mut watched = MonitorIndex::new(rt.alloc());
     watched.add(&held(1, first));
     expect(&rt, &watched, first, &[(0, 100, None), (1, 100, None)]);
     watched.change(&[Change::PutMonitor(monitor(1, first, 1))], 1);
@@ -91,7 +91,7 @@ fn numbers_of_a_watched_device(rt: HostRuntime) {
 fn numbers_of_the_monitors_that_run(rt: HostRuntime) {
     let [first, second] = devices(&rt);
     let monitors = [monitor(1, first, 2), monitor(2, second, 9)];
-    let mut watched = Watched::of_monitors(rt.alloc(), &monitors, 7);
+    let mut watched = MonitorIndex::of_monitors(rt.alloc(), &monitors, 7);
     for number in 8..=11 {
         watched.add(&held(number, first));
         watched.add(&held(number, second));

@@ -11,7 +11,7 @@ use Rattle.acd_desk.specs.declared.pair.PairFault.{PairFault}
 use Rattle.acd_desk.specs.declared.pair.PairFault.TheVariants.{Current, Archive}
 use Rattle.acd_desk.specs.Opening.{by_book}
 use Rattle.acd_desk.specs.Pairs.{of_current, of_archive, of_opening, by_opening, current_part, archive_part, ReadsBoth}
-use Rattle.acd_book.specs.BookReading.{Anything, ReadsIfOpen}
+use Rattle.acd_book.specs.BookReads.{Anything, ReadsIfOpen}
 use Rattle.acd_book.proofs.ReadsAhead.{known, by_read, read_ok, read_nothing, read_twice, none_alone, read_more}
 
 -- nothing is read of one of them

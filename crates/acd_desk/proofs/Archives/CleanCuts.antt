@@ -9,7 +9,7 @@ use Rattle.acd_book.specs.declared.kept.Kept.{Kept}
 use Rattle.acd_book.specs.Content.{Content, IsKeptAfter, GoOn, events_after}
 use Rattle.acd_book.specs.Memory.{stamp_of, number_of}
 use Rattle.acd_book.specs.Order.{Rises}
-use Rattle.acd_book.specs.Sharing.{IsSplit}
+use Rattle.acd_book.specs.ListOverlap.{IsSplitAt}
 use Rattle.acd_desk.specs.AuditWith.{Ascends, StandsInTime}
 use Rattle.acd_desk.specs.Overlap.{IsCleanCut, IsBefore}
 use Rattle.acd_desk.proofs.Archives.NextRecords.{none_left, next_left as next_record}
@@ -136,7 +136,7 @@ above_it n m lt other =
     equal n m lt le = omega (arith, lt, le)
 
 -- the events left in the archive, by the event that comes first above the number before
-clean_left : (a : Content) (number moment : ℕ) (past rest left reported : List Event) (carried : List Kept) → StandsInTime a → number ≤ a.rows.last_event → IsSplit number_of (number - 1) a.events past rest → IsSplit number_of number a.events left reported
+clean_left : (a : Content) (number moment : ℕ) (past rest left reported : List Event) (carried : List Kept) → StandsInTime a → number ≤ a.rows.last_event → IsSplitAt number_of (number - 1) a.events past rest → IsSplitAt number_of number a.events left reported
     → IsBefore (take 1 rest) number moment → Every (λ (k : Kept). moment ≤ k.moment) carried → Every (IsEarlier carried) left
 clean_left a number moment past [] left reported carried stands within_last one two before late =
     let whole : a.events ≡ past = one.whole ∙ append-nil past in
@@ -185,7 +185,7 @@ pub clean_decided : (a : Content) (stamp number before : ℕ) (k : Kept) (found 
     → Decides b (IsBefore found number k.moment) → Decides b (IsCleanCut a stamp number)
 clean_decided a stamp number before k found b stands within_last next is_before is decides =
     let events_two = split_at number_of 0 (number - 1) a.events (omega arith) stands.ordered.events in
-    let one : IsSplit number_of (number - 1) a.events events_two.0 events_two.1 = events_two.2 in
+    let one : IsSplitAt number_of (number - 1) a.events events_two.0 events_two.1 = events_two.2 in
     let found_is : found ≡ take 1 events_two.1 = is ∙ ap (λ (n : ℕ). events_after a.events n 1) is_before ∙ next_left number_of (number - 1) a.events events_two.0 events_two.1 one in (
       λ holds past carried left reported kept_split events_split.
           let front = next_record stamp past carried k kept_split.below kept_split.above (subst (λ (l : List Kept). IsKeptAfter l stamp (Some k)) kept_split.whole next) in
@@ -196,9 +196,9 @@ clean_decided a stamp number before k found b stands within_last next is_before 
           clean_left a number k.moment events_two.0 events_two.1 left reported carried stands within_last one events_split (subst (λ (l : List Event). IsBefore l number k.moment) found_is (decides.0 holds)) late,
       λ clean.
           let kept_parts = split_at stamp_of 0 stamp a.kept (omega arith) stands.ordered.kept in
-          let kept_split : IsSplit stamp_of stamp a.kept kept_parts.0 kept_parts.1 = kept_parts.2 in
+          let kept_split : IsSplitAt stamp_of stamp a.kept kept_parts.0 kept_parts.1 = kept_parts.2 in
           let parts = split_at number_of 0 number a.events (omega arith) stands.ordered.events in
-          let events_split : IsSplit number_of number a.events parts.0 parts.1 = parts.2 in
+          let events_split : IsSplitAt number_of number a.events parts.0 parts.1 = parts.2 in
           let front = next_record stamp kept_parts.0 kept_parts.1 k kept_split.below kept_split.above (subst (λ (l : List Kept). IsKeptAfter l stamp (Some k)) kept_split.whole next) in
           let all : Every (IsEarlier (k ∷ front.0)) parts.0 = subst (λ (ks : List Kept). Every (IsEarlier ks) parts.0) front.1 (clean kept_parts.0 kept_parts.1 parts.0 parts.1 kept_split events_split) in
           decides.1 (subst (λ (l : List Event). IsBefore l number k.moment) (sym found_is)

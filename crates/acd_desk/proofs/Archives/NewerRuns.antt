@@ -11,26 +11,26 @@ use Rattle.acd_book.specs.declared.kept.Kept.{Kept}
 use Rattle.acd_book.specs.Content.{Content, kept_of, events_after, IsCounted}
 use Rattle.acd_book.specs.Memory.{stamp_of, number_of}
 use Rattle.acd_book.specs.Order.{Rises}
-use Rattle.acd_book.proofs.Left.{left_after}
-use Rattle.acd_desk.specs.declared.seen.SeenKeys.{SeenKeys}
-use Rattle.acd_desk.specs.Firsts.{stepped, record_of, executed}
+use Rattle.acd_book.proofs.EventsAbove.{left_after}
+use Rattle.acd_desk.specs.declared.seen_keys.SeenKeys.{SeenKeys}
+use Rattle.acd_desk.specs.AbstractDesk.{stepped, record_of, executed}
 use Rattle.acd_desk.specs.Replies.{after}
-use Rattle.acd_desk.specs.Stands.{arrivals_of}
-use Rattle.acd_desk.specs.Leads.{led}
+use Rattle.acd_desk.specs.SoundContent.{arrivals_of}
+use Rattle.acd_desk.specs.AnyContent.{led}
 use Rattle.acd_desk.specs.KeyPlaces.{IsSeenKey}
 use Rattle.acd_desk.specs.Replay.{again, IsFirstOfKey, Matches}
 use Rattle.acd_desk.specs.WithArchive.{IsLedFrom}
 use Rattle.acd_desk.specs.AuditWith.{HoldsArchive, RunsOn}
 use Rattle.acd_desk.proofs.Replays.Audits.{rises_after, nothing_more, same_content, unkept_before}
-use Rattle.acd_desk.proofs.Contents.Counting.{counted_executed}
-use Rattle.acd_desk.proofs.Replays.Courses.{none_of_new}
-use Rattle.acd_desk.proofs.Contents.Growing.{Grows, after_cases, led_grows, led_append}
-use Rattle.acd_desk.proofs.Contents.Leading.{led_push}
-use Rattle.acd_desk.proofs.Archives.LedFrom.{kept_whole, carried_low, carried_events_low, carried_rows, carried_counted, Newer, led_newer}
+use Rattle.acd_desk.proofs.Contents.CountersBound.{counted_executed}
+use Rattle.acd_desk.proofs.Replays.ReplayStates.{none_of_new}
+use Rattle.acd_desk.proofs.Contents.AddedRecords.{Grows, after_cases, led_grows, led_append}
+use Rattle.acd_desk.proofs.Contents.RunsOfAnyContent.{led_push}
+use Rattle.acd_desk.proofs.Archives.CarriedPart.{kept_whole, carried_low, carried_events_low, carried_rows, carried_counted, Newer, led_newer}
 use Rattle.acd_desk.proofs.Archives.LookUps.{none_front, none_rest, none_in_both, first_record}
 use Rattle.acd_desk.proofs.Contents.Runs.{executes}
 use Rattle.acd_book.proofs.SharedLists.{rises_append, split_once}
-use Rattle.acd_desk.proofs.Contents.Sound.{arrivals_append, length-arrivals}
+use Rattle.acd_desk.proofs.Contents.SoundRuns.{arrivals_append, length-arrivals}
 use Rattle.acd_desk.proofs.Contents.Steps.{step_stamp, step_event, step_numbers}
 
 -- ---- it starts, continues and ends ----

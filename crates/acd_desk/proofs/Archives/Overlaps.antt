@@ -19,12 +19,12 @@ use Rattle.acd_desk.specs.declared.pair.PairFault.{PairFault}
 use Rattle.acd_desk.specs.Kinds.{Kind, by_stamp, by_number, first_above, page_above}
 use Rattle.acd_desk.specs.Pages.{Extends}
 use Rattle.acd_desk.specs.Pairs.{ReadsBoth}
-use Rattle.acd_book.specs.Sharing.{IsSplit, Begins, cut_before}
-use Rattle.acd_desk.specs.Carried.{Archive}
+use Rattle.acd_book.specs.ListOverlap.{IsSplitAt, Begins, cut_before}
+use Rattle.acd_desk.specs.CarriedContent.{Archive}
 use Rattle.acd_lemmas.proofs.Lists.{head_is}
 use Rattle.acd_desk.specs.AuditWith.{HoldsArchive, StandsInTime}
 use Rattle.acd_desk.specs.Overlap.{AreInOrder, cut_stamp, cut_number, KeepsArchive, ReportsArchive, IsNextOf, ArePagesOf, ReadsNext, IsOther, IsOtherUpTo, StandAbove, IsCleanCut, earlier, FindsOther, FindsMoment, FindsAbove, FindsPlace}
-use Rattle.acd_book.specs.BookReading.{Anything, ReadsIfOpen}
+use Rattle.acd_book.specs.BookReads.{Anything, ReadsIfOpen}
 use Rattle.acd_desk.proofs.Archives.BothReads.{both_known, both_ok, both_then, both_then_fault}
 use Rattle.acd_book.proofs.ReadsAhead.{by_read, read_ok, read_nothing, read_twice}
 use Rattle.acd_book.proofs.SharedLists.{within, Shares, shares_nothing, cut_rises, cut_within, reached, split_there, split_once}
@@ -149,11 +149,11 @@ holds_both a c keeps reports clean =
       events_rise = reports.newer;
     }
 
-kept_split : (a c : Content) (h : HoldsArchive a c) → AreInOrder a c → IsSplit stamp_of (cut_stamp a c) a.kept h.left.kept h.carried.kept
+kept_split : (a c : Content) (h : HoldsArchive a c) → AreInOrder a c → IsSplitAt stamp_of (cut_stamp a c) a.kept h.left.kept h.carried.kept
 kept_split a c h order =
     split_there stamp_of a.rows.last_stamp a.kept c.kept h.left.kept h.carried.kept h.kept_left (ap (λ (x : Content). x.kept) h.cut.whole) h.kept order.archive.ordered.kept order.archive.counted.kept h.kept_rise
 
-events_split : (a c : Content) (h : HoldsArchive a c) → AreInOrder a c → IsSplit number_of (cut_number a c) a.events h.left.events h.carried.events
+events_split : (a c : Content) (h : HoldsArchive a c) → AreInOrder a c → IsSplitAt number_of (cut_number a c) a.events h.left.events h.carried.events
 events_split a c h order =
     split_there number_of a.rows.last_event a.events c.events h.left.events h.carried.events h.events_left (ap (λ (x : Content). x.events) h.cut.whole) h.events order.archive.ordered.events order.archive.counted.events h.events_rise
 

@@ -9,16 +9,16 @@ use Rattle.acd_book.specs.declared.kept.Kept.{Kept}
 use Rattle.acd_book.specs.Content.{Content}
 use Rattle.acd_book.specs.Memory.{stamp_of, number_of}
 use Rattle.acd_book.specs.Order.{Rises}
-use Rattle.acd_book.specs.Pruned.{pruned}
-use Rattle.acd_desk.specs.Carried.{Archive, together}
-use Rattle.acd_book.specs.Sharing.{IsSplit}
+use Rattle.acd_book.specs.PrunedContent.{pruned}
+use Rattle.acd_desk.specs.CarriedContent.{Archive, together}
+use Rattle.acd_book.specs.ListOverlap.{IsSplitAt}
 use Rattle.acd_desk.specs.WithArchive.{ComeBefore, IsCut, IsSoundWith, IsLedFrom}
 use Rattle.acd_desk.specs.AuditWith.{StandsInTime, HoldsArchive, first_sent_again, IsSentAgain}
 use Rattle.acd_desk.specs.Overlap.{IsCleanCut}
 use Rattle.acd_desk.specs.Pruning.{IsPlace, IsGone, StaysLed}
 use Rattle.acd_desk.proofs.Replays.AuditLaws.{zero_least}
 use Rattle.acd_desk.proofs.Replays.Audits.{same_content}
-use Rattle.acd_desk.proofs.Archives.LedFrom.{kept_whole, events_whole, Newer, led_newer, sound_made, sent_again_unsound, cut_without, sound_without, led_without}
+use Rattle.acd_desk.proofs.Archives.CarriedPart.{kept_whole, events_whole, Newer, led_newer, sound_made, sent_again_unsound, cut_without, sound_without, led_without}
 use Rattle.acd_book.proofs.SharedLists.{not_both, every_front, every_back, every_each, rises_back, split_at, none_above, all_above}
 
 -- ---- lists in order ----
@@ -47,7 +47,7 @@ divided : {T : Type 0} (f : T → ℕ) (n last : ℕ) (archived left carried new
 divided {T = T} f n last archived left carried newer current rise whole mine le up =
     let p : T → Bool = λ (x : T). nat_lt n (f x) in
     let two = split_at f 0 n carried (zero_least n) (rises_back f 0 left carried (subst (Rises f 0) whole rise)) in
-    let split : IsSplit f n carried two.0 two.1 = two.2 in
+    let split : IsSplitAt f n carried two.0 two.1 = two.2 in
     let parts : current ≡ two.0 ++ (two.1 ++ newer) = mine ∙ ap (λ (l : List T). l ++ newer) split.whole ∙ append_assoc two.0 two.1 newer in
     let left_over : filter p current ≡ two.1 ++ newer
     = ap (filter p) parts ∙ filter-append p two.0 (two.1 ++ newer)
@@ -68,9 +68,9 @@ comes_before : (a : Content) (stamp number : ℕ) (past gone reported : List Eve
     → Every (λ (e : Event). e.number ≤ number) gone → Every (λ (k : Kept). stamp < k.stamp) rest → ComeBefore gone rest
 comes_before a stamp number past gone reported front rest stands clean events kept low high =
     let kept_two = split_at stamp_of 0 stamp a.kept (zero_least stamp) stands.ordered.kept in
-    let kept_split : IsSplit stamp_of stamp a.kept kept_two.0 kept_two.1 = kept_two.2 in
+    let kept_split : IsSplitAt stamp_of stamp a.kept kept_two.0 kept_two.1 = kept_two.2 in
     let events_two = split_at number_of 0 number a.events (zero_least number) stands.ordered.events in
-    let events_split : IsSplit number_of number a.events events_two.0 events_two.1 = events_two.2 in
+    let events_split : IsSplitAt number_of number a.events events_two.0 events_two.1 = events_two.2 in
     let IsBeforeRest : Event → Type 0 = λ e. Every (λ (k : Kept). e.moment < k.moment) rest in
     -- of one event
     let one : (e : Event) → Every (λ (k : Kept). e.moment < k.moment) kept_two.1 → IsBeforeRest e

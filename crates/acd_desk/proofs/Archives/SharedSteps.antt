@@ -1,7 +1,7 @@
 -- A step of the comparison of two lists, of which one begins with what the other one has above a number.
 use Rattle.std.proofs.Common.{◌≡◌, ℕ, ◌+◌, ◌<◌, ◌≤◌, List, [], ◌∷◌, ◌++◌, take, inl, inr, sym, ap, subst, ◌∙◌, arith}
 use Rattle.acd_book.specs.Order.{Rises}
-use Rattle.acd_book.specs.Sharing.{Begins}
+use Rattle.acd_book.specs.ListOverlap.{Begins}
 use Rattle.acd_desk.specs.declared.overlap.Next.TheVariants.{Same, Over}
 use Rattle.acd_desk.specs.Kinds.{first_above}
 use Rattle.acd_desk.specs.Overlap.{Differ, IsNextOf}

@@ -13,9 +13,9 @@ use Rattle.acd_model.specs.Run.{TimedCommand, AfterRun}
 use Rattle.acd_model.specs.Run as terms
 use Rattle.acd_model.specs.Rules.First.{BreaksNoRule}
 use Rattle.acd_model.specs.Figures.{figures_of}
-use Rattle.acd_model.specs.Placed.{IsPlaced}
+use Rattle.acd_model.specs.CallPlaces.{IsPlaced}
 use Rattle.acd_model.specs.OneOffer.{HasOneOffer}
-use Rattle.acd_model.specs.Watched.{IsWatched}
+use Rattle.acd_model.specs.Watcher.{IsWatched}
 use Rattle.acd_laws.specs.BalanceLaws.{IsBalanced}
 use Rattle.acd_laws.specs.OfferLaws.{LeavesNoOffer}
 use Rattle.acd_laws.specs.FigureLaws.{KeepsFigures}
@@ -23,18 +23,18 @@ use Rattle.acd_laws.specs.WatchedLaws.{ReportsNoMore}
 use Rattle.acd_laws.proofs.Places.PlacedRuns.{run_is_placed}
 use Rattle.acd_laws.proofs.Offers.OneOffer.{run_has_one_offer}
 use Rattle.acd_laws.proofs.Watched.WatchedRuns.{run_is_watched, run_reports_no_more, run_is_balanced, run_leaves_no_offer}
-use Rattle.acd_laws.proofs.Figures.FiguresCounted.{run_keeps_figures, figures_kept}
+use Rattle.acd_laws.proofs.Figures.FigureCounts.{run_keeps_figures, figures_kept}
 use Rattle.acd_laws.proofs.Rules.RulesAll.{run_keeps_rules}
 use Rattle.acd_book.specs.declared.kept.Kept.{Kept}
 use Rattle.acd_book.specs.Content.{Content, empty_content, IsCounted}
-use Rattle.acd_desk.specs.Firsts.{executed, record_of, run_from}
-use Rattle.acd_desk.specs.Stands.{arrivals_of, IsSound, commands_of}
+use Rattle.acd_desk.specs.AbstractDesk.{executed, record_of, run_from}
+use Rattle.acd_desk.specs.SoundContent.{arrivals_of, IsSound, commands_of}
 use Rattle.acd_desk.specs.Laws.{KeepsLaws}
 use Rattle.acd_desk.specs.Replies.{after}
-use Rattle.acd_desk.proofs.Contents.Sound.{sound_list, ran_sound}
-use Rattle.acd_desk.proofs.Contents.Counting.{counted_run}
+use Rattle.acd_desk.proofs.Contents.SoundRuns.{sound_list, ran_sound}
+use Rattle.acd_desk.proofs.Contents.CountersBound.{counted_run}
 use Rattle.acd_desk.proofs.Contents.Steps.{step_stamp}
-use Rattle.acd_desk.proofs.Contents.Longer.{ran_none, ran_push}
+use Rattle.acd_desk.proofs.Contents.LongerLists.{ran_none, ran_push}
 
 over : (P : Rows → List Event → Type 0) {s t : Rows} {es fs : List Event} → s ≡ t → es ≡ fs → P s es → P t fs
 over P {s = s} {fs = fs} e f h = subst (λ (x : Rows). P x fs) e (subst (λ (x : List Event). P s x) f h)

@@ -5,7 +5,7 @@ use Rattle.acd_book.specs.declared.kept.Kept.{Kept}
 use Rattle.acd_book.specs.contracts.kept.KeptPartialEq.TheImpl as kept
 use Rattle.acd_book.specs.contracts.kept.KeptEq.TheImpl.Laws as kept_laws
 use Rattle.acd_desk.specs.Replies.{same_request}
-use Rattle.acd_lemmas.proofs.Same.{two, numbers}
+use Rattle.acd_lemmas.proofs.EqualParts.{two, numbers}
 use Rattle.acd_desk.proofs.Contents.SameRequests.{same_true}
 
 pub same_kept : (a b : Kept) → (kept.eq-value).it a b ≡ true → a ≡ b

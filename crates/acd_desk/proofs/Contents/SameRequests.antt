@@ -4,7 +4,7 @@ use Rattle.std.specs.Cmp.Lexicographic.{same_text}
 use Rattle.acd_terms.specs.declared.command.Command.{Command}
 use Rattle.acd_terms.specs.declared.command.Request.{Request}
 use Rattle.acd_desk.specs.Replies.{same_request}
-use Rattle.acd_lemmas.proofs.Same.{two}
+use Rattle.acd_lemmas.proofs.EqualParts.{two}
 use Rattle.acd_lemmas.proofs.SameCommands.{same_command}
 
 joined : (a b : Request) → a.requester ≡ b.requester → a.invoke ≡ b.invoke → a.command ≡ b.command → a ≡ b

@@ -11,7 +11,7 @@ use Rattle.acd_model.specs.Step.{step, step_at, step_moves, numbered, executed_m
 use Rattle.acd_model.specs.declared.moves.Move.{Move}
 use Rattle.acd_book.specs.Content.{GoOn}
 use Rattle.acd_lemmas.proofs.Changes.{limits-changed}
-use Rattle.acd_laws.proofs.Made.ChangesMade.{length-numbered}
+use Rattle.acd_laws.proofs.StepChanges.ChangedRows.{length-numbered}
 
 moved_limits : (s : Rows) (ms : List Move) → (moved s ms).limits ≡ s.limits
 moved_limits s [] = refl

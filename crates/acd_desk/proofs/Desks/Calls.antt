@@ -8,16 +8,16 @@ use Rattle.acd_book.specs.State.{BookState, BookStep, Reads}
 use Rattle.acd_book.proofs.BookSteps.{no_step, step_so, step_then}
 use Rattle.acd_desk.specs.declared.taken.Taken.{Taken}
 use Rattle.acd_desk.specs.Replies.{answer_in, after}
-use Rattle.acd_desk.specs.Standing.{Standing, InStep, with_new_key}
-use Rattle.acd_desk.specs.Ran.{Took}
-use Rattle.acd_desk.specs.Reread.{Reread}
-use Rattle.acd_desk.specs.Stands.{IsNew}
+use Rattle.acd_desk.specs.DeskState.{DeskState, InStep, with_new_key}
+use Rattle.acd_desk.specs.DeskCalls.{Took}
+use Rattle.acd_desk.specs.BookReads.{Reread}
+use Rattle.acd_desk.specs.SoundContent.{IsNew}
 use Rattle.acd_desk.proofs.Desks.DeskSteps.{rereads, desk_then}
 use Rattle.acd_terms.proofs.Results.{ok_err}
 
 -- ---- after a read ----
 
-pub after_reread : (old mid new : Standing) (a : Arrival) (t : Taken) → Reread old mid → Took mid a t new → Took old a t new
+pub after_reread : (old mid new : DeskState) (a : Arrival) (t : Taken) → Reread old mid → Took mid a t new → Took old a t new
 after_reread old mid new a t r took =
     let before : new.book.is_clean → mid.book.is_clean = took.step.clean in
     let sound_then : new.book.is_clean → old.book.is_sound → mid.book.is_sound = λ clean. r.step.sound (before clean) in
@@ -65,16 +65,16 @@ loaded_rows b d rows switch reads is =
     }
 
 -- an equation for the answer, and one for the desk
-pub leaves : {D : Type 0} (stands : D → Standing) (old : Standing) (a : Arrival) (t u : Taken) (d e : D) → t ≡ u → d ≡ e → Took old a u (stands e) → Took old a t (stands d)
+pub leaves : {D : Type 0} (stands : D → DeskState) (old : DeskState) (a : Arrival) (t u : Taken) (d e : D) → t ≡ u → d ≡ e → Took old a u (stands e) → Took old a t (stands d)
 leaves stands old a t u d e said is took =
     subst (λ (x : Taken). Took old a x (stands d)) (sym said) (subst (λ (x : _). Took old a u (stands x)) (sym is) took)
 
 -- a step is one where the key is new
-pub step_new : {F G : Type 0} (s : Standing) (q : Request) (d : BookState) → BookStep F s.book d → (F → G) → BookStep G (with_new_key s q).book d
+pub step_new : {F G : Type 0} (s : DeskState) (q : Request) (d : BookState) → BookStep F s.book d → (F → G) → BookStep G (with_new_key s q).book d
 step_new s q d step so = record { clean = step.clean; sound = λ clean sound. step.sound clean sound.0; quiet = λ none. step.quiet (λ failed. none (so failed)); counts = step.counts }
 
 -- a statement on new keys holds of all
-pub also_new : (s new : Standing) (q : Request) (a : Arrival) (t : Taken) → Took s a t new → Took (with_new_key s q) a t new
+pub also_new : (s new : DeskState) (q : Request) (a : Arrival) (t : Taken) → Took s a t new → Took (with_new_key s q) a t new
 also_new s new q a t took =
     let same : Reread (with_new_key s q) s = record {
       step = step_new s q s.book (no_step s.book) (λ none. none);
@@ -88,7 +88,7 @@ also_new s new q a t took =
     after_reread (with_new_key s q) s new a t same took
 
 -- a desk that holds what it read again, as long as the key is new
-pub again_new : (old mid new : Standing) (q : Request) (a : Arrival) (t : Taken) → Reread old mid → Took (with_new_key mid q) a t new → Took (with_new_key old q) a t new
+pub again_new : (old mid new : DeskState) (q : Request) (a : Arrival) (t : Taken) → Reread old mid → Took (with_new_key mid q) a t new → Took (with_new_key old q) a t new
 again_new old mid new q a t r took = after_reread (with_new_key old q) (with_new_key mid q) new a t still took
   where
     still : Reread (with_new_key old q) (with_new_key mid q)

@@ -1,12 +1,12 @@
 -- Steps of a desk, one after the other.
 use Rattle.std.proofs.Common.{◌≡◌, ◌⊎◌, Bool, true, false, refl, sym, ◌∙◌, arith, inl, inr, true≢false}
 use Rattle.acd_book.specs.State.{IfHonest, BookStep}
-use Rattle.acd_desk.specs.Standing.{Standing, InStep}
-use Rattle.acd_desk.specs.Ran.{DeskStep, IsCause, IsDeceived}
-use Rattle.acd_desk.specs.Reread.{Reread}
+use Rattle.acd_desk.specs.DeskState.{DeskState, InStep}
+use Rattle.acd_desk.specs.DeskCalls.{DeskStep, IsCause, IsDeceived}
+use Rattle.acd_desk.specs.BookReads.{Reread}
 
 -- a desk that works after it
-pub works : {F U : Type 0} (old new : Standing) → ¬ F → old.failed ≡ false → new.failed ≡ false → IfHonest old.book new.book (InStep old → InStep new) → DeskStep F U old new
+pub works : {F U : Type 0} (old new : DeskState) → ¬ F → old.failed ≡ false → new.failed ≡ false → IfHonest old.book new.book (InStep old → InStep new) → DeskStep F U old new
 works old new none before working in_step = record {
   in_step = in_step;
   shuts = λ failed. absurd (none failed);
@@ -16,7 +16,7 @@ works old new none before working in_step = record {
 }
 
 -- one that has failed
-pub fails : {F U : Type 0} (old new : Standing) → F → new.failed ≡ true → IsCause old new ⊎ (U × IsDeceived old new) → DeskStep F U old new
+pub fails : {F U : Type 0} (old new : DeskState) → F → new.failed ≡ true → IsCause old new ⊎ (U × IsDeceived old new) → DeskStep F U old new
 fails old new answered failed cause = record {
   in_step = λ clean sound step opened working. absurd (true≢false (sym failed ∙ working));
   shuts = λ is. failed;
@@ -26,7 +26,7 @@ fails old new answered failed cause = record {
 }
 
 -- one that holds what it read again
-pub rereads : {F U : Type 0} (old new : Standing) → ¬ F → Reread old new → DeskStep F U old new
+pub rereads : {F U : Type 0} (old new : DeskState) → ¬ F → Reread old new → DeskStep F U old new
 rereads old new none r = record {
   in_step = r.in_step;
   shuts = λ failed. absurd (none failed);
@@ -36,7 +36,7 @@ rereads old new none r = record {
 }
 
 -- in other words of what was answered
-pub desk_so : {F G U : Type 0} {old new : Standing} → DeskStep F U old new → (F → G) → (G → F) → DeskStep G U old new
+pub desk_so : {F G U : Type 0} {old new : DeskState} → DeskStep F U old new → (F → G) → (G → F) → DeskStep G U old new
 desk_so s there back = record {
   in_step = s.in_step;
   shuts = λ answered. s.shuts (back answered);
@@ -48,7 +48,7 @@ desk_so s there back = record {
   cause = s.cause;
 }
 
-module _ {F G U V : Type 0} (a b d : Standing) (first : BookStep F a.book b.book) (second : BookStep G b.book d.book) (one : DeskStep F U a b) (two : DeskStep G V b d) where
+module _ {F G U V : Type 0} (a b d : DeskState) (first : BookStep F a.book b.book) (second : BookStep G b.book d.book) (one : DeskStep F U a b) (two : DeskStep G V b d) where
   -- the second step makes it fail, or it failed before
   caused : {W : Type 0} → (U → W) → (b.failed ≡ false → V → W) → d.failed ≡ true → (failed : Bool) → b.failed ≡ failed → IsCause a d ⊎ (W × IsDeceived a d)
   caused before later now true was = elim (one.cause was) [

@@ -14,14 +14,14 @@ use Rattle.acd_book.proofs.BookSteps.{no_step}
 use Rattle.acd_desk.specs.declared.taken.Taken.TheVariants.{Reply, NoMemory, StoreFault}
 use Rattle.acd_desk.specs.declared.working.Working.TheVariants.{Unloaded}
 use Rattle.acd_desk.specs.Faults.{answer_to, left_by}
-use Rattle.acd_desk.specs.Prepared.{Prepared}
-use Rattle.acd_desk.specs.Standing.{Standing, switch_of, is_failed, holding, Mirrors, with_new_key}
-use Rattle.acd_desk.specs.Ran.{Took}
+use Rattle.acd_desk.specs.PreparedCommit.{Prepared}
+use Rattle.acd_desk.specs.DeskState.{DeskState, switch_of, is_failed, holding, Mirrors, with_new_key}
+use Rattle.acd_desk.specs.DeskCalls.{Took}
 use Rattle.acd_terms.proofs.Results.{ok_err}
 use Rattle.acd_desk.proofs.Desks.Calls.{step_new}
 use Rattle.acd_desk.proofs.Desks.DeskSteps.{works}
 use Rattle.acd_desk.proofs.Desks.Commits.{some_none, commits, executed_in_step, executed_reply}
-use Rattle.acd_desk.proofs.Desks.Faulty.{Undone, faulted, no_memory}
+use Rattle.acd_desk.proofs.Desks.FaultyCalls.{Undone, faulted, no_memory}
 
 err_is : {e f : BookFault} → ◌≡◌ {A = Result (Unit {0}) BookFault} (Err e) (Err f) → e ≡ f
 err_is h = cc
@@ -30,12 +30,12 @@ reply_store : (status : ℕ) (body : List ℕ) → Reply status body ≡ StoreFa
 reply_store status body h = cc
 
 -- it was executed, and is kept
-pub kept_new : (s : Standing) (rows next : Rows) (a : Arrival) (changes : List Change) (es : List Event) (k : Kept) (d : BookState) → Prepared rows a changes es k next
+pub kept_new : (s : DeskState) (rows next : Rows) (a : Arrival) (changes : List Change) (es : List Event) (k : Kept) (d : BookState) → Prepared rows a changes es k next
     → nat_le rows.limits.requests rows.last_stamp ≡ false → Commits s.book d (Ok tt) (FollowsBy changes es k) (committed_by changes es k)
     → Took (with_new_key (holding s rows) a.request) a (Reply k.status k.body) (record { book = d; switch = Some next; failed = false })
 kept_new s rows next a changes es k d p room done =
-    let old : Standing = with_new_key (holding s rows) a.request in
-    let new : Standing = record { book = d; switch = Some next; failed = false } in
+    let old : DeskState = with_new_key (holding s rows) a.request in
+    let new : DeskState = record { book = d; switch = Some next; failed = false } in
     let does = commits rows a changes es k next p s.book.content in
     record {
       step = step_new (holding s rows) a.request d done.step (λ is. absurd (ok_err is));
@@ -61,11 +61,11 @@ mirrored : (rows : Rows) → BreaksNoRule rows → (s : Rows) → Mirrors (Some 
 mirrored rows rules s same = subst BreaksNoRule (sym same) rules
 
 -- it was executed, and may be kept or not
-pub not_kept : (s : Standing) (rows next : Rows) (a : Arrival) (changes : List Change) (es : List Event) (k : Kept) (d : BookState) (f : BookFault) → BreaksNoRule rows
+pub not_kept : (s : DeskState) (rows next : Rows) (a : Arrival) (changes : List Change) (es : List Event) (k : Kept) (d : BookState) (f : BookFault) → BreaksNoRule rows
     → Prepared rows a changes es k next → nat_le rows.limits.requests rows.last_stamp ≡ false → Commits s.book d (Err f) (FollowsBy changes es k) (committed_by changes es k)
     → Took (with_new_key (holding s rows) a.request) a (answer_to f) (record { book = d; switch = switch_of (left_by f Unloaded); failed = is_failed (left_by f Unloaded) })
 not_kept s rows next a changes es k d f rules p room done =
-    let old : Standing = with_new_key (holding s rows) a.request in
+    let old : DeskState = with_new_key (holding s rows) a.request in
     let does = commits rows a changes es k next p s.book.content in
     let undone : Undone (f ≡ faults.Store) old a d = record {
       step = step_new (holding s rows) a.request d done.step err_is;
@@ -78,10 +78,10 @@ not_kept s rows next a changes es k d f rules p room done =
     faulted old a d Unloaded f undone (λ is. done.cause (ap Err is)) refl refl (mirrored rows rules)
 
 -- there was no memory to execute it
-pub not_executed : (s : Standing) (rows : Rows) (a : Arrival) → BreaksNoRule rows
+pub not_executed : (s : DeskState) (rows : Rows) (a : Arrival) → BreaksNoRule rows
     → Took (with_new_key (holding s rows) a.request) a NoMemory (record { book = s.book; switch = None; failed = false })
 not_executed s rows a rules =
-    let old : Standing = with_new_key (holding s rows) a.request in
+    let old : DeskState = with_new_key (holding s rows) a.request in
     let undone : Undone ⊥ old a s.book = record {
       step = step_new (holding s rows) a.request s.book (no_step s.book) (λ none. none);
       same = λ clean sound opened. (opened, refl);

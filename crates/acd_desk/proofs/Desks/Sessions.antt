@@ -5,21 +5,21 @@ use Rattle.acd_book.specs.Content.{Content, HasRisen}
 use Rattle.acd_book.specs.State.{BookState}
 use Rattle.acd_book.proofs.BookSteps.{step_then}
 use Rattle.acd_desk.specs.declared.taken.Taken.{Taken}
-use Rattle.acd_desk.specs.Accepted.{accepted, maybe_last, sent}
-use Rattle.acd_desk.specs.Stands.{IsSound, replies, StopsAt}
-use Rattle.acd_desk.specs.Leads.{Leads}
-use Rattle.acd_desk.specs.Carried.{no_archive}
-use Rattle.acd_desk.specs.Standing.{Standing, Starts}
+use Rattle.acd_desk.specs.AcceptedArrivals.{accepted, maybe_last, sent}
+use Rattle.acd_desk.specs.SoundContent.{IsSound, replies, StopsAt}
+use Rattle.acd_desk.specs.AnyContent.{Leads}
+use Rattle.acd_desk.specs.CarriedContent.{no_archive}
+use Rattle.acd_desk.specs.DeskState.{DeskState, Starts}
 use Rattle.acd_desk.specs.Opening.{Opened}
-use Rattle.acd_desk.specs.Ran.{Ran, EndsIn, EndsUp, Holds}
+use Rattle.acd_desk.specs.DeskCalls.{Ran, EndsIn, EndsUp, Holds}
 use Rattle.acd_desk.specs.Session.{Session, IsLastAccepted}
 
-ends_up : (s : Standing) (ts : List Taken) → s.book.is_open → IsLastAccepted ts → EndsUp s ts
+ends_up : (s : DeskState) (ts : List Taken) → s.book.is_open → IsLastAccepted ts → EndsUp s ts
 ends_up s [] opened last = opened
 ends_up s (t ∷ []) opened last = last
 ends_up s (_ ∷ t ∷ ts) opened last = ends_up s (t ∷ ts) opened last
 
-pub session_ran : (After : Taken → Type 0) (old : BookState) (d e : Standing) (l : List Arrival) (ts : List Taken) → Opened old d → Ran d l ts e → EndsIn After ts → Session After old l ts e.book
+pub session_ran : (After : Taken → Type 0) (old : BookState) (d e : DeskState) (l : List Arrival) (ts : List Taken) → Opened old d → Ran d l ts e → EndsIn After ts → Session After old l ts e.book
 session_ran After old d e l ts o ran later =
     let starts : e.book.is_clean → old.is_sound → IsSound old.content → Starts d = λ clean sound whole. o.starts no_archive (ran.step.clean clean) sound whole in
     let same : e.book.is_clean → old.is_sound → d.book.content ≡ old.content = λ clean sound. (o.opened (ran.step.clean clean) sound).2 in

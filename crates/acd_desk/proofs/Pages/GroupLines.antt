@@ -17,14 +17,14 @@ use Rattle.acd_model.specs.Choice.{waiting_pair}
 use Rattle.acd_model.specs.Rules.First.{BreaksNoRule}
 use Rattle.acd_model.specs.Rules.Occupied.{rings_from}
 use Rattle.acd_lemmas.proofs.Lists.{is_eq_of}
-use Rattle.acd_lemmas.proofs.Facts.{AlertingColumns, ConnectionRule, HasColumns}
-use Rattle.acd_laws.proofs.Rules.DecidedAll.{rules_are_kept}
-use Rattle.acd_tables.specs.Indexed.{is_ringing, pair_cmp}
-use Rattle.acd_tables.proofs.Picked.{exact_pair}
+use Rattle.acd_lemmas.proofs.RuleFacts.{AlertingColumns, ConnectionRule, HasColumns}
+use Rattle.acd_laws.proofs.Rules.AllRuleTests.{rules_are_kept}
+use Rattle.acd_tables.specs.IndexedRows.{is_ringing, pair_cmp}
+use Rattle.acd_tables.proofs.ScansByIndex.{exact_pair}
 use Rattle.acd_terms.specs.declared.record.GroupRecord.{GroupRecord}
 use Rattle.acd_reports.specs.declared.queues.GroupState.{GroupState}
 use Rattle.acd_reports.specs.QueueReport.{first_queued, ringing_from}
-use Rattle.acd_desk.specs.GroupStates.{first_of, lesser, queued_of}
+use Rattle.acd_desk.specs.GroupStates.{first_of, lesser_number, queued_of}
 use Rattle.acd_desk.specs.ReadAnswers.{in_order, by_place, queue_in}
 use Rattle.acd_desk.proofs.Pages.OrderLemmas.{Apart, by_key, ordered_among, waiting_apart}
 use Rattle.std.proofs.lemmas.List.{length-map}
@@ -41,26 +41,26 @@ fold_min : (a b : ℕ) (xs : List ℕ) → fold min (min a b) xs ≡ min a (fold
 fold_min a b [] = refl
 fold_min a b (x ∷ xs) = ap (λ (n : ℕ). fold min n xs) (min_join a b x) ∙ fold_min a (min b x) xs
 
-pub least_more : (x : ℕ) (xs : List ℕ) → reduce min (x ∷ xs) ≡ lesser (Some x) (reduce min xs)
+pub least_more : (x : ℕ) (xs : List ℕ) → reduce min (x ∷ xs) ≡ lesser_number (Some x) (reduce min xs)
 least_more x [] = refl
 least_more x (y ∷ xs) = ap Some (fold_min x y xs)
 
-lesser_none : (o : Option ℕ) → lesser o None ≡ o
+lesser_none : (o : Option ℕ) → lesser_number o None ≡ o
 lesser_none None = refl
 lesser_none (Some n) = refl
 
-pub lesser_join : (a b c : Option ℕ) → lesser (lesser a b) c ≡ lesser a (lesser b c)
+pub lesser_join : (a b c : Option ℕ) → lesser_number (lesser_number a b) c ≡ lesser_number a (lesser_number b c)
 lesser_join None b c = refl
 lesser_join (Some n) None c = refl
 lesser_join (Some n) (Some m) None = refl
 lesser_join (Some n) (Some m) (Some k) = ap Some (min_join n m k)
 
-lesser_swap : (a b : Option ℕ) → lesser a b ≡ lesser b a
+lesser_swap : (a b : Option ℕ) → lesser_number a b ≡ lesser_number b a
 lesser_swap None b = sym (lesser_none b)
 lesser_swap (Some n) None = refl
 lesser_swap (Some n) (Some m) = ap Some (min_swap n m)
 
-pub least_with : (o : Option ℕ) (xs : List ℕ) → reduce min (cons_option o xs) ≡ lesser o (reduce min xs)
+pub least_with : (o : Option ℕ) (xs : List ℕ) → reduce min (cons_option o xs) ≡ lesser_number o (reduce min xs)
 least_with None xs = refl
 least_with (Some n) xs = least_more n xs
 
@@ -70,23 +70,23 @@ module _ {T : Type 0} (of : T → Option ℕ) where
   abbrev least : List T → Option ℕ
   least xs = reduce min (filter_map of xs)
 
-  least_put : (at : T → Ordering) (x : T) (xs : List T) → ((z : T) → Among z xs → at z ≡ Equal → ⊥) → (least (put_by at xs x) ≡ lesser (of x) (least xs)) × (length (put_by at xs x) ≡ suc (length xs))
+  least_put : (at : T → Ordering) (x : T) (xs : List T) → ((z : T) → Among z xs → at z ≡ Equal → ⊥) → (least (put_by at xs x) ≡ lesser_number (of x) (least xs)) × (length (put_by at xs x) ≡ suc (length xs))
   least_put at x [] other = (least_with (of x) [], refl)
   least_put at x (y ∷ xs) other =
       by (at y) (other y (inl refl)) (least_put at x xs (λ z a. other z (inr a)))
     where
-      by : (o : Ordering) → (o ≡ Equal → ⊥) → (least (put_by at xs x) ≡ lesser (of x) (least xs)) × (length (put_by at xs x) ≡ suc (length xs))
-          → (least (match_ordering o (x ∷ y ∷ xs) (x ∷ xs) (y ∷ put_by at xs x)) ≡ lesser (of x) (least (y ∷ xs)))
+      by : (o : Ordering) → (o ≡ Equal → ⊥) → (least (put_by at xs x) ≡ lesser_number (of x) (least xs)) × (length (put_by at xs x) ≡ suc (length xs))
+          → (least (match_ordering o (x ∷ y ∷ xs) (x ∷ xs) (y ∷ put_by at xs x)) ≡ lesser_number (of x) (least (y ∷ xs)))
           × (length (match_ordering o (x ∷ y ∷ xs) (x ∷ xs) (y ∷ put_by at xs x)) ≡ suc (suc (length xs)))
       by Less not rest = (least_with (of x) (filter_map of (y ∷ xs)), refl)
       by Equal not rest = absurd (not refl)
       by Greater not rest = (
         least_with (of y) (filter_map of (put_by at xs x))
-            ∙ ap (lesser (of y)) rest.0
+            ∙ ap (lesser_number (of y)) rest.0
             ∙ sym (lesser_join (of y) (of x) (least xs))
-            ∙ ap (λ (o : Option ℕ). lesser o (least xs)) (lesser_swap (of y) (of x))
+            ∙ ap (λ (o : Option ℕ). lesser_number o (least xs)) (lesser_swap (of y) (of x))
             ∙ lesser_join (of x) (of y) (least xs)
-            ∙ ap (lesser (of x)) (sym (least_with (of y) (filter_map of xs))),
+            ∙ ap (lesser_number (of x)) (sym (least_with (of y) (filter_map of xs))),
         ap suc rest.1,
       )
 
@@ -96,7 +96,7 @@ module _ {T : Type 0} (of : T → Option ℕ) where
       let rest = least_ordered key xs apart.1 in
       let put = least_put (by_key key x) x (in_order (by_key key) xs)
       (λ z a same. apart.0 z (ordered_among key xs z a) (exact_pair (key x) (key z) (is_eq_of (pair_cmp (key x) (key z)) same))) in
-      (put.0 ∙ ap (lesser (of x)) rest.0 ∙ sym (least_with (of x) (filter_map of xs)), put.1 ∙ ap suc rest.1)
+      (put.0 ∙ ap (lesser_number (of x)) rest.0 ∙ sym (least_with (of x) (filter_map of xs)), put.1 ∙ ap suc rest.1)
 
 -- the connections found at some pairs, and when they entered
 entered_found : (f : ℕ × ℕ → Option ConnectionRecord) (ps : List (ℕ × ℕ)) → filter_map (λ (p : ℕ × ℕ). queued_of (f p)) ps ≡ filter_map (λ (x : ConnectionRecord). x.queued) (filter_map f ps)

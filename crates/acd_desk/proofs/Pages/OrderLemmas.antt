@@ -20,13 +20,13 @@ use Rattle.acd_model.specs.Rules.First.{BreaksNoRule}
 use Rattle.acd_model.specs.Scans.{is_group, call_of, connection_of, connections_of, waiting_in, eligible_in, is_eligible}
 use Rattle.acd_model.specs.Choice.{waiting_pair, ready_pair}
 use Rattle.acd_model.specs.Rules.Calls.{parties_of}
-use Rattle.acd_lemmas.proofs.Facts.{two_if}
+use Rattle.acd_lemmas.proofs.RuleFacts.{two_if}
 use Rattle.acd_lemmas.proofs.Lists.{is_eq_of, count_length, after_among, filter_among, any_some, ascending-put, ascending-filter, among-put, among-put_other, mapped_among, among_put, among-map}
-use Rattle.acd_lemmas.proofs.Keyed.{cmp_self}
+use Rattle.acd_lemmas.proofs.KeyedLists.{cmp_self}
 use Rattle.acd_lemmas.proofs.State.{order_same, connection_found}
-use Rattle.acd_laws.proofs.Rules.DecidedAll.{rules_are_kept}
-use Rattle.acd_tables.specs.Indexed.{pair_cmp}
-use Rattle.acd_tables.proofs.Picked.{ascending-same, contained, exact_pair}
+use Rattle.acd_laws.proofs.Rules.AllRuleTests.{rules_are_kept}
+use Rattle.acd_tables.specs.IndexedRows.{pair_cmp}
+use Rattle.acd_tables.proofs.ScansByIndex.{ascending-same, contained, exact_pair}
 use Rattle.acd_codec.specs.ReadTexts.{queue_text}
 use Rattle.acd_desk.specs.ReadAnswers.{in_order, by_place, by_stamp, queue_in, ready_in, queue_read}
 

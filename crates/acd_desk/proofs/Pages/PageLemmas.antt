@@ -8,8 +8,8 @@ use Rattle.acd_book.specs.Memory.{number_of}
 use Rattle.acd_desk.specs.Kinds.{all_above}
 use Rattle.acd_reports.proofs.ExportLemmas.{joined}
 use Rattle.acd_reports.specs.Export.{header_record, records_text, events_csv}
-use Rattle.acd_desk.specs.Standing.{Standing}
-use Rattle.acd_desk.specs.ReadDone.{ReadDone}
+use Rattle.acd_desk.specs.DeskState.{DeskState}
+use Rattle.acd_desk.specs.DeskReads.{ReadDone}
 use Rattle.acd_desk.specs.ReadAnswers.{Rise, above, records_left}
 use Rattle.acd_desk.proofs.Pages.ReadsDone.{read_twice}
 
@@ -154,7 +154,7 @@ unfolding events_csv
 export_begins text events is rise = ap (λ l. l ++ records_text (above events 0)) is ∙ ap (λ l. header_record ++ records_text l) (above-nothing events rise)
 
 -- one page more: with it, what is left makes the whole
-pub export_step : (old mid new : Standing) (last : Option ℕ) (before after : List ℕ) (n : ℕ)
+pub export_step : (old mid new : DeskState) (last : Option ℕ) (before after : List ℕ) (n : ℕ)
     → ReadDone {A = Unit {0}} old mid (Ok tt) (λ (c : Content) done. Rise 0 c.events → before ++ records_text (above c.events n) ≡ events_csv c.events)
     → ReadDone mid new (Ok last) (λ (c : Content) next. Rise 0 c.events → after ++ records_left c.events next ≡ before ++ records_text (above c.events n))
     → ReadDone old new (Ok last) (λ (c : Content) next. Rise 0 c.events → after ++ records_left c.events next ≡ events_csv c.events)

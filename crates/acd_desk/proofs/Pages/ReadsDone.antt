@@ -18,16 +18,16 @@ use Rattle.acd_desk.specs.declared.taken.Taken.TheVariants as taken
 use Rattle.acd_desk.specs.declared.working.Working.{Working}
 use Rattle.acd_desk.specs.declared.working.Working.TheVariants.{Unloaded}
 use Rattle.acd_desk.specs.Faults.{fault_of, taken_by, left_by}
-use Rattle.acd_desk.specs.Accepted.{is_fault}
-use Rattle.acd_desk.specs.Standing.{Standing, InStep, switch_of, is_failed, Mirrors}
-use Rattle.acd_desk.specs.Ran.{IsCause, IsDeceived, Took}
-use Rattle.acd_desk.specs.Reread.{Reread}
-use Rattle.acd_desk.specs.ReadDone.{ReadDone, ReadFailed}
+use Rattle.acd_desk.specs.AcceptedArrivals.{is_fault}
+use Rattle.acd_desk.specs.DeskState.{DeskState, InStep, switch_of, is_failed, Mirrors}
+use Rattle.acd_desk.specs.DeskCalls.{IsCause, IsDeceived, Took}
+use Rattle.acd_desk.specs.BookReads.{Reread}
+use Rattle.acd_desk.specs.DeskReads.{ReadDone, ReadFailed}
 use Rattle.acd_desk.specs.ReadAnswers.{text_read}
-use Rattle.acd_desk.specs.AnswerTexts.{seen}
+use Rattle.acd_desk.specs.AnswerTexts.{seen_text}
 use Rattle.acd_desk.proofs.Desks.DeskSteps.{works, fails, rereads, desk_so, desk_then}
-use Rattle.acd_desk.proofs.Desks.Faulty.{took_fault}
-use Rattle.acd_desk.proofs.Desks.Many.{no_store}
+use Rattle.acd_desk.proofs.Desks.FaultyCalls.{took_fault}
+use Rattle.acd_desk.proofs.Desks.CallsInTurn.{no_store}
 use Rattle.acd_terms.proofs.Results.{ok_err, same_error}
 
 no_fault : {A : Type 0} → ◌≡◌ {A = Result A DeskFault} (Err NoMemory) (Err StoreFault) → ⊥
@@ -38,13 +38,13 @@ not_failed true h = absurd (h refl)
 not_failed false h = refl
 
 -- a desk that read works afterwards, unless it answers storeFault
-read_works : {A : Type 0} (old new : Standing) (r : Result A DeskFault) (P : Content → A → Type 0) → ReadDone old new r P → ¬ (IsErrOf r StoreFault) → new.failed ≡ false
+read_works : {A : Type 0} (old new : DeskState) (r : Result A DeskFault) (P : Content → A → Type 0) → ReadDone old new r P → ¬ (IsErrOf r StoreFault) → new.failed ≡ false
 read_works old new r P read none = not_failed new.failed (λ failed. elim (read.desk.answers failed) [
   | inl before ↦ none (read.shut before)
   | inr now ↦ none now
 ])
 
-module _ {A B : Type 0} (old new : Standing) where
+module _ {A B : Type 0} (old new : DeskState) where
   -- another answer, which is a storeFault where this one is
   read_as : (r : Result A DeskFault) (q : Result B DeskFault) (P : Content → A → Type 0) (Q : Content → B → Type 0) → ReadDone old new r P → (IsErrOf r StoreFault → IsErrOf q StoreFault) → (IsErrOf q StoreFault → IsErrOf r StoreFault)
       → IfHonest old.book new.book (InStep old → old.book.is_open → IfOk q (Q old.book.content)) → OnOk q (IfHonest old.book new.book (old.book.is_open → new.book.is_open)) → ReadDone old new q Q
@@ -72,30 +72,30 @@ module _ {A B : Type 0} (old new : Standing) where
   read_no_memory x P Q read = read_as (Ok x) (Err NoMemory) P Q read (λ h. absurd (ok_err h)) (λ h. absurd (no_fault h)) (λ clean sound step opened. tt) tt
 
 -- a text that was read, seen as its characters
-pub read_seen : {Z : Type 0} (old new : Standing) (r : Result (Option (String Z)) DeskFault) (P : Content → Option (List ℕ)) → ReadDone old new r (λ (c : Content) (text : Option (String Z)). text_read text ≡ P c)
-    → ReadDone old new (seen r) (λ (c : Content) (text : Option (List ℕ)). text ≡ P c)
+pub read_seen : {Z : Type 0} (old new : DeskState) (r : Result (Option (String Z)) DeskFault) (P : Content → Option (List ℕ)) → ReadDone old new r (λ (c : Content) (text : Option (String Z)). text_read text ≡ P c)
+    → ReadDone old new (seen_text r) (λ (c : Content) (text : Option (List ℕ)). text ≡ P c)
 read_seen {Z} old new (Ok text) P h = read_so old new text (text_read text) (λ (c : Content) (x : Option (String Z)). text_read x ≡ P c) (λ (c : Content) (x : Option (List ℕ)). x ≡ P c) (λ c same. same) h
 read_seen {Z} old new (Err why) P h = read_nothing old new why (λ (c : Content) (x : Option (String Z)). text_read x ≡ P c) (λ (c : Content) (x : Option (List ℕ)). x ≡ P c) h
 
 -- what follows from a read's answer is read too
-pub read_follows : {A : Type 0} (old new : Standing) (r : Result A DeskFault) (P Q : Content → A → Type 0) → ((c : Content) (x : A) → P c x → Q c x) → ReadDone old new r P → ReadDone old new r Q
+pub read_follows : {A : Type 0} (old new : DeskState) (r : Result A DeskFault) (P Q : Content → A → Type 0) → ((c : Content) (x : A) → P c x → Q c x) → ReadDone old new r P → ReadDone old new r Q
 read_follows old new (Ok x) P Q follows read = read_so old new x x P Q (λ c. follows c x) read
 read_follows old new (Err f) P Q follows read = read_nothing old new f P Q read
 
 -- a call's look-up in the tables is a read of their content
-pub read_looked : {F A : Type 0} (old new : Standing) (g : Once F (Bor Rows × Unit {0}) A) (f : F) (r : Result A DeskFault) (Q : Content → A → Type 0)
+pub read_looked : {F A : Type 0} (old new : DeskState) (g : Once F (Bor Rows × Unit {0}) A) (f : F) (r : Result A DeskFault) (Q : Content → A → Type 0)
     → ((c : Content) (tables : Bor Rows) (x : A) → FnOnceReturns g f (tables, tt) x → tables.now ≡ c.rows → Q c x)
     → ReadDone old new r (λ c x. FnOnceReturnsAt g f c.rows x) → ReadDone old new r Q
 read_looked old new g f r Q so looked = read_follows old new r (λ c x. FnOnceReturnsAt g f c.rows x) Q (λ c x by. so c by.0 x by.1 by.2) looked
 
 -- and so is a text that it makes of them
-pub read_made : {F Z : Type 0} (old new : Standing) (g : Once F (Bor Rows × Unit {0}) (Result (Option (String Z)) AllocError)) (f : F) (r : Result (Option (String Z)) DeskFault) (read : Content → Option (List ℕ))
+pub read_made : {F Z : Type 0} (old new : DeskState) (g : Once F (Bor Rows × Unit {0}) (Result (Option (String Z)) AllocError)) (f : F) (r : Result (Option (String Z)) DeskFault) (read : Content → Option (List ℕ))
     → ((c : Content) (tables : Bor Rows) (text : Option (String Z)) → FnOnceReturns g f (tables, tt) (Ok text) → tables.now ≡ c.rows → text_read text ≡ read c)
     → ReadDone old new r (λ c text. FnOnceReturnsAt g f c.rows (Ok text)) → ReadDone old new r (λ c text. text_read text ≡ read c)
 read_made old new g f r read so made = read_follows old new r (λ c text. FnOnceReturnsAt g f c.rows (Ok text)) (λ c text. text_read text ≡ read c) (λ c text by. so c by.0 text by.1 by.2) made
 
 -- one read after another that gave an answer
-pub read_twice : {A B : Type 0} (old mid new : Standing) (x : A) (r : Result B DeskFault) (P : Content → A → Type 0) (Q R : Content → B → Type 0)
+pub read_twice : {A B : Type 0} (old mid new : DeskState) (x : A) (r : Result B DeskFault) (P : Content → A → Type 0) (Q R : Content → B → Type 0)
     → ((c : Content) (y : B) → P c x → Q c y → R c y) → ReadDone old mid (Ok x) P → ReadDone mid new r Q → ReadDone old new r R
 read_twice {A} {B} old mid new x r P Q R follows first second =
     let before : new.book.is_clean → mid.book.is_clean = second.step.clean in
@@ -117,7 +117,7 @@ read_twice {A} {B} old mid new x r P Q R follows first second =
     }
 
 -- a switch that is in memory
-pub read_rows : (old new : Standing) (rows : Rows) → Reread old new → new.switch ≡ Some rows → new.failed ≡ false → ReadDone {A = Unit {0}} old new (Ok tt) (λ c u. c.rows ≡ rows)
+pub read_rows : (old new : DeskState) (rows : Rows) → Reread old new → new.switch ≡ Some rows → new.failed ≡ false → ReadDone {A = Unit {0}} old new (Ok tt) (λ c u. c.rows ≡ rows)
 read_rows old new rows r is working = record {
   step = step_so r.step (λ none. absurd none);
   unchanged = r.unchanged;
@@ -130,7 +130,7 @@ read_rows old new rows r is working = record {
   loads = λ working gone. r.loaded gone;
 }
 
-abbrev pub stands : BookState → Working → Standing
+abbrev pub stands : BookState → Working → DeskState
 stands b w = record { book = b; switch = switch_of w; failed = is_failed w }
 
 pub without_memory : {B F : Type 0} (b d : BookState) (w : Working) (Q : Content → B → Type 0) → BookStep F b d → Unchanged b d → ¬ F → is_failed w ≡ false → ReadDone (stands b w) (stands d w) (Err NoMemory) Q
@@ -147,7 +147,7 @@ without_memory b d w Q step unchanged none working = record {
 }
 
 pub store_failed : {B F : Type 0} (b d : BookState) (w : Working) (Q : Content → B → Type 0) → BookStep F b d → Unchanged b d
-    → (let new : Standing = record { book = d; switch = None; failed = true } in IsCause (stands b w) new ⊎ ((switch_of w ≡ None) × IsDeceived (stands b w) new))
+    → (let new : DeskState = record { book = d; switch = None; failed = true } in IsCause (stands b w) new ⊎ ((switch_of w ≡ None) × IsDeceived (stands b w) new))
     → ReadDone (stands b w) (record { book = d; switch = None; failed = true }) (Err StoreFault) Q
 store_failed b d w Q step unchanged cause = record {
   step = step_so step (λ failed. refl);
@@ -187,13 +187,13 @@ taken_fault : (f : DeskFault) → is_fault (taken_by f) ≡ true
 taken_fault NoMemory = refl
 taken_fault StoreFault = refl
 
-pub took_nothing : (old new : Standing) (a : Arrival) (f : DeskFault) → ReadFailed old f new → Took old a (taken_by f) new
+pub took_nothing : (old new : DeskState) (a : Arrival) (f : DeskFault) → ReadFailed old f new → Took old a (taken_by f) new
 took_nothing old new a f read =
     let there : IsErrOf {T = Unit {0}} (Err f) StoreFault → taken_by f ≡ taken.StoreFault = λ h. ap taken_by (same_error h) in
     took_fault old new a (taken_by f) (taken_fault f) (step_so read.step there) (desk_so read.desk there (λ h. ap Err (taken_store f h)))
     read.unchanged.same (λ clean sound step c at. inl (read.unchanged.stops clean sound c at)) (λ working gone. inl (read.loads working gone))
 
 -- an equation for the fault, and one for the desk
-pub leaves_read_failed : {D : Type 0} (stand : D → Standing) (old : Standing) (f g : DeskFault) (d e : D) → f ≡ g → d ≡ e → ReadFailed old g (stand e) → ReadFailed old f (stand d)
+pub leaves_read_failed : {D : Type 0} (stand : D → DeskState) (old : DeskState) (f g : DeskFault) (d e : D) → f ≡ g → d ≡ e → ReadFailed old g (stand e) → ReadFailed old f (stand d)
 leaves_read_failed stand old f g d e said is read =
     subst (λ (x : DeskFault). ReadFailed old x (stand d)) (sym said) (subst (λ (x : _). ReadFailed old g (stand x)) (sym is) read)

@@ -12,12 +12,12 @@ use Rattle.acd_book.specs.Order.{Rises, IsOrdered}
 use Rattle.acd_book.specs.State.{BookState, Reads}
 use Rattle.acd_desk.specs.declared.audit.Audit.{Audit}
 use Rattle.acd_desk.specs.declared.audit.Audit.TheVariants.{Sound, Differs}
-use Rattle.acd_desk.specs.Firsts.{stepped, record_of, executed, firsts, run_from, run}
-use Rattle.acd_desk.specs.Stands.{arrivals_of, IsSound, raised_from}
+use Rattle.acd_desk.specs.AbstractDesk.{stepped, record_of, executed, firsts, run_from, run}
+use Rattle.acd_desk.specs.SoundContent.{arrivals_of, IsSound, raised_from}
 use Rattle.acd_desk.specs.Audit.{replayed, Agrees, IsFirstDifference, IsAudit}
 use Rattle.acd_desk.proofs.Contents.Steps.{step_numbers}
-use Rattle.acd_desk.proofs.Contents.Counting.{counted_executed}
-use Rattle.acd_desk.proofs.Contents.Sound.{New, new-distinct, distinct-new, new-take, kept-raised, length-raised, length-arrivals, firsts_same, sound_list}
+use Rattle.acd_desk.proofs.Contents.CountersBound.{counted_executed}
+use Rattle.acd_desk.proofs.Contents.SoundRuns.{New, new-distinct, distinct-new, new-take, kept-raised, length-raised, length-arrivals, firsts_same, sound_list}
 use Rattle.acd_desk.proofs.Replays.Audits.{begins}
 use Rattle.acd_book.proofs.SharedLists.{rises_append}
 

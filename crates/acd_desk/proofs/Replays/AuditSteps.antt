@@ -17,15 +17,15 @@ use Rattle.acd_desk.specs.declared.replay.Replay.{Replay}
 use Rattle.acd_desk.specs.declared.replay.Step.{Step}
 use Rattle.acd_desk.specs.declared.replay.Step.TheVariants as step
 use Rattle.acd_desk.specs.Audit.{IsFirstDifference, IsAudit}
-use Rattle.acd_desk.specs.Firsts.{stepped}
+use Rattle.acd_desk.specs.AbstractDesk.{stepped}
 use Rattle.acd_desk.specs.KeyPlaces.{IsSeenKey}
 use Rattle.acd_desk.specs.Pages.{IsPageOf}
-use Rattle.acd_book.specs.BookReading.{ReadsIfOpen}
+use Rattle.acd_book.specs.BookReads.{ReadsIfOpen}
 use Rattle.acd_desk.specs.Replay.{again, rows_of, Replays, Goes, IsEnd, BeginsReplay, IsReplayed, IsStep, CountsOne, IsAll, Plays, StepsOn}
 use Rattle.acd_desk.proofs.Replays.Audits.{starts_replay, replay_unlike, replay_full, replay_sound, replay_rest}
-use Rattle.acd_desk.proofs.Replays.Courses.{knows_next, goes_next}
+use Rattle.acd_desk.proofs.Replays.ReplayStates.{knows_next, goes_next}
 use Rattle.acd_desk.proofs.Contents.Steps.{step_stamp, step_limits}
-use Rattle.acd_book.proofs.Reading.{then_read, then_ok, then_read_ok}
+use Rattle.acd_book.proofs.ReadsInTurn.{then_read, then_ok, then_read_ok}
 use Rattle.acd_book.proofs.ReadsAhead.{read_then}
 use Rattle.acd_lemmas.proofs.Changes.{requests_few}
 

@@ -17,21 +17,21 @@ use Rattle.acd_book.specs.declared.kept.Kept.{Kept}
 use Rattle.acd_book.specs.Content.{Content, empty_content, kept_of, is_key, events_after, IsKeptAfter, IsCounted, GoOn}
 use Rattle.acd_book.specs.Memory.{stamp_of, number_of}
 use Rattle.acd_book.specs.Order.{Rises, IsOrdered}
-use Rattle.acd_desk.specs.Firsts.{stepped, record_of, executed, run_from, run, firsts}
+use Rattle.acd_desk.specs.AbstractDesk.{stepped, record_of, executed, run_from, run, firsts}
 use Rattle.acd_desk.specs.Replies.{after}
-use Rattle.acd_desk.specs.Stands.{arrivals_of, IsSound}
+use Rattle.acd_desk.specs.SoundContent.{arrivals_of, IsSound}
 use Rattle.acd_desk.specs.Audit.{replayed, Agrees, AgreesBefore, IsFirstDifference}
 use Rattle.acd_desk.specs.Replay.{again, Splits, Replays, Matches, IsEnd}
 use Rattle.acd_desk.proofs.Archives.NextRecords.{none_left, next_left}
 use Rattle.acd_book.proofs.SharedLists.{not_both}
 use Rattle.acd_desk.proofs.Contents.Steps.{step_stamp, step_event, step_numbers}
 use Rattle.acd_desk.proofs.Contents.Runs.{run-limits, after_firsts, executes}
-use Rattle.acd_desk.proofs.Contents.Counting.{counted_run}
+use Rattle.acd_desk.proofs.Contents.CountersBound.{counted_run}
 use Rattle.acd_desk.proofs.Desks.Commits.{some_none}
 use Rattle.acd_desk.proofs.Contents.ContentLaws.{nothing_taken}
-use Rattle.acd_desk.proofs.Contents.Sound.{run_sound}
+use Rattle.acd_desk.proofs.Contents.SoundRuns.{run_sound}
 use Rattle.acd_book.proofs.Keys.{key_itself}
-use Rattle.acd_book.proofs.Left.{left_after}
+use Rattle.acd_book.proofs.EventsAbove.{left_after}
 
 -- ---- lists in order ----
 

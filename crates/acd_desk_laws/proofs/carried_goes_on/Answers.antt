@@ -1,4 +1,4 @@
-use Rattle.acd_desk.proofs.Contents.Carrying.{goes_on, cut_again}
+use Rattle.acd_desk.proofs.Contents.OlderRecords.{goes_on, cut_again}
 use Rattle.acd_desk_laws.proofs.CarriedRuns.{run_of_all, opens_alone}
 use Rattle.acd_desk_laws.proofs.carried_goes_on.Goals as goal
 

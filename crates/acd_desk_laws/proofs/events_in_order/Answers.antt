@@ -1,4 +1,4 @@
-use Rattle.acd_desk.proofs.Contents.Rising.{sound_rises}
+use Rattle.acd_desk.proofs.Contents.AscendingEvents.{sound_rises}
 use Rattle.acd_desk_laws.proofs.events_in_order.Goals as goal
 
 pub returns : goal.returns

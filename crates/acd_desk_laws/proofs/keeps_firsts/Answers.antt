@@ -1,4 +1,4 @@
-use Rattle.acd_desk.proofs.Contents.Sound.{ran_kept}
+use Rattle.acd_desk.proofs.Contents.SoundRuns.{ran_kept}
 use Rattle.acd_desk_laws.proofs.keeps_firsts.Goals as goal
 
 pub returns : goal.returns

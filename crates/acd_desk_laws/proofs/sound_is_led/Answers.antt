@@ -1,4 +1,4 @@
-use Rattle.acd_desk.proofs.Archives.LedFrom.{sound_is_led}
+use Rattle.acd_desk.proofs.Archives.CarriedPart.{sound_is_led}
 use Rattle.acd_desk_laws.proofs.sound_is_led.Goals as goal
 
 pub returns : goal.returns

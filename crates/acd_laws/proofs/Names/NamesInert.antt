@@ -6,7 +6,7 @@ use Rattle.acd_terms.specs.declared.command.Turn.{Turn}
 use Rattle.acd_terms.specs.declared.answer.Outcome.{Outcome}
 use Rattle.acd_lemmas.proofs.Words.{Rows, Command, Event, Move, Served, empty_rows, with_last, moved, events_of}
 use Rattle.acd_model.specs.Distribution.{distribution}
-use Rattle.acd_model.specs.Served.{outcome_of, moves_of}
+use Rattle.acd_model.specs.ServiceAnswers.{outcome_of, moves_of}
 use Rattle.acd_model.specs.Services.Serve.{serve}
 use Rattle.acd_model.specs.Step.{Stepped, step_moves, counted, step_by, step, next_turn, numbered}
 use Rattle.acd_model.specs.Run.{TimedCommand, AfterRun, then_run, run}

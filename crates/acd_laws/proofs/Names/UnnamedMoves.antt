@@ -20,7 +20,7 @@ use Rattle.acd_model.specs.AgentMoves.{go_from}
 use Rattle.acd_model.specs.Release.{release_of, released, release_agent, release}
 use Rattle.acd_model.specs.Choice.{offer_of}
 use Rattle.acd_model.specs.Distribution.{offer_at, station_of_agent, offer_moves, with_offer, offers, distribution}
-use Rattle.acd_model.specs.Tick.{ring_of, wrap_of, is_over, is_overdue_offer, is_overdue, overdue_in, return_to, return_moves, is_over_in, is_rested, rested_in, rest_moves, each, returns, rests, tick}
+use Rattle.acd_model.specs.Tick.{ring_of, wrap_of, is_over, is_overdue_offer, is_overdue, overdue_in, return_to, return_moves, is_over_in, is_wrapped_up, wrapped_up_in, wrap_up_moves, each, returns, wraps, tick}
 use Rattle.acd_model.specs.Services.{busy_agent, occupy}
 use Rattle.acd_laws.specs.NameLaws.{unnamed_group, unnamed_agent, unnamed}
 use Rattle.acd_lemmas.proofs.MappedLists.{put_by-map, filter-map, of-option_map}
@@ -149,10 +149,10 @@ unnamed_overdue_in s moment =
     ∙ filter-map (λ x. x) (is_overdue (unnamed s) moment) (is_overdue s moment)
     (λ x. ap (λ b. is_alerting x.state && b) (unnamed_overdue_offer s moment x.group x.offered)) s.connections
 
-unnamed_rested_in : (s : Rows) (moment : Moment) → rested_in (unnamed s) moment ≡ map unnamed_agent (rested_in s moment)
-unfolding unnamed rested_in is_rested
+unnamed_rested_in : (s : Rows) (moment : Moment) → wrapped_up_in (unnamed s) moment ≡ map unnamed_agent (wrapped_up_in s moment)
+unfolding unnamed wrapped_up_in is_wrapped_up
 unnamed_rested_in s moment =
-    filter-map unnamed_agent (is_rested (unnamed s) moment) (is_rested s moment)
+    filter-map unnamed_agent (is_wrapped_up (unnamed s) moment) (is_wrapped_up s moment)
     (λ a. ap (λ b. is_working_after_call a.state && b) (unnamed_over_in s moment a (least_group a.groups))) s.agents
 
 unnamed_each : {T : Type 0} (f : T → T) (moves : Rows → T → List Move) → ((s : Rows) (x : T) → moves (unnamed s) (f x) ≡ map unnamed_move (moves s x))
@@ -176,14 +176,14 @@ unnamed_returns s turn =
     ap (each (λ t x. return_moves t turn x) (unnamed s)) (unnamed_overdue_in s turn.moment)
     ∙ unnamed_each (λ x. x) (λ t x. return_moves t turn x) (unnamed_return_moves turn) s (overdue_in s turn.moment)
 
-unnamed_rests : (s : Rows) (turn : Turn) → rests (unnamed s) turn ≡ map unnamed_move (rests s turn)
-unfolding rests
+unnamed_rests : (s : Rows) (turn : Turn) → wraps (unnamed s) turn ≡ map unnamed_move (wraps s turn)
+unfolding wraps
 unnamed_rests s turn =
-    ap (each (λ t a. rest_moves turn a) (unnamed s)) (unnamed_rested_in s turn.moment)
-    ∙ unnamed_each unnamed_agent (λ t a. rest_moves turn a) (λ t a. rw (unnamed_go_from turn a a.station Ready) refl) s (rested_in s turn.moment)
+    ap (each (λ t a. wrap_up_moves turn a) (unnamed s)) (unnamed_rested_in s turn.moment)
+    ∙ unnamed_each unnamed_agent (λ t a. wrap_up_moves turn a) (λ t a. rw (unnamed_go_from turn a a.station Ready) refl) s (wrapped_up_in s turn.moment)
 
 pub unnamed_tick : (s : Rows) (turn : Turn) → tick (unnamed s) turn ≡ map unnamed_move (tick s turn)
 unfolding tick
 unnamed_tick s turn =
     let first : List Move = returns s turn in
-    rw (unnamed_returns s turn, unnamed_moved s first, unnamed_rests (moved s first) turn) (sym (map-append unnamed_move first (rests (moved s first) turn)))
+    rw (unnamed_returns s turn, unnamed_moved s first, unnamed_rests (moved s first) turn) (sym (map-append unnamed_move first (wraps (moved s first) turn)))

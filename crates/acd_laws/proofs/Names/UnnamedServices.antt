@@ -11,7 +11,7 @@ use Rattle.acd_terms.specs.declared.command.Requested.TheVariants as requested
 use Rattle.acd_terms.specs.declared.answer.Answer.{Answer}
 use Rattle.acd_terms.specs.declared.event.Cause.TheVariants.{NewCall, Deflected, Transferred}
 use Rattle.acd_lemmas.proofs.Words.{Rows, AgentRecord, CallRecord, Command, ConnectionRecord, Move, Pending, Refusal, Requested, Served, is_in, state_wanted, group_of, station_of, agent_of, call_of, connection_of, monitor_of, other_of, is_live_at, is_idle, is_occupied}
-use Rattle.acd_model.specs.Served.{refuse_if, gives, outcome_of, moves_of}
+use Rattle.acd_model.specs.ServiceAnswers.{refuse_if, gives, outcome_of, moves_of}
 use Rattle.acd_model.specs.Release.{ending_of}
 use Rattle.acd_model.specs.Services.{add_group, add_station, add_agent, next_call, arrive_call, make_call, phone_off_hook, answer_call, hold_call, retrieve_call, clearing, clear_connection, deflect_call, single_step_transfer, all_groups, log_on, go_or_wait, change_state, set_agent_state, monitor_start, monitor_stop, set_group_priority, reject_call, change_group, change_agent}
 use Rattle.acd_model.specs.Services.Serve.{serve}

@@ -4,15 +4,15 @@ use Rattle.std.specs.Prelude.{◌==◌, is_some}
 use Rattle.std.proofs.lemmas.Bool.{and_parts, and_from, eqb-true}
 use Rattle.acd_lemmas.proofs.Words.{Rows, AgentRecord, ConnectionRecord, Command, Among, is_null, is_busy, is_alerting, is_answered, has, is_distributed, IsAttended, IsTalking, HasOneOffer}
 use Rattle.acd_terms.specs.declared.state.AgentState.TheVariants as A
-use Rattle.acd_lemmas.proofs.Facts.{Rules, IsPlannedStation, SeatedAs, AgentRule, ConnectionRule, talking_at, busy_at}
+use Rattle.acd_lemmas.proofs.RuleFacts.{Rules, IsPlannedStation, SeatedAs, AgentRule, ConnectionRule, talking_at, busy_at}
 use Rattle.acd_laws.specs.OneOfferLaws.{RunHasOneOffer}
 use Rattle.acd_lemmas.proofs.Lists.{every_among, counted, some_from}
-use Rattle.acd_lemmas.proofs.Keyed.{eqb_self}
+use Rattle.acd_lemmas.proofs.KeyedLists.{eqb_self}
 use Rattle.acd_lemmas.proofs.States.{ready_is, busy_is}
-use Rattle.acd_laws.proofs.Rules.KeptOffer.{talking_is}
-use Rattle.acd_laws.proofs.Releasing.{attending, alerting_or_answered}
-use Rattle.acd_lemmas.proofs.Decided.{one_that}
-use Rattle.acd_laws.proofs.Rules.Ended.{rules_step, kept_by_run, rules_first}
+use Rattle.acd_laws.proofs.Rules.RulesOfOffers.{talking_is}
+use Rattle.acd_laws.proofs.ReleaseLemmas.{attending, alerting_or_answered}
+use Rattle.acd_lemmas.proofs.RuleTests.{one_that}
+use Rattle.acd_laws.proofs.Rules.StepEnds.{rules_step, kept_by_run, rules_first}
 use Rattle.acd_model.specs.Step.{step}
 
 planned_some : (s : Rows) (o : Option ℕ) → IsPlannedStation s o → is_some o ≡ true

@@ -4,18 +4,18 @@ use Rattle.std.specs.Prelude.{◌==◌, is_some, is_none, nat_le}
 use Rattle.std.proofs.lemmas.Bool.{and_parts, and_from, eqb-true, false_from_ne_true, le-leb, lt-leb}
 use Rattle.acd_lemmas.proofs.Words.{Rows, Limits, CallRecord, ConnectionRecord, ConnectionState, Command, Event, Move, Report, count, Among, Every, is_initiated, is_alerting, is_queued, call_of, is_group, is_station, empty_rows, with_last, moved, events_of, is_open, parties_of, initiated_of, open_of}
 use Rattle.acd_terms.specs.declared.state.ConnectionState.TheVariants as S
-use Rattle.acd_model.specs.Placed.{cleared_by, is_queued_of, is_alerting_of, IsCleared, IsWaiting, IsAtDevices, IsPlaced, clears}
-use Rattle.acd_lemmas.proofs.Facts.{Rules, ConnectionRule, IsCaller, StandsAt, two_if}
-use Rattle.acd_laws.specs.PlacedLaws.{KeepsClearings, PlacesExclude, NamesNoLaterCall, RunNamesNoLaterCall, RunIsPlaced, IsUpTo, clearings}
+use Rattle.acd_model.specs.CallPlaces.{cleared_by, is_queued_of, is_alerting_of, IsCleared, IsWaiting, IsAtDevices, IsPlaced, clears}
+use Rattle.acd_lemmas.proofs.RuleFacts.{Rules, ConnectionRule, IsCaller, StandsAt, two_if}
+use Rattle.acd_laws.specs.PlacedLaws.{KeepsClearings, PlacesExclude, NamesNoLaterCall, RunNamesNoLaterCall, RunIsPlaced, IsCallUpTo, clearings}
 use Rattle.acd_lemmas.proofs.Lists.{one, every_among, counted, fewer, both_fewer, count_zero}
-use Rattle.acd_lemmas.proofs.Decided.{zero_or}
+use Rattle.acd_lemmas.proofs.RuleTests.{zero_or}
 use Rattle.acd_model.specs.Figures.{with_figures}
 use Rattle.acd_model.specs.Services.Serve.{serve}
 use Rattle.acd_model.specs.Step.{step_moves, step, next_turn}
-use Rattle.acd_laws.proofs.Offers.Distributing.{Kept}
-use Rattle.acd_laws.proofs.Rules.RulesKept.{by_deeds}
-use Rattle.acd_laws.proofs.Rules.Ended.{rules_step, ended, kept_by_run, rules_first, KeptByRules}
-use Rattle.acd_laws.proofs.Places.Cleared.{AllCounted, Named, SameCalls, same_clearings, clearings_moved, clearings_numbered, names_moved, names_numbered, counted_deed, counted_regroups, counted_round}
+use Rattle.acd_laws.proofs.Offers.DistributionSteps.{Kept}
+use Rattle.acd_laws.proofs.Rules.RulesOfSteps.{by_deeds}
+use Rattle.acd_laws.proofs.Rules.StepEnds.{rules_step, ended, kept_by_run, rules_first, KeptByRules}
+use Rattle.acd_laws.proofs.Places.ClearedCalls.{AllCounted, Named, SameCalls, same_clearings, clearings_moved, clearings_numbered, names_moved, names_numbered, counted_deed, counted_regroups, counted_round}
 use Rattle.std.proofs.lemmas.Bool.Decides.{leb_tells}
 use Rattle.acd_terms.specs.Columns.{columns_of}
 use Rattle.acd_terms.specs.declared.event.Report.TheVariants as report
@@ -164,7 +164,7 @@ pub run_is_placed : RunIsPlaced
 run_is_placed limits commands = let h = kept_by_run History history_step limits (history_first limits) commands in placed_from _ _ h.rules h.cleared
 
 -- a report that names no call above the last clears none there
-clears_none : (last c : ℕ) (r : Report) → last < c → IsUpTo last (columns_of r).call → clears c r ≡ false
+clears_none : (last c : ℕ) (r : Report) → last < c → IsCallUpTo last (columns_of r).call → clears c r ≡ false
 clears_none last c (report.CallCleared n g) l h = false_from_ne_true (n == c) (λ e. let q = eqb-true n c e in absurd (omega (arith, l, h, q)))
 clears_none last c _ l h = refl
 
@@ -172,7 +172,7 @@ never_cleared : (s : Rows) (events : List Event) (c : ℕ) → NamesNoLaterCall 
 unfolding cleared_by
 never_cleared s events c h l =
     count_zero (λ (e : Event). clears c e.report) events
-    (λ e i. clears_none s.last_call c e.report l (every_among (λ (e : Event). IsUpTo s.last_call (columns_of e.report).call) events e h i))
+    (λ e i. clears_none s.last_call c e.report l (every_among (λ (e : Event). IsCallUpTo s.last_call (columns_of e.report).call) events e h i))
 
 -- the place of each call gives how often it was cleared
 cleared_as_placed : (s : Rows) (events : List Event) → NamesNoLaterCall s events → IsPlaced s events → KeepsClearings s events

@@ -1,5 +1,5 @@
 -- The moves of a step stay within bounds: by each deed, and by rounds.
-use Rattle.acd_lemmas.proofs.Keyed.{counted_old}
+use Rattle.acd_lemmas.proofs.KeyedLists.{counted_old}
 use Rattle.std.proofs.Common.{◌≡◌, ℕ, ◌+◌, ◌≤◌, ◌⊎◌, inl, inr, Bool, true, false, List, [], ◌∷◌, Option, Some, None, refl, sym, ◌∙◌, ap, subst, arith, length, cond, ◌++◌}
 use Rattle.std.specs.Prelude.{◌==◌, is_some, nat_le}
 use Rattle.std.proofs.lemmas.Bool.{or_cases, or_parts, or_right, or_left, leb-false}
@@ -10,26 +10,26 @@ use Rattle.acd_terms.specs.declared.state.ConnectionState.TheVariants as S
 use Rattle.acd_terms.specs.declared.event.Cause.TheVariants.{NewCall, Deflected, Transferred}
 use Rattle.acd_terms.specs.declared.event.Report.TheVariants as report
 use Rattle.acd_model.specs.declared.moves.Change.TheVariants.{Nothing, PutGroup, PutStation, PutAgent, PutCall, PutMonitor, RemoveCall, RemoveConnection, RemoveMonitor}
-use Rattle.acd_model.specs.CallMoves.{plain, connect_caller, initiate, arrive, talking, waited_by}
+use Rattle.acd_model.specs.CallMoves.{unqueued, connect_caller, initiate, arrive, talking, waited_by}
 use Rattle.acd_model.specs.Release.{release, ending_of}
 use Rattle.acd_model.specs.Services.{new_group, new_agent, next_call, cleared_group, clear_other, release_other, next_monitor}
 use Rattle.std.specs.declared.cmp.Ordering.{Ordering}
 use Rattle.acd_laws.proofs.MoveKinds.{LeavesConnections, AgentMove, stays, remains, Recorded, goes_from, releases_here, occupies_here}
-use Rattle.acd_lemmas.proofs.Facts.{Rules, Sizes, AgentTimed, ConnectionTimed, Timed, MonitorRule, Monitored, at_place}
+use Rattle.acd_lemmas.proofs.RuleFacts.{Rules, Sizes, AgentTimed, ConnectionTimed, Timed, MonitorRule, Monitored, at_place}
 use Rattle.acd_lemmas.proofs.Lists.{every_among, every_from, every-put, one, count-append, among_put, every-append, some_from, length-put, count_all}
 use Rattle.acd_lemmas.proofs.State.{group_put, station_put, group_among, by_group}
 use Rattle.acd_laws.proofs.Watched.Order.{entry_by}
 use Rattle.acd_laws.specs.FigureLaws.{group_given}
-use Rattle.acd_laws.proofs.Deeds.{new_call, Deed, nothing, adds_group, adds_station, adds_agent, watches, unwatches, arrives, makes, goes_out, answers, holds, retrieves, clears, deflects, transfers, logs_on, rejects, renames, waits, goes, Regroups, refuses, puts, given_device, given_figures, given_priority, given_planned, deed_of_serve, returns}
-use Rattle.acd_laws.proofs.Rules.Orderly.{Steady, knows, AllSteady, IsNew, IsRegrouped, IsGroupAfter, Steadied, Settled, settled, steadied, sizes_steadied, monitored_steadied, WaitsUpTo, Neat, Steps, done, neat, comes, neat_quiet, neat_silent, neat_agent, neat_remove, neat_put, neat_turned, timed_plain, comes_to, steady_agent, steady_arrive, steps_timed, steps_place, Fit}
-use Rattle.acd_model.specs.Served.{moves_of}
+use Rattle.acd_laws.proofs.Effects.{new_call, Effect, nothing, adds_group, adds_station, adds_agent, watches, unwatches, arrives, makes, goes_out, answers, holds, retrieves, clears, deflects, transfers, logs_on, rejects, renames, waits, goes, ChangesGroup, refuses, puts, given_device, given_figures, given_priority, given_planned, deed_of_serve, returns}
+use Rattle.acd_laws.proofs.Rules.MoveOrder.{Steady, knows, AllSteady, IsNew, IsRegrouped, IsGroupAfter, Steadied, Settled, settled, steadied, sizes_steadied, monitored_steadied, WaitsUpTo, Neat, Steps, done, neat, comes, neat_quiet, neat_silent, neat_agent, neat_remove, neat_put, neat_turned, timed_plain, comes_to, steady_agent, steady_arrive, steps_timed, steps_place, Fit}
+use Rattle.acd_model.specs.ServiceAnswers.{moves_of}
 use Rattle.acd_model.specs.Figures.{is_entry}
 use Rattle.acd_model.specs.Services.Serve.{serve}
 use Rattle.acd_model.specs.Distribution.{distribution}
 use Rattle.acd_model.specs.Tick.{tick}
 use Rattle.acd_model.specs.Step.{step_moves, turn_at}
 use Rattle.acd_model.proofs.MoveLemmas.{moved_append, events_of_append}
-use Rattle.acd_laws.proofs.Rules.RulesKept.{rules_serve}
+use Rattle.acd_laws.proofs.Rules.RulesOfSteps.{rules_serve}
 use Rattle.acd_laws.proofs.Rules.Rounds.{AllWait, Within, round_steps, steps_entered, steps_wait, distribution_within, tick_within, returns_agents}
 use Rattle.acd_laws.proofs.Rules.Numbers.{events_length, connections_length, greatest, distribution_length, tick_length}
 use Rattle.acd_terms.specs.declared.command.Turn.{Turn}
@@ -269,7 +269,7 @@ given s k m to x e why b w n =
 agent_behaves : (s : Rows) (k m : ℕ) (x : Move) → Before s k m → AgentMove (Recorded s) (turn_at m k) x → Behaves s k m (x ∷ [])
 agent_behaves s k m x b h = steadily b (neat (neat_agent s b.stamp b.timed h) done) (omega arith) (steady_agent s h, tt)
 
-pub behaves_deed : (s : Rows) (k m : ℕ) (ms : List Move) → Deed s (turn_at m k) ms → Before s k m → Behaves s k m ms
+pub behaves_deed : (s : Rows) (k m : ℕ) (ms : List Move) → Effect s (turn_at m k) ms → Before s k m → Behaves s k m ms
 behaves_deed s k m _ nothing b = steadily b done (omega arith) tt
 behaves_deed s k m _ (adds_group device name ring wrap free room) b =
     behaves_group s k m (new_group device name ring wrap) room
@@ -289,7 +289,7 @@ behaves_deed s k m _ (arrives caller called _ _ room) b =
       comes = true;
       steps =
           neat (neat_silent (PutCall c) (omega arith) tt)
-          (neat (neat_put (plain n caller S.Connected) None (timed_plain k m n caller S.Connected) refl tt (λ g. refl))
+          (neat (neat_put (unqueued n caller S.Connected) None (timed_plain k m n caller S.Connected) refl tt (λ g. refl))
           (comes (comes_to s k m n called NewCall b.stamp) done));
       few = omega arith;
       settled =
@@ -304,7 +304,7 @@ behaves_deed s k m _ (makes device called _ _ _ _ _ room) b =
       comes = false;
       steps =
           neat (neat_silent (PutCall c) (omega arith) tt)
-          (neat (neat_put (plain n device S.Initiated) (Some (report.ServiceInitiated n device)) (timed_plain k m n device S.Initiated) refl tt (λ g. refl))
+          (neat (neat_put (unqueued n device S.Initiated) (Some (report.ServiceInitiated n device)) (timed_plain k m n device S.Initiated) refl tt (λ g. refl))
           done);
       few = omega arith;
       settled = settled_call s c rest room refl (steadied (with_call s c) rest (ascending_called s c b.rules.orders.agents) (tt, tt));
@@ -351,7 +351,7 @@ behaves_deed s k m _ (renames a name found) b = agent_behaves s k m _ b (remains
 behaves_deed s k m _ (waits a wanted found _ _) b = agent_behaves s k m _ b (remains a a.name (Some wanted) found)
 behaves_deed s k m _ (goes a wanted found _ _) b = agent_behaves s k m _ b (goes_from (Recorded s) (turn_at m k) a a.station (state_wanted wanted) found)
 
-behaves_regroups : (s : Rows) (k m : ℕ) (c : Command) (ms : List Move) → Regroups s c ms → Before s k m → Behaves s k m ms
+behaves_regroups : (s : Rows) (k m : ℕ) (c : Command) (ms : List Move) → ChangesGroup s c ms → Before s k m → Behaves s k m ms
 behaves_regroups s k m c _ (refuses device it none) b = steadily b done (omega arith) tt
 behaves_regroups s k m c _ (puts device g it found) b =
     behaves_regrouped s k m (group_given c g) b.rules.orders.groups

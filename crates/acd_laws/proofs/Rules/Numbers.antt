@@ -3,16 +3,16 @@ use Rattle.std.proofs.Common.{◌≡◌, ℕ, zero, suc, ◌+◌, ◌*◌, ◌�
 use Rattle.std.specs.Prelude.{◌==◌, is_some, filter}
 use Rattle.std.proofs.lemmas.Bool.{not-true}
 use Rattle.acd_lemmas.proofs.Words.{Rows, AgentRecord, CallRecord, ConnectionRecord, Event, Move, Offer, Report, count, Among, is_queued, agent_of, call_of, connection_of, queued_in_all, moved, with_event, events_of, parties_of}
-use Rattle.acd_lemmas.proofs.Facts.{Rules}
+use Rattle.acd_lemmas.proofs.RuleFacts.{Rules}
 use Rattle.acd_lemmas.proofs.Lists.{filter_among, counted, filter_length, split_length, fewer_filtered}
-use Rattle.acd_lemmas.proofs.Keyed.{eqb_self}
+use Rattle.acd_lemmas.proofs.KeyedLists.{eqb_self}
 use Rattle.acd_lemmas.proofs.State.{call_among, call_key, none_of_call}
 use Rattle.acd_terms.specs.Limits.{limits_fit}
 use Rattle.acd_model.specs.Choice.{offer_of}
 use Rattle.acd_model.specs.Distribution.{offer_at, offer_moves, with_offer, offers, distribution, station_of_agent}
-use Rattle.acd_model.specs.Tick.{return_to, return_moves, rest_moves, each, is_overdue, overdue_in, is_rested, rested_in, returns, rests, tick}
-use Rattle.acd_laws.proofs.Rules.KeptEnds.{two_le}
-use Rattle.acd_lemmas.proofs.Decided.{◌and◌, within}
+use Rattle.acd_model.specs.Tick.{return_to, return_moves, wrap_up_moves, each, is_overdue, overdue_in, is_wrapped_up, wrapped_up_in, returns, wraps, tick}
+use Rattle.acd_laws.proofs.Rules.RulesOfEnds.{two_le}
+use Rattle.acd_lemmas.proofs.RuleTests.{◌and◌, within}
 use Rattle.acd_terms.specs.declared.command.Turn.{Turn}
 
 -- no more events than moves
@@ -111,11 +111,11 @@ each_returns turn t (x ∷ xs) =
     let a = length-append ms (each (λ t x. return_moves t turn x) (moved t ms) xs) in let b = return_length t turn x x.group in
     let c = each_returns turn (moved t ms) xs in omega (arith, a, b, c)
 
-each_rests : (turn : Turn) (t : Rows) (xs : List AgentRecord) → length (each (λ t a. rest_moves turn a) t xs) ≤ length xs
+each_rests : (turn : Turn) (t : Rows) (xs : List AgentRecord) → length (each (λ t a. wrap_up_moves turn a) t xs) ≤ length xs
 each_rests turn t [] = omega arith
 each_rests turn t (a ∷ xs) =
-    let ms : List Move = rest_moves turn a in
-    let b = length-append ms (each (λ t a. rest_moves turn a) (moved t ms) xs) in let c = each_rests turn (moved t ms) xs in omega (arith, b, c)
+    let ms : List Move = wrap_up_moves turn a in
+    let b = length-append ms (each (λ t a. wrap_up_moves turn a) (moved t ms) xs) in let c = each_rests turn (moved t ms) xs in omega (arith, b, c)
 
 returns_length : (s : Rows) (turn : Turn) → length (returns s turn) ≤ 3 * length s.connections
 unfolding returns overdue_in
@@ -123,13 +123,13 @@ returns_length s turn =
     let a = each_returns turn s (filter (is_overdue s turn.moment) s.connections) in let b = filter_length (is_overdue s turn.moment) s.connections in
     omega (arith, a, b)
 
-rests_length : (s : Rows) (turn : Turn) → length (rests s turn) ≤ length s.agents
-unfolding rests rested_in
+rests_length : (s : Rows) (turn : Turn) → length (wraps s turn) ≤ length s.agents
+unfolding wraps wrapped_up_in
 rests_length s turn =
-    let a = each_rests turn s (filter (is_rested s turn.moment) s.agents) in let b = filter_length (is_rested s turn.moment) s.agents in omega (arith, a, b)
+    let a = each_rests turn s (filter (is_wrapped_up s turn.moment) s.agents) in let b = filter_length (is_wrapped_up s turn.moment) s.agents in omega (arith, a, b)
 
 pub tick_length : (s : Rows) (turn : Turn) → length (tick s turn) ≤ 3 * length s.connections + length (moved s (returns s turn)).agents
 unfolding tick
 tick_length s turn =
-    let a = length-append (returns s turn) (rests (moved s (returns s turn)) turn) in let b = returns_length s turn in
+    let a = length-append (returns s turn) (wraps (moved s (returns s turn)) turn) in let b = returns_length s turn in
     let c = rests_length (moved s (returns s turn)) turn in omega (arith, a, b, c)

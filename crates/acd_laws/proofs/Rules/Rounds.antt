@@ -12,15 +12,15 @@ use Rattle.acd_model.specs.Figures.{is_entry}
 use Rattle.acd_model.specs.declared.moves.Change.TheVariants.{PutConnection, RemoveConnection}
 use Rattle.acd_model.specs.Distribution.{distribution}
 use Rattle.acd_model.specs.Tick.{returns as all_returns, tick}
-use Rattle.acd_lemmas.proofs.Facts.{Rules, IsMoment, IsAfter, ConnectionTimed, at_place, Timed}
+use Rattle.acd_lemmas.proofs.RuleFacts.{Rules, IsMoment, IsAfter, ConnectionTimed, at_place, Timed}
 use Rattle.acd_lemmas.proofs.Lists.{one, count-append, every-append}
 use Rattle.acd_laws.proofs.Watched.Order.{entries, entry_by}
 use Rattle.acd_lemmas.proofs.State.{count_less, connection_there}
-use Rattle.acd_laws.proofs.Offers.Distributing.{returned}
+use Rattle.acd_laws.proofs.Offers.DistributionSteps.{returned}
 use Rattle.acd_laws.proofs.MoveKinds.{Recorded, goes_from, releases_here}
-use Rattle.acd_laws.proofs.Deeds.{Round, offers, returns, rests}
-use Rattle.acd_laws.proofs.Rules.RulesKept.{RoundKeeps, by_rounds, by_tick}
-use Rattle.acd_laws.proofs.Rules.Orderly.{AllSteady, Steadied, steadied, steadied_then, unchanged, WaitsUpTo, Carries, Steps, done, neat, comes, carries, steps_timed, steps_enter, steps_place, places_put, connection_timed, neat_agent, steady_agent}
+use Rattle.acd_laws.proofs.Effects.{Round, offers, returns, rests}
+use Rattle.acd_laws.proofs.Rules.RulesOfSteps.{RoundKeeps, by_rounds, by_tick}
+use Rattle.acd_laws.proofs.Rules.MoveOrder.{AllSteady, Steadied, steadied, steadied_then, unchanged, WaitsUpTo, Carries, Steps, done, neat, comes, carries, steps_timed, steps_enter, steps_place, places_put, connection_timed, neat_agent, steady_agent}
 use Rattle.acd_model.specs.Step.{turn_at}
 
 -- the entries of moves are those of their events

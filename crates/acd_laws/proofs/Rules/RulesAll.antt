@@ -3,7 +3,7 @@ use Rattle.std.proofs.Common.{◌≡◌, ℕ, ◌+◌, ◌*◌, ◌^◌, ◌<◌
 use Rattle.std.specs.Prelude.{◌==◌}
 use Rattle.std.proofs.lemmas.Bool.{and_parts, eqb-true, false_from_ne_true}
 use Rattle.acd_lemmas.proofs.Words.{Rows, Limits, GroupRecord, Figures, Command, Event, Report, count, total, Among, Every, is_alerting, is_queued, is_group, has, empty_rows, with_last}
-use Rattle.acd_lemmas.proofs.Facts.{Rules, GroupColumn, StandsAt, ConnectionRule, IsPlace, ConnectionTimed, at_place, Timed, OnePlace, MonitorRule, IsCountedUpTo, AddsUp, KeepsRules}
+use Rattle.acd_lemmas.proofs.RuleFacts.{Rules, GroupColumn, StandsAt, ConnectionRule, IsPlace, ConnectionTimed, at_place, Timed, OnePlace, MonitorRule, IsCountedUpTo, AddsUp, KeepsRules}
 use Rattle.acd_lemmas.proofs.Lists.{one, every_among, every_from, count_zero}
 use Rattle.std.proofs.lemmas.Nat.{mul-le}
 use Rattle.std.proofs.Math.Nat.{add-mul}
@@ -19,16 +19,16 @@ use Rattle.acd_model.specs.Run.{TimedCommand, run}
 use Rattle.acd_laws.specs.RuleLaws.{StepKeepsRules, RunKeepsRules, RulesBound, RulesLeaveRoom}
 use Rattle.acd_laws.proofs.Watched.Order.{holding}
 use Rattle.acd_laws.proofs.Watched.WatchedRuns.{follows_step, step_leaves_no_offer, step_keeps_watched, step_balances, run_is_watched, run_reports_no_more, run_is_balanced, run_leaves_no_offer}
-use Rattle.acd_laws.proofs.Rules.Ended.{rules_first, ended, planned_ended, rules_step}
-use Rattle.acd_laws.proofs.Rules.Orderly.{IsGroupAfter, WaitsUpTo, timed_more}
+use Rattle.acd_laws.proofs.Rules.StepEnds.{rules_first, ended, planned_ended, rules_step}
+use Rattle.acd_laws.proofs.Rules.MoveOrder.{IsGroupAfter, WaitsUpTo, timed_more}
 use Rattle.acd_terms.specs.Limits.{greatest_priority}
 use Rattle.acd_laws.proofs.Rules.Rounds.{AllWait}
 use Rattle.acd_laws.proofs.Rules.Numbers.{greatest}
 use Rattle.acd_laws.proofs.Rules.BoundsStep.{After, Before, after_moves}
-use Rattle.acd_laws.proofs.Rules.DecidedAll.{keeps_read, requests_read, keeps_written, rules_are_kept}
+use Rattle.acd_laws.proofs.Rules.AllRuleTests.{keeps_read, requests_read, keeps_written, rules_are_kept}
 use Rattle.acd_lemmas.proofs.States.{queued_is}
 use Rattle.acd_laws.specs.AllLaws.{StepKeepsLaws, RunKeepsLaws}
-use Rattle.acd_laws.proofs.Figures.FiguresCounted.{step_keeps_figures, figures_kept}
+use Rattle.acd_laws.proofs.Figures.FigureCounts.{step_keeps_figures, figures_kept}
 use Rattle.acd_laws.proofs.Offers.OneOffer.{step_keeps_one_offer, run_has_one_offer}
 use Rattle.acd_laws.proofs.Places.PlacedRuns.{step_names_no_later_call, run_names_no_later_call, run_is_placed, step_keeps_places}
 use Rattle.std.proofs.lemmas.List.{length-map}

@@ -11,11 +11,11 @@ use Rattle.std.proofs.lemmas.List.{length-append}
 use Rattle.std.proofs.lemmas.Bool.{and_left, and_right, and_from, eqb-true, false_from_ne_true}
 use Rattle.acd_terms.specs.Columns.{columns_of}
 use Rattle.acd_terms.specs.declared.state.ConnectionState.TheVariants as S
-use Rattle.acd_model.specs.Reported.{enters, last_entry}
-use Rattle.acd_model.specs.Watched.{waits_or_rings, HasPlace, InOrder}
+use Rattle.acd_model.specs.EventReports.{enters, last_entry}
+use Rattle.acd_model.specs.Watcher.{waits_or_rings, HasPlace, InOrder}
 use Rattle.acd_model.specs.Step.{numbered}
-use Rattle.acd_laws.proofs.Watched.Reported.{HasEntries, UpTo}
-use Rattle.acd_laws.proofs.Figures.CountedEvents.{numbered-append}
+use Rattle.acd_laws.proofs.Watched.ReportedState.{HasEntries, UpTo}
+use Rattle.acd_laws.proofs.Figures.EventCounts.{numbered-append}
 
 -- of a group: the calls that wait in it and ring from it
 abbrev pub holding : Rows → ℕ → ℕ

@@ -2,31 +2,31 @@
 use Rattle.std.proofs.Common.{◌≡◌, ℕ, ◌+◌, ◌<◌, ◌≤◌, List, [], ◌++◌, refl, sym, ◌∙◌, ap, subst, length, arith, append-nil, ◌⊎◌, inl, inr, true, false, ◌&&◌, ◌||◌, cond, ◌∷◌, Option, Some, None, Bool, not, eq-eqb}
 use Rattle.acd_lemmas.proofs.Words.{Rows, Limits, GroupRecord, CallRecord, ConnectionRecord, Figures, ConnectionState, Command, Event, Move, Among, is_alerting, is_queued, agent_of, call_of, connection_of, is_group, is_station, is_planned, has, is_idle, is_occupied, waiting_in, is_eligible, eligible_in, empty_rows, with_last, moved, events_of}
 use Rattle.acd_model.specs.Figures.{figures_of, sum_of_figures, counting, with_figures}
-use Rattle.acd_model.specs.Reported.{known_after, connection_reported, seat_reported, enters, last_entry}
+use Rattle.acd_model.specs.EventReports.{known_after, connection_reported, seat_reported, enters, last_entry}
 use Rattle.acd_model.specs.Services.Serve.{serve}
 use Rattle.acd_model.specs.Step.{numbered, step_moves, step, next_turn}
-use Rattle.acd_lemmas.proofs.Facts.{Rules, AlertingColumns, HasColumns, ConnectionRule, IsCaller, StandsAt}
-use Rattle.acd_laws.proofs.Watched.Reported.{shown, seat, after-append, shown_after, seat_after, HasEntries, Reports, after-numbered}
-use Rattle.acd_laws.proofs.Figures.CountedEvents.{figures_joined, figures_numbered}
+use Rattle.acd_lemmas.proofs.RuleFacts.{Rules, AlertingColumns, HasColumns, ConnectionRule, IsCaller, StandsAt}
+use Rattle.acd_laws.proofs.Watched.ReportedState.{shown, seat, after-append, shown_after, seat_after, HasEntries, Reports, after-numbered}
+use Rattle.acd_laws.proofs.Figures.EventCounts.{figures_joined, figures_numbered}
 use Rattle.acd_laws.proofs.Watched.Order.{holding, balanced_events, Ordered, ordered_on}
-use Rattle.acd_laws.proofs.Watched.SoundMoves.{Sound}
-use Rattle.acd_laws.proofs.Watched.SoundDeeds.{sound_deed, sound_regroups, sound_round}
-use Rattle.acd_laws.proofs.Rules.RulesKept.{by_parts, rules_serve}
+use Rattle.acd_laws.proofs.Watched.MoveReports.{Sound}
+use Rattle.acd_laws.proofs.Watched.EffectReports.{sound_deed, sound_regroups, sound_round}
+use Rattle.acd_laws.proofs.Rules.RulesOfSteps.{by_parts, rules_serve}
 use Rattle.std.specs.Prelude.{◌==◌, is_some, option_map}
 use Rattle.acd_terms.specs.declared.state.ConnectionState.TheVariants as S
-use Rattle.acd_model.specs.Watched.{waits_or_rings, HasEntered, state_at, is_caller, is_external_caller, HasPlace, IsWatched}
+use Rattle.acd_model.specs.Watcher.{waits_or_rings, HasEntered, state_at, is_caller, is_external_caller, HasPlace, IsWatched}
 use Rattle.acd_lemmas.proofs.Lists.{every_among, some_from, none_from, mapped_among}
 use Rattle.std.proofs.lemmas.Bool.{and_parts, not-true, or_left, or_right}
 use Rattle.acd_model.specs.Offers.{HasNoOffer}
 use Rattle.acd_model.specs.Distribution.{distribution}
-use Rattle.acd_model.specs.Served.{moves_of}
+use Rattle.acd_model.specs.ServiceAnswers.{moves_of}
 use Rattle.acd_laws.specs.WatchedLaws.{ReportsNoMore, RunIsWatched, RunReportsNoMore}
 use Rattle.acd_laws.specs.BalanceLaws.{IsBalanced, RunIsBalanced}
 use Rattle.acd_laws.specs.OfferLaws.{LeavesNoOffer, RunLeavesNoOffer}
 use Rattle.acd_lemmas.proofs.State.{found_key, connection_rule}
 use Rattle.acd_model.proofs.MoveLemmas.{moved_append}
-use Rattle.acd_laws.proofs.Offers.Distributing.{nothing_left}
-use Rattle.acd_laws.proofs.Rules.Ended.{ended, planned_ended, rules_step, kept_by_run, rules_first, KeptByRules}
+use Rattle.acd_laws.proofs.Offers.DistributionSteps.{nothing_left}
+use Rattle.acd_laws.proofs.Rules.StepEnds.{ended, planned_ended, rules_step, kept_by_run, rules_first, KeptByRules}
 use Rattle.acd_terms.specs.declared.command.Turn.{Turn}
 
 -- t is the state after s and these events; places are up to b in s, and up to c in t

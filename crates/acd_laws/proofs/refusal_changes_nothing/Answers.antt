@@ -1,6 +1,6 @@
-use Rattle.acd_laws.proofs.Rules.DecidedAll.{keeps_read}
-use Rattle.acd_laws.proofs.Made.ChangesMade.{refused}
-use Rattle.acd_laws.proofs.Offers.OfferFound.{no_offer}
+use Rattle.acd_laws.proofs.Rules.AllRuleTests.{keeps_read}
+use Rattle.acd_laws.proofs.StepChanges.ChangedRows.{refused}
+use Rattle.acd_laws.proofs.Offers.FoundOffer.{no_offer}
 use Rattle.acd_laws.proofs.refusal_changes_nothing.Goals as goal
 
 pub returns : goal.returns

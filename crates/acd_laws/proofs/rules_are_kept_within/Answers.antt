@@ -1,6 +1,6 @@
 -- The rules where a step distributes.
-use Rattle.acd_laws.proofs.Rules.DecidedAll.{rules_are_kept, within_written}
-use Rattle.acd_laws.proofs.Rules.RulesKept.{rules_serve}
+use Rattle.acd_laws.proofs.Rules.AllRuleTests.{rules_are_kept, within_written}
+use Rattle.acd_laws.proofs.Rules.RulesOfSteps.{rules_serve}
 use Rattle.acd_laws.proofs.rules_are_kept_within.Goals as goal
 
 pub returns : goal.returns

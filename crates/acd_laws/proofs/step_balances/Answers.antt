@@ -1,5 +1,5 @@
 -- The law of balance, by a step.
-use Rattle.acd_laws.proofs.Rules.DecidedAll.{rules_are_kept}
+use Rattle.acd_laws.proofs.Rules.AllRuleTests.{rules_are_kept}
 use Rattle.acd_laws.proofs.Watched.WatchedRuns.{step_balances}
 use Rattle.acd_laws.proofs.step_balances.Goals as goal
 

@@ -1,5 +1,5 @@
 -- The law of the place of each call, from before a step to after it.
-use Rattle.acd_laws.proofs.Rules.DecidedAll.{rules_are_kept}
+use Rattle.acd_laws.proofs.Rules.AllRuleTests.{rules_are_kept}
 use Rattle.acd_laws.proofs.Places.PlacedRuns.{step_keeps_places}
 use Rattle.acd_laws.proofs.step_keeps_places.Goals as goal
 

@@ -1,5 +1,5 @@
 -- The law of what reports give, by a step.
-use Rattle.acd_laws.proofs.Rules.DecidedAll.{rules_are_kept}
+use Rattle.acd_laws.proofs.Rules.AllRuleTests.{rules_are_kept}
 use Rattle.acd_laws.proofs.Watched.WatchedRuns.{step_keeps_watched}
 use Rattle.acd_laws.proofs.step_keeps_watched.Goals as goal
 

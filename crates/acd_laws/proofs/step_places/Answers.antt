@@ -1,5 +1,5 @@
 -- The law of the place of each call, by a step.
-use Rattle.acd_laws.proofs.Rules.DecidedAll.{rules_are_kept}
+use Rattle.acd_laws.proofs.Rules.AllRuleTests.{rules_are_kept}
 use Rattle.acd_laws.proofs.Places.PlacedRuns.{step_places}
 use Rattle.acd_laws.proofs.step_places.Goals as goal
 

@@ -10,7 +10,7 @@ use Rattle.acd_terms.specs.declared.answer.Outcome.TheVariants.{Done, Refused}
 use Rattle.acd_terms.specs.declared.answer.Refusal.TheVariants.{WrongConnectionState, StationBusy}
 use Rattle.acd_terms.specs.declared.answer.Answer.TheVariants as answer
 use Rattle.acd_model.specs.Scans.{waiting_in, connections_of, call_of, agent_of}
-use Rattle.acd_model.specs.CallMoves.{plain, queueing}
+use Rattle.acd_model.specs.CallMoves.{unqueued, queueing}
 use Rattle.acd_model.specs.Services.AddGroup.{no_figures}
 use Rattle.acd_model.specs.Examples.Words.{billing, first_station, second_station, ana, caller, at, asks_for, run_after, event, figures_in, logged_off, first_call, offered_ana, answered_connection, offered, answered}
 
@@ -52,7 +52,7 @@ TransferToStation =
     (r.outcomes ≡ Done answer.Nothing ∷ [])
     × (r.events ≡ event 8 33 (Transferred 1 first_station second_station)
     ∷ event 9 33 (Delivered 1 second_station cause.Transferred None) ∷ event 10 33 (AgentWorkingAfterCall ana first_station) ∷ [])
-    × (connections_of r.rows 1 ≡ plain 1 second_station Alerting ∷ plain 1 caller Connected ∷ [])
+    × (connections_of r.rows 1 ≡ unqueued 1 second_station Alerting ∷ unqueued 1 caller Connected ∷ [])
     × (call_of r.rows 1 ≡ Some first_call)
     × (agent_of r.rows ana ≡ Some (record offered_ana { state = WorkingAfterCall; stamp = 10; since = 33 }))
     × (figures_in r.rows billing ≡ Some (record no_figures { entered = 1; answered = 1; waited = 15 }))
@@ -75,7 +75,7 @@ DeflectedToStation =
     (r.outcomes ≡ Done answer.Nothing ∷ [])
     × (r.events ≡ event 6 20 (Diverted 1 first_station second_station cause.Deflected (Some billing))
     ∷ event 7 20 (Delivered 1 second_station cause.Deflected None) ∷ [])
-    × (connections_of r.rows 1 ≡ plain 1 second_station Alerting ∷ plain 1 caller Connected ∷ [])
+    × (connections_of r.rows 1 ≡ unqueued 1 second_station Alerting ∷ unqueued 1 caller Connected ∷ [])
     × (agent_of r.rows ana ≡ Some offered_ana)
     × (figures_in r.rows billing ≡ Some (record no_figures { entered = 1; moved = 1 }))
 
@@ -87,6 +87,6 @@ SecondCallWhileHolding =
     (r.outcomes ≡ Done answer.Nothing ∷ Done (answer.Call 2) ∷ Refused StationBusy ∷ Done answer.Nothing ∷ Done answer.Nothing ∷ [])
     × (r.events ≡ event 8 30 (Held 1 first_station) ∷ event 9 31 (ServiceInitiated 2 first_station)
     ∷ event 10 33 (ConnectionCleared 2 first_station) ∷ event 11 33 (CallCleared 2 None) ∷ event 12 34 (Retrieved 1 first_station) ∷ [])
-    × (connections_of r.rows 1 ≡ answered_connection ∷ plain 1 caller Connected ∷ [])
+    × (connections_of r.rows 1 ≡ answered_connection ∷ unqueued 1 caller Connected ∷ [])
     × (connections_of r.rows 2 ≡ [])
     × (agent_of r.rows ana ≡ Some (record offered_ana { state = Busy; stamp = 9; since = 25 }))

@@ -18,7 +18,7 @@ use Rattle.acd_terms.specs.declared.answer.Outcome.TheVariants.{Done}
 use Rattle.acd_terms.specs.declared.answer.Refusal.TheVariants.{UnknownDevice, UnknownAgent, NotGroup}
 use Rattle.acd_terms.specs.declared.answer.Answer.TheVariants as answer
 use Rattle.acd_model.specs.Scans.{waiting_in, connection_of, agent_of}
-use Rattle.acd_model.specs.CallMoves.{plain, queueing}
+use Rattle.acd_model.specs.CallMoves.{unqueued, queueing}
 use Rattle.acd_model.specs.Services.AddGroup.{no_figures}
 use Rattle.acd_model.specs.Run.{TimedCommand}
 use Rattle.acd_model.specs.Examples.Words.{billing, claims, first_station, second_station, ana, ben, caller, second_caller, at, logs_on, asks_for, plan, run_after, event, figures_in, planned_billing, planned_ana, planned_ben, early_ana, early_ben, first_call, offered_ana, offered_connection, answered_connection, offered, answered}
@@ -110,7 +110,7 @@ ChangedGroup =
     ∷ record planned_billing { device = claims; name = codes "Claims"; wrap = 45 } ∷ [])
     (record offered_ana { state = Busy; stamp = 9; since = 25 } ∷ planned_ben ∷ [])
     (first_call ∷ record first_call { call = 2; caller = second_caller; since = 26 } ∷ [])
-    (answered_connection ∷ plain 1 caller Connected ∷ queueing 2 billing (Some 10) (Some 26) ∷ plain 2 second_caller Connected ∷ [])
+    (answered_connection ∷ unqueued 1 caller Connected ∷ queueing 2 billing (Some 10) (Some 26) ∷ unqueued 2 second_caller Connected ∷ [])
     13 30 8
 
 -- a busy agent with a state pending, and one who is logged on nowhere, have another name, and all else is as it was
@@ -120,7 +120,7 @@ ChangedAgent =
     (r.outcomes ≡ Done answer.Nothing ∷ Done answer.Nothing ∷ []) × (r.events ≡ [])
     × Holds r.rows (record planned_billing { figures = record no_figures { entered = 1; answered = 1; waited = 15 } } ∷ [])
     (record offered_ana { name = codes "Anna"; state = Busy; pending = Some pending.LoggedOff; stamp = 9; since = 25 } ∷ record planned_ben { name = codes "Benno" } ∷ [])
-    (first_call ∷ []) (answered_connection ∷ plain 1 caller Connected ∷ []) 12 28 7
+    (first_call ∷ []) (answered_connection ∷ unqueued 1 caller Connected ∷ []) 12 28 7
 
 -- who was ready longest still is
 abbrev pub ChangedAgentKeepsTheTurn : Type 0
@@ -138,7 +138,7 @@ ChangedToTheSame =
     (r.outcomes ≡ Done answer.Nothing ∷ Done answer.Nothing ∷ []) × (r.events ≡ [])
     × Holds r.rows (record planned_billing { figures = record no_figures { entered = 1 } } ∷ [])
     (offered_ana ∷ planned_ben ∷ [])
-    (first_call ∷ []) (offered_connection ∷ plain 1 caller Connected ∷ []) 10 21 5
+    (first_call ∷ []) (offered_connection ∷ unqueued 1 caller Connected ∷ []) 10 21 5
 
 -- names of 40 and 41 characters
 abbrev pub longest_name : List ℕ

@@ -10,7 +10,7 @@ use Rattle.acd_terms.specs.declared.answer.Outcome.TheVariants.{Done, Refused}
 use Rattle.acd_terms.specs.declared.answer.Refusal.TheVariants.{DeviceExists, UnknownCall}
 use Rattle.acd_terms.specs.declared.answer.Answer.TheVariants as answer
 use Rattle.acd_model.specs.Scans.{waiting_in, connections_of, connection_of, call_of, agent_of}
-use Rattle.acd_model.specs.CallMoves.{plain, queueing}
+use Rattle.acd_model.specs.CallMoves.{unqueued, queueing}
 use Rattle.acd_model.specs.Run.{TimedCommand}
 use Rattle.acd_model.specs.Services.AddGroup.{no_figures}
 use Rattle.acd_model.specs.Examples.Words.{billing, first_station, second_station, ana, ben, caller, second_caller, third_caller, at, logs_on, asks_for, plan, run_after, event, figures_in, planned_ana, logged_on, early_ana, early_ben, first_call, offered_ana, offered_connection, answered_connection, call_arrives, ana_becomes_ready, offered}
@@ -21,7 +21,7 @@ CallWaits =
     let r = run_after plan call_arrives in
     (r.outcomes ≡ Done (answer.Call 1) ∷ [])
     × (r.events ≡ event 1 10 (Queued 1 billing cause.NewCall) ∷ [])
-    × (connections_of r.rows 1 ≡ queueing 1 billing (Some 6) (Some 10) ∷ plain 1 caller Connected ∷ [])
+    × (connections_of r.rows 1 ≡ queueing 1 billing (Some 6) (Some 10) ∷ unqueued 1 caller Connected ∷ [])
     × (call_of r.rows 1 ≡ Some first_call)
 
 -- it is offered to the agent who becomes ready
@@ -32,7 +32,7 @@ OfferedToTheReadyAgent =
     × (r.events ≡ event 2 15 (AgentLoggedOn ana first_station (Some billing)) ∷ event 3 18 (AgentReady ana first_station)
     ∷ event 4 18 (Diverted 1 billing first_station cause.Distributed (Some billing))
     ∷ event 5 18 (Delivered 1 first_station cause.Distributed (Some billing)) ∷ [])
-    × (connections_of r.rows 1 ≡ offered_connection ∷ plain 1 caller Connected ∷ [])
+    × (connections_of r.rows 1 ≡ offered_connection ∷ unqueued 1 caller Connected ∷ [])
     × (agent_of r.rows ana ≡ Some offered_ana)
     × (figures_in r.rows billing ≡ Some (record no_figures { entered = 1 }))
 
@@ -42,7 +42,7 @@ AnsweredCall =
     let r = run_after offered (at 25 (AnswerCall 1 first_station) ∷ []) in
     (r.outcomes ≡ Done answer.Nothing ∷ [])
     × (r.events ≡ event 6 25 (Established 1 first_station (Some (record { group = billing; seconds = 15 }))) ∷ event 7 25 (AgentBusy ana first_station) ∷ [])
-    × (connections_of r.rows 1 ≡ answered_connection ∷ plain 1 caller Connected ∷ [])
+    × (connections_of r.rows 1 ≡ answered_connection ∷ unqueued 1 caller Connected ∷ [])
     × (agent_of r.rows ana ≡ Some (record offered_ana { state = Busy; stamp = 9; since = 25 }))
     × (figures_in r.rows billing ≡ Some (record no_figures { entered = 1; answered = 1; waited = 15 }))
 
@@ -141,7 +141,7 @@ CallerNumberTaken =
     let r = run_after (plan ++ call_arrives) (at 11 (AddStation caller) ∷ []) in
     (r.outcomes ≡ Refused DeviceExists ∷ []) × (r.events ≡ [])
     × (r.rows.stations ≡ record { device = first_station } ∷ record { device = second_station } ∷ [])
-    × (connections_of r.rows 1 ≡ queueing 1 billing (Some 6) (Some 10) ∷ plain 1 caller Connected ∷ [])
+    × (connections_of r.rows 1 ≡ queueing 1 billing (Some 6) (Some 10) ∷ unqueued 1 caller Connected ∷ [])
     × (r.rows.last_stamp ≡ 7) × (r.rows.last_moment ≡ 11)
 
 -- two live calls may come from one number, which is in use until both are cleared

@@ -11,7 +11,7 @@ use Rattle.acd_terms.specs.declared.answer.Outcome.TheVariants.{Done, Refused}
 use Rattle.acd_terms.specs.declared.answer.Refusal.TheVariants.{UnknownCall, UnknownConnection, WrongConnectionState}
 use Rattle.acd_terms.specs.declared.answer.Answer.TheVariants as answer
 use Rattle.acd_model.specs.Scans.{waiting_in, connections_of, connection_of, agent_of}
-use Rattle.acd_model.specs.CallMoves.{plain, queueing}
+use Rattle.acd_model.specs.CallMoves.{unqueued, queueing}
 use Rattle.acd_model.specs.Run.{TimedCommand, AfterRun}
 use Rattle.acd_model.specs.Services.AddGroup.{no_figures}
 use Rattle.acd_model.specs.Examples.Words.{billing, claims, first_station, second_station, third_station, ana, ben, caller, second_caller, third_caller, late_caller, at, logs_on, asks_for, plan, run_after, event, figures_in, planned_ana, planned_ben, logged_on, logged_off, early_ana, early_ben, offered_ana, offered_connection, call_arrives, offered, answered}
@@ -32,7 +32,7 @@ RejectedToTheSecondAgent =
     ∷ event 9 15 (Queued 1 billing cause.NoAnswer) ∷ event 10 15 (AgentNotReady ben second_station)
     ∷ event 11 15 (Diverted 1 billing first_station cause.Distributed (Some billing))
     ∷ event 12 15 (Delivered 1 first_station cause.Distributed (Some billing)) ∷ [])
-    × (connections_of r.rows 1 ≡ record offered_connection { place = Some 10; offered = Some 15 } ∷ plain 1 caller Connected ∷ [])
+    × (connections_of r.rows 1 ≡ record offered_connection { place = Some 10; offered = Some 15 } ∷ unqueued 1 caller Connected ∷ [])
     × (agent_of r.rows ana ≡ Some (record early_ana { state = Ready; stamp = 9; since = 7 }))
     × (agent_of r.rows ben ≡ Some (record early_ben { stamp = 11; since = 15 }))
     × (figures_in r.rows billing ≡ Some (record no_figures { entered = 1 }))
@@ -86,7 +86,7 @@ RejectedWithNobodyReady =
     (r.outcomes ≡ Done answer.Nothing ∷ [])
     × (r.events ≡ event 6 20 (Diverted 1 first_station billing cause.NoAnswer (Some billing))
     ∷ event 7 20 (Queued 1 billing cause.NoAnswer) ∷ event 8 20 (AgentNotReady ana first_station) ∷ [])
-    × (connections_of r.rows 1 ≡ queueing 1 billing (Some 6) (Some 10) ∷ plain 1 caller Connected ∷ [])
+    × (connections_of r.rows 1 ≡ queueing 1 billing (Some 6) (Some 10) ∷ unqueued 1 caller Connected ∷ [])
     × (agent_of r.rows ana ≡ Some (record offered_ana { state = NotReady; stamp = 9; since = 20 }))
     × (figures_in r.rows billing ≡ Some (record no_figures { entered = 1 }))
     × (later.outcomes ≡ Done (answer.State Ready) ∷ [])

@@ -9,7 +9,7 @@ use Rattle.acd_terms.specs.declared.state.ConnectionState.TheVariants.{Initiated
 use Rattle.acd_terms.specs.declared.answer.Outcome.TheVariants.{Done}
 use Rattle.acd_terms.specs.declared.answer.Answer.TheVariants as answer
 use Rattle.acd_model.specs.Scans.{connections_of, call_of, connection_of, agent_of}
-use Rattle.acd_model.specs.CallMoves.{plain}
+use Rattle.acd_model.specs.CallMoves.{unqueued}
 use Rattle.acd_model.specs.Run.{TimedCommand}
 use Rattle.acd_model.specs.Services.AddGroup.{no_figures}
 use Rattle.acd_model.specs.Examples.Words.{billing, first_station, second_station, third_station, ana, caller, late_caller, at, logs_on, asks_for, plan, run_after, event, figures_in, logged_off, early_ana, first_call, offered_ana, offered_connection, answered_connection, answered}
@@ -22,7 +22,7 @@ BusyStationFails =
     × (r.events ≡ event 8 26 (Failed 2 first_station)
     ∷ event 9 27 (ConnectionCleared 2 late_caller) ∷ event 10 27 (ConnectionCleared 2 first_station) ∷ event 11 27 (CallCleared 2 None) ∷ [])
     × (agent_of r.rows ana ≡ Some (record offered_ana { state = Busy; stamp = 9; since = 25 }))
-    × (connections_of r.rows 1 ≡ answered_connection ∷ plain 1 caller Connected ∷ [])
+    × (connections_of r.rows 1 ≡ answered_connection ∷ unqueued 1 caller Connected ∷ [])
 
 -- while an agent's station has a private call no call is offered there
 abbrev pub PrivateCallThenDistribution : Type 0
@@ -83,8 +83,8 @@ CallToABusyAgentStation =
     × (r.events ≡ event 1 4 (ServiceInitiated 1 first_station)
     ∷ event 2 5 (AgentLoggedOn ana first_station (Some billing)) ∷ event 3 6 (AgentReady ana first_station)
     ∷ event 4 7 (ServiceInitiated 2 third_station) ∷ event 5 8 (Originated 2 third_station first_station) ∷ event 6 8 (Failed 2 first_station) ∷ [])
-    × (connections_of r.rows 1 ≡ plain 1 first_station Initiated ∷ [])
-    × (connections_of r.rows 2 ≡ plain 2 first_station Fail ∷ plain 2 third_station Connected ∷ [])
+    × (connections_of r.rows 1 ≡ unqueued 1 first_station Initiated ∷ [])
+    × (connections_of r.rows 2 ≡ unqueued 2 first_station Fail ∷ unqueued 2 third_station Connected ∷ [])
     × (agent_of r.rows ana ≡ Some (record early_ana { state = Ready; stamp = 9; since = 6 }))
 
 -- private calls change no agent: the one whose private call is transferred stays ready and gets it from the group, and stays busy where the other one ends
@@ -100,6 +100,6 @@ PrivateCalls =
     ∷ event 15 13 (Established 1 first_station (Some (record { group = billing; seconds = 1 }))) ∷ event 16 13 (AgentBusy ana first_station)
     ∷ event 17 14 (ConnectionCleared 2 first_station) ∷ event 18 14 (ConnectionCleared 2 third_station) ∷ event 19 14 (CallCleared 2 None) ∷ [])
     × (agent_of r.rows ana ≡ Some (record early_ana { state = Busy; stamp = 16; since = 13 }))
-    × (connections_of r.rows 1 ≡ answered_connection ∷ plain 1 second_station Hold ∷ [])
+    × (connections_of r.rows 1 ≡ answered_connection ∷ unqueued 1 second_station Hold ∷ [])
     × (call_of r.rows 1 ≡ Some (record first_call { caller = first_station; called = second_station; since = 4 }))
     × (figures_in r.rows billing ≡ Some (record no_figures { entered = 1; answered = 1; waited = 1 }))

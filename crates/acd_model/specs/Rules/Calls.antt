@@ -11,7 +11,7 @@ use Rattle.acd_terms.specs.declared.record.ConnectionRecord.{ConnectionRecord}
 use Rattle.acd_terms.specs.declared.state.ConnectionState.{ConnectionState}
 use Rattle.acd_terms.specs.declared.state.ConnectionState.TheVariants.{Initiated, Alerting, Connected, Hold, Queued, Fail}
 use Rattle.acd_model.specs.Scans.{call_of, is_group, is_station, is_planned, has}
-use Rattle.acd_model.specs.Watched.{is_caller}
+use Rattle.acd_model.specs.Watcher.{is_caller}
 
 -- called is planned and not the caller, who is a station or not planned; the identifier isn't above the last
 unfoldable pub keeps_call : Rows → Bool
@@ -26,13 +26,13 @@ abbrev pub is_placed : ConnectionRecord → Bool
 is_placed x = is_some x.place && is_some x.queued
 
 -- the columns that a connection has in its state
-abbrev pub has_columns : ConnectionState → ConnectionRecord → Bool
-has_columns Queued x = has x.group x.device && is_placed x && is_none x.offered
-has_columns Alerting x = if is_some x.group then is_placed x && is_some x.offered else is_bare x
-has_columns Connected x = is_bare x
-has_columns Hold x = is_bare x
-has_columns Initiated x = is_none x.group && is_bare x
-has_columns Fail x = is_none x.group && is_bare x
+abbrev pub has_members : ConnectionState → ConnectionRecord → Bool
+has_members Queued x = has x.group x.device && is_placed x && is_none x.offered
+has_members Alerting x = if is_some x.group then is_placed x && is_some x.offered else is_bare x
+has_members Connected x = is_bare x
+has_members Hold x = is_bare x
+has_members Initiated x = is_none x.group && is_bare x
+has_members Fail x = is_none x.group && is_bare x
 
 abbrev pub is_group_or_none : Rows → Option Device → Bool
 is_group_or_none s None = true
@@ -51,7 +51,7 @@ is_party s x = is_some (call_of s x.call) && (is_caller (call_of s x.call) x.dev
 -- of such a call, with its columns, in a state that may be there
 unfoldable pub keeps_connection : Rows → Bool
 keeps_connection s = list_all (λ (x : ConnectionRecord).
-    is_party s x && has_columns x.state x && is_group_or_none s x.group && may_stand s x.state x) s.connections
+    is_party s x && has_members x.state x && is_group_or_none s x.group && may_stand s x.state x) s.connections
 
 -- alerting, queued or fail
 abbrev pub is_open : ConnectionState → Bool

@@ -9,7 +9,7 @@ use Rattle.acd_terms.specs.declared.answer.Answer.TheVariants.{Nothing}
 use Rattle.acd_terms.specs.declared.answer.Refusal.TheVariants.{DeviceExists, PlanFull}
 use Rattle.acd_model.specs.Scans.{is_used}
 use Rattle.acd_model.specs.Moves.{silent}
-use Rattle.acd_model.specs.Served.{Served, refuse_if, gives}
+use Rattle.acd_model.specs.ServiceAnswers.{Served, refuse_if, gives}
 use Rattle.acd_model.specs.declared.moves.Change.TheVariants.{PutGroup}
 
 abbrev pub no_figures : Figures

@@ -14,7 +14,7 @@ use Rattle.acd_model.specs.Scans.{call_of, connection_of, agent_at}
 use Rattle.acd_model.specs.Moves.{no_move}
 use Rattle.acd_model.specs.CallMoves.{answer}
 use Rattle.acd_model.specs.AgentMoves.{become_busy}
-use Rattle.acd_model.specs.Served.{Served, refuse_if, gives}
+use Rattle.acd_model.specs.ServiceAnswers.{Served, refuse_if, gives}
 use Rattle.acd_model.specs.declared.moves.Move.{Move}
 
 abbrev pub busy_agent : Turn → Option AgentRecord → Device → Move

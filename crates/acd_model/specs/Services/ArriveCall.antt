@@ -10,7 +10,7 @@ use Rattle.acd_terms.specs.declared.answer.Refusal.TheVariants.{CallerPlanned, U
 use Rattle.acd_model.specs.Scans.{is_planned}
 use Rattle.acd_model.specs.CallMoves.{begin, connect_caller, arrive}
 use Rattle.acd_model.specs.Services.NewCall.{has_no_call_left, next_call}
-use Rattle.acd_model.specs.Served.{Served, refuse_if, gives}
+use Rattle.acd_model.specs.ServiceAnswers.{Served, refuse_if, gives}
 
 unfoldable pub arrive_call : Rows → Turn → Device → Device → Served
 arrive_call s turn caller called = do

@@ -8,7 +8,7 @@ use Rattle.acd_terms.specs.declared.answer.Answer.TheVariants.{Nothing}
 use Rattle.acd_terms.specs.declared.answer.Refusal.TheVariants.{UnknownDevice, NotGroup}
 use Rattle.acd_model.specs.Scans.{group_of, is_planned}
 use Rattle.acd_model.specs.Moves.{silent}
-use Rattle.acd_model.specs.Served.{Served, refuse_if, gives}
+use Rattle.acd_model.specs.ServiceAnswers.{Served, refuse_if, gives}
 use Rattle.acd_model.specs.declared.moves.Change.TheVariants.{PutGroup}
 
 unfoldable pub change_group : Rows → Device → List ℕ → Seconds → Seconds → Served

@@ -13,7 +13,7 @@ use Rattle.acd_model.specs.Scans.{call_of, connection_of, other_of}
 use Rattle.acd_model.specs.Moves.{no_move}
 use Rattle.acd_model.specs.CallMoves.{clear, end_call}
 use Rattle.acd_model.specs.Release.{release, ending_of}
-use Rattle.acd_model.specs.Served.{Served, gives}
+use Rattle.acd_model.specs.ServiceAnswers.{Served, gives}
 use Rattle.acd_model.specs.declared.moves.Move.{Move}
 
 -- the group in which the connection waits, or from which it rings

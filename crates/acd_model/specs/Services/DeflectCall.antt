@@ -13,7 +13,7 @@ use Rattle.acd_model.specs.Scans.{call_of, connection_of, is_planned}
 use Rattle.acd_model.specs.CallMoves.{divert, arrive}
 use Rattle.acd_model.specs.Release.{release, ending_of}
 use Rattle.acd_model.specs.Services.Destinations.{is_in_call, is_busy_station}
-use Rattle.acd_model.specs.Served.{Served, refuse_if, gives}
+use Rattle.acd_model.specs.ServiceAnswers.{Served, refuse_if, gives}
 
 unfoldable pub deflect_call : Rows → Turn → CallId → Device → Device → Served
 deflect_call s turn call device to = do

@@ -9,7 +9,7 @@ use Rattle.acd_terms.specs.declared.answer.Answer.TheVariants.{Nothing}
 use Rattle.acd_terms.specs.declared.answer.Refusal.TheVariants.{UnknownCall, UnknownConnection, NotStation, WrongConnectionState}
 use Rattle.acd_model.specs.Scans.{call_of, connection_of, is_station}
 use Rattle.acd_model.specs.CallMoves.{hold}
-use Rattle.acd_model.specs.Served.{Served, refuse_if, gives}
+use Rattle.acd_model.specs.ServiceAnswers.{Served, refuse_if, gives}
 
 unfoldable pub hold_call : Rows → CallId → Device → Served
 hold_call s call device = do

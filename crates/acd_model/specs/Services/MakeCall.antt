@@ -8,7 +8,7 @@ use Rattle.acd_terms.specs.declared.answer.Refusal.TheVariants.{UnknownDevice, N
 use Rattle.acd_model.specs.Scans.{is_planned, is_station, is_live_at}
 use Rattle.acd_model.specs.CallMoves.{begin, initiate}
 use Rattle.acd_model.specs.Services.NewCall.{has_no_call_left, next_call}
-use Rattle.acd_model.specs.Served.{Served, refuse_if, gives}
+use Rattle.acd_model.specs.ServiceAnswers.{Served, refuse_if, gives}
 
 unfoldable pub make_call : Rows → Moment → Device → Device → Served
 make_call s moment device called = do

@@ -7,7 +7,7 @@ use Rattle.acd_terms.specs.declared.answer.Answer.TheVariants.{Monitor}
 use Rattle.acd_terms.specs.declared.answer.Refusal.TheVariants.{UnknownDevice, PlanFull}
 use Rattle.acd_model.specs.Scans.{is_planned}
 use Rattle.acd_model.specs.Moves.{silent}
-use Rattle.acd_model.specs.Served.{Served, refuse_if, gives}
+use Rattle.acd_model.specs.ServiceAnswers.{Served, refuse_if, gives}
 use Rattle.acd_model.specs.declared.moves.Change.TheVariants.{PutMonitor}
 
 -- the cross reference identifier of a new monitor

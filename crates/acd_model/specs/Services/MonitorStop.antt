@@ -8,7 +8,7 @@ use Rattle.acd_terms.specs.declared.answer.Answer.TheVariants.{Nothing}
 use Rattle.acd_terms.specs.declared.answer.Refusal.TheVariants.{UnknownMonitor}
 use Rattle.acd_model.specs.Scans.{monitor_of}
 use Rattle.acd_model.specs.Moves.{silent}
-use Rattle.acd_model.specs.Served.{Served, gives}
+use Rattle.acd_model.specs.ServiceAnswers.{Served, gives}
 use Rattle.acd_model.specs.declared.moves.Change.TheVariants.{RemoveMonitor}
 
 unfoldable pub monitor_stop : Rows → MonitorId → Served

@@ -12,7 +12,7 @@ use Rattle.acd_terms.specs.declared.answer.Answer.TheVariants.{Nothing}
 use Rattle.acd_terms.specs.declared.answer.Refusal.TheVariants.{UnknownCall, UnknownConnection, WrongConnectionState}
 use Rattle.acd_model.specs.Scans.{call_of, connection_of}
 use Rattle.acd_model.specs.CallMoves.{originate, arrive}
-use Rattle.acd_model.specs.Served.{Served, refuse_if, gives}
+use Rattle.acd_model.specs.ServiceAnswers.{Served, refuse_if, gives}
 
 unfoldable pub phone_off_hook : Rows → Turn → CallId → Device → Served
 phone_off_hook s turn call device = do

@@ -11,7 +11,7 @@ use Rattle.acd_terms.specs.declared.answer.Answer.TheVariants.{Nothing}
 use Rattle.acd_terms.specs.declared.answer.Refusal.TheVariants.{UnknownCall, UnknownConnection, WrongConnectionState}
 use Rattle.acd_model.specs.Scans.{call_of, connection_of}
 use Rattle.acd_model.specs.Tick.{return_moves}
-use Rattle.acd_model.specs.Served.{Served, refuse_if, gives}
+use Rattle.acd_model.specs.ServiceAnswers.{Served, refuse_if, gives}
 
 unfoldable pub reject_call : Rows → Turn → CallId → Device → Served
 reject_call s turn call device = do

@@ -25,7 +25,7 @@ use Rattle.acd_model.specs.Services.RejectCall.{reject_call}
 use Rattle.acd_model.specs.Services.ChangeGroup.{change_group}
 use Rattle.acd_model.specs.Services.ChangeAgent.{change_agent}
 use Rattle.acd_model.specs.Tick.{tick}
-use Rattle.acd_model.specs.Served.{Served, gives}
+use Rattle.acd_model.specs.ServiceAnswers.{Served, gives}
 
 abbrev pub serve : Rows → Turn → Command → Served
 serve s turn (AddGroup device name ring wrap) = add_group s device name ring wrap

@@ -17,7 +17,7 @@ use Rattle.acd_terms.specs.declared.answer.Refusal.{Refusal}
 use Rattle.acd_terms.specs.declared.answer.Refusal.TheVariants.{UnknownAgent, WrongAgentState, UnknownDevice, NotStation, StationTaken, NotGroup}
 use Rattle.acd_model.specs.Scans.{agent_of, agent_at, is_group, is_station, is_planned, is_occupied}
 use Rattle.acd_model.specs.AgentMoves.{go_from, log_on_at, wait_for}
-use Rattle.acd_model.specs.Served.{Served, refuse_if, gives}
+use Rattle.acd_model.specs.ServiceAnswers.{Served, refuse_if, gives}
 
 -- each is a planned group: tested in their order, and of each first that it is planned
 abbrev pub all_groups : Rows → List Device → Result (Unit {0}) Refusal

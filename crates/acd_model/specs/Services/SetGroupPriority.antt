@@ -10,7 +10,7 @@ use Rattle.acd_terms.specs.declared.answer.Answer.TheVariants.{Nothing}
 use Rattle.acd_terms.specs.declared.answer.Refusal.TheVariants.{UnknownDevice, NotGroup}
 use Rattle.acd_model.specs.Scans.{group_of, is_planned}
 use Rattle.acd_model.specs.Moves.{silent}
-use Rattle.acd_model.specs.Served.{Served, refuse_if, gives}
+use Rattle.acd_model.specs.ServiceAnswers.{Served, refuse_if, gives}
 use Rattle.acd_model.specs.declared.moves.Change.TheVariants.{PutGroup}
 
 unfoldable pub set_group_priority : Rows → Device → Priority → Served

@@ -14,7 +14,7 @@ use Rattle.acd_model.specs.Scans.{call_of, connection_of, other_of, is_planned, 
 use Rattle.acd_model.specs.CallMoves.{transfer, arrive}
 use Rattle.acd_model.specs.Release.{release, ending_of}
 use Rattle.acd_model.specs.Services.Destinations.{is_in_call, is_busy_station}
-use Rattle.acd_model.specs.Served.{Served, refuse_if, gives}
+use Rattle.acd_model.specs.ServiceAnswers.{Served, refuse_if, gives}
 
 -- there is another party, connected or on hold
 abbrev pub is_answered_by : Option ConnectionRecord → Bool

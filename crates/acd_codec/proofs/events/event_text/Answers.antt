@@ -1,7 +1,7 @@
 use Rattle.std.proofs.Common.{◌∙◌}
 use Rattle.std.proofs.lemmas.Result.{IfOk-weaker}
 use Rattle.acd_codec.specs.EventTexts.{event_parts, event_text}
-use Rattle.acd_codec.proofs.Adding.{printed_object}
+use Rattle.acd_codec.proofs.TokensInTurn.{printed_object}
 use Rattle.acd_codec.proofs.events.event_text.Goals as goal
 
 pub returns : goal.returns

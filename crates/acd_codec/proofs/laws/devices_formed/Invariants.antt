@@ -1,6 +1,6 @@
 use Rattle.std.proofs.Common.{drop}
 use Rattle.acd_terms.specs.Lists.{Every}
-use Rattle.acd_codec.specs.Formed.{IsDevice}
+use Rattle.acd_codec.specs.RequestForms.{IsDevice}
 use Rattle.acd_codec.proofs.laws.devices_formed.Given as goal
 
 abbrev pub invariant-loop-device : goal.invariant-loop-device

@@ -2,7 +2,7 @@ use Rattle.std.proofs.Common.{◌∙◌}
 use Rattle.std.proofs.lemmas.Result.{IfOk-weaker}
 use Rattle.acd_codec.specs.ReadTexts.{agent_parts, agent_text}
 use Rattle.acd_codec.specs.declared.read_texts.Extent.TheVariants.{Brief}
-use Rattle.acd_codec.proofs.Adding.{printed_object}
+use Rattle.acd_codec.proofs.TokensInTurn.{printed_object}
 use Rattle.acd_codec.proofs.read_texts.agent_text.Goals as goal
 
 pub returns : goal.returns

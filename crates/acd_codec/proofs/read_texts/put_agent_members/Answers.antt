@@ -2,7 +2,7 @@ use Rattle.std.proofs.Common.{◌≡◌, rules, sym}
 use Rattle.std.specs.Prelude.{option_map}
 use Rattle.acd_terms.specs.States.{pending_name}
 use Rattle.acd_codec.specs.Parts.{groups_parts}
-use Rattle.acd_codec.proofs.Adding.{adds_then, parts_append}
+use Rattle.acd_codec.proofs.TokensInTurn.{adds_then, parts_append}
 use Rattle.acd_codec.proofs.read_texts.put_agent_members.Goals as goal
 
 pub returns : goal.returns

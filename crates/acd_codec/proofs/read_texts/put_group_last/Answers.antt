@@ -1,5 +1,5 @@
 use Rattle.std.proofs.Common.{sym}
-use Rattle.acd_codec.proofs.Adding.{adds_then}
+use Rattle.acd_codec.proofs.TokensInTurn.{adds_then}
 use Rattle.acd_codec.proofs.read_texts.put_group_last.Goals as goal
 
 pub returns : goal.returns

@@ -1,6 +1,6 @@
 use Rattle.std.proofs.Common.{◌≡◌, rules, sym, ap, ◌∙◌}
 use Rattle.acd_codec.specs.ReadTexts.{in_full}
-use Rattle.acd_codec.proofs.Adding.{adds_then}
+use Rattle.acd_codec.proofs.TokensInTurn.{adds_then}
 use Rattle.acd_codec.proofs.read_texts.put_party.Goals as goal
 
 pub returns : goal.returns

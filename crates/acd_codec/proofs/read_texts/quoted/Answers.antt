@@ -2,7 +2,7 @@ use Rattle.std.proofs.Common.{◌∙◌}
 use Rattle.std.proofs.lemmas.Result.{IfOk-weaker}
 use Rattle.serde_json.specs.Data.{string}
 use Rattle.acd_codec.specs.ReadTexts.{quoted}
-use Rattle.acd_codec.proofs.Adding.{printed}
+use Rattle.acd_codec.proofs.TokensInTurn.{printed}
 use Rattle.acd_codec.proofs.read_texts.quoted.Goals as goal
 
 pub returns : goal.returns

@@ -1,7 +1,7 @@
 use Rattle.std.proofs.Common.{◌∙◌}
 use Rattle.std.proofs.lemmas.Result.{IfOk-weaker}
 use Rattle.acd_codec.specs.ReadTexts.{station_parts, station_text}
-use Rattle.acd_codec.proofs.Adding.{printed_object}
+use Rattle.acd_codec.proofs.TokensInTurn.{printed_object}
 use Rattle.acd_codec.proofs.read_texts.station_text.Goals as goal
 
 pub returns : goal.returns

@@ -1,6 +1,6 @@
 use Rattle.std.proofs.Common.{Some, None, ◌∙◌}
 use Rattle.acd_codec.specs.MemberReading.{devices_named}
-use Rattle.acd_codec.proofs.Choosing.{chosen}
+use Rattle.acd_codec.proofs.GroupChoices.{chosen}
 use Rattle.acd_codec.proofs.reading.choice_of.Goals as goal
 
 pub returns-in-None : goal.returns-in-None

@@ -1,5 +1,5 @@
 use Rattle.std.proofs.Common.{◌≡◌, [], drop}
-use Rattle.acd_codec.proofs.Choosing.{with_named}
+use Rattle.acd_codec.proofs.GroupChoices.{with_named}
 use Rattle.acd_codec.proofs.reading.groups_of.Given as goal
 
 abbrev pub invariant-loop-item : goal.invariant-loop-item

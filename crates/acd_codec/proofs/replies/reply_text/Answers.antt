@@ -1,6 +1,6 @@
 use Rattle.std.proofs.Common.{◌∙◌}
 use Rattle.std.proofs.lemmas.Result.{IfOk-weaker}
-use Rattle.acd_codec.proofs.Printed.{reply_printed}
+use Rattle.acd_codec.proofs.ReplyTokens.{reply_printed}
 use Rattle.acd_codec.proofs.replies.reply_text.Goals as goal
 
 pub returns : goal.returns

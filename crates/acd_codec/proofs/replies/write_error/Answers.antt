@@ -1,5 +1,5 @@
 use Rattle.json.specs.Token.{begin_object, end_object}
-use Rattle.acd_codec.proofs.Adding.{wrote, wrote_ok, and_then, adds_then}
+use Rattle.acd_codec.proofs.TokensInTurn.{wrote, wrote_ok, and_then, adds_then}
 use Rattle.acd_codec.proofs.replies.write_error.Goals as goal
 
 pub returns : goal.returns

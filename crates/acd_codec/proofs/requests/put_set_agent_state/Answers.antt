@@ -1,5 +1,5 @@
 use Rattle.acd_codec.specs.Parts.{groups_parts}
-use Rattle.acd_codec.proofs.Adding.{adds_then, adds_before}
+use Rattle.acd_codec.proofs.TokensInTurn.{adds_then, adds_before}
 use Rattle.acd_codec.proofs.requests.put_set_agent_state.Goals as goal
 
 pub returns-in_ok-put_groups-in-LoggedOn : goal.returns-in_ok-put_groups-in-LoggedOn

@@ -1,4 +1,4 @@
-use Rattle.acd_codec.proofs.Adding.{adds_then}
+use Rattle.acd_codec.proofs.TokensInTurn.{adds_then}
 use Rattle.acd_codec.proofs.requests.put_set_group_priority.Goals as goal
 
 pub returns : goal.returns

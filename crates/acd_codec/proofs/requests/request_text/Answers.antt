@@ -1,7 +1,7 @@
 use Rattle.std.proofs.Common.{◌∙◌}
 use Rattle.std.proofs.lemmas.Result.{IfOk-weaker}
 use Rattle.acd_codec.specs.RequestTexts.{members_of, request_data, request_text}
-use Rattle.acd_codec.proofs.Adding.{printed_members}
+use Rattle.acd_codec.proofs.TokensInTurn.{printed_members}
 use Rattle.acd_codec.proofs.requests.request_text.Goals as goal
 
 pub returns : goal.returns

@@ -1,5 +1,5 @@
 use Rattle.std.proofs.Common.{◌≡◌, rules, sym}
-use Rattle.acd_codec.proofs.Adding.{adds_then, adds_last}
+use Rattle.acd_codec.proofs.TokensInTurn.{adds_then, adds_last}
 use Rattle.acd_codec.proofs.snapshots.put_snapshot.Goals as goal
 
 pub returns : goal.returns

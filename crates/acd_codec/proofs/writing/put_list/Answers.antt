@@ -1,5 +1,5 @@
 use Rattle.json.specs.Token.{key, begin_array, end_array}
-use Rattle.acd_codec.proofs.Adding.{wrote, wrote_ok, list_added}
+use Rattle.acd_codec.proofs.TokensInTurn.{wrote, wrote_ok, list_added}
 use Rattle.acd_codec.proofs.writing.put_list.Goals as goal
 
 pub returns : goal.returns

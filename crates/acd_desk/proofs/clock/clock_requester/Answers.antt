@@ -1,5 +1,5 @@
 use Rattle.std.proofs.Common.{◌+◌, ◌-◌, length, replicate, is_ok, ap, sym, ◌∙◌, arith}
-use Rattle.acd_desk.proofs.Desks.Ticking.{clock_written, clock_read, same_read}
+use Rattle.acd_desk.proofs.Desks.ClockTicks.{clock_written, clock_read, same_read}
 use Rattle.acd_desk.proofs.clock.clock_requester.Goals as goal
 
 pub unwrap-requires : goal.unwrap-requires

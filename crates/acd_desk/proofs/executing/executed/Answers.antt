@@ -1,5 +1,5 @@
 use Rattle.std.proofs.Common.{rules}
-use Rattle.acd_desk.specs.Arrived.{at}
+use Rattle.acd_desk.specs.Arrivals.{at}
 use Rattle.acd_desk.proofs.Desks.Commits.{prepares}
 use Rattle.acd_desk.proofs.executing.executed.Goals as goal
 

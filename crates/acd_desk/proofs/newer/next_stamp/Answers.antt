@@ -1,5 +1,5 @@
 use Rattle.std.proofs.Common.{◌≤◌, arith}
-use Rattle.acd_desk.proofs.Archives.StepsWith.{few_of_switch}
+use Rattle.acd_desk.proofs.Archives.ArchiveReplaySteps.{few_of_switch}
 use Rattle.acd_desk.proofs.newer.next_stamp.Goals as goal
 
 pub overflow_add-result : goal.overflow_add-result

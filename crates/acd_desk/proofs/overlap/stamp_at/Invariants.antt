@@ -1,6 +1,6 @@
 use Rattle.std.proofs.Common.{Ok}
 use Rattle.acd_book.specs.Content.{Content}
-use Rattle.acd_book.specs.BookReading.{ReadsIfOpen}
+use Rattle.acd_book.specs.BookReads.{ReadsIfOpen}
 use Rattle.acd_desk.proofs.overlap.stamp_at.Given as goal
 
 abbrev pub invariant-loop : goal.invariant-loop

@@ -1,7 +1,7 @@
 use Rattle.std.proofs.Common.{rules, Bool, false, ◌∙◌}
 use Rattle.acd_book.specs.Content.{Content}
 use Rattle.acd_desk.specs.Replay.{DecidesKnown, Matches}
-use Rattle.acd_desk.proofs.Replays.Comparing.{matches_decided, other_record}
+use Rattle.acd_desk.proofs.Replays.RecordComparisons.{matches_decided, other_record}
 use Rattle.acd_book.proofs.ReadsAhead.{known, none_alone, read_more}
 use Rattle.acd_desk.proofs.replay.replays_as_kept.Goals as goal
 

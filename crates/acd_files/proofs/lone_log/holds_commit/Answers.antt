@@ -2,7 +2,7 @@ use Rattle.std.proofs.Common.{Option, subst}
 use Rattle.std.proofs.lemmas.Bool.{false≢true}
 use Rattle.sqlite_wal.specs.Format.{be32}
 use Rattle.sqlite_wal.specs.PageSize.{Names}
-use Rattle.acd_files.proofs.Lone.{none_named}
+use Rattle.acd_files.proofs.LoneLogs.{none_named}
 use Rattle.acd_files.proofs.lone_log.holds_commit.Goals as goal
 
 pub returns-in-None-clause-holds : goal.returns-in-None-clause-holds

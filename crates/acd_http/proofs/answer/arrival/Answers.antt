@@ -1,5 +1,5 @@
 use Rattle.std.proofs.Common.{false, ap, ◌∙◌}
-use Rattle.acd_http.specs.Exchanging.{json_reply}
+use Rattle.acd_http.specs.Exchange.{json_reply}
 use Rattle.acd_http.proofs.answer.arrival.Goals as goal
 
 pub returns : goal.returns

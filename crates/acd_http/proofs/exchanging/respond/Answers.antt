@@ -1,5 +1,5 @@
 use Rattle.std.proofs.Common.{subst}
-use Rattle.acd_io.specs.Sent.{Breaks}
+use Rattle.acd_io.specs.SentBytes.{Breaks}
 use Rattle.std.specs.Io.KnownBytes.{Appends}
 use Rattle.acd_http.proofs.Exchanges.{in_two}
 use Rattle.acd_http.proofs.exchanging.respond.Goals as goal

@@ -1,5 +1,5 @@
 use Rattle.std.proofs.Common.{ℕ, List, ◌++◌, subst}
-use Rattle.acd_io.specs.Sent.{WasSent}
+use Rattle.acd_io.specs.SentBytes.{WasSent}
 use Rattle.acd_io.proofs.Sends.{sent_after, sent_first}
 use Rattle.acd_http.proofs.exchanging.send_both.Goals as goal
 

@@ -1,6 +1,6 @@
 use Rattle.std.proofs.Common.{sym, ◌∙◌, arith}
 use Rattle.acd_http.proofs.Steps.{no_line}
-use Rattle.acd_http.proofs.Counting.{lines_on, lines_more, lines_same}
+use Rattle.acd_http.proofs.LineCounts.{lines_on, lines_more, lines_same}
 use Rattle.acd_http.proofs.head.lines_in.Goals as goal
 use Rattle.acd_http.proofs.head.lines_in.Goals.{then-byte-ne10, else-byte-ne10+then-not-is_empty, else-byte-ne10+else-not-is_empty}
 

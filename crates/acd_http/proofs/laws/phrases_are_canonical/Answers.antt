@@ -1,5 +1,5 @@
 use Rattle.std.proofs.Common.{refl}
-use Rattle.acd_http.specs.Replying.{phrase_of}
+use Rattle.acd_http.specs.ReplyBytes.{phrase_of}
 use Rattle.acd_http.proofs.laws.phrases_are_canonical.Goals as goal
 
 pub returns : goal.returns

@@ -1,9 +1,9 @@
 use Rattle.std.specs.Prelude.{List, ℕ}
-use Rattle.acd_desk.specs.Ran.{standing}
-use Rattle.acd_http.proofs.Turning.{serves_all}
+use Rattle.acd_desk.specs.DeskCalls.{state_of}
+use Rattle.acd_http.proofs.TurnsInTurn.{serves_all}
 use Rattle.acd_http.proofs.listening.serve_on.Goals as goal
 
 pub returns-clause-answered : goal.returns-clause-answered
 returns-clause-answered g c = λ routed.
-    serves_all (standing g.B.Book) _ _ c.args.desk.now c.serve.new.desk _ c.args.connections
+    serves_all (state_of g.B.Book) _ _ c.args.desk.now c.serve.new.desk _ c.args.connections
     c.new-span.ensures.step c.new-span.ensures.connections (c.serve.ensures.answered routed)

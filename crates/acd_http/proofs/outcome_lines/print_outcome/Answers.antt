@@ -1,6 +1,6 @@
 use Rattle.std.proofs.Common.{ℕ, List, sym, ap, subst, ◌∙◌}
-use Rattle.acd_io.specs.Sent.{WasSent}
-use Rattle.acd_http.specs.Listening.{Outcome, outcome_line}
+use Rattle.acd_io.specs.SentBytes.{WasSent}
+use Rattle.acd_http.specs.ConnectionsInTurn.{Outcome, outcome_line}
 use Rattle.acd_http.proofs.outcome_lines.print_outcome.Goals as goal
 
 pub returns-in-Err : goal.returns-in-Err

@@ -1,4 +1,4 @@
-use Rattle.acd_io.proofs.Told.{order_first}
+use Rattle.acd_io.proofs.StopsAtOrder.{order_first}
 use Rattle.acd_io.proofs.laws.order_is_first.Goals as goal
 
 pub returns : goal.returns

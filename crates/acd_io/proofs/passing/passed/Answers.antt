@@ -1,7 +1,7 @@
 use Rattle.std.proofs.Common.{◌≡◌, ℕ, List, sym, ap, ◌∙◌, ◌&&◌, drop, arith, length-drop}
 use Rattle.std.proofs.lemmas.List.{take_all}
 use Rattle.acd_io.specs.Order.{is_held}
-use Rattle.acd_io.proofs.GivenOn.{passes_more}
+use Rattle.acd_io.proofs.PassedBytes.{passes_more}
 use Rattle.acd_io.proofs.passing.passed.Goals as goal
 
 pub loop-i-preserved : goal.loop-i-preserved

@@ -1,8 +1,8 @@
 use Rattle.std.proofs.Common.{refl, sym, subst, ◌∙◌}
-use Rattle.acd_desk.specs.Ran.{standing}
+use Rattle.acd_desk.specs.DeskCalls.{state_of}
 use Rattle.acd_lines.specs.Lines.{LinesDoneBy, streams}
 use Rattle.acd_lines.specs.Questions.{question, TakesTurns, by_questions}
-use Rattle.acd_lines.proofs.Kept.{front_decides}
+use Rattle.acd_lines.proofs.BoundedLines.{front_decides}
 use Rattle.acd_lines.proofs.Endings.{done_by}
 use Rattle.acd_lines.proofs.Turns.{nothing_read}
 use Rattle.acd_lines.specs.declared.fault.LinesFault.TheVariants.{NoMemory}
@@ -10,19 +10,19 @@ use Rattle.acd_lines.proofs.session.answer_lines.Goals as goal
 
 pub returns-in_err-chunk : goal.returns-in_err-chunk
 returns-in_err-chunk g c =
-    done_by (standing g.B.Book) (TakesTurns g.A.Answering) c.args.ends (streams g.R.Read.remaining g.W.Write.contents (c.args.reader.now, c.args.reader.now) (c.args.writer.now, c.args.writer.now)) c.args.desk.now c.args.desk.now
+    done_by (state_of g.B.Book) (TakesTurns g.A.Answering) c.args.ends (streams g.R.Read.remaining g.W.Write.contents (c.args.reader.now, c.args.reader.now) (c.args.writer.now, c.args.writer.now)) c.args.desk.now c.args.desk.now
     c.from_residual.result NoMemory NoMemory c.from_residual.ensures.1 refl
     (nothing_read (question g.A.Answering) (front_decides g.A.Answering) g.A.Answering.answers c.args.desk.now (g.R.Read.remaining c.args.reader.now) (g.W.Write.contents c.args.writer.now)) ((refl, refl), refl)
 
 pub returns-in_err-partial : goal.returns-in_err-partial
 returns-in_err-partial g c =
-    done_by (standing g.B.Book) (TakesTurns g.A.Answering) c.args.ends (streams g.R.Read.remaining g.W.Write.contents (c.args.reader.now, c.args.reader.now) (c.args.writer.now, c.args.writer.now)) c.args.desk.now c.args.desk.now
+    done_by (state_of g.B.Book) (TakesTurns g.A.Answering) c.args.ends (streams g.R.Read.remaining g.W.Write.contents (c.args.reader.now, c.args.reader.now) (c.args.writer.now, c.args.writer.now)) c.args.desk.now c.args.desk.now
     c.from_residual-in_err-partial.result NoMemory NoMemory c.from_residual-in_err-partial.ensures.1 refl
     (nothing_read (question g.A.Answering) (front_decides g.A.Answering) g.A.Answering.answers c.args.desk.now (g.R.Read.remaining c.args.reader.now) (g.W.Write.contents c.args.writer.now)) ((refl, refl), refl)
 
 pub returns-in_err-outbox : goal.returns-in_err-outbox
 returns-in_err-outbox g c =
-    done_by (standing g.B.Book) (TakesTurns g.A.Answering) c.args.ends (streams g.R.Read.remaining g.W.Write.contents (c.args.reader.now, c.args.reader.now) (c.args.writer.now, c.args.writer.now)) c.args.desk.now c.args.desk.now
+    done_by (state_of g.B.Book) (TakesTurns g.A.Answering) c.args.ends (streams g.R.Read.remaining g.W.Write.contents (c.args.reader.now, c.args.reader.now) (c.args.writer.now, c.args.writer.now)) c.args.desk.now c.args.desk.now
     c.from_residual-in_err-outbox.result NoMemory NoMemory c.from_residual-in_err-outbox.ensures.1 refl
     (nothing_read (question g.A.Answering) (front_decides g.A.Answering) g.A.Answering.answers c.args.desk.now (g.R.Read.remaining c.args.reader.now) (g.W.Write.contents c.args.writer.now)) ((refl, refl), refl)
 

@@ -1,5 +1,5 @@
 use Rattle.std.proofs.Common.{true}
-use Rattle.acd_desk.specs.Ran.{standing}
+use Rattle.acd_desk.specs.DeskCalls.{state_of}
 use Rattle.acd_lines.specs.Answers.{Answers}
 use Rattle.acd_lines.specs.Input.{line_of}
 use Rattle.acd_lines.specs.Lines.{RunInTurn, streams}
@@ -10,6 +10,6 @@ use Rattle.acd_lines.proofs.session.lines_until_failed.Goals as goal
 
 pub returns : goal.returns
 returns g c =
-    done_so (standing g.B.Book) (InTurn line_of (Answers (standing g.B.Book))) true (streams g.R.Read.remaining g.W.Write.contents (c.args.reader.now, c.answer_lines.new.reader) (c.args.writer.now, c.answer_lines.new.writer))
+    done_so (state_of g.B.Book) (InTurn line_of (Answers (state_of g.B.Book))) true (streams g.R.Read.remaining g.W.Write.contents (c.args.reader.now, c.answer_lines.new.reader) (c.args.writer.now, c.answer_lines.new.writer))
     c.args.desk.now c.answer_lines.new.desk (RunInTurn g.B.Book)
-    (run_in_turn (standing g.B.Book) (λ d x clean sound opened stop. g.met.B.Book.settled d.book x clean sound opened stop) c.args.desk.now c.answer_lines.new.desk) c.answer_lines.result c.answer_lines.ensures
+    (run_in_turn (state_of g.B.Book) (λ d x clean sound opened stop. g.met.B.Book.settled d.book x clean sound opened stop) c.args.desk.now c.answer_lines.new.desk) c.answer_lines.result c.answer_lines.ensures

@@ -1,5 +1,5 @@
 use Rattle.std.proofs.Common.{ℕ, ◌+◌, refl, sym, subst}
-use Rattle.acd_log.proofs.Looking.{Good, good_begun, good_on}
+use Rattle.acd_log.proofs.LogFrames.{Good, good_begun, good_on}
 use Rattle.acd_log.proofs.frames.first_bad.Goals as goal
 
 pub loop-before-init : goal.loop-before-init

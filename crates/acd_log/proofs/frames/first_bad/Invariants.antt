@@ -1,5 +1,5 @@
 use Rattle.std.proofs.Common.{◌-◌, length}
-use Rattle.acd_log.proofs.Looking.{Good}
+use Rattle.acd_log.proofs.LogFrames.{Good}
 use Rattle.acd_log.proofs.frames.first_bad.Given as goal
 
 abbrev pub invariant-loop-before : goal.invariant-loop-before

@@ -1,6 +1,6 @@
 use Rattle.std.proofs.Common.{◌≡◌, ℕ, ◌+◌, Bool, false, refl, sym, subst, arith}
 use Rattle.std.proofs.lemmas.Bool.{false≢true}
-use Rattle.acd_log.proofs.Looking.{Looking, salted, looking_begun, looking_past, looking_on, looking_done, looking_ends, none_after}
+use Rattle.acd_log.proofs.LogFrames.{Looking, salted, looking_begun, looking_past, looking_on, looking_done, looking_ends, none_after}
 use Rattle.acd_log.proofs.frames.is_before_commit.Goals.{then-is_salted+else-is_committed, else-is_salted}
 use Rattle.acd_log.proofs.frames.is_before_commit.Goals as goal
 

@@ -1,6 +1,6 @@
 use Rattle.std.proofs.Common.{◌≡◌, ℕ, ◌-◌, length}
 use Rattle.sqlite_wal.specs.Recovery.{frame_at}
-use Rattle.acd_log.proofs.Looking.{Looking}
+use Rattle.acd_log.proofs.LogFrames.{Looking}
 use Rattle.acd_log.proofs.frames.is_before_commit.Given as goal
 
 abbrev pub invariant-loop-page : goal.invariant-loop-page

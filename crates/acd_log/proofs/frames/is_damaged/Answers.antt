@@ -1,6 +1,6 @@
 use Rattle.std.proofs.Common.{subst}
 use Rattle.acd_log.specs.Ending.{IsBeforeCommit}
-use Rattle.acd_log.proofs.Looking.{first_once}
+use Rattle.acd_log.proofs.LogFrames.{first_once}
 use Rattle.acd_log.proofs.frames.is_damaged.Goals as goal
 
 pub returns : goal.returns

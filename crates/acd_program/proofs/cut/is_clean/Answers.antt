@@ -5,7 +5,7 @@ use Rattle.acd_book.specs.Content.{Content, IsKeptAfter}
 use Rattle.acd_desk.specs.AuditWith.{StandsInTime}
 use Rattle.acd_desk.specs.Overlap.{IsCleanCut}
 use Rattle.acd_desk.proofs.Archives.CleanCuts.{clean_none, clean_decided}
-use Rattle.acd_book.proofs.Reading.{then_ok, then_read_ok}
+use Rattle.acd_book.proofs.ReadsInTurn.{then_ok, then_read_ok}
 use Rattle.acd_program.proofs.cut.is_clean.Goals as goal
 
 pub returns-in_default : goal.returns-in_default

@@ -1,6 +1,6 @@
 use Rattle.std.proofs.Common.{Bool, false}
 use Rattle.acd_program.specs.Pruning.{DecidesPlace}
-use Rattle.acd_book.proofs.Reading.{then_ok, then_read}
+use Rattle.acd_book.proofs.ReadsInTurn.{then_ok, then_read}
 use Rattle.acd_program.proofs.ReadsOn.{no_place, place_decided}
 use Rattle.acd_program.proofs.cut.is_place.Goals as goal
 

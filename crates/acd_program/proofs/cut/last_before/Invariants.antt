@@ -1,5 +1,5 @@
 use Rattle.std.proofs.Common.{Ok}
-use Rattle.acd_book.specs.BookReading.{ReadsIfOpen}
+use Rattle.acd_book.specs.BookReads.{ReadsIfOpen}
 use Rattle.acd_book.specs.Content.{Content}
 use Rattle.acd_program.proofs.cut.last_before.Given as goal
 

@@ -1,5 +1,5 @@
 use Rattle.std.proofs.Common.{inl, inr, refl, sym, subst}
-use Rattle.acd_desk.specs.Standing.{standing}
+use Rattle.acd_desk.specs.DeskState.{state_of}
 use Rattle.acd_program.specs.Ended.{IsBegunPlan}
 use Rattle.acd_program.specs.Work.{ImportsOver}
 use Rattle.acd_sessions.proofs.Asking.{only_refused}
@@ -12,7 +12,7 @@ returns-in-Ok-import-clause-result g c =
     let old_output : _ = g.W.Write.contents c.args.writer.now in
     let new_output : _ = g.W.Write.contents c.import.new.writer in
     subst (λ (b : _). ImportsOver c.args.requests.now (g.B.Book.state c.args.book) old_output new_output (g.B.Book.state b)) (sym c.close.ensures)
-    (imports_over (g.B.Book.state c.args.book) (standing g.B.Book c.in-Ok.desk) (standing g.B.Book c.import.new.desk) c.args.requests.now old_output new_output c.in-Ok.ensures c.in-Ok-import.ensures.answered)
+    (imports_over (g.B.Book.state c.args.book) (state_of g.B.Book c.in-Ok.desk) (state_of g.B.Book c.import.new.desk) c.args.requests.now old_output new_output c.in-Ok.ensures c.in-Ok-import.ensures.answered)
 
 pub returns-in-Err-clause-result : goal.returns-in-Err-clause-result
 returns-in-Err-clause-result g c = inl (only_refused _ _ _ c.in-Err.ensures, refl)
@@ -22,4 +22,4 @@ returns-in-Err-import-clause-result g c =
     let old_output : _ = g.W.Write.contents c.args.writer.now in
     let new_output : _ = g.W.Write.contents c.import.new.writer in
     inr (subst (λ (b : _). IsBegunPlan c.args.requests.now old_output new_output (g.B.Book.state c.args.book) (g.B.Book.state b)) (sym c.close-in-Err-import.ensures)
-    (begun_by (g.B.Book.state c.args.book) (standing g.B.Book c.in-Ok.desk) (standing g.B.Book c.import.new.desk) c.args.requests.now old_output new_output c.in-Ok.ensures c.in-Err-import.ensures.answered))
+    (begun_by (g.B.Book.state c.args.book) (state_of g.B.Book c.in-Ok.desk) (state_of g.B.Book c.import.new.desk) c.args.requests.now old_output new_output c.in-Ok.ensures c.in-Err-import.ensures.answered))

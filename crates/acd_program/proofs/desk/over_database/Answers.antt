@@ -1,15 +1,15 @@
 use Rattle.std.proofs.Common.{inl, refl, sym, subst, MatchResult}
 use Rattle.sqlite.specs.Held.{state}
 use Rattle.acd_book.specs.State.{BookState}
-use Rattle.acd_sqlbook.specs.Caching.{followed}
+use Rattle.acd_sqlbook.specs.Caches.{followed}
 use Rattle.acd_sqlbook.specs.State.{book_state}
 use Rattle.acd_program.specs.Ended.{WorkStopped}
-use Rattle.acd_program.specs.Found.{IsFindingOf}
+use Rattle.acd_program.specs.AuditFindings.{IsFindingOf}
 use Rattle.acd_sessions.specs.Over.{OverConnection, Unserved}
 use Rattle.acd_program.specs.Work.{WorkDone}
 use Rattle.acd_program.proofs.Ended.{stopped_in}
 use Rattle.acd_files.proofs.Ends.{match_so}
-use Rattle.acd_sessions.proofs.Taking.{unserved_asked}
+use Rattle.acd_sessions.proofs.BooksOfConnections.{unserved_asked}
 use Rattle.acd_program.proofs.Works.{database_done}
 use Rattle.acd_program.proofs.desk.over_database.Goals as goal
 

@@ -1,9 +1,9 @@
 use Rattle.std.proofs.Common.{◌≡◌, Some, sym, subst}
 use Rattle.acd_book.specs.Content.{Content}
-use Rattle.acd_desk.specs.Standing.{standing}
-use Rattle.acd_desk.specs.Stands.{IsSound}
-use Rattle.acd_desk.specs.Carried.{Archive, together}
-use Rattle.acd_desk.specs.ReadDone.{ReadDone}
+use Rattle.acd_desk.specs.DeskState.{state_of}
+use Rattle.acd_desk.specs.SoundContent.{IsSound}
+use Rattle.acd_desk.specs.CarriedContent.{Archive, together}
+use Rattle.acd_desk.specs.DeskReads.{ReadDone}
 use Rattle.acd_desk.specs.ReadAnswers.{text_read}
 use Rattle.acd_desk.proofs.Pages.ReadsDone.{read_follows}
 use Rattle.acd_command.specs.declared.asked.Printout.{Printout}
@@ -13,5 +13,5 @@ use Rattle.acd_program.proofs.desk.text_of.Goals as goal
 
 pub returns-in-Export : goal.returns-in-Export
 returns-in-Export g c =
-    subst (λ (t : Printout). ReadDone (standing g.B.Book c.args.desk.now) (standing g.B.Book c.export.new.self) c.export.result (λ (x : Content) (text : _). (p : Archive) → IsSound (together p x) → text_read text ≡ Some (printout_text t x))) (sym c.in-Export.is)
-    (read_follows (standing g.B.Book c.args.desk.now) (standing g.B.Book c.export.new.self) c.export.result _ _ (λ x text. export_text x text) c.export.ensures)
+    subst (λ (t : Printout). ReadDone (state_of g.B.Book c.args.desk.now) (state_of g.B.Book c.export.new.self) c.export.result (λ (x : Content) (text : _). (p : Archive) → IsSound (together p x) → text_read text ≡ Some (printout_text t x))) (sym c.in-Export.is)
+    (read_follows (state_of g.B.Book c.args.desk.now) (state_of g.B.Book c.export.new.self) c.export.result _ _ (λ x text. export_text x text) c.export.ensures)

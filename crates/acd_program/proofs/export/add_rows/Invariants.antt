@@ -1,7 +1,7 @@
 use Rattle.std.proofs.Common.{◌≡◌, ◌++◌, Ok, string_bytes}
 use Rattle.acd_book.specs.Content.{Content}
 use Rattle.acd_reports.specs.Export.{records_text}
-use Rattle.acd_book.specs.BookReading.{ReadsIfOpen}
+use Rattle.acd_book.specs.BookReads.{ReadsIfOpen}
 use Rattle.acd_desk.specs.ReadAnswers.{Rise, above}
 use Rattle.acd_program.proofs.export.add_rows.Given as goal
 

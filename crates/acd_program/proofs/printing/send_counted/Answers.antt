@@ -1,9 +1,9 @@
 use Rattle.std.proofs.Common.{◌++◌, ◌∷◌, [], ◌∙◌, List, ℕ, subst}
 use Rattle.std.specs.Prelude.{codes, decimal}
 use Rattle.std.specs.Io.KnownBytes.{Appends}
-use Rattle.acd_io.specs.Sent.{Breaks}
+use Rattle.acd_io.specs.SentBytes.{Breaks}
 use Rattle.acd_io.proofs.Sends.{sent_after, sent_first}
-use Rattle.acd_program.specs.Found.{sound_line}
+use Rattle.acd_program.specs.AuditFindings.{sound_line}
 use Rattle.acd_program.proofs.printing.send_counted.Goals as goal
 
 pub returns-in_err-send : goal.returns-in_err-send

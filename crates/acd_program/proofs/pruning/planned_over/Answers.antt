@@ -1,6 +1,6 @@
 use Rattle.std.proofs.Common.{false, sym, subst}
 use Rattle.sqlite.specs.Held.{state}
-use Rattle.acd_sqlbook.specs.Caching.{followed}
+use Rattle.acd_sqlbook.specs.Caches.{followed}
 use Rattle.acd_sqlbook.specs.State.{book_state}
 use Rattle.acd_sessions.specs.Over.{Unserved}
 use Rattle.acd_program.specs.Pruning.{IsPruningInOrder, PlansOver}
@@ -8,7 +8,7 @@ use Rattle.acd_desk.specs.Pairs.{across}
 use Rattle.acd_sessions.proofs.Asking.{only_left}
 use Rattle.acd_program.proofs.AuditsWithArchive.{unserved_untouched}
 use Rattle.acd_program.proofs.Prunes.{only_ended, plans_over}
-use Rattle.acd_sessions.proofs.Taking.{unserved_asked}
+use Rattle.acd_sessions.proofs.BooksOfConnections.{unserved_asked}
 use Rattle.acd_program.proofs.pruning.planned_over.Goals as goal
 
 pub returns-in-Err-clause-spared : goal.returns-in-Err-clause-spared

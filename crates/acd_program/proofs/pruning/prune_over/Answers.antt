@@ -1,11 +1,11 @@
 use Rattle.std.proofs.Common.{Err, false, ap, inl, sym}
 use Rattle.sqlite.specs.Held.{state}
 use Rattle.sqlite_std_file.specs.File.{IsFresh}
-use Rattle.acd_sqlbook.specs.Caching.{followed}
+use Rattle.acd_sqlbook.specs.Caches.{followed}
 use Rattle.acd_sqlbook.specs.State.{book_state}
 use Rattle.acd_files.proofs.Ends.{if_is_err, if_is_ok}
 use Rattle.acd_program.proofs.Prunes.{left_in, pruned_in, unpruned_in}
-use Rattle.acd_sessions.proofs.Taking.{unserved_asked}
+use Rattle.acd_sessions.proofs.BooksOfConnections.{unserved_asked}
 use Rattle.acd_program.proofs.pruning.prune_over.Goals as goal
 
 pub returns-in-Err : goal.returns-in-Err

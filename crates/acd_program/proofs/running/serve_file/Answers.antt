@@ -3,7 +3,7 @@ use Rattle.sqlite.specs.Files.{over_files, file_state}
 use Rattle.sqlite_std_file.specs.File.{IsFresh}
 use Rattle.acd_files.specs.Connections.{IsLaidIn}
 use Rattle.acd_files.proofs.Ends.{match_from, on_ok}
-use Rattle.acd_sessions.proofs.Seen.{seen_made}
+use Rattle.acd_sessions.proofs.LeftDesks.{seen_made}
 use Rattle.acd_sessions.proofs.ServeDone.{serve_done_in, serve_made}
 use Rattle.acd_program.proofs.running.serve_file.Goals as goal
 

@@ -2,11 +2,11 @@ use Rattle.std.proofs.Common.{MutBor, true, refl}
 use Rattle.sqlite.specs.Files.{over_files, file_state}
 use Rattle.sqlite_std_file.specs.File.{IsFresh}
 use Rattle.acd_lines.specs.Lines.{streams}
-use Rattle.acd_io.specs.Left.{left_of}
+use Rattle.acd_io.specs.RestOfInput.{input_left}
 use Rattle.acd_files.specs.Connections.{IsLaidIn}
 use Rattle.acd_sessions.specs.Standby.{upon_order}
 use Rattle.acd_files.proofs.Ends.{match_from, on_ok}
-use Rattle.acd_sessions.proofs.StandingBy.{standby_of_reader, standby_done_in}
+use Rattle.acd_sessions.proofs.StandbyRuns.{standby_of_reader, standby_done_in}
 use Rattle.acd_program.proofs.running.stand_by_file.Goals as goal
 
 pub returns-in_err-conn : goal.returns-in_err-conn
@@ -16,7 +16,7 @@ pub returns-in-Ok-done_and_closed : goal.returns-in-Ok-done_and_closed
 returns-in-Ok-done_and_closed g c =
     let s : _ = file_state c.in_ok-conn.conn in
     let last : _ = c.stand_by-done.result.1 in
-    let left : _ = left_of (λ (r : MutBor g.row.R.Denot). g.R.Read.remaining r.now) c.stand_by-done.new.feed in
+    let left : _ = input_left (λ (r : MutBor g.row.R.Denot). g.R.Read.remaining r.now) c.stand_by-done.new.feed in
     record {
       conn = c.in_ok-conn.conn;
       last = last;
@@ -39,7 +39,7 @@ returns g c =
       c.in_ok-conn.ensures.opened,
       record {
         last = last;
-        left = left_of (λ (r : MutBor g.row.R.Denot). g.R.Read.remaining r.now) c.stand_by-done.new.feed;
+        left = input_left (λ (r : MutBor g.row.R.Denot). g.R.Read.remaining r.now) c.stand_by-done.new.feed;
         shut = c.close_connection.ensures.shut;
         ended = c.stand_by-done.result.0;
         answered = standby_of_reader g.R.Read.remaining (λ (r : MutBor g.row.R.Denot). g.R.Read.remaining r.now) g.W.Write.contents g.E.Write.contents (c.args.reader.now, c.args.reader.now) (c.new-lines.result, c.stand_by-done.new.feed)

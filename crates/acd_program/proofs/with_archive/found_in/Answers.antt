@@ -1,7 +1,7 @@
 use Rattle.std.proofs.Common.{◌≡◌, Ok}
 use Rattle.std.proofs.lemmas.Result.{IfOk-weaker}
-use Rattle.acd_desk.specs.Standing.{standing}
-use Rattle.acd_program.specs.Found.{HasCount}
+use Rattle.acd_desk.specs.DeskState.{state_of}
+use Rattle.acd_program.specs.AuditFindings.{HasCount}
 use Rattle.acd_program.proofs.AuditsWithArchive.{asked_in, found_so}
 use Rattle.acd_program.proofs.with_archive.found_in.Goals as goal
 
@@ -11,7 +11,7 @@ returns-clause-counted g c = found_so c.found_and_closed.result c.asked_over-fou
 pub returns-clause-asked : goal.returns-clause-asked
 returns-clause-asked g c =
     IfOk-weaker c.found_and_closed.result _ _
-    (λ found both. asked_in found c.asked_over-found.result.0 c.close_connection.result (standing g.B.Book c.args.desk.now) (standing g.B.Book c.asked_over-found.new.desk) c.args.conn c.asked_over-found.result.1
+    (λ found both. asked_in found c.asked_over-found.result.0 c.close_connection.result (state_of g.B.Book c.args.desk.now) (state_of g.B.Book c.asked_over-found.new.desk) c.args.conn c.asked_over-found.result.1
     c.asked_over-found.ensures.asked c.asked_over-found.ensures.spared c.close_connection.ensures.laid both)
     c.found_and_closed.ensures
 

@@ -1,11 +1,11 @@
 use Rattle.std.proofs.Common.{false, ap, sym, subst}
 use Rattle.sqlite.specs.Held.{state}
 use Rattle.sqlite_std_file.specs.File.{IsFresh}
-use Rattle.acd_sqlbook.specs.Caching.{followed}
+use Rattle.acd_sqlbook.specs.Caches.{followed}
 use Rattle.acd_sqlbook.specs.State.{book_state}
 use Rattle.acd_sessions.specs.Over.{Unserved}
 use Rattle.acd_program.proofs.AuditsWithArchive.{audited_in}
-use Rattle.acd_sessions.proofs.Taking.{unserved_asked}
+use Rattle.acd_sessions.proofs.BooksOfConnections.{unserved_asked}
 use Rattle.acd_program.proofs.with_archive.over_archive.Goals as goal
 
 pub returns-clause-over : goal.returns-clause-over

@@ -1,5 +1,5 @@
 use Rattle.std.proofs.Common.{refl}
-use Rattle.acd_reports.specs.PlanReading.{rows_left}
+use Rattle.acd_reports.specs.PlanReaders.{rows_left}
 use Rattle.acd_reports.proofs.ReadLemmas.{strip_short}
 use Rattle.acd_reports.proofs.plan.reader_of.Goals as goal
 

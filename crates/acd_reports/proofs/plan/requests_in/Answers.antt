@@ -1,7 +1,7 @@
 use Rattle.std.proofs.Common.{◌+◌, ◌∙◌, sym, arith}
 use Rattle.csv.specs.Records.{fields_of}
 use Rattle.acd_reports.specs.Plan.{requests_from}
-use Rattle.acd_reports.specs.PlanReading.{rows_left}
+use Rattle.acd_reports.specs.PlanReaders.{rows_left}
 use Rattle.acd_reports.proofs.PlanLemmas.{all_done, is_fault, row_done, row_faulty}
 use Rattle.acd_reports.proofs.ReadLemmas.{read_none, read_some, rows_end}
 use Rattle.acd_reports.proofs.plan.requests_in.Goals as goal

@@ -1,7 +1,7 @@
 use Rattle.std.proofs.Common.{◌≡◌, ◌≤◌, ◌-◌, ◌∙◌, ap, true, false, length, drop, take, sym, subst, ltb, leb, rules, arith, length-drop, take_all}
 use Rattle.std.specs.List.Sorted.{IsNonDecreasingBy, IsPartitionPoint}
 use Rattle.std.proofs.lemmas.List.Sorted.{IsPartitionPoint-from_clause, IsPartitionedBy-ltb, IsPartitionedBy-leb, IsNonDecreasingBy-drop}
-use Rattle.acd_rules.proofs.Alike.{alike}
+use Rattle.acd_rules.proofs.EqualNumbers.{alike}
 use Rattle.acd_rules.proofs.grouped.alike.Goals as goal
 
 pub returns : goal.returns

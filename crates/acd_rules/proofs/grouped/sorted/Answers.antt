@@ -1,6 +1,6 @@
 use Rattle.std.proofs.Common.{ap, ◌∙◌, ◌==◌, filter}
 use Rattle.std.proofs.lemmas.List.Sorted.{IsNonDecreasingBy-from_sort}
-use Rattle.acd_rules.proofs.Alike.{same_groups}
+use Rattle.acd_rules.proofs.EqualNumbers.{same_groups}
 use Rattle.acd_rules.proofs.grouped.sorted.Goals as goal
 
 pub returns : goal.returns

@@ -4,9 +4,9 @@ use Rattle.sqlite_schema.specs.Names.{table_named}
 use Rattle.sqlite_schema.specs.declared.schema.Schema.{Schema}
 use Rattle.sqlite.specs.Held.{state}
 use Rattle.acd_sql_columns.specs.Schema.{old_schema}
-use Rattle.acd_sql_schema.specs.Inspecting.{IsAdoptStoreFault}
+use Rattle.acd_sql_schema.specs.Inspection.{IsAdoptStoreFault}
 use Rattle.acd_sessions.proofs.Archives.{adopted_untouched, not_old, refused_untouched}
-use Rattle.acd_sessions.proofs.Taking.{adopted_taken}
+use Rattle.acd_sessions.proofs.BooksOfConnections.{adopted_taken}
 use Rattle.acd_sessions.proofs.connection.archive_over.Goals as goal
 
 pub returns-then-is_some-clause-taken : goal.returns-then-is_some-clause-taken

@@ -1,8 +1,8 @@
 use Rattle.std.proofs.Common.{refl, sym, ◌∙◌}
 use Rattle.sqlite.specs.Held.{state}
-use Rattle.acd_sqlbook.specs.Caching.{followed}
+use Rattle.acd_sqlbook.specs.Caches.{followed}
 use Rattle.acd_sqlbook.specs.State.{book_state}
-use Rattle.acd_sessions.proofs.Taking.{adopted_taken, made_taken, none_made, none_adopted}
+use Rattle.acd_sessions.proofs.BooksOfConnections.{adopted_taken, made_taken, none_made, none_adopted}
 use Rattle.acd_sessions.proofs.connection.book_over.Goals as goal
 
 pub returns-clause-taken : goal.returns-clause-taken

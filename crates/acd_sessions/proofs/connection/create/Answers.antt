@@ -1,5 +1,5 @@
 use Rattle.sqlite.specs.Held.{state}
-use Rattle.acd_sessions.proofs.Taking.{of_unmade}
+use Rattle.acd_sessions.proofs.BooksOfConnections.{of_unmade}
 use Rattle.acd_sessions.proofs.connection.create.Goals as goal
 
 pub returns-in-Ok-clause-made : goal.returns-in-Ok-clause-made

@@ -3,14 +3,14 @@ use Rattle.std.proofs.Common.{subst}
 use Rattle.acd_book.specs.State.{unfailing}
 use Rattle.acd_desk.specs.declared.open_fault.OpenFault.{OpenFault}
 use Rattle.acd_desk.specs.Opening.{Refused}
-use Rattle.acd_desk.specs.Ran.{standing}
-use Rattle.acd_sessions.specs.Answered.{in_memory}
-use Rattle.acd_sessions.proofs.Answering.{new_over, new_refused}
+use Rattle.acd_desk.specs.DeskCalls.{state_of}
+use Rattle.acd_sessions.specs.MemoryAnswers.{in_memory}
+use Rattle.acd_sessions.proofs.MemoryDesk.{new_over, new_refused}
 use Rattle.acd_sessions.proofs.memory.new_desk.Goals as goal
 
 -- src/memory.rt:21:1
 pub returns-in-Ok : goal.returns-in-Ok
-returns-in-Ok c = new_over (unfailing c.new.result) (standing in_memory c.in-Ok.desk) tt tt c.new.ensures c.in-Ok.ensures
+returns-in-Ok c = new_over (unfailing c.new.result) (state_of in_memory c.in-Ok.desk) tt tt c.new.ensures c.in-Ok.ensures
 
 -- src/memory.rt:26:41
 pub unreachable-requires : goal.unreachable-requires

@@ -1,6 +1,6 @@
 use Rattle.std.proofs.Common.{◌++◌, ◌∷◌, [], List, ℕ, subst}
 use Rattle.std.specs.Io.KnownBytes.{Appends}
-use Rattle.acd_io.specs.Sent.{Breaks}
+use Rattle.acd_io.specs.SentBytes.{Breaks}
 use Rattle.acd_io.proofs.Sends.{sent_after, sent_first}
 use Rattle.acd_sessions.proofs.sending.send_text.Goals as goal
 

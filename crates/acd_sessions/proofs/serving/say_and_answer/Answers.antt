@@ -1,5 +1,5 @@
 use Rattle.std.proofs.Common.{rules, inl, refl}
-use Rattle.acd_desk.specs.Standing.{standing}
+use Rattle.acd_desk.specs.DeskState.{state_of}
 use Rattle.acd_io.proofs.Sends.{begins_so}
 use Rattle.acd_sessions.specs.Serving.{listening_line}
 use Rattle.acd_sessions.proofs.ServeDone.{serve_ended}
@@ -14,4 +14,4 @@ returns-in_err-say g c = inl (
 pub returns : goal.returns
 returns g c =
     serve_ended c.args.serving.span (g.E.Write.contents c.args.errors.now) (g.E.Write.contents c.answer.new.errors) c.args.serving.address (g.W.Write.contents c.args.writer.now) (g.W.Write.contents c.say.new.writer)
-    (standing g.B.Book) c.answer.result c.args.desk.now c.answer.new.desk c.in_ok-say.ensures c.answer.ensures
+    (state_of g.B.Book) c.answer.result c.args.desk.now c.answer.new.desk c.in_ok-say.ensures c.answer.ensures

@@ -2,9 +2,9 @@ use Rattle.std.proofs.Common.{inl, refl}
 use Rattle.sqlite.specs.Held.{state}
 use Rattle.acd_sessions.specs.Output.{output}
 use Rattle.acd_lines.specs.Lines.{streams}
-use Rattle.acd_io.specs.Left.{left_of}
+use Rattle.acd_io.specs.RestOfInput.{input_left}
 use Rattle.acd_sessions.specs.Standby.{upon}
-use Rattle.acd_sessions.proofs.StandingBy.{standby_in}
+use Rattle.acd_sessions.proofs.StandbyRuns.{standby_in}
 use Rattle.acd_sessions.proofs.standby.stand_by.Goals as goal
 
 pub returns-in-Err-clause-ended : goal.returns-in-Err-clause-ended
@@ -13,7 +13,7 @@ returns-in-Err-clause-ended g c = inl (record { why = c.from.result; ended = ref
 pub returns-clause-ended : goal.returns-clause-ended
 returns-clause-ended g c =
     standby_in (upon c.args.serving
-    (streams (left_of g.R.Read.remaining) g.W.Write.contents (c.args.feed.now, c.stand_by_book-done.new.feed) (c.args.writer.now, c.stand_by_book-done.new.writer))
+    (streams (input_left g.R.Read.remaining) g.W.Write.contents (c.args.feed.now, c.stand_by_book-done.new.feed) (c.args.writer.now, c.stand_by_book-done.new.writer))
     (output g.E.Write.contents c.args.errors.now c.stand_by_book-done.new.errors))
     g.S.Store (state g.S.Store c.args.conn) c.stand_by_book-done.result.0 c.into_connection.result c.args.makes c.in-Ok.book c.stand_by_book-done.result.1
     (g.met.S.Store.settled c.args.conn.store) c.in-Ok.ensures.taken c.into_connection.ensures.same c.stand_by_book-done.ensures

@@ -1,7 +1,7 @@
 use Rattle.std.proofs.Common.{◌≡◌, ◌++◌, [], append-nil, sym, ap, ◌∙◌, rules}
 use Rattle.std.proofs.lemmas.Cmp.{on_total}
 use Rattle.std.specs.declared.cmp.Ordering.{Ordering}
-use Rattle.acd_sql_differences.specs.Differing.{merged, differences}
+use Rattle.acd_sql_differences.specs.DifferenceSteps.{merged, differences}
 use Rattle.acd_sql_differences.proofs.Differences.{are_steps}
 use Rattle.acd_sql_differences.proofs.difference.row_changes.Goals as goal
 

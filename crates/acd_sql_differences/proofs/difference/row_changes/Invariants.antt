@@ -1,5 +1,5 @@
 use Rattle.std.proofs.Common.{◌≡◌, ◌+◌, ◌++◌, length}
-use Rattle.acd_sql_differences.specs.Differing.{differences}
+use Rattle.acd_sql_differences.specs.DifferenceSteps.{differences}
 use Rattle.acd_sql_differences.proofs.difference.row_changes.Given as goal
 
 abbrev pub invariant-loop-change : goal.invariant-loop-change

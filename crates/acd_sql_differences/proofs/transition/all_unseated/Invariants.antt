@@ -1,5 +1,5 @@
 use Rattle.std.proofs.Common.{◌≡◌, ◌++◌, drop, map}
-use Rattle.acd_sql_differences.specs.Leading.{unseated}
+use Rattle.acd_sql_differences.specs.ChangeOrder.{unseated}
 use Rattle.acd_sql_differences.proofs.transition.all_unseated.Given as goal
 
 abbrev pub invariant-loop-agent : goal.invariant-loop-agent

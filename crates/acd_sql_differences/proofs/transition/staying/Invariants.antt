@@ -1,5 +1,5 @@
 use Rattle.std.proofs.Common.{◌≡◌, ◌++◌, drop, filter}
-use Rattle.acd_sql_differences.specs.Leading.{stays}
+use Rattle.acd_sql_differences.specs.ChangeOrder.{stays}
 use Rattle.acd_sql_differences.proofs.transition.staying.Given as goal
 
 abbrev pub invariant-loop-connection : goal.invariant-loop-connection

@@ -2,7 +2,7 @@ use Rattle.std.proofs.Common.{sym, subst}
 use Rattle.acd_lemmas.proofs.Lists.{ascending-filter}
 use Rattle.acd_terms.specs.Lists.{IsAscending}
 use Rattle.acd_model.specs.Rules.Plan.{connection_order}
-use Rattle.acd_sql_differences.specs.Leading.{stays}
+use Rattle.acd_sql_differences.specs.ChangeOrder.{stays}
 use Rattle.acd_sql_differences.proofs.Transitions.{traffic_leads, traffic_exact}
 use Rattle.acd_sql_differences.proofs.transition.traffic_changes.Goals as goal
 

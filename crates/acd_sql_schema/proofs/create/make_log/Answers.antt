@@ -1,7 +1,7 @@
 use Rattle.std.proofs.Common.{rules}
-use Rattle.acd_sql_schema.proofs.Making.{nine_made, makes_events, makes_kept}
+use Rattle.acd_sql_schema.proofs.TableTexts.{nine_made, makes_events, makes_kept}
 use Rattle.acd_sql_schema.proofs.Steps.{one, followed, halted, renamed}
-use Rattle.acd_sql_schema.proofs.Takings.{takes_events, takes_kept}
+use Rattle.acd_sql_schema.proofs.CreatesAccepted.{takes_events, takes_kept}
 use Rattle.acd_sql_schema.proofs.create.make_log.Goals as goal
 
 pub returns-in_err-make : goal.returns-in_err-make

@@ -1,7 +1,7 @@
 use Rattle.std.proofs.Common.{rules}
-use Rattle.acd_sql_schema.proofs.Making.{makes_meta, makes_groups, makes_stations, makes_agents}
+use Rattle.acd_sql_schema.proofs.TableTexts.{makes_meta, makes_groups, makes_stations, makes_agents}
 use Rattle.acd_sql_schema.proofs.Steps.{one, followed, halted}
-use Rattle.acd_sql_schema.proofs.Takings.{takes_meta, takes_groups, takes_stations, takes_agents}
+use Rattle.acd_sql_schema.proofs.CreatesAccepted.{takes_meta, takes_groups, takes_stations, takes_agents}
 use Rattle.acd_sql_schema.proofs.create.make_plan.Goals as goal
 
 pub returns-in_err-make : goal.returns-in_err-make

@@ -1,7 +1,7 @@
 use Rattle.std.proofs.Common.{rules}
-use Rattle.acd_sql_schema.proofs.Making.{makes_calls, makes_connections, makes_monitors}
+use Rattle.acd_sql_schema.proofs.TableTexts.{makes_calls, makes_connections, makes_monitors}
 use Rattle.acd_sql_schema.proofs.Steps.{one, followed, halted}
-use Rattle.acd_sql_schema.proofs.Takings.{takes_calls, takes_connections, takes_monitors}
+use Rattle.acd_sql_schema.proofs.CreatesAccepted.{takes_calls, takes_connections, takes_monitors}
 use Rattle.acd_sql_schema.proofs.create.make_state.Goals as goal
 
 pub returns-in_err-make : goal.returns-in_err-make

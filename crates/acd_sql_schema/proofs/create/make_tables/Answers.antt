@@ -1,5 +1,5 @@
 use Rattle.std.proofs.Common.{rules}
-use Rattle.acd_sql_columns.specs.Making.{no_rows}
+use Rattle.acd_sql_columns.specs.SchemaSteps.{no_rows}
 use Rattle.acd_sql_schema.proofs.Steps.{followed, halted}
 use Rattle.acd_sql_schema.proofs.create.make_tables.Goals as goal
 

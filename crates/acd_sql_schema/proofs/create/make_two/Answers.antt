@@ -1,7 +1,7 @@
 use Rattle.std.proofs.Common.{rules}
-use Rattle.acd_sql_schema.proofs.Making.{two_made, makes_agent_groups, makes_group_priority}
+use Rattle.acd_sql_schema.proofs.TableTexts.{two_made, makes_agent_groups, makes_group_priority}
 use Rattle.acd_sql_schema.proofs.Steps.{one, followed, halted, renamed}
-use Rattle.acd_sql_schema.proofs.Takings.{takes_agent_groups, takes_group_priority}
+use Rattle.acd_sql_schema.proofs.CreatesAccepted.{takes_agent_groups, takes_group_priority}
 use Rattle.acd_sql_schema.proofs.create.make_two.Goals as goal
 
 pub returns-in_err-make : goal.returns-in_err-make

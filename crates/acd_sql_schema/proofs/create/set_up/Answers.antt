@@ -2,15 +2,15 @@ use Rattle.std.proofs.Common.{◌≡◌, true, Err, IfErr, OnOk, rules, sym, sub
 use Rattle.sqlite.specs.State.{HasCleanDisk}
 use Rattle.sqlite.specs.Held.{state}
 use Rattle.acd_sql_columns.specs.Transactions.{Works}
-use Rattle.acd_sql_columns.specs.Making.{Builds, no_rows}
+use Rattle.acd_sql_columns.specs.SchemaSteps.{Builds, no_rows}
 use Rattle.acd_sql_columns.specs.Schema.{no_schema, book_schema}
-use Rattle.acd_sql_columns.proofs.Endings.{works_on}
+use Rattle.acd_sql_columns.proofs.TransactionEnds.{works_on}
 use Rattle.acd_book.specs.Content.{empty_content}
 use Rattle.acd_sql_columns.specs.Transactions.{HoldsContent}
-use Rattle.acd_sql_schema.specs.SettingUp.{FailsToSetUp, MayMake}
+use Rattle.acd_sql_schema.specs.Creation.{FailsToSetUp, MayMake}
 use Rattle.acd_sql_schema.proofs.NewBook.{holds_new, makes_new, may_make}
-use Rattle.acd_sql_schema.proofs.Building.{begins_with}
-use Rattle.acd_sql_schema.proofs.Stopping.{none_set_up, start_failed, still_failed, commit_stops}
+use Rattle.acd_sql_schema.proofs.CreateTable.{begins_with}
+use Rattle.acd_sql_schema.proofs.CreationCauses.{none_set_up, start_failed, still_failed, commit_stops}
 use Rattle.acd_sql_schema.proofs.create.set_up.Goals as goal
 
 pub returns-clause-failed : goal.returns-clause-failed

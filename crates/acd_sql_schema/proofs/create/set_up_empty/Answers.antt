@@ -2,12 +2,12 @@ use Rattle.std.proofs.Common.{◌≡◌, true, Err, IfErr, rules, sym, subst, ar
 use Rattle.sqlite.specs.State.{HasCleanDisk}
 use Rattle.sqlite.specs.Held.{state}
 use Rattle.acd_sql_columns.specs.Transactions.{Works}
-use Rattle.acd_sql_columns.specs.Making.{Builds, no_rows}
+use Rattle.acd_sql_columns.specs.SchemaSteps.{Builds, no_rows}
 use Rattle.acd_sql_columns.specs.Schema.{no_schema}
 use Rattle.acd_sql_columns.specs.AnyRows.{schema_of}
-use Rattle.acd_sql_schema.specs.SettingUp.{FailsToMake, tables_in}
-use Rattle.acd_sql_schema.proofs.Building.{begins_with}
-use Rattle.acd_sql_schema.proofs.Stopping.{commit_fails, make_still}
+use Rattle.acd_sql_schema.specs.Creation.{FailsToMake, tables_in}
+use Rattle.acd_sql_schema.proofs.CreateTable.{begins_with}
+use Rattle.acd_sql_schema.proofs.CreationCauses.{commit_fails, make_still}
 use Rattle.acd_sql_schema.proofs.create.set_up_empty.Goals as goal
 
 pub returns-clause-failed : goal.returns-clause-failed

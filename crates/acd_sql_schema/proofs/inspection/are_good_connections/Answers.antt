@@ -2,10 +2,10 @@ use Rattle.std.proofs.Common.{Ok, [], rules}
 use Rattle.sqlite.specs.Held.{state}
 use Rattle.acd_sql_columns.specs.declared.tables.Table.TheVariants as table
 use Rattle.acd_sql_columns.specs.AnyRows.{FindsGood}
-use Rattle.acd_sql_columns.proofs.Selected.{finds_good}
-use Rattle.acd_sql_columns.specs.Schema.{nine, BeginsSchema}
-use Rattle.acd_sql_statements.specs.Looking.{HasGood}
-use Rattle.acd_sql_statements.proofs.Lookings.{looks_done, looks_as, sees_as}
+use Rattle.acd_sql_columns.proofs.TableQueries.{finds_good}
+use Rattle.acd_sql_columns.specs.Schema.{tables_1, BeginsSchema}
+use Rattle.acd_sql_statements.specs.Looks.{HasGood}
+use Rattle.acd_sql_statements.proofs.LookCauses.{looks_done, looks_as, sees_as}
 use Rattle.acd_sql_schema.proofs.inspection.are_good_connections.Goals as goal
 
 pub returns-in_err-rows-clause-seen : goal.returns-in_err-rows-clause-seen
@@ -20,10 +20,10 @@ returns-clause-seen g c d is =
 
 pub returns-in_err-rows-clause-looked : goal.returns-in_err-rows-clause-looked
 returns-in_err-rows-clause-looked g c =
-    looks_as (HasGood (BeginsSchema nine) []) (HasGood (BeginsSchema nine) []) (λ d h. h) (state g.S.Store c.args.conn.now)
+    looks_as (HasGood (BeginsSchema tables_1) []) (HasGood (BeginsSchema tables_1) []) (λ d h. h) (state g.S.Store c.args.conn.now)
     (state g.S.Store c.unordered_connection_rows.new.conn) c.in_err-rows.field-0.0 c.from_residual.result (search rules) c.in_err-rows.ensures.looked
 
 pub returns-clause-looked : goal.returns-clause-looked
 returns-clause-looked g c =
-    looks_done (HasGood (BeginsSchema nine) []) (HasGood (BeginsSchema nine) []) (λ d h. h) (state g.S.Store c.args.conn.now)
+    looks_done (HasGood (BeginsSchema tables_1) []) (HasGood (BeginsSchema tables_1) []) (λ d h. h) (state g.S.Store c.args.conn.now)
     (state g.S.Store c.unordered_connection_rows.new.conn) c.in_ok-rows.rows c.are_connections.result c.in_ok-rows.ensures.looked

@@ -1,12 +1,12 @@
 use Rattle.std.proofs.Common.{◌≡◌, Err, arith, refl, rules, subst, sym, Ok, true, false, ◌<◌}
 use Rattle.sqlite.specs.Held.{state}
-use Rattle.acd_sql_schema.specs.Inspecting.{FindsGoodAfter, IsPaged}
-use Rattle.acd_sql_columns.specs.Seeing.{Sees}
-use Rattle.acd_sql_schema.proofs.Looks.{Left, pages_bad, pages_last, pages_more, pages_fail}
-use Rattle.acd_sql_columns.proofs.Seen.{sees_here}
+use Rattle.acd_sql_schema.specs.Inspection.{FindsGoodAfter, IsPaged}
+use Rattle.acd_sql_columns.specs.DatabaseView.{Sees}
+use Rattle.acd_sql_schema.proofs.InspectionReads.{Left, pages_bad, pages_last, pages_more, pages_fail}
+use Rattle.acd_sql_columns.proofs.SnapshotReads.{sees_here}
 use Rattle.acd_sql_columns.specs.Transactions.{Fits}
 use Rattle.acd_sql_schema.proofs.Faults.{pages_looked}
-use Rattle.acd_sql_statements.proofs.Lookings.{looks_as, looks_done, looks_still}
+use Rattle.acd_sql_statements.proofs.LookCauses.{looks_as, looks_done, looks_still}
 use Rattle.acd_sql_schema.proofs.inspection.are_pages_good.Goals as goal
 
 pub loop-page-init : goal.loop-page-init

@@ -1,15 +1,15 @@
 use Rattle.std.proofs.Common.{◌≡◌, Err, rules, subst, sym, Option, None}
 use Rattle.sqlite.specs.Held.{state}
-use Rattle.acd_sql_schema.specs.Inspecting.{IsRowFound, HasCanonical, HasGoodTables, IsBadOf, IsPlaceFound, tables_of}
-use Rattle.acd_sql_columns.specs.Seeing.{Sees}
-use Rattle.acd_sql_schema.proofs.Looks.{bad_found, place_after, covered, each_good}
-use Rattle.acd_sql_columns.proofs.Seen.{sees_fail}
+use Rattle.acd_sql_schema.specs.Inspection.{IsRowFound, HasCanonical, HasGoodTables, IsBadOf, IsPlaceFound, tables_of}
+use Rattle.acd_sql_columns.specs.DatabaseView.{Sees}
+use Rattle.acd_sql_schema.proofs.InspectionReads.{bad_found, place_after, covered, each_good}
+use Rattle.acd_sql_columns.proofs.SnapshotReads.{sees_fail}
 use Rattle.sqlite.specs.Effect.{Database}
 use Rattle.acd_terms.specs.Lists.{Every}
 use Rattle.acd_sql_columns.specs.declared.tables.Table.{Table}
 use Rattle.acd_sql_columns.specs.AnyRows.{schema_of, Covers}
 use Rattle.acd_sql_schema.specs.declared.fault.AdoptFault.{AdoptFault}
-use Rattle.acd_sql_statements.proofs.Lookings.{looks_as, looks_done, looks_then}
+use Rattle.acd_sql_statements.proofs.LookCauses.{looks_as, looks_done, looks_then}
 use Rattle.acd_sql_schema.proofs.inspection.bad_row.Goals as goal
 
 pub returns-in_err-bad-clause-seen : goal.returns-in_err-bad-clause-seen

@@ -3,10 +3,10 @@ use Rattle.sqlite.specs.Effect.{Database}
 use Rattle.sqlite.specs.Held.{state}
 use Rattle.acd_terms.specs.Lists.{Every}
 use Rattle.acd_sql_columns.specs.AnyRows.{Covers}
-use Rattle.acd_sql_columns.specs.Seeing.{Sees}
-use Rattle.acd_sql_statements.specs.Looking.{HasLookCause}
-use Rattle.acd_sql_schema.specs.Inspecting.{HasCanonical}
-use Rattle.acd_sql_schema.proofs.Looks.{Good}
+use Rattle.acd_sql_columns.specs.DatabaseView.{Sees}
+use Rattle.acd_sql_statements.specs.Looks.{HasLookCause}
+use Rattle.acd_sql_schema.specs.Inspection.{HasCanonical}
+use Rattle.acd_sql_schema.proofs.InspectionReads.{Good}
 use Rattle.acd_sql_schema.proofs.inspection.bad_table.Given as goal
 
 abbrev pub invariant-loop-table : goal.invariant-loop-table

@@ -2,7 +2,7 @@ use Rattle.std.proofs.Common.{◌≡◌, ◌∙◌}
 use Rattle.acd_sql_columns.specs.Schema.{old_schema}
 use Rattle.acd_sql_columns.specs.declared.tables.Version.TheVariants as version
 use Rattle.acd_sql_schema.proofs.Faults.{no_book, not_first, not_same}
-use Rattle.acd_sql_schema.proofs.Looks.{begins_of}
+use Rattle.acd_sql_schema.proofs.InspectionReads.{begins_of}
 use Rattle.acd_sql_schema.proofs.inspection.compared_to_old.Goals as goal
 
 pub returns-then-is_same_first-clause-like : goal.returns-then-is_same_first-clause-like

@@ -3,13 +3,13 @@ use Rattle.sqlite_schema.specs.declared.schema.Schema.{Schema}
 use Rattle.sqlite.specs.Effect.{Database}
 use Rattle.sqlite.specs.Held.{state}
 use Rattle.acd_sql_columns.specs.AnyRows.{has_meta, BeginsAsBook, IsCanonical, schema_of}
-use Rattle.acd_sql_columns.proofs.Seen.{sees_here}
-use Rattle.acd_sql_statements.specs.Looking.{HasLookCause, HasGood}
-use Rattle.acd_sql_statements.proofs.Lookings.{looks_at, looks_lacks, looks_still}
+use Rattle.acd_sql_columns.proofs.SnapshotReads.{sees_here}
+use Rattle.acd_sql_statements.specs.Looks.{HasLookCause, HasGood}
+use Rattle.acd_sql_statements.proofs.LookCauses.{looks_at, looks_lacks, looks_still}
 use Rattle.acd_sql_schema.specs.declared.fault.AdoptFault.TheVariants.{Store}
 use Rattle.acd_sql_schema.specs.declared.fault.Found.{Found}
 use Rattle.acd_sql_schema.specs.declared.fault.Found.TheVariants.{Fault}
-use Rattle.acd_sql_schema.specs.Inspecting.{HasCanonical, IsFound, other}
+use Rattle.acd_sql_schema.specs.Inspection.{HasCanonical, IsFound, other}
 use Rattle.acd_sql_schema.proofs.Faults.{canonical_there}
 use Rattle.acd_sql_schema.proofs.inspection.found_in.Goals as goal
 

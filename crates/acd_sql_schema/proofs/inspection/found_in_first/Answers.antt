@@ -1,10 +1,10 @@
 use Rattle.std.proofs.Common.{[], rules}
 use Rattle.acd_sql_columns.specs.AnyRows.{BeginsAsBook}
 use Rattle.sqlite.specs.Held.{state}
-use Rattle.acd_sql_schema.specs.Inspecting.{IsFound, none}
-use Rattle.acd_sql_schema.proofs.Looks.{fault_read, other_read}
-use Rattle.acd_sql_statements.specs.Looking.{HasGood}
-use Rattle.acd_sql_statements.proofs.Lookings.{looks_done, looks_as, sees_as}
+use Rattle.acd_sql_schema.specs.Inspection.{IsFound, none}
+use Rattle.acd_sql_schema.proofs.InspectionReads.{fault_read, other_read}
+use Rattle.acd_sql_statements.specs.Looks.{HasGood}
+use Rattle.acd_sql_statements.proofs.LookCauses.{looks_done, looks_as, sees_as}
 use Rattle.acd_sql_schema.proofs.inspection.found_in_first.Goals as goal
 
 pub returns-in_err-fault-clause-seen : goal.returns-in_err-fault-clause-seen

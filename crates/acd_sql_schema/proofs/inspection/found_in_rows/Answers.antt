@@ -1,9 +1,9 @@
 use Rattle.std.proofs.Common.{◌≡◌, rules}
 use Rattle.acd_sql_columns.specs.AnyRows.{schema_of}
 use Rattle.sqlite.specs.Held.{state}
-use Rattle.acd_sql_schema.proofs.Looks.{row_fault, rows_good, IsFoundIn}
-use Rattle.acd_sql_schema.specs.Inspecting.{HasCanonical}
-use Rattle.acd_sql_statements.proofs.Lookings.{looks_done, looks_as, sees_as}
+use Rattle.acd_sql_schema.proofs.InspectionReads.{row_fault, rows_good, IsFoundIn}
+use Rattle.acd_sql_schema.specs.Inspection.{HasCanonical}
+use Rattle.acd_sql_statements.proofs.LookCauses.{looks_done, looks_as, sees_as}
 use Rattle.acd_sql_schema.proofs.inspection.found_in_rows.Goals as goal
 
 pub returns-in_err-fault-clause-seen : goal.returns-in_err-fault-clause-seen

@@ -1,18 +1,18 @@
 use Rattle.std.proofs.Common.{◌≡◌, Err, rules, subst, sym, [], ◌≢◌}
 use Rattle.sqlite.specs.Held.{state}
-use Rattle.acd_sql_schema.specs.Inspecting.{IsFound, HasCanonical, IsVersionRead}
-use Rattle.acd_sql_columns.specs.Seeing.{Sees}
+use Rattle.acd_sql_schema.specs.Inspection.{IsFound, HasCanonical, IsVersionRead}
+use Rattle.acd_sql_columns.specs.DatabaseView.{Sees}
 use Rattle.acd_sql_columns.proofs.Listings.{version_begins}
-use Rattle.acd_sql_columns.proofs.Looked.{nine_begin}
-use Rattle.acd_sql_schema.proofs.Looks.{fault_read, other_read, rows_after, IsFoundIn}
-use Rattle.acd_sql_columns.proofs.Seen.{sees_fail}
+use Rattle.acd_sql_columns.proofs.QueryResults.{nine_begin}
+use Rattle.acd_sql_schema.proofs.InspectionReads.{fault_read, other_read, rows_after, IsFoundIn}
+use Rattle.acd_sql_columns.proofs.SnapshotReads.{sees_fail}
 use Rattle.sqlite.specs.Effect.{Database}
 use Rattle.acd_sql_columns.specs.AnyRows.{BeginsAsBook, schema_of}
 use Rattle.acd_sql_schema.specs.declared.fault.Found.{Found}
 use Rattle.acd_sql_schema.specs.declared.verdict.VersionRead.{VersionRead}
-use Rattle.acd_sql_statements.specs.Looking.{HasGood}
-use Rattle.acd_sql_statements.proofs.Lookings.{looks_as, looks_done, looks_then}
-use Rattle.acd_sql_schema.specs.Inspecting as unlike
+use Rattle.acd_sql_statements.specs.Looks.{HasGood}
+use Rattle.acd_sql_statements.proofs.LookCauses.{looks_as, looks_done, looks_then}
+use Rattle.acd_sql_schema.specs.Inspection as unlike
 use Rattle.acd_sql_schema.proofs.inspection.found_in_whole.Goals as goal
 
 pub returns-in_err-read-clause-seen : goal.returns-in_err-read-clause-seen

@@ -3,13 +3,13 @@ use Rattle.sqlite.specs.Effect.{Database}
 use Rattle.acd_sql_columns.specs.declared.tables.Table.TheVariants as table
 use Rattle.sqlite.specs.Held.{state}
 use Rattle.acd_sql_columns.specs.declared.tables.Version.TheVariants as version
-use Rattle.acd_sql_schema.specs.Inspecting.{IsPlaceFound, HasGoodTables}
-use Rattle.acd_sql_schema.proofs.Looks.{further_right, further_wrong, IsRankFound}
+use Rattle.acd_sql_schema.specs.Inspection.{IsPlaceFound, HasGoodTables}
+use Rattle.acd_sql_schema.proofs.InspectionReads.{further_right, further_wrong, IsRankFound}
 use Rattle.acd_sql_columns.specs.AnyRows.{is_beside}
 use Rattle.acd_sql_schema.specs.declared.fault.AdoptFault.{AdoptFault}
-use Rattle.acd_sql_statements.specs.Between.{IsBookSchema}
-use Rattle.acd_sql_statements.specs.Looking.{HasGood}
-use Rattle.acd_sql_statements.proofs.Lookings.{looks_done, looks_as, looks_then, sees_as}
+use Rattle.acd_sql_statements.specs.ReadsBetween.{IsBookSchema}
+use Rattle.acd_sql_statements.specs.Looks.{HasGood}
+use Rattle.acd_sql_statements.proofs.LookCauses.{looks_done, looks_as, looks_then, sees_as}
 use Rattle.acd_sql_schema.proofs.inspection.found_misplaced.Goals as goal
 
 pub returns-then-placed-clause-seen : goal.returns-then-placed-clause-seen

@@ -1,18 +1,18 @@
 use Rattle.std.proofs.Common.{◌≡◌, Err, [], rules, subst, sym, ◌∙◌, false}
 use Rattle.sqlite.specs.Held.{state}
 use Rattle.acd_sql_columns.specs.AnyRows.{table_of_log, FindsGood, FindsLow}
-use Rattle.acd_sql_columns.specs.Seeing.{Sees}
-use Rattle.acd_sql_schema.proofs.Looks.{nothing_in, something_in, log_low, log_pages}
-use Rattle.acd_sql_columns.proofs.Seen.{sees_fail}
+use Rattle.acd_sql_columns.specs.DatabaseView.{Sees}
+use Rattle.acd_sql_schema.proofs.InspectionReads.{nothing_in, something_in, log_low, log_pages}
+use Rattle.acd_sql_columns.proofs.SnapshotReads.{sees_fail}
 use Rattle.std.specs.Prelude.{Vec, Bool}
 use Rattle.std.specs.declared.alloc.Global.{Global}
 use Rattle.sqlite.specs.Effect.{Database}
 use Rattle.sqlite_value.specs.Order.{Row}
-use Rattle.acd_sql_columns.specs.Schema.{nine, BeginsSchema}
-use Rattle.acd_sql_schema.specs.Inspecting.{HasCanonical, IsPaged, FindsGoodAfter}
-use Rattle.acd_sql_schema.proofs.Paged.{numbers_of}
-use Rattle.acd_sql_statements.specs.Looking.{HasGood}
-use Rattle.acd_sql_statements.proofs.Lookings.{looks_as, looks_done, looks_then}
+use Rattle.acd_sql_columns.specs.Schema.{tables_1, BeginsSchema}
+use Rattle.acd_sql_schema.specs.Inspection.{HasCanonical, IsPaged, FindsGoodAfter}
+use Rattle.acd_sql_schema.proofs.LogPages.{numbers_of}
+use Rattle.acd_sql_statements.specs.Looks.{HasGood}
+use Rattle.acd_sql_statements.proofs.LookCauses.{looks_as, looks_done, looks_then}
 use Rattle.acd_sql_schema.proofs.inspection.is_good_log.Goals as goal
 
 pub returns-in_err-low-clause-seen : goal.returns-in_err-low-clause-seen
@@ -37,13 +37,13 @@ returns-clause-seen g c d is =
 pub returns-in_err-low-clause-looked : goal.returns-in_err-low-clause-looked
 returns-in_err-low-clause-looked g c =
     let is : c.from_residual.result ≡ Err c.in_err-low.field-0.0 = search rules in
-    looks_as (HasCanonical (BeginsSchema nine)) (HasGood (BeginsSchema nine) []) (λ d h. (h.0, tt)) (state g.S.Store c.args.conn.now)
+    looks_as (HasCanonical (BeginsSchema tables_1)) (HasGood (BeginsSchema tables_1) []) (λ d h. (h.0, tt)) (state g.S.Store c.args.conn.now)
     (state g.S.Store c.low_rows.new.conn) c.in_err-low.field-0.0 c.from_residual.result is c.in_err-low.ensures.looked
 
 pub returns-then-is_empty-clause-looked : goal.returns-then-is_empty-clause-looked
 returns-then-is_empty-clause-looked g c =
     let none : c.in_ok-low.low.items ≡ [] = nothing_in c.in_ok-low.low (sym c.is_empty.ensures ∙ c.if-is_empty.true) in
-    looks_then (HasCanonical (BeginsSchema nine)) (HasGood (BeginsSchema nine) []) (IsPaged c.args.log)
+    looks_then (HasCanonical (BeginsSchema tables_1)) (HasGood (BeginsSchema tables_1) []) (IsPaged c.args.log)
     (λ (d : Database) (rows : Vec Row Global). FindsLow c.args.log d.trees rows.items)
     (λ (d : Database) (good : Bool). FindsGoodAfter c.args.log d.trees good)
     (state g.S.Store c.args.conn.now) (state g.S.Store c.low_rows.new.conn) (state g.S.Store c.are_pages_good.new.conn) c.in_ok-low.low c.are_pages_good.result
@@ -52,5 +52,5 @@ returns-then-is_empty-clause-looked g c =
 
 pub returns-clause-looked : goal.returns-clause-looked
 returns-clause-looked g c =
-    looks_done (HasCanonical (BeginsSchema nine)) (HasGood (BeginsSchema nine) []) (λ d h. (h.0, tt)) (state g.S.Store c.args.conn.now)
+    looks_done (HasCanonical (BeginsSchema tables_1)) (HasGood (BeginsSchema tables_1) []) (λ d h. (h.0, tt)) (state g.S.Store c.args.conn.now)
     (state g.S.Store c.low_rows.new.conn) c.in_ok-low.low false c.in_ok-low.ensures.looked

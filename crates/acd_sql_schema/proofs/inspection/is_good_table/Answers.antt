@@ -1,14 +1,14 @@
 use Rattle.std.proofs.Common.{sym, subst, [], ◌++◌}
 use Rattle.sqlite.specs.Held.{state}
 use Rattle.acd_sql_columns.specs.AnyRows.{Covers, FindsGood}
-use Rattle.acd_sql_columns.specs.Seeing.{Sees}
+use Rattle.acd_sql_columns.specs.DatabaseView.{Sees}
 use Rattle.acd_sql_columns.proofs.Listings.{whole_begins}
-use Rattle.acd_sql_columns.specs.Schema.{nine, two, BeginsSchema}
-use Rattle.acd_sql_statements.specs.Between.{IsBookSchema}
-use Rattle.acd_sql_schema.specs.Inspecting.{HasCanonical}
-use Rattle.acd_sql_statements.proofs.Answered.{groups_over, stations_over, agents_over, calls_over, monitors_over, priorities_over}
-use Rattle.acd_sql_statements.specs.Looking.{HasGood}
-use Rattle.acd_sql_statements.proofs.Lookings.{looks_so}
+use Rattle.acd_sql_columns.specs.Schema.{tables_1, added_in_2, BeginsSchema}
+use Rattle.acd_sql_statements.specs.ReadsBetween.{IsBookSchema}
+use Rattle.acd_sql_schema.specs.Inspection.{HasCanonical}
+use Rattle.acd_sql_statements.proofs.ReadTexts.{groups_over, stations_over, agents_over, calls_over, monitors_over, priorities_over}
+use Rattle.acd_sql_statements.specs.Looks.{HasGood}
+use Rattle.acd_sql_statements.proofs.LookCauses.{looks_so}
 use Rattle.acd_sql_schema.proofs.inspection.is_good_table.Goals as goal
 
 pub returns-in-Meta-clause-seen : goal.returns-in-Meta-clause-seen
@@ -84,50 +84,50 @@ returns-in-GroupPriority-clause-seen g c d is =
 
 pub returns-in-Meta-clause-looked : goal.returns-in-Meta-clause-looked
 returns-in-Meta-clause-looked g c =
-    looks_so (HasCanonical (λ s. Covers s c.args.table)) (HasGood (BeginsSchema nine) []) (λ d h. ((subst (Covers d.schema) c.in-Meta.is h.0), tt))
+    looks_so (HasCanonical (λ s. Covers s c.args.table)) (HasGood (BeginsSchema tables_1) []) (λ d h. ((subst (Covers d.schema) c.in-Meta.is h.0), tt))
     (state g.S.Store c.args.conn.now) (state g.S.Store c.is_good_meta.new.conn) c.is_good_meta.result c.is_good_meta.ensures.looked
 
 pub returns-in-Groups-clause-looked : goal.returns-in-Groups-clause-looked
 returns-in-Groups-clause-looked g c =
-    looks_so (HasCanonical (λ s. Covers s c.args.table)) (HasGood (BeginsSchema nine) []) (λ d h. ((subst (Covers d.schema) c.in-Groups.is h.0), tt))
+    looks_so (HasCanonical (λ s. Covers s c.args.table)) (HasGood (BeginsSchema tables_1) []) (λ d h. ((subst (Covers d.schema) c.in-Groups.is h.0), tt))
     (state g.S.Store c.args.conn.now) (state g.S.Store c.is_good.new.conn) c.is_good.result (c.is_good.ensures.looked groups_over)
 
 pub returns-in-Stations-clause-looked : goal.returns-in-Stations-clause-looked
 returns-in-Stations-clause-looked g c =
-    looks_so (HasCanonical (λ s. Covers s c.args.table)) (HasGood (BeginsSchema nine) []) (λ d h. ((subst (Covers d.schema) c.in-Stations.is h.0), tt))
+    looks_so (HasCanonical (λ s. Covers s c.args.table)) (HasGood (BeginsSchema tables_1) []) (λ d h. ((subst (Covers d.schema) c.in-Stations.is h.0), tt))
     (state g.S.Store c.args.conn.now) (state g.S.Store c.is_good-in-Stations.new.conn) c.is_good-in-Stations.result
     (c.is_good-in-Stations.ensures.looked stations_over)
 
 pub returns-in-Agents-clause-looked : goal.returns-in-Agents-clause-looked
 returns-in-Agents-clause-looked g c =
-    looks_so (HasCanonical (λ s. Covers s c.args.table)) (HasGood (BeginsSchema nine) []) (λ d h. ((subst (Covers d.schema) c.in-Agents.is h.0), tt))
+    looks_so (HasCanonical (λ s. Covers s c.args.table)) (HasGood (BeginsSchema tables_1) []) (λ d h. ((subst (Covers d.schema) c.in-Agents.is h.0), tt))
     (state g.S.Store c.args.conn.now) (state g.S.Store c.is_good-in-Agents.new.conn) c.is_good-in-Agents.result
     (c.is_good-in-Agents.ensures.looked agents_over)
 
 pub returns-in-Calls-clause-looked : goal.returns-in-Calls-clause-looked
 returns-in-Calls-clause-looked g c =
-    looks_so (HasCanonical (λ s. Covers s c.args.table)) (HasGood (BeginsSchema nine) []) (λ d h. ((subst (Covers d.schema) c.in-Calls.is h.0), tt))
+    looks_so (HasCanonical (λ s. Covers s c.args.table)) (HasGood (BeginsSchema tables_1) []) (λ d h. ((subst (Covers d.schema) c.in-Calls.is h.0), tt))
     (state g.S.Store c.args.conn.now) (state g.S.Store c.is_good-in-Calls.new.conn) c.is_good-in-Calls.result (c.is_good-in-Calls.ensures.looked calls_over)
 
 pub returns-in-Connections-clause-looked : goal.returns-in-Connections-clause-looked
 returns-in-Connections-clause-looked g c =
-    looks_so (HasCanonical (λ s. Covers s c.args.table)) (HasGood (BeginsSchema nine) []) (λ d h. ((subst (Covers d.schema) c.in-Connections.is h.0), tt))
+    looks_so (HasCanonical (λ s. Covers s c.args.table)) (HasGood (BeginsSchema tables_1) []) (λ d h. ((subst (Covers d.schema) c.in-Connections.is h.0), tt))
     (state g.S.Store c.args.conn.now) (state g.S.Store c.are_good_connections.new.conn) c.are_good_connections.result c.are_good_connections.ensures.looked
 
 pub returns-in-Monitors-clause-looked : goal.returns-in-Monitors-clause-looked
 returns-in-Monitors-clause-looked g c =
-    looks_so (HasCanonical (λ s. Covers s c.args.table)) (HasGood (BeginsSchema nine) []) (λ d h. ((subst (Covers d.schema) c.in-Monitors.is h.0), tt))
+    looks_so (HasCanonical (λ s. Covers s c.args.table)) (HasGood (BeginsSchema tables_1) []) (λ d h. ((subst (Covers d.schema) c.in-Monitors.is h.0), tt))
     (state g.S.Store c.args.conn.now) (state g.S.Store c.is_good-in-Monitors.new.conn) c.is_good-in-Monitors.result
     (c.is_good-in-Monitors.ensures.looked monitors_over)
 
 pub returns-in-Events-clause-looked : goal.returns-in-Events-clause-looked
 returns-in-Events-clause-looked g c =
-    looks_so (HasCanonical (λ s. Covers s c.args.table)) (HasCanonical (BeginsSchema nine)) (λ d h. ((subst (Covers d.schema) c.in-Events.is h.0), h.1))
+    looks_so (HasCanonical (λ s. Covers s c.args.table)) (HasCanonical (BeginsSchema tables_1)) (λ d h. ((subst (Covers d.schema) c.in-Events.is h.0), h.1))
     (state g.S.Store c.args.conn.now) (state g.S.Store c.is_good_log.new.conn) c.is_good_log.result c.is_good_log.ensures.looked
 
 pub returns-in-Kept-clause-looked : goal.returns-in-Kept-clause-looked
 returns-in-Kept-clause-looked g c =
-    looks_so (HasCanonical (λ s. Covers s c.args.table)) (HasCanonical (BeginsSchema nine)) (λ d h. ((subst (Covers d.schema) c.in-Kept.is h.0), h.1))
+    looks_so (HasCanonical (λ s. Covers s c.args.table)) (HasCanonical (BeginsSchema tables_1)) (λ d h. ((subst (Covers d.schema) c.in-Kept.is h.0), h.1))
     (state g.S.Store c.args.conn.now) (state g.S.Store c.is_good_log-in-Kept.new.conn) c.is_good_log-in-Kept.result c.is_good_log-in-Kept.ensures.looked
 
 pub returns-in-AgentGroups-clause-looked : goal.returns-in-AgentGroups-clause-looked
@@ -137,6 +137,6 @@ returns-in-AgentGroups-clause-looked g c =
 
 pub returns-in-GroupPriority-clause-looked : goal.returns-in-GroupPriority-clause-looked
 returns-in-GroupPriority-clause-looked g c =
-    looks_so (HasCanonical (λ s. Covers s c.args.table)) (HasGood (BeginsSchema (nine ++ two)) [])
+    looks_so (HasCanonical (λ s. Covers s c.args.table)) (HasGood (BeginsSchema (tables_1 ++ added_in_2)) [])
     (λ d h. ((whole_begins d.schema (subst (Covers d.schema) c.in-GroupPriority.is h.0)), tt)) (state g.S.Store c.args.conn.now)
     (state g.S.Store c.is_good-in-GroupPriority.new.conn) c.is_good-in-GroupPriority.result (c.is_good-in-GroupPriority.ensures.looked priorities_over)

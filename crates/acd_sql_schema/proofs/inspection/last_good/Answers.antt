@@ -1,5 +1,5 @@
 use Rattle.std.proofs.Common.{◌∙◌, sym}
-use Rattle.acd_sql_schema.proofs.Paged.{last_step, last_stop, last_end, number_fits}
+use Rattle.acd_sql_schema.proofs.LogPages.{last_step, last_stop, last_end, number_fits}
 use Rattle.acd_sql_schema.proofs.inspection.last_good.Goals as goal
 
 pub loop-row-preserved : goal.loop-row-preserved

@@ -1,6 +1,6 @@
 use Rattle.std.proofs.Common.{◌≡◌, drop}
 use Rattle.acd_sql_columns.specs.Transactions.{Fits}
-use Rattle.acd_sql_schema.specs.Inspecting.{last_good}
+use Rattle.acd_sql_schema.specs.Inspection.{last_good}
 use Rattle.acd_sql_schema.proofs.inspection.last_good.Given as goal
 
 abbrev pub invariant-loop-row : goal.invariant-loop-row

@@ -3,11 +3,11 @@ use Rattle.sqlite.specs.Held.{state}
 use Rattle.std.specs.Prelude.{⊤}
 use Rattle.sqlite.specs.Effect.{Database}
 use Rattle.acd_sql_columns.specs.AnyRows.{IsCanonical}
-use Rattle.acd_sql_statements.proofs.Lookings.{looks_as, looks_then}
+use Rattle.acd_sql_statements.proofs.LookCauses.{looks_as, looks_then}
 use Rattle.acd_sql_schema.specs.declared.fault.Found.{Found}
-use Rattle.acd_sql_schema.specs.Inspecting.{IsFound}
-use Rattle.acd_sql_columns.specs.Seeing.{HasLooked}
-use Rattle.acd_sql_schema.proofs.Looks.{looked, looked_not, sees_at, was_idle}
+use Rattle.acd_sql_schema.specs.Inspection.{IsFound}
+use Rattle.acd_sql_columns.specs.DatabaseView.{HasLooked}
+use Rattle.acd_sql_schema.proofs.InspectionReads.{looked, looked_not, sees_at, was_idle}
 use Rattle.acd_sql_schema.proofs.inspection.look_over.Goals as goal
 
 pub returns-in_err-probe-clause-looked : goal.returns-in_err-probe-clause-looked

@@ -1,6 +1,6 @@
 use Rattle.std.proofs.Common.{sym, ap, ◌∙◌}
-use Rattle.acd_sql_schema.specs.Inspecting.{number_if_good}
-use Rattle.acd_sql_schema.proofs.Paged.{event_numbered, kept_numbered}
+use Rattle.acd_sql_schema.specs.Inspection.{number_if_good}
+use Rattle.acd_sql_schema.proofs.LogPages.{event_numbered, kept_numbered}
 use Rattle.acd_sql_schema.proofs.inspection.number_if_good.Goals as goal
 
 pub returns-in-Events-clause-number : goal.returns-in-Events-clause-number

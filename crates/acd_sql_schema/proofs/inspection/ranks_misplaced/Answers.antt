@@ -2,11 +2,11 @@ use Rattle.std.proofs.Common.{[], ◌∷◌, rules}
 use Rattle.acd_sql_columns.specs.declared.tables.Table.TheVariants as table
 use Rattle.acd_sql_columns.specs.declared.tables.Version.TheVariants as version
 use Rattle.sqlite.specs.Held.{state}
-use Rattle.acd_sql_schema.proofs.Looks.{IsRankFound, ranks_right, ranks_wrong}
-use Rattle.acd_sql_statements.specs.Between.{IsBookSchema}
-use Rattle.acd_sql_schema.specs.Inspecting.{HasGoodTables}
-use Rattle.acd_sql_statements.specs.Looking.{HasGood}
-use Rattle.acd_sql_statements.proofs.Lookings.{looks_done, looks_as, sees_as}
+use Rattle.acd_sql_schema.proofs.InspectionReads.{IsRankFound, ranks_right, ranks_wrong}
+use Rattle.acd_sql_statements.specs.ReadsBetween.{IsBookSchema}
+use Rattle.acd_sql_schema.specs.Inspection.{HasGoodTables}
+use Rattle.acd_sql_statements.specs.Looks.{HasGood}
+use Rattle.acd_sql_statements.proofs.LookCauses.{looks_done, looks_as, sees_as}
 use Rattle.acd_sql_schema.proofs.inspection.ranks_misplaced.Goals as goal
 
 pub returns-then-placed-clause-seen : goal.returns-then-placed-clause-seen

@@ -1,10 +1,10 @@
 use Rattle.std.proofs.Common.{[], rules}
 use Rattle.acd_sql_columns.specs.AnyRows.{BeginsAsBook}
 use Rattle.sqlite.specs.Held.{state}
-use Rattle.acd_sql_schema.specs.Inspecting.{IsVersionRead}
-use Rattle.acd_sql_schema.proofs.Looks.{version_read}
-use Rattle.acd_sql_statements.specs.Looking.{HasGood}
-use Rattle.acd_sql_statements.proofs.Lookings.{looks_done, looks_as, sees_as}
+use Rattle.acd_sql_schema.specs.Inspection.{IsVersionRead}
+use Rattle.acd_sql_schema.proofs.InspectionReads.{version_read}
+use Rattle.acd_sql_statements.specs.Looks.{HasGood}
+use Rattle.acd_sql_statements.proofs.LookCauses.{looks_done, looks_as, sees_as}
 use Rattle.acd_sql_schema.proofs.inspection.version_read.Goals as goal
 
 pub returns-in_err-rows-clause-seen : goal.returns-in_err-rows-clause-seen

@@ -2,9 +2,9 @@ use Rattle.std.proofs.Common.{◌≡◌, true, Err, IfErr, refl, rules, sym, sub
 use Rattle.sqlite.specs.State.{HasCleanDisk}
 use Rattle.sqlite.specs.Held.{state}
 use Rattle.acd_sql_columns.specs.Transactions.{Works}
-use Rattle.acd_sql_schema.specs.Migrating.{FailsToMigrate, IsAltered}
-use Rattle.acd_sql_schema.proofs.Migrated.{still_unmade, unmade_if}
-use Rattle.acd_sql_schema.proofs.Stopping.{commit_fails}
+use Rattle.acd_sql_schema.specs.Migration.{FailsToMigrate, IsAltered}
+use Rattle.acd_sql_schema.proofs.MigratedTables.{still_unmade, unmade_if}
+use Rattle.acd_sql_schema.proofs.CreationCauses.{commit_fails}
 use Rattle.acd_sql_schema.proofs.migration.migrate.Goals as goal
 
 pub returns-clause-failed : goal.returns-clause-failed

@@ -1,12 +1,12 @@
 use Rattle.std.proofs.Common.{[], rules}
 use Rattle.sqlite.specs.Held.{state}
-use Rattle.acd_sql_columns.proofs.Looked.{version_plain, sees_version}
+use Rattle.acd_sql_columns.proofs.QueryResults.{version_plain, sees_version}
 use Rattle.acd_sql_columns.specs.AnyRows.{BeginsAsBook}
 use Rattle.acd_sql_columns.specs.declared.texts.TheConstants.{SELECT_VERSION}
-use Rattle.acd_sql_statements.specs.Looking.{HasGood}
-use Rattle.acd_sql_statements.specs.Reading.{RefusesToShow}
-use Rattle.acd_sql_statements.proofs.Answered.{version_over}
-use Rattle.acd_sql_statements.proofs.Lookings.{looks_so}
+use Rattle.acd_sql_statements.specs.Looks.{HasGood}
+use Rattle.acd_sql_statements.specs.ReadFailures.{RefusesToShow}
+use Rattle.acd_sql_statements.proofs.ReadTexts.{version_over}
+use Rattle.acd_sql_statements.proofs.LookCauses.{looks_so}
 use Rattle.acd_sql_statements.proofs.look.version_rows.Goals as goal
 
 pub returns-clause-looks : goal.returns-clause-looks

@@ -1,6 +1,6 @@
 use Rattle.std.proofs.Common.{ℕ, nat_lt, refl, rules}
 use Rattle.sqlite.specs.Held.{state}
-use Rattle.acd_sql_statements.proofs.Chained.{finds_failed}
+use Rattle.acd_sql_statements.proofs.ReadsInTurn.{finds_failed}
 use Rattle.acd_terms.specs.declared.event.Event.{Event}
 use Rattle.acd_book.specs.Content.{Content}
 use Rattle.acd_sql_columns.specs.Rows.{event_values}

@@ -1,6 +1,6 @@
 use Rattle.std.proofs.Common.{Some, rules, refl, ℕ}
 use Rattle.sqlite.specs.Held.{state}
-use Rattle.acd_sql_statements.proofs.Chained.{finds_failed}
+use Rattle.acd_sql_statements.proofs.ReadsInTurn.{finds_failed}
 use Rattle.acd_book.specs.Content.{Content, is_at_after}
 use Rattle.acd_sql_columns.specs.Rows.{event_values}
 use Rattle.acd_sql_statements.proofs.Pages.{paged, falls_at_after}

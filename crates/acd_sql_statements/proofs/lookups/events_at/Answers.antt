@@ -1,11 +1,11 @@
 use Rattle.std.proofs.Common.{filter, take, Some, map, refl, rules}
 use Rattle.sqlite.specs.Held.{state}
-use Rattle.acd_sql_statements.proofs.Chained.{finds_failed}
+use Rattle.acd_sql_statements.proofs.ReadsInTurn.{finds_failed}
 use Rattle.acd_book.specs.Content.{Content, is_at_after}
 use Rattle.acd_sql_columns.specs.Ranges.{event_in}
 use Rattle.acd_sql_columns.specs.Rows.{event_values}
-use Rattle.acd_sql_columns.proofs.Reported.{event_exact}
-use Rattle.acd_sql_columns.proofs.Recorded.{recorded}
+use Rattle.acd_sql_columns.proofs.EventRows.{event_exact}
+use Rattle.acd_sql_columns.proofs.RecordsOfRows.{recorded}
 use Rattle.acd_sql_columns.specs.declared.tables.Table.TheVariants as table
 use Rattle.acd_sql_statements.proofs.ReadCauses.{cause_as}
 use Rattle.acd_sql_statements.proofs.RowCauses.{cause_records, rows_has, page_has}

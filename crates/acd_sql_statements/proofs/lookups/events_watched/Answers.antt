@@ -1,6 +1,6 @@
 use Rattle.sqlite.specs.Held.{state}
-use Rattle.acd_sql_statements.proofs.Chained.{finds_failed}
-use Rattle.acd_sql_statements.proofs.FirstFound.{watched}
+use Rattle.acd_sql_statements.proofs.ReadsInTurn.{finds_failed}
+use Rattle.acd_sql_statements.proofs.FirstRecord.{watched}
 use Rattle.std.proofs.Common.{rules}
 use Rattle.acd_sql_statements.proofs.ReadCauses.{cause_as, cause_after}
 use Rattle.acd_sql_statements.proofs.lookups.events_watched.Goals as goal

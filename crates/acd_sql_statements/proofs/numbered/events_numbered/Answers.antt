@@ -1,10 +1,10 @@
 use Rattle.std.proofs.Common.{◌≡◌, refl, rules, Ok, Err, take, subst}
 use Rattle.sqlite.specs.Held.{state}
 use Rattle.sqlite.specs.declared.error.Error.{Error}
-use Rattle.acd_sql_columns.specs.Finding.{Finds}
-use Rattle.acd_sql_statements.specs.Picking.{picked}
+use Rattle.acd_sql_columns.specs.ReadResults.{Finds}
+use Rattle.acd_sql_statements.specs.EventsByNumber.{picked}
 use Rattle.acd_sql_statements.proofs.ReadCauses.{cause_as, cause_after, cause_done, cause_still}
-use Rattle.acd_sql_statements.proofs.Picked.{all_picked, picked_none, picked_more, picked_broken}
+use Rattle.acd_sql_statements.proofs.ReadsByNumber.{all_picked, picked_none, picked_more, picked_broken}
 use Rattle.acd_sql_statements.proofs.numbered.events_numbered.Goals as goal
 
 pub loop-number-init : goal.loop-number-init

@@ -1,9 +1,9 @@
 use Rattle.std.proofs.Common.{◌≡◌, take, false, Ok}
 use Rattle.sqlite.specs.Held.{state}
 use Rattle.sqlite.specs.declared.error.Error.{Error}
-use Rattle.acd_sql_columns.specs.Finding.{Finds}
-use Rattle.acd_sql_statements.specs.Picking.{picked, IsOpenIfClean}
-use Rattle.acd_sql_statements.specs.Reading.{HasReadCause}
+use Rattle.acd_sql_columns.specs.ReadResults.{Finds}
+use Rattle.acd_sql_statements.specs.EventsByNumber.{picked, IsOpenIfClean}
+use Rattle.acd_sql_statements.specs.ReadFailures.{HasReadCause}
 use Rattle.acd_sql_statements.proofs.numbered.events_numbered.Given as goal
 
 abbrev pub invariant-loop-number : goal.invariant-loop-number

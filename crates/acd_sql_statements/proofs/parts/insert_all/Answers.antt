@@ -5,14 +5,14 @@ use Rattle.acd_sql_columns.specs.Content.{with_part}
 use Rattle.acd_sql_columns.specs.declared.tables.Table.TheVariants as table
 use Rattle.acd_sql_columns.specs.Relations.{all_put}
 use Rattle.acd_sql_columns.specs.Transactions.{HoldsUncommitted}
-use Rattle.acd_sql_columns.proofs.Endings.{works_on}
-use Rattle.acd_sql_statements.proofs.Planned.{pairs_more}
+use Rattle.acd_sql_columns.proofs.TransactionEnds.{works_on}
+use Rattle.acd_sql_statements.proofs.JoinedPlan.{pairs_more}
 use Rattle.std.proofs.Common.{Err, rules, take}
 use Rattle.acd_sql_columns.specs.Relations.{Relations}
 use Rattle.acd_sql_columns.specs.Rows.{further_values}
 use Rattle.acd_sql_columns.specs.declared.texts.TheConstants.{INSERT_AGENT_GROUP}
-use Rattle.acd_sql_statements.specs.Refusing.{RefusesOn, RefusesFurther}
-use Rattle.acd_sql_statements.proofs.Refused.{any_default, by_more, by_same, by_later, unless_ok}
+use Rattle.acd_sql_statements.specs.WriteRefusals.{RefusesOn, RefusesFurther}
+use Rattle.acd_sql_statements.proofs.RefusalCauses.{any_default, by_more, by_same, by_later, unless_ok}
 use Rattle.acd_sql_statements.proofs.parts.insert_all.Goals as goal
 use Rattle.std.proofs.lemmas.List.{take_all}
 

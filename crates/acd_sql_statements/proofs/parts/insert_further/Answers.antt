@@ -3,7 +3,7 @@ use Rattle.acd_sql_columns.specs.Rows.{further_values}
 use Rattle.acd_sql_columns.specs.declared.texts.TheConstants.{INSERT_AGENT_GROUP}
 use Rattle.acd_sql_columns.proofs.AgentGroups.{inserts_group}
 use Rattle.acd_sql_columns.proofs.Common.{changes_uncommitted}
-use Rattle.acd_sql_statements.proofs.Refused.{by_one}
+use Rattle.acd_sql_statements.proofs.RefusalCauses.{by_one}
 use Rattle.acd_sql_statements.proofs.parts.insert_further.Goals as goal
 
 pub returns : goal.returns

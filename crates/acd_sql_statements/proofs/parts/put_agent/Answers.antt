@@ -6,15 +6,15 @@ use Rattle.acd_sql_columns.specs.declared.tables.Table.TheVariants as table
 use Rattle.acd_sql_columns.specs.Content.{with_part}
 use Rattle.acd_sql_columns.specs.Relations.{Relations, all_put, with_agent_parts}
 use Rattle.acd_sql_columns.specs.Tables.{agents}
-use Rattle.acd_sql_statements.specs.Writing.{with_put}
-use Rattle.acd_sql_statements.proofs.Planned.{leaves_on}
+use Rattle.acd_sql_statements.specs.StatementEffects.{with_put}
+use Rattle.acd_sql_statements.proofs.JoinedPlan.{leaves_on}
 use Rattle.std.proofs.Common.{[], ◌∷◌, Err, inl, inr, rules, subst}
 use Rattle.acd_terms.specs.Groups.{further_groups}
 use Rattle.acd_sql_columns.specs.Values.{id_value}
 use Rattle.acd_sql_columns.specs.declared.texts.TheConstants.{UPDATE_AGENT, DELETE_AGENT_GROUPS}
-use Rattle.acd_sql_columns.proofs.Endings.{works_on}
-use Rattle.acd_sql_statements.specs.Refusing.{RefusesOn, RefusesPut, RefusesFurther, RefusesAgent, without_further}
-use Rattle.acd_sql_statements.proofs.Refused.{by_more, by_same, by_later, unless_ok}
+use Rattle.acd_sql_columns.proofs.TransactionEnds.{works_on}
+use Rattle.acd_sql_statements.specs.WriteRefusals.{RefusesOn, RefusesPut, RefusesFurther, RefusesAgent, without_further}
+use Rattle.acd_sql_statements.proofs.RefusalCauses.{by_more, by_same, by_later, unless_ok}
 use Rattle.acd_sql_statements.proofs.parts.put_agent.Goals as goal
 
 pub returns : goal.returns

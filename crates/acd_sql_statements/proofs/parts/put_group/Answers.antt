@@ -1,16 +1,16 @@
 use Rattle.std.proofs.Common.{ap, arith, ◌∙◌}
 use Rattle.sqlite.specs.Held.{state}
-use Rattle.acd_sql_columns.proofs.Endings.{works_on}
+use Rattle.acd_sql_columns.proofs.TransactionEnds.{works_on}
 use Rattle.sqlite.specs.State.{HasCleanDisk}
 use Rattle.acd_sql_columns.specs.declared.relations.GroupRow.{GroupRow}
 use Rattle.acd_sql_columns.specs.Relations.{Relations, with_priority_of, with_group_parts}
 use Rattle.acd_sql_columns.specs.Tables.{groups}
-use Rattle.acd_sql_statements.specs.Writing.{with_put}
-use Rattle.acd_sql_statements.proofs.Planned.{leaves_on}
+use Rattle.acd_sql_statements.specs.StatementEffects.{with_put}
+use Rattle.acd_sql_statements.proofs.JoinedPlan.{leaves_on}
 use Rattle.std.proofs.Common.{inl, inr, rules, subst}
 use Rattle.acd_sql_columns.specs.declared.texts.TheConstants.{UPDATE_GROUP}
-use Rattle.acd_sql_statements.specs.Refusing.{RefusesPut, RefusesPriority, RefusesGroup}
-use Rattle.acd_sql_statements.proofs.Refused.{by_more, by_same, by_later, unless_ok}
+use Rattle.acd_sql_statements.specs.WriteRefusals.{RefusesPut, RefusesPriority, RefusesGroup}
+use Rattle.acd_sql_statements.proofs.RefusalCauses.{by_more, by_same, by_later, unless_ok}
 use Rattle.acd_sql_statements.proofs.parts.put_group.Goals as goal
 
 pub returns : goal.returns

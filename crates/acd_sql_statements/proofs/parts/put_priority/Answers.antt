@@ -5,14 +5,14 @@ use Rattle.acd_terms.specs.Lists.{put_by, remove_by}
 use Rattle.acd_sql_columns.specs.declared.relations.GroupPriority.{GroupPriority}
 use Rattle.acd_sql_columns.specs.Relations.{Relations, with_priority_of, priority_part}
 use Rattle.acd_sql_columns.specs.Tables.{group_priority}
-use Rattle.acd_sql_statements.specs.Writing.{with_put, without}
+use Rattle.acd_sql_statements.specs.StatementEffects.{with_put, without}
 use Rattle.acd_sql_columns.proofs.Bounds.{id_fits}
-use Rattle.acd_sql_statements.proofs.Planned.{leaves_as}
+use Rattle.acd_sql_statements.proofs.JoinedPlan.{leaves_as}
 use Rattle.std.proofs.Common.{inl, inr, subst, [], ◌∷◌}
 use Rattle.acd_sql_columns.specs.Values.{id_value}
 use Rattle.acd_sql_columns.specs.declared.texts.TheConstants.{DELETE_GROUP_PRIORITY, UPDATE_GROUP_PRIORITY}
-use Rattle.acd_sql_statements.specs.Refusing.{RefusesOn, RefusesPut, RefusesPriority}
-use Rattle.acd_sql_statements.proofs.Refused.{by_more}
+use Rattle.acd_sql_statements.specs.WriteRefusals.{RefusesOn, RefusesPut, RefusesPriority}
+use Rattle.acd_sql_statements.proofs.RefusalCauses.{by_more}
 use Rattle.acd_sql_statements.proofs.parts.put_priority.Goals as goal
 
 pub remove-requires-clause-key : goal.remove-requires-clause-key

@@ -2,17 +2,17 @@ use Rattle.std.proofs.Common.{◌≡◌, ℕ, [], ◌∷◌, map, Bool, rules}
 use Rattle.acd_sql_columns.specs.AnyRows.{is_beside, rows_in}
 use Rattle.sqlite.specs.Held.{state}
 use Rattle.acd_sql_columns.proofs.Listings.{book_begins}
-use Rattle.acd_sql_statements.proofs.Beside.{further_seen}
+use Rattle.acd_sql_statements.proofs.RowsInAnyOrder.{further_seen}
 use Rattle.std.specs.Prelude.{Vec, IsPermutation}
 use Rattle.std.specs.declared.alloc.Global.{Global}
 use Rattle.sqlite.specs.Effect.{Database}
 use Rattle.acd_sql_columns.specs.declared.tables.Table.TheVariants as table
 use Rattle.acd_sql_columns.specs.Decoding.{as_agent, as_further}
 use Rattle.acd_sql_columns.specs.Relations.{are_after}
-use Rattle.acd_sql_columns.specs.Schema.{nine, BeginsSchema}
-use Rattle.acd_sql_statements.specs.Between.{IsBookSchema}
-use Rattle.acd_sql_statements.specs.Looking.{HasGood}
-use Rattle.acd_sql_statements.proofs.Lookings.{looks_then, looks_as, sees_as}
+use Rattle.acd_sql_columns.specs.Schema.{tables_1, BeginsSchema}
+use Rattle.acd_sql_statements.specs.ReadsBetween.{IsBookSchema}
+use Rattle.acd_sql_statements.specs.Looks.{HasGood}
+use Rattle.acd_sql_statements.proofs.LookCauses.{looks_then, looks_as, sees_as}
 use Rattle.acd_sql_statements.proofs.placed.are_further_placed.Goals as goal
 
 pub returns-clause-looks : goal.returns-clause-looks
@@ -33,7 +33,7 @@ returns-in_err-pairs-clause-looks g c = record {
 pub returns-clause-looked : goal.returns-clause-looked
 returns-clause-looked g c =
     looks_then (HasGood IsBookSchema (table.AgentGroups ∷ table.Agents ∷ [])) (HasGood IsBookSchema (table.AgentGroups ∷ []))
-    (HasGood (BeginsSchema nine) (table.Agents ∷ []))
+    (HasGood (BeginsSchema tables_1) (table.Agents ∷ []))
     (λ (d : Database) (pairs : Vec (ℕ × ℕ) Global). IsPermutation (map as_further (rows_in table.AgentGroups d.trees)) pairs.items)
     (λ (d : Database) (placed : Bool). placed ≡ are_after (map as_agent (rows_in table.Agents d.trees)) c.deref.result.now)
     (state g.S.Store c.args.conn.now) (state g.S.Store c.further_pairs.new.conn) (state g.S.Store c.are_of_agents_there.new.conn) c.in_ok-pairs.pairs

@@ -4,11 +4,11 @@ use Rattle.acd_sql_columns.specs.declared.tables.Table.TheVariants as table
 use Rattle.acd_sql_columns.specs.Decoding.{as_group}
 use Rattle.acd_sql_columns.specs.Relations.{are_of_groups}
 use Rattle.sqlite.specs.Held.{state}
-use Rattle.acd_sql_statements.proofs.Beside.{groups_seen}
-use Rattle.acd_sql_columns.specs.Schema.{nine, BeginsSchema}
-use Rattle.acd_sql_statements.proofs.Answered.{groups_over}
-use Rattle.acd_sql_statements.specs.Looking.{HasGood}
-use Rattle.acd_sql_statements.proofs.Lookings.{looks_done, looks_as, sees_as}
+use Rattle.acd_sql_statements.proofs.RowsInAnyOrder.{groups_seen}
+use Rattle.acd_sql_columns.specs.Schema.{tables_1, BeginsSchema}
+use Rattle.acd_sql_statements.proofs.ReadTexts.{groups_over}
+use Rattle.acd_sql_statements.specs.Looks.{HasGood}
+use Rattle.acd_sql_statements.proofs.LookCauses.{looks_done, looks_as, sees_as}
 use Rattle.acd_sql_statements.proofs.placed.are_of_groups_there.Goals as goal
 
 pub returns-clause-looks : goal.returns-clause-looks
@@ -27,10 +27,10 @@ returns-in_err-groups-clause-looks g c = record {
 
 pub returns-clause-looked : goal.returns-clause-looked
 returns-clause-looked g c =
-    looks_done (HasGood (BeginsSchema nine) (table.Groups ∷ [])) (HasGood (BeginsSchema nine) (table.Groups ∷ [])) (λ d h. h) (state g.S.Store c.args.conn.now)
+    looks_done (HasGood (BeginsSchema tables_1) (table.Groups ∷ [])) (HasGood (BeginsSchema tables_1) (table.Groups ∷ [])) (λ d h. h) (state g.S.Store c.args.conn.now)
     (state g.S.Store c.records.new.conn) c.in_ok-groups.groups c.are_of_groups.result (c.in_ok-groups.ensures.looked groups_over)
 
 pub returns-in_err-groups-clause-looked : goal.returns-in_err-groups-clause-looked
 returns-in_err-groups-clause-looked g c =
-    looks_as (HasGood (BeginsSchema nine) (table.Groups ∷ [])) (HasGood (BeginsSchema nine) (table.Groups ∷ [])) (λ d h. h) (state g.S.Store c.args.conn.now)
+    looks_as (HasGood (BeginsSchema tables_1) (table.Groups ∷ [])) (HasGood (BeginsSchema tables_1) (table.Groups ∷ [])) (λ d h. h) (state g.S.Store c.args.conn.now)
     (state g.S.Store c.records.new.conn) c.in_err-groups.field-0.0 c.from_residual.result (search rules) (c.in_err-groups.ensures.looked groups_over)

@@ -5,11 +5,11 @@ use Rattle.acd_sql_columns.specs.declared.tables.Table.TheVariants as table
 use Rattle.acd_sql_columns.specs.AnyRows.{rows_in}
 use Rattle.acd_sql_columns.specs.Decoding.{as_further}
 use Rattle.sqlite.specs.Held.{state}
-use Rattle.acd_sql_statements.proofs.Beside.{pairs_seen}
-use Rattle.acd_sql_columns.specs.Ranges.{further_in}
-use Rattle.acd_sql_statements.specs.Between.{IsBookSchema}
-use Rattle.acd_sql_statements.specs.Looking.{HasGood}
-use Rattle.acd_sql_statements.proofs.Lookings.{looks_decoded, looks_as, sees_as}
+use Rattle.acd_sql_statements.proofs.RowsInAnyOrder.{pairs_seen}
+use Rattle.acd_sql_columns.specs.Ranges.{further_of_row}
+use Rattle.acd_sql_statements.specs.ReadsBetween.{IsBookSchema}
+use Rattle.acd_sql_statements.specs.Looks.{HasGood}
+use Rattle.acd_sql_statements.proofs.LookCauses.{looks_decoded, looks_as, sees_as}
 use Rattle.acd_sql_statements.proofs.placed.further_pairs.Goals as goal
 
 pub returns-clause-looks : goal.returns-clause-looks
@@ -29,7 +29,7 @@ returns-in_err-rows-clause-looks g c = record {
 
 pub returns-clause-looked : goal.returns-clause-looked
 returns-clause-looked g c =
-    looks_decoded further_in table.AgentGroups (λ row. refl) (HasGood IsBookSchema (table.AgentGroups ∷ [])) (HasGood IsBookSchema [])
+    looks_decoded further_of_row table.AgentGroups (λ row. refl) (HasGood IsBookSchema (table.AgentGroups ∷ [])) (HasGood IsBookSchema [])
     (state g.S.Store c.args.conn.now) (state g.S.Store c.further_rows.new.conn) c.in_ok-rows.rows c.records.result (λ d h. h.1.0)
     c.in_ok-rows.ensures.looked (λ d h. c.in_ok-rows.ensures.looks.seen d h.0) (rw c.deref.ensures.value at c.records.ensures.bad)
 

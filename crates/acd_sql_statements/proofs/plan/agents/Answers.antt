@@ -6,8 +6,8 @@ use Rattle.acd_terms.specs.declared.record.AgentRecord.{AgentRecord}
 use Rattle.acd_book.specs.Content.{Content}
 use Rattle.acd_sql_columns.specs.declared.relations.AgentRow.{AgentRow}
 use Rattle.acd_sql_columns.specs.Relations.{agent_part}
-use Rattle.acd_sql_statements.proofs.Chained.{finds_after, finds_failed}
-use Rattle.acd_sql_statements.proofs.Answered.{agents_answered}
+use Rattle.acd_sql_statements.proofs.ReadsInTurn.{finds_after, finds_failed}
+use Rattle.acd_sql_statements.proofs.ReadTexts.{agents_answered}
 use Rattle.acd_sql_statements.proofs.ReadCauses.{cause_then, cause_as}
 use Rattle.acd_sql_statements.proofs.PlanCauses.{agents_have_values}
 use Rattle.acd_sql_statements.proofs.plan.agents.Goals as goal

@@ -1,6 +1,6 @@
 use Rattle.std.proofs.Common.{sym, ◌∙◌}
-use Rattle.acd_sql_statements.proofs.Grouped.{not_made, not_same}
-use Rattle.acd_sql_statements.proofs.Planned.{same_numbers}
+use Rattle.acd_sql_statements.proofs.RefusedGroups.{not_made, not_same}
+use Rattle.acd_sql_statements.proofs.JoinedPlan.{same_numbers}
 use Rattle.acd_sql_statements.proofs.plan.ascending.Goals as goal
 
 pub returns-then-eq-clause-groups : goal.returns-then-eq-clause-groups

@@ -1,5 +1,5 @@
 use Rattle.sqlite.specs.Held.{state}
-use Rattle.acd_sql_statements.proofs.Planned.{grouped_so}
+use Rattle.acd_sql_statements.proofs.JoinedPlan.{grouped_so}
 use Rattle.std.proofs.Common.{◌≡◌, map, rules}
 use Rattle.acd_book.specs.Content.{Content}
 use Rattle.acd_sql_columns.specs.Relations.{agent_part}

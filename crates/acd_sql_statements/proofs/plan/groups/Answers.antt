@@ -6,8 +6,8 @@ use Rattle.acd_terms.specs.declared.record.GroupRecord.{GroupRecord}
 use Rattle.acd_book.specs.Content.{Content}
 use Rattle.acd_sql_columns.specs.declared.relations.GroupRow.{GroupRow}
 use Rattle.acd_sql_columns.specs.Relations.{group_part}
-use Rattle.acd_sql_statements.proofs.Chained.{finds_after, finds_failed}
-use Rattle.acd_sql_statements.proofs.Answered.{groups_answered}
+use Rattle.acd_sql_statements.proofs.ReadsInTurn.{finds_after, finds_failed}
+use Rattle.acd_sql_statements.proofs.ReadTexts.{groups_answered}
 use Rattle.acd_sql_statements.proofs.ReadCauses.{cause_after, cause_as}
 use Rattle.acd_sql_statements.proofs.PlanCauses.{groups_have_values}
 use Rattle.acd_sql_statements.proofs.plan.groups.Goals as goal

@@ -1,8 +1,8 @@
 use Rattle.sqlite.specs.Held.{state}
-use Rattle.acd_sql_statements.proofs.Chained.{finds_failed}
-use Rattle.acd_sql_statements.proofs.Planned.{ranked_so}
+use Rattle.acd_sql_statements.proofs.ReadsInTurn.{finds_failed}
+use Rattle.acd_sql_statements.proofs.JoinedPlan.{ranked_so}
 use Rattle.std.proofs.Common.{refl, rules}
-use Rattle.acd_sql_statements.proofs.Answered.{priorities_answered}
+use Rattle.acd_sql_statements.proofs.ReadTexts.{priorities_answered}
 use Rattle.acd_sql_statements.proofs.ReadCauses.{cause_memory, cause_as}
 use Rattle.acd_sql_statements.proofs.plan.ranked.Goals as goal
 

@@ -1,12 +1,12 @@
 use Rattle.std.proofs.Common.{◌≡◌, ℕ, Err, inl, inr, rules, arith, ◌∙◌}
 use Rattle.sqlite.specs.Held.{state}
-use Rattle.acd_sql_columns.proofs.Endings.{works_on}
+use Rattle.acd_sql_columns.proofs.TransactionEnds.{works_on}
 use Rattle.acd_sql_columns.specs.Descriptions.{the_text}
 use Rattle.acd_sql_statements.proofs.TheTexts.{the_said}
 use Rattle.sqlite.specs.State.{HasCleanDisk}
-use Rattle.acd_sql_columns.proofs.Described.{Updates, updated_in, put_in, none_in}
-use Rattle.acd_sql_statements.specs.Refusing.{HasNone, RefusesOn, RefusesPut}
-use Rattle.acd_sql_statements.proofs.Refused.{refused_on, by_more, by_known, by_same, by_later, still_uncommitted, unless_ok}
+use Rattle.acd_sql_columns.proofs.DescribedTable.{Updates, updated_in, put_in, none_in}
+use Rattle.acd_sql_statements.specs.WriteRefusals.{HasNoRecord, RefusesOn, RefusesPut}
+use Rattle.acd_sql_statements.proofs.RefusalCauses.{refused_on, by_more, by_known, by_same, by_later, still_uncommitted, unless_ok}
 use Rattle.acd_sql_statements.proofs.put.put.Goals as goal
 
 pub returns-then-changed-gt0 : goal.returns-then-changed-gt0
@@ -68,7 +68,7 @@ returns-in_err-run g c = record {
       let x = c.args.item.now in
       let d = g.R.Stored.descr in
       let none : c.in_ok-changed.changed ≡ 0 = omega (arith, c.if-changed-gt0.false) in
-      by_known old new (HasNone d x) (RefusesOn d.insert (d.values x)) (RefusesPut d (the_text g.R.Stored.descr.update) x) c.from_residual-in_err-run.result
+      by_known old new (HasNoRecord d x) (RefusesOn d.insert (d.values x)) (RefusesPut d (the_text g.R.Stored.descr.update) x) c.from_residual-in_err-run.result
       (λ clean r uncommitted.
       let middle : HasCleanDisk mid = omega (arith, clean, c.run-2.ensures.works.survives.clean) in
       none_in d g.met.R.Stored.described (the_text g.R.Stored.descr.update)

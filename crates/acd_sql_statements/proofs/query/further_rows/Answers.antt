@@ -2,7 +2,7 @@ use Rattle.std.proofs.Common.{rules}
 use Rattle.sqlite.specs.Held.{state}
 use Rattle.acd_sql_columns.proofs.AgentGroups.{groups_plain, shows_groups}
 use Rattle.acd_sql_columns.proofs.Listings.{finds}
-use Rattle.acd_sql_statements.proofs.Answered.{further_answered}
+use Rattle.acd_sql_statements.proofs.ReadTexts.{further_answered}
 use Rattle.acd_sql_statements.proofs.query.further_rows.Goals as goal
 
 pub returns : goal.returns

@@ -1,14 +1,14 @@
 use Rattle.sqlite.specs.Held.{state}
 use Rattle.acd_sql_columns.proofs.Selections.{meta_plain, reads_meta_if}
-use Rattle.acd_sql_columns.proofs.Looked.{sees_meta}
+use Rattle.acd_sql_columns.proofs.QueryResults.{sees_meta}
 use Rattle.std.proofs.Common.{[], refl}
-use Rattle.acd_sql_columns.specs.Schema.{book_schema, nine, BeginsSchema}
+use Rattle.acd_sql_columns.specs.Schema.{book_schema, tables_1, BeginsSchema}
 use Rattle.acd_sql_columns.specs.declared.texts.TheConstants.{SELECT_META}
 use Rattle.acd_sql_columns.proofs.Listings.{book_begins}
-use Rattle.acd_sql_statements.proofs.Answered.{counters_answered, counters_over}
-use Rattle.acd_sql_statements.specs.Looking.{HasGood}
-use Rattle.acd_sql_statements.specs.Reading.{RefusesToShow}
-use Rattle.acd_sql_statements.proofs.Lookings.{looks_so}
+use Rattle.acd_sql_statements.proofs.ReadTexts.{counters_answered, counters_over}
+use Rattle.acd_sql_statements.specs.Looks.{HasGood}
+use Rattle.acd_sql_statements.specs.ReadFailures.{RefusesToShow}
+use Rattle.acd_sql_statements.proofs.LookCauses.{looks_so}
 use Rattle.acd_sql_statements.proofs.read.meta_rows.Goals as goal
 
 pub returns-clause-found : goal.returns-clause-found
@@ -31,5 +31,5 @@ returns-clause-cause g c = c.read.ensures.cause counters_answered
 
 pub returns-clause-looked : goal.returns-clause-looked
 returns-clause-looked g c =
-    looks_so (HasGood (BeginsSchema nine) []) (λ d. ¬ (RefusesToShow d SELECT_META.now [])) (λ d h. counters_over d h.0) (state g.S.Store c.args.conn.now)
+    looks_so (HasGood (BeginsSchema tables_1) []) (λ d. ¬ (RefusesToShow d SELECT_META.now [])) (λ d h. counters_over d h.0) (state g.S.Store c.args.conn.now)
     (state g.S.Store c.read.new.conn) c.read.result c.read.ensures.looked

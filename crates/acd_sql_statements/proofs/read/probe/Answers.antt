@@ -1,15 +1,15 @@
 use Rattle.std.proofs.Common.{◌≡◌, [], Err, rules, sym, subst}
 use Rattle.std.specs.Prelude.{⊤}
 use Rattle.sqlite.specs.State.{HasCleanDisk, IsUnchanged}
-use Rattle.acd_sql_columns.specs.Seeing.{Sees}
+use Rattle.acd_sql_columns.specs.DatabaseView.{Sees}
 use Rattle.sqlite.specs.Held.{state}
 use Rattle.sqlite.proofs.Callers.{never_commits}
 use Rattle.acd_sql_columns.proofs.Queries.{probe_text, probe_plain, quiet_unchanged, quiet_failed, quiet_stops, row_same, row_fails}
-use Rattle.acd_sql_columns.proofs.Seen.{sees_failed, sees_shown}
-use Rattle.acd_sql_statements.specs.Reading.{HasReadCause}
-use Rattle.acd_sql_statements.specs.Looking.{HasLookCause}
+use Rattle.acd_sql_columns.proofs.SnapshotReads.{sees_failed, sees_shown}
+use Rattle.acd_sql_statements.specs.ReadFailures.{HasReadCause}
+use Rattle.acd_sql_statements.specs.Looks.{HasLookCause}
 use Rattle.acd_sql_statements.proofs.ReadCauses.{cause_none, cause_probe}
-use Rattle.acd_sql_statements.proofs.Lookings.{looks_none, looks_probe}
+use Rattle.acd_sql_statements.proofs.LookCauses.{looks_none, looks_probe}
 use Rattle.acd_sql_statements.proofs.read.probe.Goals as goal
 
 pub returns-in_err-query_row-clause-quiet : goal.returns-in_err-query_row-clause-quiet

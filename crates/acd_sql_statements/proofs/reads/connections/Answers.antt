@@ -4,11 +4,11 @@ use Rattle.std.specs.declared.alloc.Global.{Global}
 use Rattle.sqlite.specs.Held.{state}
 use Rattle.acd_terms.specs.declared.record.ConnectionRecord.{ConnectionRecord}
 use Rattle.acd_book.specs.Content.{Content}
-use Rattle.acd_sql_columns.specs.Ranges.{connection_in}
+use Rattle.acd_sql_columns.specs.Ranges.{connection_of_row}
 use Rattle.acd_sql_columns.specs.Rows.{connection_values}
 use Rattle.acd_sql_columns.proofs.Records.{connection_exact}
-use Rattle.acd_sql_columns.proofs.Recorded.{found_none, recorded}
-use Rattle.acd_sql_columns.specs.Finding.{Finds}
+use Rattle.acd_sql_columns.proofs.RecordsOfRows.{found_none, recorded}
+use Rattle.acd_sql_columns.specs.ReadResults.{Finds}
 use Rattle.acd_sql_columns.specs.declared.tables.Table.TheVariants as table
 use Rattle.acd_sql_statements.proofs.ReadCauses.{cause_as}
 use Rattle.acd_sql_statements.proofs.RowCauses.{cause_records}
@@ -32,11 +32,11 @@ returns-in_err-rows g c = record {
 pub returns : goal.returns
 returns g c = record {
   found =
-      recorded connection_in connection_values connection_exact (state g.S.Store c.args.conn.now) (state g.S.Store c.connection_rows.new.conn) c.in_ok-rows.rows
+      recorded connection_of_row connection_values connection_exact (state g.S.Store c.args.conn.now) (state g.S.Store c.connection_rows.new.conn) c.in_ok-rows.rows
       c.records.result (λ (x : Content). x.rows.connections) c.in_ok-rows.ensures.found
       (rw c.deref.ensures.value at c.records.ensures.records);
   cause =
-      cause_records connection_in table.Connections (λ row. refl) (state g.S.Store c.args.conn.now) (state g.S.Store c.connection_rows.new.conn)
+      cause_records connection_of_row table.Connections (λ row. refl) (state g.S.Store c.args.conn.now) (state g.S.Store c.connection_rows.new.conn)
       c.in_ok-rows.rows c.records.result (λ (x : Content). map connection_values x.rows.connections) (λ x row has. has)
       c.in_ok-rows.ensures.cause c.in_ok-rows.ensures.found (rw c.deref.ensures.value at c.records.ensures.bad);
 }

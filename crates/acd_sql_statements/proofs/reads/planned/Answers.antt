@@ -6,10 +6,10 @@ use Rattle.acd_terms.specs.declared.record.GroupRecord.{GroupRecord}
 use Rattle.acd_terms.specs.declared.record.StationRecord.{StationRecord}
 use Rattle.acd_terms.specs.declared.record.AgentRecord.{AgentRecord}
 use Rattle.acd_book.specs.Content.{Content}
-use Rattle.acd_sql_statements.proofs.Chained.{chained, broken}
-use Rattle.acd_sql_columns.proofs.Recorded.{found_none}
-use Rattle.acd_sql_columns.specs.Finding.{Finds}
-use Rattle.acd_sql_statements.proofs.Answered.{stations_answered}
+use Rattle.acd_sql_statements.proofs.ReadsInTurn.{chained, broken}
+use Rattle.acd_sql_columns.proofs.RecordsOfRows.{found_none}
+use Rattle.acd_sql_columns.specs.ReadResults.{Finds}
+use Rattle.acd_sql_statements.proofs.ReadTexts.{stations_answered}
 use Rattle.acd_sql_statements.proofs.ReadCauses.{cause_as, cause_after, cause_done}
 use Rattle.acd_sql_statements.proofs.reads.planned.Goals as goal
 

@@ -1,6 +1,6 @@
 use Rattle.std.proofs.Common.{rules}
 use Rattle.sqlite.specs.Held.{state}
-use Rattle.acd_sql_statements.proofs.Chained.{finds_meta, finds_failed}
+use Rattle.acd_sql_statements.proofs.ReadsInTurn.{finds_meta, finds_failed}
 use Rattle.acd_sql_statements.proofs.ReadCauses.{cause_meta, cause_as}
 use Rattle.acd_sql_statements.proofs.reads.read_meta.Goals as goal
 

@@ -9,9 +9,9 @@ use Rattle.acd_terms.specs.declared.rows.Rows.{Rows}
 use Rattle.acd_book.specs.Content.{Content}
 use Rattle.acd_sql_columns.specs.Relations.{meta_of}
 use Rattle.acd_sql_columns.specs.declared.meta.Meta.{Meta}
-use Rattle.acd_sql_statements.proofs.Chained.{chained, broken, joined_is}
-use Rattle.acd_sql_columns.proofs.Recorded.{found_none}
-use Rattle.acd_sql_columns.specs.Finding.{Finds}
+use Rattle.acd_sql_statements.proofs.ReadsInTurn.{chained, broken, joined_is}
+use Rattle.acd_sql_columns.proofs.RecordsOfRows.{found_none}
+use Rattle.acd_sql_columns.specs.ReadResults.{Finds}
 use Rattle.acd_sql_statements.proofs.ReadCauses.{cause_as, cause_after, cause_done}
 use Rattle.acd_sql_statements.proofs.reads.rows.Goals as goal
 

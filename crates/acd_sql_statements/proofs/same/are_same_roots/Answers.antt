@@ -1,6 +1,6 @@
 use Rattle.std.proofs.Common.{◌<◌, length, rules, sym, ◌∙◌}
 use Rattle.sqlite_schema.specs.Code.{term_in}
-use Rattle.acd_sql_statements.proofs.Compared.{each_same, plain_at}
+use Rattle.acd_sql_statements.proofs.SameTerms.{each_same, plain_at}
 use Rattle.acd_sql_statements.proofs.same.are_same_roots.Goals as goal
 
 pub returns-then-not-is_same_term-clause-back : goal.returns-then-not-is_same_term-clause-back

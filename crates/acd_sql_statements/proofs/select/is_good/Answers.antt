@@ -1,10 +1,10 @@
 use Rattle.std.proofs.Common.{[], Ok, rules}
 use Rattle.sqlite.specs.Held.{state}
 use Rattle.acd_sql_columns.specs.AnyRows.{FindsGood}
-use Rattle.acd_sql_columns.proofs.Selected.{finds_good_read}
+use Rattle.acd_sql_columns.proofs.TableQueries.{finds_good_read}
 use Rattle.acd_sql_columns.specs.Schema.{BeginsSchema}
-use Rattle.acd_sql_statements.specs.Looking.{HasGood}
-use Rattle.acd_sql_statements.proofs.Lookings.{looks_done, looks_as, sees_as}
+use Rattle.acd_sql_statements.specs.Looks.{HasGood}
+use Rattle.acd_sql_statements.proofs.LookCauses.{looks_done, looks_as, sees_as}
 use Rattle.acd_sql_statements.proofs.select.is_good.Goals as goal
 
 pub returns-in_err-rows-clause-looks : goal.returns-in_err-rows-clause-looks

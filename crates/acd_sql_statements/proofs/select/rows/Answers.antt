@@ -1,13 +1,13 @@
 use Rattle.sqlite.specs.Held.{state}
-use Rattle.acd_sql_columns.proofs.Selected.{rows_found, rows_seen}
+use Rattle.acd_sql_columns.proofs.TableQueries.{rows_found, rows_seen}
 use Rattle.std.proofs.Common.{[], sym, subst}
 use Rattle.acd_sql_columns.specs.Descriptions.{the_text}
 use Rattle.acd_sql_statements.proofs.TheTexts.{the_said}
-use Rattle.acd_sql_columns.proofs.Described.{Selects}
+use Rattle.acd_sql_columns.proofs.DescribedTable.{Selects}
 use Rattle.acd_sql_columns.specs.Schema.{BeginsSchema}
-use Rattle.acd_sql_statements.specs.Reading.{IsAnswered, RefusesToShow}
-use Rattle.acd_sql_statements.specs.Looking.{HasGood}
-use Rattle.acd_sql_statements.proofs.Lookings.{looks_so}
+use Rattle.acd_sql_statements.specs.ReadFailures.{IsAnswered, RefusesToShow}
+use Rattle.acd_sql_statements.specs.Looks.{HasGood}
+use Rattle.acd_sql_statements.proofs.LookCauses.{looks_so}
 use Rattle.acd_sql_statements.proofs.select.rows.Goals as goal
 
 pub returns-clause-found : goal.returns-clause-found

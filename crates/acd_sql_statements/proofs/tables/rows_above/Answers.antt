@@ -1,7 +1,7 @@
 use Rattle.std.proofs.Common.{sym, subst, rules}
 use Rattle.sqlite.specs.Held.{state}
 use Rattle.acd_sql_columns.specs.AnyRows.{IsPageRows}
-use Rattle.acd_sql_columns.specs.Seeing.{Sees}
+use Rattle.acd_sql_columns.specs.DatabaseView.{Sees}
 use Rattle.acd_sql_statements.proofs.tables.rows_above.Goals as goal
 
 pub returns-in-Events-clause-looks : goal.returns-in-Events-clause-looks

@@ -4,7 +4,7 @@ use Rattle.acd_sql_columns.specs.Values.{id_value}
 use Rattle.acd_sql_columns.proofs.Connections.{drops_connection}
 use Rattle.acd_sql_columns.specs.declared.texts.TheConstants.{DELETE_CONNECTION}
 use Rattle.acd_sql_columns.proofs.Common.{changes_uncommitted}
-use Rattle.acd_sql_statements.proofs.Refused.{by_one}
+use Rattle.acd_sql_statements.proofs.RefusalCauses.{by_one}
 use Rattle.acd_sql_statements.proofs.write.drop_connection.Goals as goal
 
 pub returns : goal.returns

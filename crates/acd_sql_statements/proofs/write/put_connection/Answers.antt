@@ -1,6 +1,6 @@
 use Rattle.std.proofs.Common.{◌≡◌, arith, ◌∙◌}
 use Rattle.sqlite.specs.Held.{state}
-use Rattle.acd_sql_columns.proofs.Endings.{works_on}
+use Rattle.acd_sql_columns.proofs.TransactionEnds.{works_on}
 use Rattle.sqlite.specs.State.{HasCleanDisk}
 use Rattle.acd_terms.specs.Lists.{put_by}
 use Rattle.acd_model.specs.Scans.{at_connection}
@@ -11,9 +11,9 @@ use Rattle.acd_sql_columns.proofs.Connections.{sets_connection, after_none}
 use Rattle.std.proofs.Common.{inl, inr, rules}
 use Rattle.acd_sql_columns.specs.Rows.{connection_values}
 use Rattle.acd_sql_columns.specs.declared.texts.TheConstants.{INSERT_CONNECTION, UPDATE_CONNECTION}
-use Rattle.acd_sql_statements.specs.Refusing.{HasNoConnection, RefusesOn, RefusesPutConnection}
-use Rattle.acd_sql_statements.proofs.Refused.{refused_on, by_known, by_more, by_same, by_later, still_connected, unless_ok}
-use Rattle.acd_sql_statements.proofs.Unconnected.{none_connected}
+use Rattle.acd_sql_statements.specs.WriteRefusals.{HasNoConnection, RefusesOn, RefusesPutConnection}
+use Rattle.acd_sql_statements.proofs.RefusalCauses.{refused_on, by_known, by_more, by_same, by_later, still_connected, unless_ok}
+use Rattle.acd_sql_statements.proofs.MissingConnections.{none_connected}
 use Rattle.acd_sql_statements.proofs.write.put_connection.Goals as goal
 
 pub returns-then-changed-gt0 : goal.returns-then-changed-gt0

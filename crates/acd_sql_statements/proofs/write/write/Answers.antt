@@ -2,9 +2,9 @@ use Rattle.std.proofs.Common.{◌≡◌, Err, IfErr, rules, ap, subst, sym}
 use Rattle.sqlite.specs.Held.{state}
 use Rattle.sqlite.specs.Values.{bound}
 use Rattle.acd_sql_columns.proofs.Statements.{ran_inside, works_inside}
-use Rattle.acd_sql_statements.specs.Failing.{FailsToWrite}
+use Rattle.acd_sql_statements.specs.StoreFailures.{FailsToWrite}
 use Rattle.acd_sql_statements.proofs.Failures.{written}
-use Rattle.acd_sql_statements.proofs.Refused.{unless_ok}
+use Rattle.acd_sql_statements.proofs.RefusalCauses.{unless_ok}
 use Rattle.acd_sql_statements.proofs.write.write.Goals as goal
 
 pub returns : goal.returns

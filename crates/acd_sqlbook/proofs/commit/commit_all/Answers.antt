@@ -4,11 +4,11 @@ use Rattle.sqlite.specs.Held.{state}
 use Rattle.acd_book.specs.Content.{Content}
 use Rattle.acd_sqlbook.specs.Commit.{made_by}
 use Rattle.acd_sql_columns.specs.Transactions.{HoldsContent, HoldsGood, AddsStop}
-use Rattle.acd_sql_columns.proofs.Endings.{not_committed, begins, made_whole, adds_stop}
+use Rattle.acd_sql_columns.proofs.TransactionEnds.{not_committed, begins, made_whole, adds_stop}
 use Rattle.std.proofs.Common.{Err, IfErr, sym, ap, ◌∙◌}
 use Rattle.acd_sql_columns.specs.Transactions.{Works}
-use Rattle.acd_sqlbook.specs.Stopping.{HasAbove, StopsInAll, FailsToApply}
-use Rattle.acd_sqlbook.proofs.Stopped.{still_stopped, commit_stopped}
+use Rattle.acd_sqlbook.specs.CommitStops.{HasAbove, StopsInAll, FailsToApply}
+use Rattle.acd_sqlbook.proofs.PartCauses.{still_stopped, commit_stopped}
 use Rattle.acd_sqlbook.proofs.commit.commit_all.Goals as goal
 
 pub write_all-requires-clause-free : goal.write_all-requires-clause-free

@@ -1,6 +1,6 @@
 use Rattle.std.proofs.Common.{sym, ap, ◌∙◌}
 use Rattle.acd_sqlbook.specs.Commit.{top_call, last_call}
-use Rattle.acd_sqlbook.proofs.Committing.{call_next}
+use Rattle.acd_sqlbook.proofs.CommitWrites.{call_next}
 use Rattle.acd_sqlbook.proofs.commit.last_call.Goals as goal
 use Rattle.std.proofs.lemmas.List.{take_all}
 

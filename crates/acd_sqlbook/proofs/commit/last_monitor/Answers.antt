@@ -1,6 +1,6 @@
 use Rattle.std.proofs.Common.{sym, ap, ◌∙◌}
 use Rattle.acd_sqlbook.specs.Commit.{top_monitor, last_monitor}
-use Rattle.acd_sqlbook.proofs.Committing.{monitor_next}
+use Rattle.acd_sqlbook.proofs.CommitWrites.{monitor_next}
 use Rattle.acd_sqlbook.proofs.commit.last_monitor.Goals as goal
 use Rattle.std.proofs.lemmas.List.{take_all}
 

@@ -2,14 +2,14 @@ use Rattle.sqlite.specs.Held.{state}
 use Rattle.acd_sqlbook.specs.Commit.{applied}
 use Rattle.acd_sql_columns.specs.Relations.{with_group_parts}
 use Rattle.acd_model.specs.declared.moves.Change.TheVariants.{PutGroup, PutStation, PutAgent, PutCall, PutConnection, PutMonitor, RemoveCall, RemoveConnection, RemoveMonitor}
-use Rattle.acd_sqlbook.proofs.Applying.{leaving, named, applying, group_applied, station_applied, call_applied, connection_applied, monitor_applied, call_gone, monitor_gone, connection_gone}
+use Rattle.acd_sqlbook.proofs.WritesInTurn.{leaving, named, applying, group_applied, station_applied, call_applied, connection_applied, monitor_applied, call_gone, monitor_gone, connection_gone}
 use Rattle.std.proofs.Common.{[], ◌∷◌, inl, inr, IsTrue, rules}
 use Rattle.acd_sql_columns.specs.Rows.{connection_values}
 use Rattle.acd_sql_columns.specs.Tables.{stations, calls, monitors}
 use Rattle.acd_sql_columns.specs.Values.{id_value}
 use Rattle.acd_sql_columns.specs.declared.texts.TheConstants.{DELETE_CALL, DELETE_CONNECTION, DELETE_MONITOR, INSERT_CONNECTION, UPDATE_CALL, UPDATE_MONITOR}
-use Rattle.acd_sql_statements.specs.Refusing.{RefusesOn, RefusesPut, RefusesPutConnection, RefusesGroup, RefusesAgent}
-use Rattle.acd_sqlbook.proofs.Stopped.{by_change}
+use Rattle.acd_sql_statements.specs.WriteRefusals.{RefusesOn, RefusesPut, RefusesPutConnection, RefusesGroup, RefusesAgent}
+use Rattle.acd_sqlbook.proofs.PartCauses.{by_change}
 use Rattle.acd_sqlbook.proofs.commit.make_change.Goals as goal
 
 pub returns-in-PutGroup-clause-put : goal.returns-in-PutGroup-clause-put

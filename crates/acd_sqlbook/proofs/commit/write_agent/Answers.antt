@@ -2,7 +2,7 @@ use Rattle.sqlite.specs.Held.{state}
 use Rattle.acd_sql_columns.specs.Relations.{with_agent_parts}
 use Rattle.acd_model.specs.declared.moves.Change.TheVariants.{PutAgent}
 use Rattle.acd_sqlbook.specs.Commit.{applied}
-use Rattle.acd_sqlbook.proofs.Applying.{leaving, agent_applied}
+use Rattle.acd_sqlbook.proofs.WritesInTurn.{leaving, agent_applied}
 use Rattle.acd_sqlbook.proofs.commit.write_agent.Goals as goal
 
 pub returns-clause-put : goal.returns-clause-put

@@ -3,16 +3,16 @@ use Rattle.sqlite.specs.State.{HasCleanDisk}
 use Rattle.sqlite.specs.Held.{state}
 use Rattle.std.proofs.Common.{Err, None, inl, inr, rules, ◌∙◌}
 use Rattle.acd_book.specs.Content.{Content}
-use Rattle.acd_sql_columns.proofs.Endings.{works_on}
+use Rattle.acd_sql_columns.proofs.TransactionEnds.{works_on}
 use Rattle.acd_sql_columns.specs.Rows.{kept_values, meta_shown}
 use Rattle.acd_sql_columns.specs.Relations.{relations_of}
 use Rattle.acd_sql_columns.specs.declared.texts.TheConstants.{INSERT_KEPT, UPDATE_META}
-use Rattle.acd_sql_statements.specs.Refusing.{RefusesOn}
+use Rattle.acd_sql_statements.specs.WriteRefusals.{RefusesOn}
 use Rattle.acd_sqlbook.specs.Commit.{all_applied, with_events, with_kept}
-use Rattle.acd_sqlbook.specs.Choosing.{written}
-use Rattle.acd_sqlbook.specs.Stopping.{HasAbove, StopsInChanges, StopsInEvents, StopsInAll}
-use Rattle.acd_sqlbook.proofs.Ranging.{kept_in_range, meta_in_range}
-use Rattle.acd_sqlbook.proofs.Stopped.{stops_as, stops_more, stops_same, stops_later}
+use Rattle.acd_sqlbook.specs.WriteChoice.{written_changes}
+use Rattle.acd_sqlbook.specs.CommitStops.{HasAbove, StopsInChanges, StopsInEvents, StopsInAll}
+use Rattle.acd_sqlbook.proofs.CommitsInRange.{kept_in_range, meta_in_range}
+use Rattle.acd_sqlbook.proofs.PartCauses.{stops_as, stops_more, stops_same, stops_later}
 use Rattle.acd_sqlbook.proofs.commit.write_all.Goals as goal
 
 pub write_events-requires : goal.write_events-requires
@@ -39,7 +39,7 @@ returns-in_err-write_changes-clause-failed g c =
     let one = state g.S.Store c.write_changes.new.tx.conn.now in
     let changes = c.args.changes.now in
     let all : Content → Type 0 = λ (x : Content). StopsInAll (HasAbove c.args.last x) changes c.args.events.now c.args.kept.now c.args.meta.now x in
-    let some : Content → Type 0 = λ (x : Content). StopsInChanges (HasAbove c.args.last x) (written changes) x in
+    let some : Content → Type 0 = λ (x : Content). StopsInChanges (HasAbove c.args.last x) (written_changes changes) x in
     stops_more old one some all c.from_residual.result (λ x h. inl h)
     (stops_same old one some c.in_err-write_changes.field-0.0 c.from_residual.result (search rules) c.in_err-write_changes.ensures.failed)
 

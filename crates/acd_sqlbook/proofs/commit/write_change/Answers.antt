@@ -1,10 +1,10 @@
 use Rattle.std.proofs.Common.{inr, IsTrue}
 use Rattle.sqlite.specs.Held.{state}
 use Rattle.acd_sql_columns.specs.Relations.{relations_of}
-use Rattle.acd_sqlbook.specs.Stopping.{RefusesChange, StopsAtChange}
+use Rattle.acd_sqlbook.specs.CommitStops.{RefusesChange, StopsAtChange}
 use Rattle.acd_sqlbook.specs.Commit.{applied}
-use Rattle.acd_sqlbook.proofs.Ranging.{applied_in_range, ranging}
-use Rattle.acd_sqlbook.proofs.Stopped.{stops_more}
+use Rattle.acd_sqlbook.proofs.CommitsInRange.{applied_in_range, ranging}
+use Rattle.acd_sqlbook.proofs.PartCauses.{stops_more}
 use Rattle.acd_sqlbook.proofs.commit.write_change.Goals as goal
 
 pub returns-clause-failed : goal.returns-clause-failed

@@ -1,15 +1,15 @@
 use Rattle.std.proofs.Common.{◌∙◌, arith}
 use Rattle.sqlite.specs.State.{HasCleanDisk}
 use Rattle.sqlite.specs.Held.{state}
-use Rattle.acd_sql_columns.proofs.Endings.{works_on}
-use Rattle.acd_sqlbook.proofs.Skipping.{next_applied, none_left}
+use Rattle.acd_sql_columns.proofs.TransactionEnds.{works_on}
+use Rattle.acd_sqlbook.proofs.ElidedPuts.{next_applied, none_left}
 use Rattle.std.proofs.Common.{inl, inr, rules, subst, sym, IsTrue}
 use Rattle.acd_sqlbook.specs.Commit.{applied}
 use Rattle.acd_book.specs.Content.{Content}
-use Rattle.acd_sqlbook.specs.Choosing.{written}
-use Rattle.acd_sqlbook.specs.Stopping.{HasAbove, StopsAtChange, StopsInChanges}
-use Rattle.acd_sqlbook.proofs.Unmet.{unmet_next, stops_unseen}
-use Rattle.acd_sqlbook.proofs.Stopped.{stops_after, stops_same}
+use Rattle.acd_sqlbook.specs.WriteChoice.{written_changes}
+use Rattle.acd_sqlbook.specs.CommitStops.{HasAbove, StopsAtChange, StopsInChanges}
+use Rattle.acd_sqlbook.proofs.FreshKeys.{unmet_next, stops_unseen}
+use Rattle.acd_sqlbook.proofs.PartCauses.{stops_after, stops_same}
 use Rattle.acd_sqlbook.proofs.commit.write_changes.Goals as goal
 
 pub write_change-requires : goal.write_change-requires
@@ -39,7 +39,7 @@ loop-change-preserved g c =
 
 pub returns-clause-put : goal.returns-clause-put
 returns-clause-put g c clean x d =
-    none_left (state g.S.Store c.loop-change.tx.conn.now) c.loop-change.rest.now c.args.changes.now x (c.next_written.ensures.none c.in_default.is)
+    none_left (state g.S.Store c.loop-change.tx.conn.now) c.loop-change.rest.now c.args.changes.now x (c.next_statement.ensures.none c.in_default.is)
     (c.loop-change.invariant.put clean x d)
 
 pub returns-in_err-write_change-clause-failed : goal.returns-in_err-write_change-clause-failed
@@ -48,7 +48,7 @@ returns-in_err-write_change-clause-failed g c =
     let mid = state g.S.Store c.loop-change.tx.conn.now in
     let new = state g.S.Store c.write_change.new.tx.conn.now in
     let inv = c.loop-change.invariant in
-    let all : Content → Type 0 = λ (x : Content). StopsInChanges (HasAbove c.args.last x) (written c.args.changes.now) x in
+    let all : Content → Type 0 = λ (x : Content). StopsInChanges (HasAbove c.args.last x) (written_changes c.args.changes.now) x in
     let error = c.in_err-write_change.field-0.0 in
     stops_same old new all error c.from_residual.result (search rules)
     (λ clean x d.

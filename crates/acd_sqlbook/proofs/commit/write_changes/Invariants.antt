@@ -4,9 +4,9 @@ use Rattle.sqlite.specs.Held.{state}
 use Rattle.acd_book.specs.Content.{Content}
 use Rattle.acd_sqlbook.specs.Commit.{all_applied}
 use Rattle.acd_sql_columns.specs.Transactions.{HoldsGood, Works}
-use Rattle.acd_sqlbook.specs.Choosing.{written}
-use Rattle.acd_sqlbook.specs.Stopping.{HasAbove, StopsInChanges}
-use Rattle.acd_sqlbook.proofs.Unmet.{Unmet}
+use Rattle.acd_sqlbook.specs.WriteChoice.{written_changes}
+use Rattle.acd_sqlbook.specs.CommitStops.{HasAbove, StopsInChanges}
+use Rattle.acd_sqlbook.proofs.FreshKeys.{Unmet}
 use Rattle.acd_sqlbook.proofs.commit.write_changes.Given as goal
 
 abbrev pub invariant-loop-change : goal.invariant-loop-change
@@ -17,7 +17,7 @@ invariant-loop-change g l = record {
       → (x : Content) × HoldsGood (state g.S.Store l.tx.conn.now) x × (all_applied x l.rest ≡ all_applied c l.changes);
   stops : HasCleanDisk (state g.S.Store l.tx.conn.now) → (c : Content) → HoldsGood (state g.S.Store l.fn.tx.conn.now) c
       → (x : Content) × HoldsGood (state g.S.Store l.tx.conn.now) x
-      × (StopsInChanges (HasAbove l.last c) (written l.rest) x → StopsInChanges (HasAbove l.last c) (written l.changes) c) × Unmet l.rest l.changes c x;
+      × (StopsInChanges (HasAbove l.last c) (written_changes l.rest) x → StopsInChanges (HasAbove l.last c) (written_changes l.changes) c) × Unmet l.rest l.changes c x;
 }
 
 abbrev pub decreases-loop-change : goal.decreases-loop-change

@@ -1,12 +1,12 @@
 use Rattle.std.proofs.Common.{◌≡◌, inl, inr, rules, subst, ◌∙◌, arith}
 use Rattle.sqlite.specs.State.{HasCleanDisk}
 use Rattle.sqlite.specs.Held.{state}
-use Rattle.acd_sql_columns.proofs.Endings.{works_on}
+use Rattle.acd_sql_columns.proofs.TransactionEnds.{works_on}
 use Rattle.acd_sql_columns.specs.Transactions.{HoldsGood}
 use Rattle.acd_sqlbook.specs.Commit.{with_events}
-use Rattle.acd_sqlbook.specs.Stopping.{StopsAtEvents, StopsInEvents}
-use Rattle.acd_sqlbook.proofs.Applying.{part_applied}
-use Rattle.acd_sqlbook.proofs.Stopped.{next_stops, stops_after, stops_same}
+use Rattle.acd_sqlbook.specs.CommitStops.{StopsAtEvents, StopsInEvents}
+use Rattle.acd_sqlbook.proofs.WritesInTurn.{part_applied}
+use Rattle.acd_sqlbook.proofs.PartCauses.{next_stops, stops_after, stops_same}
 use Rattle.acd_sqlbook.proofs.commit.write_events.Goals as goal
 
 pub write_some-requires-clause-limit : goal.write_some-requires-clause-limit

@@ -4,7 +4,7 @@ use Rattle.sqlite.specs.Held.{state}
 use Rattle.acd_book.specs.Content.{Content}
 use Rattle.acd_sqlbook.specs.Commit.{with_events}
 use Rattle.acd_sql_columns.specs.Transactions.{HoldsGood, Works}
-use Rattle.acd_sqlbook.specs.Stopping.{StopsInEvents}
+use Rattle.acd_sqlbook.specs.CommitStops.{StopsInEvents}
 use Rattle.acd_sqlbook.proofs.commit.write_events.Given as goal
 
 abbrev pub invariant-loop-some : goal.invariant-loop-some

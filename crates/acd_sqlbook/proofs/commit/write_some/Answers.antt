@@ -1,11 +1,11 @@
 use Rattle.std.proofs.Common.{inr, rules}
 use Rattle.sqlite.specs.Held.{state}
-use Rattle.acd_sql_statements.specs.Several.{with_all, RefusesEvents}
+use Rattle.acd_sql_statements.specs.SeveralEvents.{with_all_events, RefusesEvents}
 use Rattle.acd_sqlbook.specs.Commit.{with_events}
-use Rattle.acd_sqlbook.specs.Stopping.{StopsAtEvents}
-use Rattle.acd_sqlbook.proofs.Applying.{leaving, all_applied_at_once}
-use Rattle.acd_sqlbook.proofs.Ranging.{events_in_range, ranging}
-use Rattle.acd_sqlbook.proofs.Stopped.{stops_as}
+use Rattle.acd_sqlbook.specs.CommitStops.{StopsAtEvents}
+use Rattle.acd_sqlbook.proofs.WritesInTurn.{leaving, all_applied_at_once}
+use Rattle.acd_sqlbook.proofs.CommitsInRange.{events_in_range, ranging}
+use Rattle.acd_sqlbook.proofs.PartCauses.{stops_as}
 use Rattle.acd_sqlbook.proofs.commit.write_some.Goals as goal
 
 pub returns-clause-put : goal.returns-clause-put
@@ -14,7 +14,7 @@ returns-clause-put g c clean =
     let new = state g.S.Store c.insert_events.new.tx.conn.now in
     let events = c.args.events.now in
     ranging old new c.insert_events.result (λ x. with_events x events) (events_in_range events (c.events_fit.ensures.good (search rules)))
-    (leaving old new c.insert_events.result (with_all events) (λ x. with_events x events) (λ x seen. all_applied_at_once x events)
+    (leaving old new c.insert_events.result (with_all_events events) (λ x. with_events x events) (λ x seen. all_applied_at_once x events)
     (c.insert_events.ensures.put clean))
 
 pub returns-clause-failed : goal.returns-clause-failed

@@ -1,8 +1,8 @@
 use Rattle.std.proofs.Common.{sym, subst}
 use Rattle.sqlite.specs.Held.{state}
-use Rattle.acd_sqlbook.specs.Ahead.{IsAhead}
+use Rattle.acd_sqlbook.specs.RecordsAhead.{IsAhead}
 use Rattle.acd_sqlbook.specs.declared.ahead.Ahead.{Ahead}
-use Rattle.acd_sqlbook.proofs.ReadAhead.{ahead_read, ascending, page_is, page_read}
+use Rattle.acd_sqlbook.proofs.RecordsReadAhead.{ahead_read, ascending, page_is, page_read}
 use Rattle.acd_sqlbook.proofs.following.kept_followed.Goals.{then-ready+in_default, else-ready}
 use Rattle.acd_sqlbook.proofs.following.kept_followed.Goals as goal
 

@@ -1,6 +1,6 @@
 use Rattle.std.proofs.Common.{◌≤◌}
 use Rattle.acd_terms.specs.declared.event.Event.{Event}
-use Rattle.acd_book.proofs.Left.{events_raised}
+use Rattle.acd_book.proofs.EventsAbove.{events_raised}
 use Rattle.acd_lemmas.proofs.Lists.{every-append}
 use Rattle.acd_sqlbook.proofs.index.index_extended.Goals as goal
 

@@ -3,8 +3,8 @@ use Rattle.acd_terms.specs.Lists.{Every}
 use Rattle.acd_terms.specs.declared.event.Event.{Event}
 use Rattle.acd_book.specs.Memory.{number_of}
 use Rattle.acd_book.specs.Order.{Rises}
-use Rattle.acd_sqlbook.specs.Indexing.{last_of}
-use Rattle.acd_sqlbook.proofs.Indexed.{rises_on, below_on, ends_on, none_left, all_taken}
+use Rattle.acd_sqlbook.specs.EventIndex.{last_of}
+use Rattle.acd_sqlbook.proofs.IndexedEvents.{rises_on, below_on, ends_on, none_left, all_taken}
 use Rattle.acd_sqlbook.proofs.index.rises.Goals as goal
 
 pub loop-event-preserved : goal.loop-event-preserved

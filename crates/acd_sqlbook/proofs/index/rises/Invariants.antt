@@ -3,7 +3,7 @@ use Rattle.acd_terms.specs.Lists.{Every}
 use Rattle.acd_terms.specs.declared.event.Event.{Event}
 use Rattle.acd_book.specs.Memory.{number_of}
 use Rattle.acd_book.specs.Order.{Rises}
-use Rattle.acd_sqlbook.specs.Indexing.{last_of}
+use Rattle.acd_sqlbook.specs.EventIndex.{last_of}
 use Rattle.acd_sqlbook.proofs.index.rises.Given as goal
 
 abbrev pub invariant-loop-event : goal.invariant-loop-event

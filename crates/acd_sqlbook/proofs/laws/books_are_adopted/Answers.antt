@@ -1,4 +1,4 @@
-use Rattle.acd_sqlbook.proofs.Reopened.{books_are_adopted}
+use Rattle.acd_sqlbook.proofs.ReopenedBooks.{books_are_adopted}
 use Rattle.acd_sqlbook.proofs.laws.books_are_adopted.Goals as goal
 
 pub returns : goal.returns

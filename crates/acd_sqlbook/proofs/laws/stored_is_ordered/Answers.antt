@@ -1,4 +1,4 @@
-use Rattle.acd_sqlbook.proofs.Rising.{stored_ordered}
+use Rattle.acd_sqlbook.proofs.AscendingContent.{stored_ordered}
 use Rattle.acd_sqlbook.proofs.laws.stored_is_ordered.Goals as goal
 
 pub returns : goal.returns

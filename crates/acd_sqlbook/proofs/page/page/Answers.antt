@@ -1,7 +1,7 @@
 use Rattle.std.proofs.Common.{rules}
 use Rattle.sqlite.specs.Held.{state}
 use Rattle.acd_sql_statements.proofs.ReadCauses.{cause_as, cause_after}
-use Rattle.acd_sqlbook.proofs.PageFound.{page_of}
+use Rattle.acd_sqlbook.proofs.MonitorPage.{page_of}
 use Rattle.acd_sqlbook.proofs.page.page.Goals as goal
 
 pub returns-in-Some-clause-found : goal.returns-in-Some-clause-found

@@ -1,5 +1,5 @@
 use Rattle.sqlite.specs.Held.{state}
-use Rattle.acd_sqlbook.proofs.PageFound.{page_by_numbers, page_by_all}
+use Rattle.acd_sqlbook.proofs.MonitorPage.{page_by_numbers, page_by_all}
 use Rattle.acd_sqlbook.proofs.page.page_at.Goals as goal
 
 pub returns-in-Some-clause-found : goal.returns-in-Some-clause-found

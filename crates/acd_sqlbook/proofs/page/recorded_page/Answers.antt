@@ -1,5 +1,5 @@
 use Rattle.sqlite.specs.Held.{state}
-use Rattle.acd_sqlbook.proofs.PageFound.{page_recorded, page_unrecorded}
+use Rattle.acd_sqlbook.proofs.MonitorPage.{page_recorded, page_unrecorded}
 use Rattle.acd_sqlbook.proofs.page.recorded_page.Goals as goal
 
 pub returns-in-Some-clause-found : goal.returns-in-Some-clause-found

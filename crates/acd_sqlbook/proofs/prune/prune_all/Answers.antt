@@ -2,14 +2,14 @@ use Rattle.std.proofs.Common.{◌≡◌, refl, subst, arith, rules, OnOk, OnErr,
 use Rattle.sqlite.specs.State.{HasCleanDisk, KeepsCommit}
 use Rattle.sqlite.specs.Held.{state}
 use Rattle.acd_book.specs.Content.{Content}
-use Rattle.acd_book.specs.Pruned.{pruned}
+use Rattle.acd_book.specs.PrunedContent.{pruned}
 use Rattle.acd_sql_columns.specs.Transactions.{HoldsContent, HoldsGood, AddsStop}
-use Rattle.acd_sql_columns.proofs.Endings.{not_committed, begins, made_whole, adds_stop}
+use Rattle.acd_sql_columns.proofs.TransactionEnds.{not_committed, begins, made_whole, adds_stop}
 use Rattle.std.proofs.Common.{Err, IfErr, sym, ap, ◌∙◌}
 use Rattle.acd_sql_columns.specs.Transactions.{Works}
 use Rattle.acd_sqlbook.specs.Pruning.{RefusesPrune}
-use Rattle.acd_sqlbook.specs.Stopping.{FailsToApply}
-use Rattle.acd_sqlbook.proofs.Stopped.{still_stopped, commit_stopped}
+use Rattle.acd_sqlbook.specs.CommitStops.{FailsToApply}
+use Rattle.acd_sqlbook.proofs.PartCauses.{still_stopped, commit_stopped}
 use Rattle.acd_sqlbook.proofs.prune.prune_all.Goals as goal
 
 pub remove_old-requires-clause-free : goal.remove_old-requires-clause-free

@@ -2,10 +2,10 @@ use Rattle.std.proofs.Common.{◌≡◌, inl, inr, Err, refl, rules, subst, sym,
 use Rattle.std.specs.Prelude.{⊤}
 use Rattle.sqlite.specs.Held.{state}
 use Rattle.acd_book.specs.Content.{Content}
-use Rattle.acd_book.specs.Pruned.{pruned}
+use Rattle.acd_book.specs.PrunedContent.{pruned}
 use Rattle.acd_sqlbook.specs.Calls.{HasReplaced}
 use Rattle.acd_sqlbook.proofs.Pruning.{prune_undone, prune_untried, replaces_tried, tried}
-use Rattle.acd_sqlbook.proofs.Standing.{reads_not, replaces_none, replaces_unasked}
+use Rattle.acd_sqlbook.proofs.AfterProbe.{reads_not, replaces_none, replaces_unasked}
 use Rattle.acd_sqlbook.proofs.prune.prune_ready.Goals as goal
 
 pub returns-in_err-refresh-clause-commits : goal.returns-in_err-refresh-clause-commits

@@ -2,16 +2,16 @@ use Rattle.std.proofs.Common.{ℕ, [], ◌∷◌, Option, inl, inr, Err, refl, r
 use Rattle.sqlite.specs.State.{HasCleanDisk}
 use Rattle.sqlite.specs.Held.{state}
 use Rattle.acd_book.specs.Content.{Content}
-use Rattle.acd_book.specs.Pruned.{pruned}
+use Rattle.acd_book.specs.PrunedContent.{pruned}
 use Rattle.acd_sql_columns.specs.declared.tables.Log.TheVariants as log
 use Rattle.acd_sql_columns.specs.Relations.{Relations}
 use Rattle.acd_sql_columns.specs.Values.{id_value}
-use Rattle.acd_sql_statements.specs.Refusing.{RefusesOn}
+use Rattle.acd_sql_statements.specs.WriteRefusals.{RefusesOn}
 use Rattle.acd_sql_statements.specs.UpTo.{text_up_to, without_up_to}
-use Rattle.acd_sql_statements.proofs.Refused.{by_later}
+use Rattle.acd_sql_statements.proofs.RefusalCauses.{by_later}
 use Rattle.acd_sqlbook.specs.Pruning.{RefusesPrune}
 use Rattle.acd_sqlbook.proofs.Pruning.{leaving_both, pruned_in_range}
-use Rattle.acd_sqlbook.proofs.Stopped.{stops_as, stops_same}
+use Rattle.acd_sqlbook.proofs.PartCauses.{stops_as, stops_same}
 use Rattle.acd_sqlbook.proofs.prune.remove_old.Goals as goal
 
 pub returns-clause-put : goal.returns-clause-put

@@ -1,8 +1,8 @@
 use Rattle.std.proofs.Common.{rules}
 use Rattle.sqlite.specs.Held.{state}
-use Rattle.acd_sqlbook.specs.Stopping.{Drops}
-use Rattle.acd_sqlbook.proofs.Counting.{counts_not, whole_caused}
-use Rattle.acd_sqlbook.proofs.Replacing.{reads_leading}
+use Rattle.acd_sqlbook.specs.CommitStops.{Drops}
+use Rattle.acd_sqlbook.proofs.CommitCauses.{counts_not, whole_caused}
+use Rattle.acd_sqlbook.proofs.TableReplacement.{reads_leading}
 use Rattle.acd_sqlbook.proofs.transition.changes_to.Goals as goal
 
 pub returns-clause-read : goal.returns-clause-read

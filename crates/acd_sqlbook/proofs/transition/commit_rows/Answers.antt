@@ -4,9 +4,9 @@ use Rattle.sqlite.specs.declared.error.ErrorCode.TheVariants.{OutOfMemory}
 use Rattle.sqlite.specs.Held.{state}
 use Rattle.acd_book.specs.Content.{Follows, committed}
 use Rattle.acd_sqlbook.specs.Calls.{HasReplaced}
-use Rattle.acd_sqlbook.specs.Stopping.{StopsReplace}
-use Rattle.acd_sqlbook.proofs.Counting.{no_request, replace_unfit, replace_not_led, replace_undone}
-use Rattle.acd_sqlbook.proofs.Replacing.{Leading, replaces_not, replaces_still, replaces}
+use Rattle.acd_sqlbook.specs.CommitStops.{StopsReplace}
+use Rattle.acd_sqlbook.proofs.CommitCauses.{no_request, replace_unfit, replace_not_led, replace_undone}
+use Rattle.acd_sqlbook.proofs.TableReplacement.{Leading, replaces_not, replaces_still, replaces}
 use Rattle.acd_sqlbook.proofs.transition.commit_rows.Goals as goal
 
 pub returns-in_err-request-clause-commits : goal.returns-in_err-request-clause-commits

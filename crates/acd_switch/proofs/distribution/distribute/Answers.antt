@@ -1,6 +1,6 @@
 use Rattle.std.proofs.Common.{rules, arith, ◌≡◌, ◌-◌, ◌+◌, suc, Some, None}
 use Rattle.acd_model.specs.Choice.{offer_of}
-use Rattle.acd_switch.proofs.CarriedOn.{offers_left, offer_carried, without_offer, after_most}
+use Rattle.acd_switch.proofs.MovesInTurn.{offers_left, offer_carried, without_offer, after_most}
 use Rattle.acd_switch.proofs.distribution.distribute.Goals as goal
 
 pub returns-in_default : goal.returns-in_default

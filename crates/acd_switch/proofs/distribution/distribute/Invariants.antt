@@ -1,7 +1,7 @@
 use Rattle.std.proofs.Common.{◌≡◌, ◌-◌, length}
 use Rattle.acd_model.specs.Distribution.{offers}
 use Rattle.acd_model.specs.Scans.{queued_in_all}
-use Rattle.acd_switch.proofs.CarriedOn.{IsLeft}
+use Rattle.acd_switch.proofs.MovesInTurn.{IsLeft}
 use Rattle.acd_switch.proofs.distribution.distribute.Given as goal
 
 abbrev pub invariant-loop-round : goal.invariant-loop-round

@@ -2,8 +2,8 @@ use Rattle.std.proofs.Common.{sym, ap, subst, ◌∙◌}
 use Rattle.acd_terms.specs.declared.record.Figures.{Figures}
 use Rattle.acd_terms.specs.declared.record.GroupRecord.{GroupRecord}
 use Rattle.acd_model.specs.Figures.{sum_of_figures}
-use Rattle.acd_switch.specs.Counting.{AreFitting}
-use Rattle.acd_switch.proofs.Growing.{figures_of_one}
+use Rattle.acd_switch.specs.FigureSums.{AreFitting}
+use Rattle.acd_switch.proofs.RoomOfFigures.{figures_of_one}
 use Rattle.acd_switch.proofs.figures.counting.Goals as goal
 
 pub sum_of-figures-requires : goal.sum_of-figures-requires

@@ -1,6 +1,6 @@
 use Rattle.std.proofs.Common.{rules, ◌≡◌, Some}
 use Rattle.acd_model.specs.Scans.{group_of}
-use Rattle.acd_switch.proofs.Growing.{found_fits}
+use Rattle.acd_switch.proofs.RoomOfFigures.{found_fits}
 use Rattle.acd_switch.proofs.journal.grow_by.Goals as goal
 
 pub counting-requires : goal.counting-requires

@@ -7,9 +7,9 @@ use Rattle.acd_terms.specs.Lists.{IsAscending}
 use Rattle.acd_model.specs.Figures.{with_figures}
 use Rattle.acd_model.specs.Changes.{changed_by, growth_by, growth}
 use Rattle.acd_model.specs.Rules.Plan.{group_order}
-use Rattle.acd_laws.proofs.Made.ChangesMade.{one_grown, figures_more, figures_none, ascending_grown}
-use Rattle.acd_switch.specs.Counting.{CountingFits}
-use Rattle.acd_switch.proofs.Growing.{one_fits, others_fit}
+use Rattle.acd_laws.proofs.StepChanges.ChangedRows.{one_grown, figures_more, figures_none, ascending_grown}
+use Rattle.acd_switch.specs.FigureSums.{CountingFits}
+use Rattle.acd_switch.proofs.RoomOfFigures.{one_fits, others_fit}
 use Rattle.acd_switch.proofs.journal.grow_by_all.Goals as goal
 
 pub grow_by-requires : goal.grow_by-requires

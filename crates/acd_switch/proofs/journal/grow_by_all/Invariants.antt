@@ -3,7 +3,7 @@ use Rattle.acd_terms.specs.Lists.{IsAscending}
 use Rattle.acd_model.specs.Changes.{growth}
 use Rattle.acd_model.specs.Figures.{with_figures}
 use Rattle.acd_model.specs.Rules.Plan.{group_order}
-use Rattle.acd_switch.specs.Counting.{CountingFits}
+use Rattle.acd_switch.specs.FigureSums.{CountingFits}
 use Rattle.acd_switch.proofs.journal.grow_by_all.Given as goal
 
 abbrev pub invariant-loop-event : goal.invariant-loop-event

@@ -2,7 +2,7 @@ use Rattle.std.proofs.Common.{◌≡◌, ◌+◌, sym, ap, subst, arith, ◌∙�
 use Rattle.acd_model.specs.Step.{executed_moment, turn_at}
 use Rattle.acd_model.specs.Services.Serve.{serve}
 use Rattle.acd_switch.specs.Room.{CountersFit}
-use Rattle.acd_switch.proofs.Closing.{turn_is, rows_is, events_is, outcome_is, changes_are, groups_ascend}
+use Rattle.acd_switch.proofs.StepEnd.{turn_is, rows_is, events_is, outcome_is, changes_are, groups_ascend}
 use Rattle.acd_switch.proofs.RoomOfRules.{has_room, fits_after}
 use Rattle.acd_laws.proofs.Rules.RulesAll.{step_keeps_rules}
 use Rattle.acd_switch.proofs.switch.execute.Goals as goal

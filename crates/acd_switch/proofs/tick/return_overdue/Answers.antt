@@ -1,7 +1,7 @@
 use Rattle.std.proofs.Common.{◌≡◌, ◌+◌, ◌≤◌, ◌∷◌, drop, length, arith}
 use Rattle.std.proofs.lemmas.Grind.{common_steps}
 use Rattle.acd_model.specs.Tick.{return_moves}
-use Rattle.acd_switch.proofs.CarriedOn.{one_carried, returns_carried}
+use Rattle.acd_switch.proofs.MovesInTurn.{one_carried, returns_carried}
 use Rattle.acd_switch.proofs.tick.return_overdue.Goals as goal
 
 pub loop-connection-preserved : goal.loop-connection-preserved

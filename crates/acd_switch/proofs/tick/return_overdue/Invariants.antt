@@ -1,6 +1,6 @@
 use Rattle.std.proofs.Common.{◌≡◌, drop}
 use Rattle.acd_model.specs.Tick.{each, return_moves, overdue_in}
-use Rattle.acd_switch.proofs.CarriedOn.{IsLeft}
+use Rattle.acd_switch.proofs.MovesInTurn.{IsLeft}
 use Rattle.acd_switch.proofs.tick.return_overdue.Given as goal
 
 abbrev pub invariant-loop-connection : goal.invariant-loop-connection

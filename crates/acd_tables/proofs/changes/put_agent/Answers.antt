@@ -1,6 +1,6 @@
 use Rattle.std.proofs.Common.{sym, subst}
 use Rattle.acd_model.specs.Writes.{with_agent}
-use Rattle.acd_tables.specs.Indexed.{Seats, Working}
+use Rattle.acd_tables.specs.IndexedRows.{Seats, Working}
 use Rattle.acd_tables.specs.Swaps.{TakenOut, Offers}
 use Rattle.acd_tables.proofs.OfferLemmas.{offers-of}
 use Rattle.acd_tables.proofs.IndexLemmas.{IsIndexed-untouched, IsIndexed-agent, IsIndexed-no_agent, group_same, groups_seated}

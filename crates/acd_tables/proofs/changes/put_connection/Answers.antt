@@ -1,6 +1,6 @@
 use Rattle.std.proofs.Common.{sym, subst}
 use Rattle.acd_model.specs.Writes.{with_connection}
-use Rattle.acd_tables.specs.Indexed.{Lines, Ringing}
+use Rattle.acd_tables.specs.IndexedRows.{Lines, Ringing}
 use Rattle.acd_tables.specs.Swaps.{TakenOut, Offers}
 use Rattle.acd_tables.proofs.OfferLemmas.{offers-of}
 use Rattle.acd_tables.proofs.IndexLemmas.{IsIndexed-untouched, IsIndexed-put, IsIndexed-no_put, group_same, groups_put}

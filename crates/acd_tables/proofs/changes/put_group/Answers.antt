@@ -3,7 +3,7 @@ use Rattle.std.specs.Ordering.{is_eq}
 use Rattle.std.specs.BTreeSet.{contains}
 use Rattle.std.proofs.lemmas.Bool.{or_right}
 use Rattle.acd_tables.specs.Sets.{Inserted}
-use Rattle.acd_tables.specs.Indexed.{IsIndexed, OfferKey, offer_cmp}
+use Rattle.acd_tables.specs.IndexedRows.{IsIndexed, OfferKey, offer_cmp}
 use Rattle.acd_tables.proofs.Results.{either}
 use Rattle.acd_tables.proofs.IndexLemmas.{IsIndexed-group, IsIndexed-sets, IsIndexed-both, IsIndexed-stays, IsIndexed-offering_more, IsIndexed-ranked}
 use Rattle.acd_tables.proofs.changes.put_group.Goals as goal

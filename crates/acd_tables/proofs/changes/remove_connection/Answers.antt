@@ -1,7 +1,7 @@
 use Rattle.std.proofs.Common.{ap, subst, ◌∙◌}
 use Rattle.acd_model.specs.Writes.{without_connection}
 use Rattle.acd_tables.specs.Sets.{Removed}
-use Rattle.acd_tables.specs.Indexed.{rings, pair_cmp}
+use Rattle.acd_tables.specs.IndexedRows.{rings, pair_cmp}
 use Rattle.acd_tables.specs.Swaps.{TakenOut}
 use Rattle.acd_tables.proofs.OfferLemmas.{offers-of}
 use Rattle.acd_tables.proofs.IndexLemmas.{IsIndexed-untouched, IsIndexed-removed, group_same, groups_less}

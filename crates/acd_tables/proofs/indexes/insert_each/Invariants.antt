@@ -1,6 +1,6 @@
 use Rattle.std.proofs.Common.{◌≡◌, true, take}
 use Rattle.std.specs.BTreeSet.{contains}
-use Rattle.acd_tables.specs.Indexed.{OfferKey, offer_cmp}
+use Rattle.acd_tables.specs.IndexedRows.{OfferKey, offer_cmp}
 use Rattle.acd_tables.specs.Swaps.{ListsGroups}
 use Rattle.acd_tables.proofs.indexes.insert_each.Given as goal
 

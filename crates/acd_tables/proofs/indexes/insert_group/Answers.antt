@@ -3,7 +3,7 @@ use Rattle.std.specs.Ordering.{is_eq}
 use Rattle.std.specs.BTreeSet.{contains}
 use Rattle.std.proofs.lemmas.Bool.{or_left, or_right}
 use Rattle.acd_lemmas.proofs.Lists.{some_is}
-use Rattle.acd_tables.specs.Indexed.{OfferKey, offer_cmp, offer_key}
+use Rattle.acd_tables.specs.IndexedRows.{OfferKey, offer_cmp, offer_key}
 use Rattle.acd_tables.proofs.OfferLemmas.{key_itself}
 use Rattle.acd_tables.proofs.indexes.insert_group.Goals as goal
 

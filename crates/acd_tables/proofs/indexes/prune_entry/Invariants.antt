@@ -1,5 +1,5 @@
 use Rattle.std.proofs.Common.{take}
-use Rattle.acd_tables.specs.Indexed.{ListsOffers}
+use Rattle.acd_tables.specs.IndexedRows.{ListsOffers}
 use Rattle.acd_tables.specs.Swaps.{GroupsJust, ListsNoMore}
 use Rattle.acd_tables.proofs.indexes.prune_entry.Given as goal
 

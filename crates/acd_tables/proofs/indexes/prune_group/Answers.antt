@@ -1,6 +1,6 @@
 use Rattle.std.proofs.Common.{not, sym, subst, ◌∙◌}
 use Rattle.acd_tables.specs.Sets.{Removed}
-use Rattle.acd_tables.specs.Indexed.{OfferKey, offer_cmp}
+use Rattle.acd_tables.specs.IndexedRows.{OfferKey, offer_cmp}
 use Rattle.acd_tables.proofs.OfferLemmas.{offers-pruned, offers-just, offers-fewer}
 use Rattle.acd_tables.proofs.indexes.prune_group.Goals as goal
 use Rattle.std.proofs.lemmas.Bool.{not-true}

@@ -1,7 +1,7 @@
 use Rattle.std.proofs.Common.{◌≡◌, ℕ, true, take, ◌++◌, [], ◌∷◌, ap, sym, subst, ◌∙◌, List}
 use Rattle.std.proofs.lemmas.List.{take_more}
 use Rattle.acd_terms.specs.Groups.{is_one_of}
-use Rattle.acd_tables.specs.Indexed.{lists}
+use Rattle.acd_tables.specs.IndexedRows.{lists}
 use Rattle.acd_tables.proofs.Entries.{waits_more, no_longer}
 use Rattle.acd_tables.proofs.indexes.waiting_groups.Goals as goal
 use Rattle.std.proofs.lemmas.Bool.{not-false}

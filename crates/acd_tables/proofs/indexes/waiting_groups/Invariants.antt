@@ -1,6 +1,6 @@
 use Rattle.std.proofs.Common.{◌≡◌, ℕ, ◌≤◌, true, length, take}
 use Rattle.acd_terms.specs.Groups.{is_one_of}
-use Rattle.acd_tables.specs.Indexed.{lists}
+use Rattle.acd_tables.specs.IndexedRows.{lists}
 use Rattle.acd_tables.proofs.indexes.waiting_groups.Given as goal
 
 abbrev pub invariant-loop-group : goal.invariant-loop-group

@@ -3,7 +3,7 @@ use Rattle.std.proofs.lemmas.Bool.{eqb-true}
 use Rattle.acd_model.specs.Scans.{has}
 use Rattle.acd_lemmas.proofs.Lists.{some_is}
 use Rattle.acd_lemmas.proofs.State.{has_is}
-use Rattle.acd_tables.specs.Indexed.{SeatMap, agent_seated}
+use Rattle.acd_tables.specs.IndexedRows.{SeatMap, agent_seated}
 use Rattle.acd_tables.proofs.indexing.is_free_for.Goals as goal
 
 -- the agent at the station that the agent has

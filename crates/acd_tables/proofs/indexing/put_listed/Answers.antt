@@ -1,7 +1,7 @@
 use Rattle.std.proofs.Common.{ap, is_some, refl, subst, sym, Some, ◌∙◌}
 use Rattle.acd_model.specs.Scans.{connection_of}
 use Rattle.acd_model.specs.Writes.{with_connection}
-use Rattle.acd_tables.specs.Indexed.{pair_cmp, Lines}
+use Rattle.acd_tables.specs.IndexedRows.{pair_cmp, Lines}
 use Rattle.acd_tables.proofs.SwapLemmas.{Replaces-put}
 use Rattle.acd_tables.proofs.KeyLemmas.{flipped}
 use Rattle.acd_tables.proofs.IndexingLemmas.{HasExactly-same, Lines-put, Lines-gone}

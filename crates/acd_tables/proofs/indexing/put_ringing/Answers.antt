@@ -1,7 +1,7 @@
 use Rattle.std.proofs.Common.{ap, not, ◌&&◌, subst, sym, Some, ◌∙◌}
 use Rattle.acd_model.specs.Scans.{connection_of}
 use Rattle.acd_model.specs.Writes.{with_connection}
-use Rattle.acd_tables.specs.Indexed.{pair_cmp, rings, Ringing}
+use Rattle.acd_tables.specs.IndexedRows.{pair_cmp, rings, Ringing}
 use Rattle.acd_tables.proofs.SwapLemmas.{Replaces-put}
 use Rattle.acd_tables.proofs.IndexingLemmas.{HasExactly-same, Ringing-put, Ringing-back}
 use Rattle.acd_tables.proofs.indexing.put_ringing.Goals as goal

@@ -1,5 +1,5 @@
 use Rattle.std.proofs.Common.{ap, subst, sym, ◌∙◌}
-use Rattle.acd_tables.specs.Indexed.{agent_station, Seats}
+use Rattle.acd_tables.specs.IndexedRows.{agent_station, Seats}
 use Rattle.acd_tables.proofs.IndexingLemmas.{stands, Seats-put, Seats-back, Seats-same}
 use Rattle.acd_tables.proofs.indexing.put_seated.Goals as goal
 

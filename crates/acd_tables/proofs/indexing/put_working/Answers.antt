@@ -1,7 +1,7 @@
 use Rattle.std.proofs.Common.{ap, not, ◌&&◌, subst, sym, ◌∙◌}
 use Rattle.std.specs.Ordering.{nat_cmp}
 use Rattle.acd_model.specs.Scans.{agent_of}
-use Rattle.acd_tables.specs.Indexed.{works, Working}
+use Rattle.acd_tables.specs.IndexedRows.{works, Working}
 use Rattle.acd_tables.proofs.IndexingLemmas.{HasExactly-same, Working-put, Working-back}
 use Rattle.acd_tables.proofs.indexing.put_working.Goals as goal
 

@@ -3,7 +3,7 @@ use Rattle.std.proofs.lemmas.List.Kept.{IsStrictlySortedBy-filter}
 use Rattle.std.specs.BTreeMap.Range.{range_contains}
 use Rattle.std.specs.List.Sorted.{IsStrictlySortedBy}
 use Rattle.acd_terms.specs.Lists.{Among}
-use Rattle.acd_tables.specs.Indexed.{pair_cmp}
+use Rattle.acd_tables.specs.IndexedRows.{pair_cmp}
 use Rattle.acd_tables.proofs.DeviceLines.{lines-forward, lines-among}
 use Rattle.acd_tables.proofs.lines.lines_at.Goals as goal
 

@@ -1,5 +1,5 @@
 use Rattle.std.proofs.Common.{sym, ◌∙◌}
-use Rattle.acd_tables.proofs.Looking.{seat-none, seat-some}
+use Rattle.acd_tables.proofs.ScanLookUps.{seat-none, seat-some}
 use Rattle.acd_tables.proofs.uses.agent_at.Goals as goal
 
 pub returns-in-None : goal.returns-in-None

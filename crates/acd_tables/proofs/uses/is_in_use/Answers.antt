@@ -1,6 +1,6 @@
 use Rattle.std.proofs.Common.{◌∙◌}
 use Rattle.acd_tables.specs.Uses.{uses}
-use Rattle.acd_tables.proofs.Looking.{any-listed}
+use Rattle.acd_tables.proofs.ScanLookUps.{any-listed}
 use Rattle.acd_tables.proofs.uses.is_in_use.Goals as goal
 
 pub returns : goal.returns

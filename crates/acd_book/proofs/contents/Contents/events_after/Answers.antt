@@ -1,6 +1,6 @@
 use Rattle.std.proofs.Common.{rules}
 use Rattle.acd_book.specs.Memory.{number_of}
-use Rattle.acd_book.proofs.Numbered.{above}
+use Rattle.acd_book.proofs.NumberedLists.{above}
 use Rattle.acd_book.proofs.contents.Contents.events_after.Goals as goal
 
 pub returns : goal.returns

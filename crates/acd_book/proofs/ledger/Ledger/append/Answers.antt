@@ -1,5 +1,5 @@
 use Rattle.std.proofs.Common.{rules}
-use Rattle.acd_book.proofs.Changing.{last_event-changed_by, changed_by-journal}
+use Rattle.acd_book.proofs.ChangeCounters.{last_event-changed_by, changed_by-journal}
 use Rattle.acd_book.proofs.ledger.Ledger.append.Goals as goal
 
 pub overflow_add-last_event : goal.overflow_add-last_event

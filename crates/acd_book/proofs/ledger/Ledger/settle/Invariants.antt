@@ -1,10 +1,10 @@
 use Rattle.std.proofs.Common.{◌≡◌, ◌≤◌, ◌-◌, vec_len}
-use Rattle.acd_book.specs.Ledger.{rows_of}
+use Rattle.acd_book.specs.Ledger.{ledger_rows}
 use Rattle.acd_book.proofs.ledger.Ledger.settle.Given as goal
 
 abbrev pub invariant-loop-self : goal.invariant-loop-self
 invariant-loop-self l = record {
-  same : rows_of l.self ≡ rows_of l.initial.self;
+  same : ledger_rows l.self ≡ ledger_rows l.initial.self;
   no_longer : vec_len l.self.journal ≤ vec_len l.initial.self.journal;
 }
 

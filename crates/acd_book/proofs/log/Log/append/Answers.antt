@@ -1,6 +1,6 @@
 use Rattle.std.proofs.Common.{rules}
 use Rattle.acd_book.specs.Memory.{number_of}
-use Rattle.acd_book.proofs.Numbered.{numbered-append}
+use Rattle.acd_book.proofs.NumberedLists.{numbered-append}
 use Rattle.acd_book.proofs.log.Log.append.Goals as goal
 
 pub invariant_of-self : goal.invariant_of-self

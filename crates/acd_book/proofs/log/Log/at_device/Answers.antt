@@ -1,6 +1,6 @@
 use Rattle.std.proofs.Common.{◌∙◌}
 use Rattle.std.proofs.lemmas.Result.{IfOk-weaker}
-use Rattle.acd_book.proofs.Watching.{page_found, device_found}
+use Rattle.acd_book.proofs.MonitorEvents.{page_found, device_found}
 use Rattle.acd_book.proofs.log.Log.at_device.Goals as goal
 
 pub returns-in-Some : goal.returns-in-Some

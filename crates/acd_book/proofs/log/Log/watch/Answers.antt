@@ -1,7 +1,7 @@
 use Rattle.std.proofs.Common.{◌≡◌, ◌+◌, ◌≤◌, ℕ, length, rules, subst}
 use Rattle.acd_terms.specs.Lists.{Every}
 use Rattle.acd_terms.specs.declared.event.Event.{Event}
-use Rattle.acd_book.proofs.Watching.{none_exceeds}
+use Rattle.acd_book.proofs.MonitorEvents.{none_exceeds}
 use Rattle.acd_book.proofs.log.Log.watch.Goals as goal
 
 pub invariant_of-self-clause-listed : goal.invariant_of-self-clause-listed

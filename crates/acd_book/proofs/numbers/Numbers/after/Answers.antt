@@ -1,7 +1,7 @@
 use Rattle.std.proofs.Common.{◌≡◌, ℕ, ◌-◌, ◌∙◌, ap, length, drop, take, sym, subst, leb, rules, arith, length-drop, take_all, List, filter, nat_lt}
 use Rattle.std.specs.List.Sorted.{IsNonDecreasingBy}
 use Rattle.std.proofs.lemmas.List.Sorted.{IsPartitionPoint-from_clause, IsPartitionedBy-leb}
-use Rattle.acd_book.proofs.Listing.{above_is, taken_min}
+use Rattle.acd_book.proofs.DeviceNumbers.{above_is, taken_min}
 use Rattle.acd_book.proofs.numbers.Numbers.after.Goals as goal
 
 pub returns : goal.returns

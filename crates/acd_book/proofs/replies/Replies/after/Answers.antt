@@ -1,7 +1,7 @@
 use Rattle.std.proofs.Common.{List, slice_get, subst, sym, ap, ◌∙◌}
 use Rattle.acd_book.specs.Content.{IsKeptAfter}
 use Rattle.acd_book.specs.declared.kept.Kept.{Kept}
-use Rattle.acd_book.proofs.Numbered.{kept_after_at}
+use Rattle.acd_book.proofs.NumberedLists.{kept_after_at}
 use Rattle.acd_book.proofs.replies.Replies.after.Goals as goal
 
 pub returns : goal.returns

@@ -1,6 +1,6 @@
 use Rattle.std.proofs.Common.{rules, ◌≡◌, ◌++◌, ◌∷◌, ◌+◌, [], length, sym, subst, true}
 use Rattle.acd_book.specs.Memory.{is_numbered, stamp_of, key_of, HasPlaces, IsPlacedNew}
-use Rattle.acd_book.proofs.Numbered.{numbered-push}
+use Rattle.acd_book.proofs.NumberedLists.{numbered-push}
 use Rattle.acd_book.proofs.Places.{placed_push, unkept}
 use Rattle.acd_book.proofs.replies.Replies.push.Goals as goal
 

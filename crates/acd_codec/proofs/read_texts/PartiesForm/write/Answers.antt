@@ -1,7 +1,7 @@
 use Rattle.json.specs.Token.{begin_object, end_object}
 use Rattle.acd_codec.specs.declared.read_texts.Extent.TheVariants.{Brief}
 use Rattle.acd_codec.specs.ReadTexts.{party_parts}
-use Rattle.acd_codec.proofs.Adding.{wrote, wrote_ok, object_added}
+use Rattle.acd_codec.proofs.TokensInTurn.{wrote, wrote_ok, object_added}
 use Rattle.acd_codec.proofs.read_texts.PartiesForm.write.Goals as goal
 
 pub returns : goal.returns

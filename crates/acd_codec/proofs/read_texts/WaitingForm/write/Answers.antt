@@ -1,6 +1,6 @@
 use Rattle.json.specs.Token.{begin_object, end_object}
 use Rattle.acd_codec.specs.ReadTexts.{waiting_parts}
-use Rattle.acd_codec.proofs.Adding.{wrote, wrote_ok, object_added}
+use Rattle.acd_codec.proofs.TokensInTurn.{wrote, wrote_ok, object_added}
 use Rattle.acd_codec.proofs.read_texts.WaitingForm.write.Goals as goal
 
 pub returns : goal.returns

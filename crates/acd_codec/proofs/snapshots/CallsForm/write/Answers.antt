@@ -1,13 +1,13 @@
 use Rattle.std.proofs.Common.{sym}
 use Rattle.json.specs.Token.{begin_object, end_object}
-use Rattle.acd_codec.specs.declared.read_texts.Extent.TheVariants.{Full}
+use Rattle.acd_codec.specs.declared.read_texts.Extent.TheVariants.{All}
 use Rattle.acd_codec.specs.ReadTexts.{call_parts}
-use Rattle.acd_codec.proofs.Adding.{wrote, wrote_ok, object_added}
+use Rattle.acd_codec.proofs.TokensInTurn.{wrote, wrote_ok, object_added}
 use Rattle.acd_codec.proofs.snapshots.CallsForm.write.Goals as goal
 
 pub returns : goal.returns
 returns c = rw (sym c.as_slice.ensures) (
-    object_added c.end_object.result c.args.out.now c.begin_object.new.self c.put_call_members.new.out c.end_object.new.self (call_parts Full c.args.live.now.call c.as_slice.result.now)
+    object_added c.end_object.result c.args.out.now c.begin_object.new.self c.put_call_members.new.out c.end_object.new.self (call_parts All c.args.live.now.call c.as_slice.result.now)
     (wrote_ok _ c.args.out.now c.begin_object.new.self begin_object c.in_ok-begin_object.ensures)
     c.in_ok-put_call_members.ensures
     (wrote c.end_object.result c.put_call_members.new.out c.end_object.new.self end_object c.end_object.ensures))

@@ -1,12 +1,12 @@
 use Rattle.json.specs.Token.{begin_object, end_object}
-use Rattle.acd_codec.specs.declared.read_texts.Extent.TheVariants.{Full}
+use Rattle.acd_codec.specs.declared.read_texts.Extent.TheVariants.{All}
 use Rattle.acd_codec.specs.ReadTexts.{group_parts}
-use Rattle.acd_codec.proofs.Adding.{wrote, wrote_ok, object_added}
+use Rattle.acd_codec.proofs.TokensInTurn.{wrote, wrote_ok, object_added}
 use Rattle.acd_codec.proofs.snapshots.GroupsForm.write.Goals as goal
 
 pub returns : goal.returns
 returns c =
-    object_added c.end_object.result c.args.out.now c.begin_object.new.self c.put_group_members.new.out c.end_object.new.self (group_parts Full c.args.group.now)
+    object_added c.end_object.result c.args.out.now c.begin_object.new.self c.put_group_members.new.out c.end_object.new.self (group_parts All c.args.group.now)
     (wrote_ok _ c.args.out.now c.begin_object.new.self begin_object c.in_ok-begin_object.ensures)
     c.in_ok-put_group_members.ensures
     (wrote c.end_object.result c.put_group_members.new.out c.end_object.new.self end_object c.end_object.ensures)

@@ -2,12 +2,12 @@ use Rattle.std.proofs.Common.{◌≡◌, Ok, Err, rules, sym, subst, ◌∙◌}
 use Rattle.acd_book.specs.Content.{Content}
 use Rattle.acd_desk.specs.declared.audit.ArchiveAudit.{ArchiveAudit}
 use Rattle.acd_desk.specs.declared.audit.AuditFault.{AuditFault}
-use Rattle.acd_desk.specs.AuditedWith.{desk_part, archive_part, audit_fault, IsAuditedWith}
-use Rattle.acd_book.specs.BookReading.{ReadsIfOpen}
-use Rattle.acd_desk.specs.Standing.{standing}
-use Rattle.acd_desk.specs.ReadDone.{ReadDone}
+use Rattle.acd_desk.specs.ArchiveAudits.{desk_part, archive_part, audit_fault, IsAuditedWith}
+use Rattle.acd_book.specs.BookReads.{ReadsIfOpen}
+use Rattle.acd_desk.specs.DeskState.{state_of}
+use Rattle.acd_desk.specs.DeskReads.{ReadDone}
 use Rattle.acd_desk.specs.ReplayWith.{AuditsInOrder}
-use Rattle.acd_desk.proofs.Archives.AuditedWith.{read_found, both_failed, archive_neither, audited_both}
+use Rattle.acd_desk.proofs.Archives.ArchiveAuditReads.{read_found, both_failed, archive_neither, audited_both}
 use Rattle.acd_desk.proofs.desk.Desk.audit_with.Goals as goal
 
 pub returns-in-Ok-clause-read : goal.returns-in-Ok-clause-read
@@ -26,8 +26,8 @@ returns-in-Ok-clause-audited g c =
 
 pub returns-in-Err-clause-read : goal.returns-in-Err-clause-read
 returns-in-Err-clause-read g c =
-    subst (λ (x : AuditFault). ReadDone {A = ArchiveAudit} (standing g.B.Book c.args.self.now) (standing g.B.Book c.pair_failed.new.self) (desk_part (Err x)) (λ (k : Content) (found : ArchiveAudit). Unit {0})) (sym c.pair_failed.ensures.fault)
-    (subst (λ (d : _). ReadDone {A = ArchiveAudit} (standing g.B.Book c.args.self.now) (standing g.B.Book d) (desk_part (Err (audit_fault c.in-Err.fault))) (λ (k : Content) (found : ArchiveAudit). Unit {0})) (sym c.pair_failed.ensures.left)
+    subst (λ (x : AuditFault). ReadDone {A = ArchiveAudit} (state_of g.B.Book c.args.self.now) (state_of g.B.Book c.pair_failed.new.self) (desk_part (Err x)) (λ (k : Content) (found : ArchiveAudit). Unit {0})) (sym c.pair_failed.ensures.fault)
+    (subst (λ (d : _). ReadDone {A = ArchiveAudit} (state_of g.B.Book c.args.self.now) (state_of g.B.Book d) (desk_part (Err (audit_fault c.in-Err.fault))) (λ (k : Content) (found : ArchiveAudit). Unit {0})) (sym c.pair_failed.ensures.left)
     (both_failed (g.A.Book.state c.args.archive.now) (g.A.Book.state c.audited.new.self.archive.now) (g.B.Book.state c.args.self.now.book) (g.B.Book.state c.audited.new.self.book.now) c.args.self.now.working c.in-Err.fault AuditsInOrder c.in-Err.ensures.read
     (sym c.has_failed.ensures ∙ c.if-has_failed.false)))
 

@@ -1,4 +1,4 @@
-use Rattle.acd_desk.proofs.Desks.Opens.{opens, rows_refused}
+use Rattle.acd_desk.proofs.Desks.Openings.{opens, rows_refused}
 use Rattle.acd_desk.proofs.desk.Desk.open.Goals as goal
 
 pub returns-in-Ok-from_rows : goal.returns-in-Ok-from_rows

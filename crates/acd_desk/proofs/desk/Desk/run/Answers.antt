@@ -2,24 +2,24 @@ use Rattle.std.proofs.Common.{rules, ◌≡◌, ◌<◌, ◌+◌, ◌∙◌, ℕ
 use Rattle.std.proofs.lemmas.Grind.{common_steps}
 use Rattle.acd_terms.specs.declared.command.Arrival.{Arrival}
 use Rattle.acd_desk.specs.declared.taken.Taken.{Taken}
-use Rattle.acd_desk.specs.Standing.{Standing, standing}
+use Rattle.acd_desk.specs.DeskState.{DeskState, state_of}
 use Rattle.acd_terms.specs.Lists.{Every}
-use Rattle.acd_desk.specs.Ran.{Ran, EndsIn, IsStoreFault}
-use Rattle.acd_desk.proofs.Desks.Many.{Settles, ran_nothing, ran_more, later_push, every_push}
+use Rattle.acd_desk.specs.DeskCalls.{Ran, EndsIn, IsStoreFault}
+use Rattle.acd_desk.proofs.Desks.CallsInTurn.{Settles, ran_nothing, ran_more, later_push, every_push}
 use Rattle.acd_desk.proofs.desk.Desk.run.Goals as goal
 
 take-push : (i : ℕ) (l : List Arrival) (d : Arrival) → i < length l → take (i + 1) l ≡ take i l ++ get_or l i d ∷ []
 take-push i l d h = grind (arith, common_steps)
 
-more : (s n : Standing) (l l' : List Arrival) (ts ts' : List Taken) → l' ≡ l → ts' ≡ ts → Ran s l ts n → Ran s l' ts' n
+more : (s n : DeskState) (l l' : List Arrival) (ts ts' : List Taken) → l' ≡ l → ts' ≡ ts → Ran s l ts n → Ran s l' ts' n
 more s n l l' ts ts' e f ran = subst (λ (x : List Arrival). Ran s x ts' n) (sym e) (subst (λ (y : List Taken). Ran s l y n) (sym f) ran)
 
 pub loop-i-preserved : goal.loop-i-preserved
 loop-i-preserved g c =
     let inv = c.loop-i.invariant in
-    let old : Standing = standing g.B.Book c.args.self.now in
-    let mid : Standing = standing g.B.Book c.loop-i.self in
-    let new : Standing = standing g.B.Book c.take-answer.new.self in
+    let old : DeskState = state_of g.B.Book c.args.self.now in
+    let mid : DeskState = state_of g.B.Book c.loop-i.self in
+    let new : DeskState = state_of g.B.Book c.take-answer.new.self in
     let a : Arrival = c.index-arrivals-i.result in
     let l : List Arrival = take c.loop-i.i c.args.arrivals.now in
     let ts : List Taken = c.loop-i.answers.items in
@@ -38,7 +38,7 @@ loop-i-preserved g c =
 
 pub loop-i-init : goal.loop-i-init
 loop-i-init g c =
-    let old : Standing = standing g.B.Book c.args.self.now in
+    let old : DeskState = state_of g.B.Book c.args.self.now in
     record {
       count = search rules;
       room = search rules;

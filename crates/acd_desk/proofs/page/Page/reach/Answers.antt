@@ -2,7 +2,7 @@ use Rattle.std.proofs.Common.{rules, ◌≡◌, ◌≤◌, Ok}
 use Rattle.acd_book.specs.Content.{Content}
 use Rattle.acd_desk.specs.Pages.{Has, IsPage, Reaches}
 use Rattle.acd_desk.specs.declared.page.Page.{Page}
-use Rattle.acd_desk.proofs.Replays.Ahead.{on_page, on_next_page}
+use Rattle.acd_desk.proofs.Replays.EventsAhead.{on_page, on_next_page}
 use Rattle.acd_book.proofs.ReadsAhead.{known, by_read, read_ok, read_nothing}
 use Rattle.acd_desk.proofs.page.Page.reach.Goals as goal
 

@@ -6,7 +6,7 @@ use Rattle.acd_desk.specs.declared.pair.PairFault.TheVariants.{Current}
 use Rattle.acd_desk.specs.declared.working.LoadedSwitch.{LoadedSwitch}
 use Rattle.acd_desk.specs.ReplayWith.{AuditsInOrder}
 use Rattle.acd_desk.proofs.Archives.BothReads.{both_opening, both_ok, both_then, both_fault, both_then_fault, both_no_memory}
-use Rattle.acd_desk.proofs.Archives.StepsWith.{IsLoaded, whole_differs, whole_newer}
+use Rattle.acd_desk.proofs.Archives.ArchiveReplaySteps.{IsLoaded, whole_differs, whole_newer}
 use Rattle.acd_desk.proofs.pair.Pair.audited.Goals as goal
 
 pub returns-in_err-loaded-clause-read : goal.returns-in_err-loaded-clause-read

@@ -1,6 +1,6 @@
 use Rattle.std.proofs.Common.{◌≡◌, Ok}
 use Rattle.acd_desk.specs.Pairs.{BorrowsSame, ReadsBoth}
-use Rattle.acd_desk.proofs.Archives.StepsWith.{SeenWith}
+use Rattle.acd_desk.proofs.Archives.ArchiveReplaySteps.{SeenWith}
 use Rattle.acd_desk.proofs.pair.Pair.audited_newer.Given as goal
 
 abbrev pub invariant-loop : goal.invariant-loop

@@ -1,7 +1,7 @@
 use Rattle.std.proofs.Common.{Ok, Err, refl, rules}
 use Rattle.acd_desk.proofs.Replays.AuditSteps.{stamp_of_switch}
 use Rattle.acd_desk.proofs.Archives.BothReads.{both_then_fault, current_read}
-use Rattle.acd_desk.proofs.Archives.StepsWith.{StepOf, step_last, step_replayed, step_differs, counts_one_with}
+use Rattle.acd_desk.proofs.Archives.ArchiveReplaySteps.{StepOf, step_last, step_replayed, step_differs, counts_one_with}
 use Rattle.acd_desk.proofs.pair.Pair.next_newer.Goals as goal
 
 pub returns-in_default-clause-read : goal.returns-in_default-clause-read

@@ -2,7 +2,7 @@ use Rattle.std.proofs.Common.{rules, Ok, Err, refl}
 use Rattle.acd_desk.specs.Replay.{StepsOn, rows_of}
 use Rattle.acd_desk.specs.ReplayWith.{PlaysWith}
 use Rattle.acd_desk.proofs.Archives.BothReads.{both_fault, both_then_fault, archive_read, current_if_open, if_current}
-use Rattle.acd_desk.proofs.Archives.StepsWith.{replayed_both, steps_with}
+use Rattle.acd_desk.proofs.Archives.ArchiveReplaySteps.{replayed_both, steps_with}
 use Rattle.acd_desk.proofs.pair.Pair.replayed.Goals as goal
 
 pub returns-in_err-known-clause-read : goal.returns-in_err-known-clause-read

@@ -7,7 +7,7 @@ use Rattle.acd_book.specs.State.{BookState, Reads}
 use Rattle.acd_book.specs.declared.fault.BookFault.{BookFault}
 use Rattle.acd_desk.specs.declared.replay.Step.{Step}
 use Rattle.acd_desk.specs.Replay.{IsStep, IsEnd}
-use Rattle.acd_book.proofs.Reading.{then_fault}
+use Rattle.acd_book.proofs.ReadsInTurn.{then_fault}
 use Rattle.acd_book.proofs.ReadsAhead.{read_fault}
 use Rattle.acd_desk.proofs.replay.Replay.next.Goals as goal
 

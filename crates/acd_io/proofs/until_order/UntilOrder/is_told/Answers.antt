@@ -1,6 +1,6 @@
 use Rattle.std.proofs.Common.{sym, ap, ◌&&◌, Bool, ◌∙◌}
 use Rattle.acd_io.specs.Order.{begins_order}
-use Rattle.acd_io.proofs.GivenOn.{told_left}
+use Rattle.acd_io.proofs.PassedBytes.{told_left}
 use Rattle.acd_io.proofs.until_order.UntilOrder.is_told.Goals as goal
 
 pub returns-then-self-clause-order : goal.returns-then-self-clause-order

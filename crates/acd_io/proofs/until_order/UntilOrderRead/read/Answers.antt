@@ -1,6 +1,6 @@
 use Rattle.std.proofs.Common.{◌≡◌, ◌≤◌, ◌<◌, inl, inr, ℕ, List, ◌++◌, length, take, drop, min, ap, sym, subst, ◌∙◌, arith, length-append, length-drop}
-use Rattle.acd_io.specs.Order.{Passes}
-use Rattle.acd_io.proofs.GivenOn.{read_given, read_nothing}
+use Rattle.acd_io.specs.Order.{PassesOrder}
+use Rattle.acd_io.proofs.PassedBytes.{read_given, read_nothing}
 use Rattle.acd_io.proofs.until_order.UntilOrderRead.read.Goals as goal
 
 pub returns-clause-bytes : goal.returns-clause-bytes
@@ -10,8 +10,8 @@ returns-clause-bytes g c =
     let rest : List ℕ = drop c.passed-count.result.0 c.args.buf.now in
     let same : c.as_slice-bytes.result.now ≡ pending = c.as_slice-bytes.ensures in
     let few : c.passed-count.result.0 ≤ length pending = omega (arith, ap length same, c.min-most.ensures, c.passed-count.ensures.within) in
-    let passes : Passes c.decide.new.self.ended c.decide.new.self.starts pending (c.passed-count.result.0, c.passed-count.result.1)
-    = subst (λ (l : List ℕ). Passes c.decide.new.self.ended c.decide.new.self.starts l (c.passed-count.result.0, c.passed-count.result.1)) same c.passed-count.ensures.passes in (
+    let passes : PassesOrder c.decide.new.self.ended c.decide.new.self.starts pending (c.passed-count.result.0, c.passed-count.result.1)
+    = subst (λ (l : List ℕ). PassesOrder c.decide.new.self.ended c.decide.new.self.starts l (c.passed-count.result.0, c.passed-count.result.1)) same c.passed-count.ensures.passes in (
       read_given (_) c.decide.new.self.ended c.decide.new.self.starts c.passed-count.result.1 pending c.remove_front.new.self bytes rest c.passed-count.result.0 (g.R.Read.remaining c.decide.new.self.inner)
           c.decide.ensures.kept passes few (c.copy_from_slice.ensures.after ∙ ap (take c.passed-count.result.0) same) c.remove_front.ensures,
       λ none some.

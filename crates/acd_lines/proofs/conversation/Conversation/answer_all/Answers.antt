@@ -1,11 +1,11 @@
 use Rattle.std.proofs.Common.{◌<◌, ◌++◌, [], length, take, drop, Err, refl, sym, ap, ◌∙◌, subst, arith}
 use Rattle.std.specs.Io.KnownBytes.{Consumes}
 use Rattle.std.proofs.KnownBytes.{Consumes-nil, Consumes-kept, Consumes-trans}
-use Rattle.acd_desk.specs.Ran.{standing}
+use Rattle.acd_desk.specs.DeskCalls.{state_of}
 use Rattle.acd_io.proofs.Inputs.{input_ended}
 use Rattle.acd_lines.specs.Lines.{streams}
 use Rattle.acd_lines.specs.Questions.{question, TakesTurns}
-use Rattle.acd_lines.proofs.Kept.{front_decides}
+use Rattle.acd_lines.proofs.BoundedLines.{front_decides}
 use Rattle.acd_lines.proofs.Endings.{done_whole, done_failed, done_by}
 use Rattle.acd_lines.proofs.Turns.{starts, fed, all_done, first_done, end_stopped, feed_stopped, read_done, read_stopped, some_short}
 use Rattle.acd_lines.specs.declared.fault.LinesFault.TheVariants.{Read, Write}
@@ -63,7 +63,7 @@ returns-then-has_failed-clause-done g c =
     let mid = g.W.Write.contents last.writer.now in
     let input = g.R.Read.remaining c.args.reader.now in
     let waiting = last.outbox.now.waiting.items in
-    done_failed (standing g.B.Book) (TakesTurns g.A.Answering) c.args.ends (streams g.R.Read.remaining g.W.Write.contents (c.args.reader.now, c.loop.reader) (first.writer.now, last.writer.now)) first.desk.now last.desk.now c.if-ends.true (sym c.has_failed.ensures ∙ c.if-has_failed.true)
+    done_failed (state_of g.B.Book) (TakesTurns g.A.Answering) c.args.ends (streams g.R.Read.remaining g.W.Write.contents (c.args.reader.now, c.loop.reader) (first.writer.now, last.writer.now)) first.desk.now last.desk.now c.if-ends.true (sym c.has_failed.ensures ∙ c.if-has_failed.true)
     (first_done (question g.A.Answering) (front_decides g.A.Answering) g.A.Answering.answers 4109 first.desk.now seen talk.partial.now waiting last.desk.now old mid input (g.R.Read.remaining c.loop.reader) loop.4 loop.3 loop.2)
 
 pub returns-in-Ok-eq0-clause-done : goal.returns-in-Ok-eq0-clause-done
@@ -83,7 +83,7 @@ returns-in-Ok-eq0-clause-done g c =
     let bytes = c.in-Ok-eq0.ensures.bytes in
     let all = input_ended input (g.R.Read.remaining c.loop.reader) left seen c.read.new.buf c.in-Ok-eq0.field-0 loop.2 bytes.0 c.in-Ok-eq0.field-0-test (bytes.1 c.in-Ok-eq0.field-0-test (omega (arith, c.read.auto.buf, loop.0))) in
     let done = c.in_ok-finish-in-Ok-eq0.ensures.finished first.desk.now seen loop.4.part loop.4.answers loop.4.keeps loop.4.reached in
-    done_whole (standing g.B.Book) (TakesTurns g.A.Answering) c.args.ends (streams g.R.Read.remaining g.W.Write.contents (c.args.reader.now, c.read.new.self) (first.writer.now, end.writer.now)) first.desk.now end.desk.now
+    done_whole (state_of g.B.Book) (TakesTurns g.A.Answering) c.args.ends (streams g.R.Read.remaining g.W.Write.contents (c.args.reader.now, c.read.new.self) (first.writer.now, end.writer.now)) first.desk.now end.desk.now
     (all_done (question g.A.Answering) (front_decides g.A.Answering) g.A.Answering.answers 4109 first.desk.now seen talk.partial.now waiting last.desk.now end.desk.now old mid new input loop.4 all done)
 
 pub returns-in_err-finish-in-Ok-eq0-clause-done : goal.returns-in_err-finish-in-Ok-eq0-clause-done
@@ -104,7 +104,7 @@ returns-in_err-finish-in-Ok-eq0-clause-done g c =
     let all = input_ended input (g.R.Read.remaining c.loop.reader) left seen c.read.new.buf c.in-Ok-eq0.field-0 loop.2 bytes.0 c.in-Ok-eq0.field-0-test (bytes.1 c.in-Ok-eq0.field-0-test (omega (arith, c.read.auto.buf, loop.0))) in
     let done = c.in_err-finish-in-Ok-eq0.ensures.finished first.desk.now seen loop.4.part loop.4.answers loop.4.keeps loop.4.reached in
     let short = end_stopped (question g.A.Answering) (front_decides g.A.Answering) g.A.Answering.answers 4109 first.desk.now seen talk.partial.now waiting last.desk.now end.desk.now old mid new input loop.4 all done in
-    done_by (standing g.B.Book) (TakesTurns g.A.Answering) c.args.ends (streams g.R.Read.remaining g.W.Write.contents (c.args.reader.now, c.read.new.self) (first.writer.now, end.writer.now)) first.desk.now end.desk.now
+    done_by (state_of g.B.Book) (TakesTurns g.A.Answering) c.args.ends (streams g.R.Read.remaining g.W.Write.contents (c.args.reader.now, c.read.new.self) (first.writer.now, end.writer.now)) first.desk.now end.desk.now
     c.from_residual.result Write Write c.from_residual.ensures.1 refl (some_short (question g.A.Answering) (front_decides g.A.Answering) g.A.Answering.answers input first.desk.now end.desk.now old new short) short
 
 pub returns-in_err-feed-in-Ok-clause-done : goal.returns-in_err-feed-in-Ok-clause-done
@@ -125,7 +125,7 @@ returns-in_err-feed-in-Ok-clause-done g c =
     let taken = Consumes-trans _ _ _ seen (take n c.read.new.buf) loop.2 c.in-Ok.ensures.bytes.0 in
     let stopped = c.in_err-feed-in-Ok.ensures.fed first.desk.now seen loop.4.part loop.4.answers loop.4.keeps loop.4.reached in
     let short = feed_stopped (question g.A.Answering) (front_decides g.A.Answering) g.A.Answering.answers 4109 first.desk.now seen (take n c.read.new.buf) talk.partial.now waiting last.desk.now end.desk.now old mid new input left loop.4 taken stopped in
-    done_by (standing g.B.Book) (TakesTurns g.A.Answering) c.args.ends (streams g.R.Read.remaining g.W.Write.contents (c.args.reader.now, c.read.new.self) (first.writer.now, end.writer.now)) first.desk.now end.desk.now
+    done_by (state_of g.B.Book) (TakesTurns g.A.Answering) c.args.ends (streams g.R.Read.remaining g.W.Write.contents (c.args.reader.now, c.read.new.self) (first.writer.now, end.writer.now)) first.desk.now end.desk.now
     c.from_residual-in_err-feed-in-Ok.result Write Write c.from_residual-in_err-feed-in-Ok.ensures.1 refl (some_short (question g.A.Answering) (front_decides g.A.Answering) g.A.Answering.answers input first.desk.now end.desk.now old new short) short
 
 pub returns-in_err-retried-in-Err-clause-done : goal.returns-in_err-retried-in-Err-clause-done
@@ -141,7 +141,7 @@ returns-in_err-retried-in-Err-clause-done g c =
     let waiting = last.outbox.now.waiting.items in
     let failed = c.in_err-retried-in-Err in
     let left = g.R.Read.remaining c.read.new.self in
-    done_by (standing g.B.Book) (TakesTurns g.A.Answering) c.args.ends (streams g.R.Read.remaining g.W.Write.contents (c.args.reader.now, c.read.new.self) (first.writer.now, last.writer.now)) first.desk.now last.desk.now
+    done_by (state_of g.B.Book) (TakesTurns g.A.Answering) c.args.ends (streams g.R.Read.remaining g.W.Write.contents (c.args.reader.now, c.read.new.self) (first.writer.now, last.writer.now)) first.desk.now last.desk.now
     c.from_residual-in_err-retried-in-Err.result failed.field-0.0 Read c.from_residual-in_err-retried-in-Err.ensures.1 failed.ensures.given
     (read_stopped (question g.A.Answering) (front_decides g.A.Answering) g.A.Answering.answers 4109 first.desk.now seen talk.partial.now waiting last.desk.now old mid input (g.R.Read.remaining c.loop.reader) loop.4 loop.2)
     (read_done (question g.A.Answering) (front_decides g.A.Answering) g.A.Answering.answers 4109 first.desk.now seen talk.partial.now waiting last.desk.now old mid input left loop.4 loop.3 (Consumes-kept _ _ _ seen loop.2 c.in-Err.ensures.bytes))
@@ -158,6 +158,6 @@ returns-clause-done g c =
     let input = g.R.Read.remaining c.args.reader.now in
     let waiting = last.outbox.now.waiting.items in
     let left = g.R.Read.remaining c.loop.reader in
-    done_by (standing g.B.Book) (TakesTurns g.A.Answering) c.args.ends (streams g.R.Read.remaining g.W.Write.contents (c.args.reader.now, c.loop.reader) (first.writer.now, last.writer.now)) first.desk.now last.desk.now (Err Read) Read Read refl refl
+    done_by (state_of g.B.Book) (TakesTurns g.A.Answering) c.args.ends (streams g.R.Read.remaining g.W.Write.contents (c.args.reader.now, c.loop.reader) (first.writer.now, last.writer.now)) first.desk.now last.desk.now (Err Read) Read Read refl refl
     (read_stopped (question g.A.Answering) (front_decides g.A.Answering) g.A.Answering.answers 4109 first.desk.now seen talk.partial.now waiting last.desk.now old mid input left loop.4 loop.2)
     (read_done (question g.A.Answering) (front_decides g.A.Answering) g.A.Answering.answers 4109 first.desk.now seen talk.partial.now waiting last.desk.now old mid input left loop.4 loop.3 loop.2)

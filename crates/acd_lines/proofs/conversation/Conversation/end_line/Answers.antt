@@ -2,7 +2,7 @@ use Rattle.std.proofs.Common.{length, sym, ◌∙◌, lit<}
 use Rattle.std.proofs.lemmas.Bool.{eqb-true}
 use Rattle.acd_lines.specs.Conversing.{step}
 use Rattle.acd_lines.specs.Questions.{question}
-use Rattle.acd_lines.proofs.Kept.{front_decides, whole_line}
+use Rattle.acd_lines.proofs.BoundedLines.{front_decides, whole_line}
 use Rattle.acd_lines.proofs.Turns.{pushed_same}
 use Rattle.acd_lines.proofs.conversation.Conversation.end_line.Goals as goal
 

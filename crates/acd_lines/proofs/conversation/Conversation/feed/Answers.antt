@@ -1,7 +1,7 @@
 use Rattle.std.proofs.Common.{[], ◌∷◌, ◌++◌, refl, sym, ◌∙◌, subst}
 use Rattle.acd_lines.specs.Parts.{Feeds}
 use Rattle.acd_lines.specs.Questions.{question}
-use Rattle.acd_lines.proofs.Kept.{front_decides}
+use Rattle.acd_lines.proofs.BoundedLines.{front_decides}
 use Rattle.acd_io.proofs.Sends.{stopped, so_of}
 use Rattle.acd_lines.proofs.Turns.{past_line, feed_none, feed_line, feed_stops, feed_rest, feed_out, feed_out_stops}
 use Rattle.acd_lines.proofs.conversation.Conversation.feed.Goals as goal

@@ -4,7 +4,7 @@ use Rattle.acd_io.proofs.DigitLemmas.{positive}
 use Rattle.acd_io.proofs.Sends.{stopped, so_of}
 use Rattle.acd_lines.specs.Parts.{Finishes, FinishStops}
 use Rattle.acd_lines.specs.Questions.{question}
-use Rattle.acd_lines.proofs.Kept.{front_decides}
+use Rattle.acd_lines.proofs.BoundedLines.{front_decides}
 use Rattle.acd_lines.proofs.Turns.{finish_empty, finish_empty_stops, finish_line, finish_line_stops, finish_stops}
 use Rattle.acd_lines.proofs.conversation.Conversation.finish.Goals as goal
 

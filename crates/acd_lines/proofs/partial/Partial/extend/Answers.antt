@@ -1,5 +1,5 @@
 use Rattle.std.proofs.Common.{◌-◌, ◌++◌, length, arith, ap, refl, ◌∙◌}
-use Rattle.acd_lines.proofs.Kept.{take_room, kept_room}
+use Rattle.acd_lines.proofs.BoundedLines.{take_room, kept_room}
 use Rattle.acd_lines.proofs.partial.Partial.extend.Goals as goal
 
 pub returns : goal.returns

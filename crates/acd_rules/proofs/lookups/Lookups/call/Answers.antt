@@ -1,7 +1,7 @@
 use Rattle.std.proofs.Common.{◌∙◌, rules, refl}
 use Rattle.acd_model.specs.Scans.{call_of}
 use Rattle.acd_rules.specs.Groups.{call_number}
-use Rattle.acd_rules.proofs.Looking.{looked_up}
+use Rattle.acd_rules.proofs.LookUpLemmas.{looked_up}
 use Rattle.acd_rules.proofs.RuleLists.{found_of_part}
 use Rattle.acd_rules.proofs.lookups.Lookups.call.Goals as goal
 

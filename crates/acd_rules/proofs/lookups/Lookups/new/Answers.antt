@@ -1,7 +1,7 @@
 use Rattle.std.proofs.Common.{rules, subst}
 use Rattle.std.proofs.lemmas.Fn.{always_returns_same}
 use Rattle.acd_rules.specs.Groups.{group_number, station_number, call_number, seat_number, party_call, party_device, party_place, party_group}
-use Rattle.acd_rules.specs.Grouping.{IsGrouped}
+use Rattle.acd_rules.specs.SortedRecords.{IsGrouped}
 use Rattle.acd_rules.proofs.lookups.Lookups.new.Goals as goal
 
 pub invariant_of-result : goal.invariant_of-result

@@ -1,7 +1,7 @@
 use Rattle.std.proofs.Common.{◌∙◌, rules}
 use Rattle.acd_model.specs.Scans.{station_of}
 use Rattle.acd_rules.specs.Groups.{station_number}
-use Rattle.acd_rules.proofs.Looking.{looked_up}
+use Rattle.acd_rules.proofs.LookUpLemmas.{looked_up}
 use Rattle.acd_rules.proofs.RuleLists.{found_of_part}
 use Rattle.acd_rules.proofs.lookups.Lookups.station.Goals as goal
 

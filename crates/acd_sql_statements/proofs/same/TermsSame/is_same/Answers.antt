@@ -1,6 +1,6 @@
 use Rattle.std.proofs.Common.{◌≡◌, true, rules, sym, subst, ◌∙◌}
 use Rattle.sqlite_schema.specs.Code.{terms_in}
-use Rattle.acd_sql_statements.specs.Comparing.{are_plain_terms}
+use Rattle.acd_sql_statements.specs.ComparedSchemas.{are_plain_terms}
 use Rattle.acd_sql_statements.proofs.same.TermsSame.is_same.Goals as goal
 
 pub returns-clause-back : goal.returns-clause-back

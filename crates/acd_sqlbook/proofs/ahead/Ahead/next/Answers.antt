@@ -1,6 +1,6 @@
 use Rattle.std.proofs.Common.{◌≡◌, ℕ, Some, refl, subst, arith}
 use Rattle.acd_book.specs.Content.{IsKeptAfter}
-use Rattle.acd_sqlbook.proofs.ReadAhead.{took}
+use Rattle.acd_sqlbook.proofs.RecordsReadAhead.{took}
 use Rattle.acd_sqlbook.proofs.ahead.Ahead.next.Goals as goal
 
 pub returns-clause-next : goal.returns-clause-next

@@ -1,12 +1,12 @@
 use Rattle.std.proofs.Common.{◌≡◌, None, Ok, Err, rules, subst, refl}
 use Rattle.sqlite.specs.Held.{state}
 use Rattle.acd_sql_columns.specs.declared.tables.Version.TheVariants as version
-use Rattle.acd_sql_columns.specs.Seeing.{HasLooked}
+use Rattle.acd_sql_columns.specs.DatabaseView.{HasLooked}
 use Rattle.acd_sql_columns.specs.AnyRows.{IsCanonical}
-use Rattle.acd_sql_statements.specs.Looking.{HasLookCause}
+use Rattle.acd_sql_statements.specs.Looks.{HasLookCause}
 use Rattle.acd_sql_schema.specs.declared.fault.Found.TheVariants.{Book, Fault}
-use Rattle.acd_sql_schema.specs.Inspecting.{IsFound}
-use Rattle.acd_sqlbook.proofs.Adopted.{adopted, adopted_before, adopted_first, back_before, back_failed, back_found, back_unmade, cause_before, fail_cause, files, found_cause, leaves, made_before, may_migrate, migrated, migrates_before, never_first, not_alone, not_whole, schema_there, unmade_cause, untouched, untouched_before}
+use Rattle.acd_sql_schema.specs.Inspection.{IsFound}
+use Rattle.acd_sqlbook.proofs.AdoptedBooks.{adopted, adopted_before, adopted_first, back_before, back_failed, back_found, back_unmade, cause_before, fail_cause, files, found_cause, leaves, made_before, may_migrate, migrated, migrates_before, never_first, not_alone, not_whole, schema_there, unmade_cause, untouched, untouched_before}
 use Rattle.acd_sqlbook.specs.State.{book_state}
 use Rattle.acd_sqlbook.proofs.book.SqlBook.adopt.Goals as goal
 

@@ -2,7 +2,7 @@ use Rattle.std.proofs.Common.{None, refl, sym, ◌∙◌}
 use Rattle.sqlite.specs.Held.{state}
 use Rattle.acd_sqlbook.proofs.BookStates.{new_book}
 use Rattle.acd_sqlbook.specs.Causes.{unfit, occupied}
-use Rattle.acd_sqlbook.proofs.Caused.{create_cause, create_unlimited}
+use Rattle.acd_sqlbook.proofs.FailureCauses.{create_cause, create_unlimited}
 use Rattle.acd_sqlbook.proofs.book.SqlBook.create.Goals as goal
 
 pub returns-in-Ok-clause-made : goal.returns-in-Ok-clause-made

@@ -1,11 +1,11 @@
 use Rattle.std.specs.Prelude.{⊤}
 use Rattle.sqlite.specs.Held.{state}
 use Rattle.acd_book.specs.Content.{Content}
-use Rattle.acd_book.specs.Pruned.{pruned}
+use Rattle.acd_book.specs.PrunedContent.{pruned}
 use Rattle.acd_sqlbook.specs.Causes.{prune}
-use Rattle.acd_sqlbook.proofs.Followed.{blank_of, commits_followed}
+use Rattle.acd_sqlbook.proofs.CachedCalls.{blank_of, commits_followed}
 use Rattle.acd_sqlbook.proofs.BookStates.{commits_recorded}
-use Rattle.acd_sqlbook.proofs.Caused.{recorded_cause}
+use Rattle.acd_sqlbook.proofs.FailureCauses.{recorded_cause}
 use Rattle.acd_sqlbook.proofs.Pruning.{prune_caused}
 use Rattle.acd_sqlbook.proofs.book.SqlBook.prune.Goals as goal
 

@@ -1,8 +1,8 @@
 use Rattle.sqlite.specs.Held.{state}
 use Rattle.acd_sqlbook.specs.Causes.{replace}
-use Rattle.acd_sqlbook.proofs.Followed.{blank_of, commits_followed}
+use Rattle.acd_sqlbook.proofs.CachedCalls.{blank_of, commits_followed}
 use Rattle.acd_sqlbook.proofs.BookStates.{rows_recorded}
-use Rattle.acd_sqlbook.proofs.Caused.{replace_caused, recorded_cause}
+use Rattle.acd_sqlbook.proofs.FailureCauses.{replace_caused, recorded_cause}
 use Rattle.acd_sqlbook.proofs.book.SqlBookBook.commit.Goals as goal
 
 pub returns-clause-commits : goal.returns-clause-commits

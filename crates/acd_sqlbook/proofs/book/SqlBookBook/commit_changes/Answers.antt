@@ -1,13 +1,13 @@
 use Rattle.std.proofs.Common.{◌≡◌, Option, rules, subst}
-use Rattle.acd_sqlbook.specs.Indexing.{IsIndexAfter}
+use Rattle.acd_sqlbook.specs.EventIndex.{IsIndexAfter}
 use Rattle.acd_sqlbook.specs.declared.index.Index.{Index}
 use Rattle.acd_sqlbook.specs.declared.cache.Cache.{Cache}
 use Rattle.sqlite.specs.Held.{state}
 use Rattle.acd_sqlbook.specs.Causes.{change}
 use Rattle.acd_sqlbook.specs.Counters.{AreCounters}
-use Rattle.acd_sqlbook.proofs.Followed.{commits_resting, changes_goes}
+use Rattle.acd_sqlbook.proofs.CachedCalls.{commits_resting, changes_goes}
 use Rattle.acd_sqlbook.proofs.BookStates.{changes_recorded}
-use Rattle.acd_sqlbook.proofs.Caused.{changes_caused, recorded_cause}
+use Rattle.acd_sqlbook.proofs.FailureCauses.{changes_caused, recorded_cause}
 use Rattle.acd_sqlbook.proofs.book.SqlBookBook.commit_changes.Goals as goal
 
 pub returns-clause-commits : goal.returns-clause-commits

@@ -3,9 +3,9 @@ use Rattle.sqlite.specs.Held.{state}
 use Rattle.acd_book.specs.Content.{events_of_monitor}
 use Rattle.acd_sqlbook.specs.Causes.{read}
 use Rattle.acd_sqlbook.proofs.BookStates.{reads_recorded}
-use Rattle.acd_sqlbook.proofs.Caused.{reads_caused, recorded_cause}
-use Rattle.acd_sqlbook.specs.Indexing.{IsIndexOf}
-use Rattle.acd_sqlbook.proofs.Followed.{read_goes, reads_followed}
+use Rattle.acd_sqlbook.proofs.FailureCauses.{reads_caused, recorded_cause}
+use Rattle.acd_sqlbook.specs.EventIndex.{IsIndexOf}
+use Rattle.acd_sqlbook.proofs.CachedCalls.{read_goes, reads_followed}
 use Rattle.acd_sqlbook.proofs.book.SqlBookBook.events_of_monitor.Goals as goal
 
 pub returns-clause-reads : goal.returns-clause-reads

@@ -2,9 +2,9 @@ use Rattle.sqlite.specs.Held.{state}
 use Rattle.acd_book.specs.Content.{IsKeptAfter}
 use Rattle.acd_sqlbook.specs.Causes.{read}
 use Rattle.acd_sqlbook.proofs.BookStates.{reads_recorded}
-use Rattle.acd_sqlbook.proofs.Caused.{reads_caused, recorded_cause}
-use Rattle.acd_sqlbook.specs.Ahead.{IsAhead}
-use Rattle.acd_sqlbook.proofs.Followed.{read_goes, reads_followed}
+use Rattle.acd_sqlbook.proofs.FailureCauses.{reads_caused, recorded_cause}
+use Rattle.acd_sqlbook.specs.RecordsAhead.{IsAhead}
+use Rattle.acd_sqlbook.proofs.CachedCalls.{read_goes, reads_followed}
 use Rattle.acd_sqlbook.proofs.book.SqlBookBook.kept_after.Goals as goal
 
 pub returns-clause-reads : goal.returns-clause-reads

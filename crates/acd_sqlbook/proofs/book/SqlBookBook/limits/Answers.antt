@@ -2,8 +2,8 @@ use Rattle.std.proofs.Common.{◌≡◌}
 use Rattle.sqlite.specs.Held.{state}
 use Rattle.acd_sqlbook.specs.Causes.{read}
 use Rattle.acd_sqlbook.proofs.BookStates.{reads_recorded}
-use Rattle.acd_sqlbook.proofs.Caused.{reads_caused, recorded_cause}
-use Rattle.acd_sqlbook.proofs.Followed.{reads_kept}
+use Rattle.acd_sqlbook.proofs.FailureCauses.{reads_caused, recorded_cause}
+use Rattle.acd_sqlbook.proofs.CachedCalls.{reads_kept}
 use Rattle.acd_sqlbook.proofs.book.SqlBookBook.limits.Goals as goal
 
 pub returns-clause-reads : goal.returns-clause-reads

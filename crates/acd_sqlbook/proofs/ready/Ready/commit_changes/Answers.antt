@@ -6,9 +6,9 @@ use Rattle.acd_sql_columns.specs.declared.meta.Meta.{Meta}
 use Rattle.acd_sqlbook.specs.Calls.{HasReplaced}
 use Rattle.acd_sqlbook.specs.Commit.{written_by}
 use Rattle.acd_sqlbook.specs.Counters.{AreCounters, StopsWith}
-use Rattle.acd_sqlbook.specs.Stopping.{IsCausedByReadOr, StopsCommit}
-use Rattle.acd_sqlbook.proofs.Counting.{no_request, commit_uncounted, commit_undone}
-use Rattle.acd_sqlbook.proofs.Standing.{Counts, replaces_none, replaces_unasked, commits_counted, holds_counted}
+use Rattle.acd_sqlbook.specs.CommitStops.{IsCausedByReadOr, StopsCommit}
+use Rattle.acd_sqlbook.proofs.CommitCauses.{no_request, commit_uncounted, commit_undone}
+use Rattle.acd_sqlbook.proofs.AfterProbe.{Counts, replaces_none, replaces_unasked, commits_counted, holds_counted}
 use Rattle.acd_sqlbook.proofs.ready.Ready.commit_changes.Goals as goal
 
 pub returns-in_err-request-clause-commits : goal.returns-in_err-request-clause-commits

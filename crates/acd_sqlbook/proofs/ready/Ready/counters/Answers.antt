@@ -1,10 +1,10 @@
 use Rattle.std.proofs.Common.{◌≡◌, ℕ, Ok, Err, ap, subst, sym, rules}
 use Rattle.sqlite.specs.Held.{state}
 use Rattle.acd_sql_columns.specs.declared.meta.Meta.{Meta}
-use Rattle.acd_sqlbook.proofs.Standing.{reads_counters}
+use Rattle.acd_sqlbook.proofs.AfterProbe.{reads_counters}
 use Rattle.acd_sqlbook.specs.Counters.{StopsWith}
-use Rattle.acd_sqlbook.specs.Stopping.{HasReadCauseOr, IsUncounted}
-use Rattle.acd_sqlbook.proofs.Counting.{counts_not, counts_unfit, counts_done}
+use Rattle.acd_sqlbook.specs.CommitStops.{HasReadCauseOr, IsUncounted}
+use Rattle.acd_sqlbook.proofs.CommitCauses.{counts_not, counts_unfit, counts_done}
 use Rattle.acd_sqlbook.proofs.ready.Ready.counters.Goals as goal
 
 pub returns-clause-read : goal.returns-clause-read

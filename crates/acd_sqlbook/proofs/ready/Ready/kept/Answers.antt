@@ -1,7 +1,7 @@
 use Rattle.std.proofs.Common.{◌≡◌, rules}
 use Rattle.sqlite.specs.Held.{state}
 use Rattle.acd_book.specs.Content.{kept_of}
-use Rattle.acd_sqlbook.proofs.Standing.{reads_after}
+use Rattle.acd_sqlbook.proofs.AfterProbe.{reads_after}
 use Rattle.acd_sql_statements.proofs.ReadCauses.{cause_as, cause_after}
 use Rattle.acd_sqlbook.proofs.ready.Ready.kept.Goals as goal
 

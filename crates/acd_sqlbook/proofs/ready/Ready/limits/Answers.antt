@@ -1,7 +1,7 @@
 use Rattle.std.proofs.Common.{◌≡◌, None, Ok, ap, rules}
 use Rattle.sqlite.specs.Held.{state}
 use Rattle.acd_sqlbook.specs.Counters.{AreCounters}
-use Rattle.acd_sqlbook.proofs.Standing.{reads_on}
+use Rattle.acd_sqlbook.proofs.AfterProbe.{reads_on}
 use Rattle.acd_sql_columns.specs.Relations.{meta_of}
 use Rattle.acd_sql_statements.proofs.ReadCauses.{cause_on, cause_as}
 use Rattle.acd_sqlbook.proofs.ready.Ready.limits.Goals as goal

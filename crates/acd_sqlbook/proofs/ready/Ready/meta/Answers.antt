@@ -4,7 +4,7 @@ use Rattle.acd_sql_columns.specs.Relations.{meta_of}
 use Rattle.acd_sql_columns.specs.declared.meta.Meta.{Meta}
 use Rattle.acd_sqlbook.specs.Calls.{HasRead}
 use Rattle.acd_sqlbook.specs.Counters.{AreCounters}
-use Rattle.acd_sqlbook.proofs.Standing.{reads_as, reads_after, reads_held}
+use Rattle.acd_sqlbook.proofs.AfterProbe.{reads_as, reads_after, reads_held}
 use Rattle.acd_sql_statements.proofs.ReadCauses.{cause_as, cause_after, cause_on}
 use Rattle.acd_sqlbook.proofs.ready.Ready.meta.Goals as goal
 

@@ -1,6 +1,6 @@
 use Rattle.std.proofs.Common.{◌≡◌, ◌+◌, ◌≤◌, ◌∷◌, drop, length, arith}
 use Rattle.std.proofs.lemmas.Grind.{common_steps}
-use Rattle.acd_switch.proofs.CarriedOn.{all_left, move_carried, moves_carried}
+use Rattle.acd_switch.proofs.MovesInTurn.{all_left, move_carried, moves_carried}
 use Rattle.acd_switch.proofs.journal.Journal.make_all.Goals as goal
 
 pub loop-one-init : goal.loop-one-init

@@ -1,5 +1,5 @@
 use Rattle.std.proofs.Common.{drop}
-use Rattle.acd_switch.proofs.CarriedOn.{IsLeft}
+use Rattle.acd_switch.proofs.MovesInTurn.{IsLeft}
 use Rattle.acd_switch.proofs.journal.Journal.make_all.Given as goal
 
 abbrev pub invariant-loop-one : goal.invariant-loop-one

@@ -4,10 +4,10 @@ use Rattle.acd_terms.specs.declared.rows.Rows.{Rows}
 use Rattle.acd_model.specs.Rules.First.{BreaksNoRule}
 use Rattle.acd_laws.specs.RefusalLaws.{ChangesNothing}
 use Rattle.acd_laws.proofs.Rules.RulesAll.{step_keeps_rules}
-use Rattle.acd_switch.proofs.Refusing.{where_refused}
+use Rattle.acd_switch.proofs.RefusedSteps.{where_refused}
 use Rattle.acd_model.specs.Step.{executed_moment, next_stamp}
 use Rattle.acd_model.specs.Changes.{rows_made}
-use Rattle.acd_switch.proofs.Making.{made}
+use Rattle.acd_switch.proofs.ChangesOfRequests.{made}
 use Rattle.acd_switch.proofs.switch.Switch.step_with_changes.Goals as goal
 
 pub returns-clause-kept : goal.returns-clause-kept

@@ -1,6 +1,6 @@
 use Rattle.std.proofs.Common.{◌<◌, ◌∙◌, sym, length, arith}
 use Rattle.acd_model.specs.Rules.Plan.{connection_order}
-use Rattle.acd_lemmas.proofs.Decided.{ascending_from}
+use Rattle.acd_lemmas.proofs.RuleTests.{ascending_from}
 use Rattle.acd_lemmas.proofs.State.{connections_total}
 use Rattle.acd_tables.proofs.ListLemmas.{put_by-next}
 use Rattle.acd_tables.proofs.connections.Connections.from_slice.Goals as goal

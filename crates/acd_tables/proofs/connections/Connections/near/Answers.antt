@@ -4,10 +4,10 @@ use Rattle.std.specs.List.{filter_map}
 use Rattle.std.specs.BTreeMap.Range.{range_contains}
 use Rattle.std.proofs.lemmas.List.Kept.{IsStrictlySortedBy-filter}
 use Rattle.acd_lemmas.proofs.Lists.{among-filter}
-use Rattle.acd_tables.specs.Indexed.{pair_cmp}
+use Rattle.acd_tables.specs.IndexedRows.{pair_cmp}
 use Rattle.acd_tables.specs.Near.{of_key}
 use Rattle.acd_tables.proofs.NearLemmas.{near-forward, near-itself}
-use Rattle.acd_tables.proofs.Picked.{contained, exact_pair}
+use Rattle.acd_tables.proofs.ScansByIndex.{contained, exact_pair}
 use Rattle.acd_tables.proofs.KeyLemmas.{picks-of}
 use Rattle.acd_tables.proofs.connections.Connections.near.Goals as goal
 

@@ -1,12 +1,12 @@
 use Rattle.std.proofs.Common.{rules, refl, ◌∙◌}
-use Rattle.acd_tables.specs.Swaps.{Untouched}
+use Rattle.acd_tables.specs.Swaps.{IndexesUntouched}
 use Rattle.acd_tables.proofs.OfferLemmas.{offers-entered, offers-more, offers-same, undone}
 use Rattle.acd_tables.proofs.indexes.Indexes.enter.Goals as goal
 
 pub returns-in_err-insert_alone-clause-err : goal.returns-in_err-insert_alone-clause-err
 returns-in_err-insert_alone-clause-err c =
     let x = c.args.self.now in
-    let untouched : Untouched c.args.records.now x (record x { offering = c.insert_alone.new.offering }) = record {
+    let untouched : IndexesUntouched c.args.records.now x (record x { offering = c.insert_alone.new.offering }) = record {
       queues = record { sets = λ g. refl; members = λ g p. refl };
       ready = record { sets = λ g. refl; members = λ g p. refl };
       offers = offers-more c.args.records.now x.queues x.ready c.insert_alone.new.offering x.offering c.requires c.insert_alone.ensures.kept;
@@ -17,7 +17,7 @@ returns-in_err-insert_alone-clause-err c =
 pub returns-in_err-insert_groups-clause-err : goal.returns-in_err-insert_groups-clause-err
 returns-in_err-insert_groups-clause-err c =
     let x = c.args.self.now in
-    let untouched : Untouched c.args.records.now x (record x { offering = c.insert_groups.new.offering }) = record {
+    let untouched : IndexesUntouched c.args.records.now x (record x { offering = c.insert_groups.new.offering }) = record {
       queues = record { sets = λ g. refl; members = λ g p. refl };
       ready = record { sets = λ g. refl; members = λ g p. refl };
       offers =
@@ -30,7 +30,7 @@ returns-in_err-insert_groups-clause-err c =
 pub returns-in_err-queue-clause-err : goal.returns-in_err-queue-clause-err
 returns-in_err-queue-clause-err c =
     let x = c.args.self.now in
-    let untouched : Untouched c.args.records.now x (record x { queues = c.enter_alone.new.sets; offering = c.insert_groups.new.offering }) = record {
+    let untouched : IndexesUntouched c.args.records.now x (record x { queues = c.enter_alone.new.sets; offering = c.insert_groups.new.offering }) = record {
       queues = c.in_err-queue.ensures.err;
       ready = record { sets = λ g. refl; members = λ g p. refl };
       offers =

@@ -1,6 +1,6 @@
 use Rattle.std.proofs.Common.{◌<◌, ◌∙◌, sym, length, arith}
 use Rattle.std.proofs.lemmas.Cmp.{on_total}
-use Rattle.acd_lemmas.proofs.Decided.{ascending_from}
+use Rattle.acd_lemmas.proofs.RuleTests.{ascending_from}
 use Rattle.acd_tables.proofs.ListLemmas.{put_by-next}
 use Rattle.acd_tables.proofs.table.Table.from_slice.Goals as goal
 

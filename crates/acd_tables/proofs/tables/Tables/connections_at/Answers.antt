@@ -1,5 +1,5 @@
 use Rattle.std.proofs.Common.{◌≡◌, subst, IfOk, ◌∙◌}
-use Rattle.acd_tables.proofs.Picked.{picks-at}
+use Rattle.acd_tables.proofs.ScansByIndex.{picks-at}
 use Rattle.acd_tables.proofs.tables.Tables.connections_at.Goals as goal
 
 pub returns : goal.returns

@@ -1,4 +1,4 @@
-use Rattle.acd_tables.proofs.Picked.{after_none, picks-ringing}
+use Rattle.acd_tables.proofs.ScansByIndex.{after_none, picks-ringing}
 use Rattle.acd_tables.proofs.tables.Tables.ringing.Goals as goal
 
 pub loop-key-init : goal.loop-key-init

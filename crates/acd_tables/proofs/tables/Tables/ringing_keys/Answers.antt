@@ -1,4 +1,4 @@
-use Rattle.acd_tables.proofs.Picked.{picks-ringing}
+use Rattle.acd_tables.proofs.ScansByIndex.{picks-ringing}
 use Rattle.acd_tables.proofs.tables.Tables.ringing_keys.Goals as goal
 
 pub returns : goal.returns

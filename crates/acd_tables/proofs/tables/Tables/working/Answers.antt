@@ -1,4 +1,4 @@
-use Rattle.acd_tables.proofs.Picked.{after_none, picks-working}
+use Rattle.acd_tables.proofs.ScansByIndex.{after_none, picks-working}
 use Rattle.acd_tables.proofs.tables.Tables.working.Goals as goal
 
 pub loop-number-init : goal.loop-number-init

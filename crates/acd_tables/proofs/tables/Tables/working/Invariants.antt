@@ -2,7 +2,7 @@ use Rattle.std.proofs.Common.{◌≡◌, ◌++◌}
 use Rattle.std.specs.Prelude.{filter}
 use Rattle.std.specs.List.{filter_map}
 use Rattle.acd_model.specs.Scans.{agent_of}
-use Rattle.acd_tables.specs.Indexed.{is_working}
+use Rattle.acd_tables.specs.IndexedRows.{is_working}
 use Rattle.acd_tables.specs.Uses.{kept}
 use Rattle.acd_tables.proofs.tables.Tables.working.Given as goal
 

@@ -1,4 +1,4 @@
-use Rattle.acd_tables.proofs.Picked.{picks-working}
+use Rattle.acd_tables.proofs.ScansByIndex.{picks-working}
 use Rattle.acd_tables.proofs.tables.Tables.working_keys.Goals as goal
 
 pub returns : goal.returns

@@ -1,7 +1,7 @@
 use Rattle.std.proofs.Common.{sym, ap, ◌∙◌}
 use Rattle.std.specs.Ordering.{nat_cmp}
 use Rattle.acd_terms.specs.Lists.{ascends}
-use Rattle.acd_terms.proofs.Placing.{put_ascends}
+use Rattle.acd_terms.proofs.NumbersInOrder.{put_ascends}
 use Rattle.acd_terms.proofs.groups.Groups.with.Goals as goal
 
 pub invariant_of-result : goal.invariant_of-result

@@ -1,5 +1,5 @@
 use Rattle.std.proofs.Common.{ap, leb}
-use Rattle.acd_rules.proofs.Looking.{given}
+use Rattle.acd_rules.proofs.LookUpLemmas.{given}
 use Rattle.acd_rules.proofs.grouped.fn.alike.partition_point+2.Goals as goal
 
 pub returns : goal.returns

@@ -1,5 +1,5 @@
 use Rattle.std.proofs.Common.{ap, ltb}
-use Rattle.acd_rules.proofs.Looking.{given}
+use Rattle.acd_rules.proofs.LookUpLemmas.{given}
 use Rattle.acd_rules.proofs.grouped.fn.alike.partition_point.Goals as goal
 
 pub returns : goal.returns

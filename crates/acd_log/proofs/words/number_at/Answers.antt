@@ -1,7 +1,0 @@
-use Rattle.std.proofs.Common.{refl}
-use Rattle.sqlite_wal.specs.Format.{be32}
-use Rattle.acd_log.proofs.words.number_at.Goals as goal
-
-pub returns : goal.returns
-unfolding be32
-returns c = refl

@@ -1,5 +1,0 @@
-use Rattle.acd_log.proofs.Looking.{part_between}
-use Rattle.acd_log.proofs.words.part_of.Goals as goal
-
-pub returns-clause-value : goal.returns-clause-value
-returns-clause-value c = part_between c.args.bytes.now c.args.at c.args.len
