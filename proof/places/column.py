@@ -3,8 +3,8 @@
 
 usage: proof/places/column.py COPY    (COPY is a clone of the repository, which is changed)
 
-It prints each place, by crate and kind, and counts them: CONTRIBUTING, 'A column', has these numbers. Status 1 says that a text doesn't stand
-as often as is said here; then mend it here, and the numbers there. After it `rt check` in the crates of COPY says whether places are missing.
+It prints each place, by crate and kind, and counts them. Status 1 says that a text doesn't stand as often as is said here; then mend it here.
+After it `rt check` in the crates of COPY says whether places are missing.
 The column is put into version 2 as it is: the places of a new version of the file come on top."""
 from places import copy_of_command_line
 
@@ -34,7 +34,7 @@ after("crates/acd_model/specs/Examples/Words.antt", ("stamp = 4; since = 0", "; 
 put("crates/acd_lemmas/proofs/SameRecords.antt",
     ("    let state = two since.1 in\n    λ i. record {\n      agent", "    let logged = two since.1 in\n    let state = two logged.1 in\n    λ i. record {\n      agent"),
     ("      since = eqb-true x.since y.since since.0 i;\n", "      since = eqb-true x.since y.since since.0 i;\n      logged = number_same x.logged y.logged logged.0 i;\n"))
-after("crates/acd_laws/proofs/Rules/RulesOfPlanning.antt", ("groups = gs; stamp = turn.stamp; since = turn.moment", "; logged = Some turn.moment"))
+after("crates/acd_laws/proofs/Rules/RulesOfPlanning.antt", ("      since = turn.moment;\n", "      logged = Some turn.moment;\n"))
 after("crates/acd_laws/proofs/Rules/BoundsStep.antt", ("groups = groups; stamp = k; since = m", "; logged = Some m"))
 after("crates/acd_laws/proofs/Watched/EffectReports.antt", ("groups = groups; stamp = turn.stamp; since = turn.moment", "; logged = Some turn.moment"))
 
@@ -61,7 +61,7 @@ put("crates/acd_sql_columns/src/columns.rt", ("            7 (stamp: stamp) \"st
 after("crates/acd_sql_columns/src/relations.rt", ("    pub since: u32,\n", "    pub logged: Option<u32>,\n"), ("            since: agent.since,\n", "            logged: agent.logged,\n"),
       ("            since: self.since,\n", "            logged: self.logged,\n"))
 put("crates/acd_sql_columns/specs/Rows.antt",
-    ("(λ a. a.stamp) ∷ has (codes \"since\") moment (λ a. a.since) ∷ []", "(λ a. a.stamp) ∷ has (codes \"since\") moment (λ a. a.since) ∷ may_have (codes \"logged\") moment (λ a. a.logged) ∷ []"),
+    ("(λ a. a.stamp) ∷ field_named (codes \"since\") moment (λ a. a.since) ∷ []", "(λ a. a.stamp) ∷ field_named (codes \"since\") moment (λ a. a.since) ∷ may_have (codes \"logged\") moment (λ a. a.logged) ∷ []"),
     ("agent_made = λ agent name state pending station group stamp since. record", "agent_made = λ agent name state pending station group stamp since logged. record"), ("  since = since;\n", "  since = since;\n  logged = logged;\n"))
 after("crates/acd_sql_columns/specs/Relations.antt", ("  since = a.since;\n", "  logged = a.logged;\n", 2))
 

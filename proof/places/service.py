@@ -3,9 +3,9 @@
 
 usage: proof/places/service.py COPY    (COPY is a clone of the repository, which is changed)
 
-It prints each place, by crate and kind, and counts them: CONTRIBUTING, 'A service', has these numbers. Status 1 says that a text doesn't stand
-as often as is said here; then mend it here, and the numbers there. After it `rt check` in the crates of COPY says whether places are missing.
-A service with moves of its own needs a constructor of `Deed` and its cases too."""
+It prints each place, by crate and kind, and counts them. Status 1 says that a text doesn't stand as often as is said here; then mend it here.
+After it `rt check` in the crates of COPY says whether places are missing.
+A service with moves of its own needs a constructor of `Effect` and its cases too."""
 from places import copy_of_command_line
 
 places = copy_of_command_line(__doc__)
@@ -40,7 +40,7 @@ use Rattle.acd_terms.specs.declared.answer.Answer.TheVariants.{Nothing}
 use Rattle.acd_terms.specs.declared.answer.Refusal.TheVariants.{UnknownCall, UnknownConnection, NotStation, WrongConnectionState}
 use Rattle.acd_model.specs.Scans.{call_of, connection_of, is_station}
 use Rattle.acd_model.specs.CallMoves.{hold}
-use Rattle.acd_model.specs.Served.{Served, refuse_if, gives}
+use Rattle.acd_model.specs.ServiceAnswers.{Served, refuse_if, gives}
 
 unfoldable pub park_here : Rows → CallId → Device → Served
 park_here s call device = do
@@ -92,8 +92,8 @@ after("crates/acd_services/src/serving.rt", ("use crate::monitor_stop::monitor_s
 
 CODEC = "crates/acd_codec/"
 as_variant(CODEC + "specs/Services.antt", ("row ChangeAgent = (codes \"changeAgent\", of_agent command.ChangeAgent)\n", "row ParkHere = (codes \"parkHere\", of_connection command.ParkHere)\n"),
-      ("∷ ChangeGroup ∷ ChangeAgent", " ∷ ParkHere"),
-      ("taken_apart (command.ChangeAgent agent name) = (ChangeAgent, Agent agent name)\n", "taken_apart (command.ParkHere call device) = (ParkHere, Connection call device)\n"))
+           ("∷ ChangeGroup ∷ ChangeAgent", " ∷ ParkHere"),
+           ("taken_apart (command.ChangeAgent agent name) = (ChangeAgent, Agent agent name)\n", "taken_apart (command.ParkHere call device) = (ParkHere, Connection call device)\n"))
 after(CODEC + "src/service.rt", ("    ChangeAgent,\n", "    ParkHere,\n"), ("            RejectCall \"rejectCall\" reject_call_in Connection { call, device },\n", "            ParkHere \"parkHere\" park_here_in Connection { call, device },\n"))
 put(CODEC + "src/reading.rt", ("fn retrieve_call_in(", """\
 fn park_here_in(document: &Document<'_>) -> Result<Command, Member>
@@ -120,7 +120,7 @@ as_variant(DESK + "proofs/OldStates.antt", ("serve_old s turn (ChangeAgent agent
 LAWS = "crates/acd_laws/proofs/"
 as_variant(LAWS + "Effects.antt", (", change_group, change_agent", ", park_here"), ("deed_of_serve s turn (ChangeAgent agent name) = inl (refl, inl (deed_change_agent s turn agent name))\n", "deed_of_serve s turn (ParkHere call device) = inl (refl, inl (deed_park_here s turn call device))\n"))
 put(LAWS + "Effects.antt", ("deed_retrieve_call : ", """\
-deed_park_here : (s : Rows) (turn : Turn) (call device : ℕ) → DeedBy s turn (park_here s call device)
+deed_park_here : (s : Rows) (turn : Turn) (call device : ℕ) → EffectBy s turn (park_here s call device)
 unfolding park_here
 deed_park_here s turn call device =
     party _ _ _ (λ p _ at. unless _ _ (λ state. unless _ _ (λ station.
