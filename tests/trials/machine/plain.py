@@ -80,8 +80,11 @@ class Plain(Trial):
         names = [sorted(str(path.relative_to(one)) for path in one.rglob("*") if path.is_file() and path.suffix != ".deb") for one in (there, here)]
         self.expect("the files of both", names[0], names[1])
         differ = filecmp.cmpfiles(there, here, names[1], shallow=False)[1:]
-        moved = [name for name in names[1] if name.endswith(("/changelog.gz", "/DEBIAN/md5sums"))]
+        moved = [name for name in names[1] if name.endswith(("/changelog.gz", "/DEBIAN/md5sums", "/DEBIAN/control"))]
         self.expect("files that differ", [name for part in differ for name in part if name not in moved], [])
+        # how long the changelog is once it is packed, and so the size, is by the moment
+        controls = [[re.sub("(?m)^Installed-Size: .*$", "", control.read_text()) for control in sorted(one.glob("*/DEBIAN/control"))] for one in (there, here)]
+        self.expect("what control says but for the size", *controls)
 
     def expect_licences(self, folder):
         """The copyright of both packages; and each notice of the toolchain, where that is here."""
