@@ -89,8 +89,8 @@ class Booted(Trial):
         said = self.ran("curl", "-s", "--max-time", "5", *fields, "-d", body, *self.at("/csta", of))[1]
         return json.loads(said) if said else {}
 
-    def read(self, path):
-        return self.ran("curl", "-s", "--max-time", "5", *self.at(path))[1]
+    def read(self, path, of="desk"):
+        return self.ran("curl", "-s", "--max-time", "5", *self.at(path, of))[1]
 
     def journal(self, unit):
         return self.ran("journalctl", "--no-pager", "-o", "cat", "-u", unit)[1]

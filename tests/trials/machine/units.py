@@ -4,7 +4,7 @@ import subprocess
 import sys
 from pathlib import Path
 
-from edges import Edges
+from edges import FIRST, Edges
 
 HIGHEST = 2.0
 PROBE = "/usr/local/bin/probe"
@@ -28,7 +28,7 @@ MAY = {
     "acd-prune.service": (DESK | {"priority"}, OF_ROOT | {"priority"}),
     "acd-local.service": ({"AF_UNIX", "AF_NETLINK", "load a table"}, OF_ROOT | {"AF_UNIX", "AF_NETLINK", "load a table"}),
     "acd-node.service": (INTERNET | DESK - {"see what the desk has open"}, INTERNET | OF_ROOT),
-    "acd-follow.service": (INTERNET | DESK - {"see what the desk has open"}, INTERNET | OF_ROOT),
+    "acd-follow.service": (NETWORK | DESK, NETWORK | OF_ROOT),
     "acd-node-upkeep.service": (INTERNET, INTERNET | OF_ROOT),
     "acd-exchange.service": (NETWORK | {"write the exchange's folder"}, NETWORK | OF_ROOT - {"read the accounts"}),
     "acd-edge.service": (NETWORK | {"read the accounts", "AF_NETLINK"}, NETWORK | OF_ROOT | {"AF_NETLINK"}),
@@ -63,6 +63,8 @@ with socket.create_server(("127.0.0.1", 8443)) as port:
         except OSError:
             pass
 """
+# ticks for a desk that is followed, one after the other
+LOAD = f"""while :; do number=$((number + 1)); curl -s -d '{{"requester":"load","invoke":'$number',"service":"tick"}}' {FIRST}/csta; done"""
 
 
 class Units(Edges):
@@ -128,6 +130,16 @@ class Units(Edges):
             self.done("systemctl", "start", "acd")
             self.expect("the desk answers of it", self.eventually(lambda: '"Billing"' in self.read("/snapshot"), True), True)
             self.expect("it is nobody else's", self.done("stat", "-c", "%U %G %a", "/var/lib/acd/desk.db"), "acd acd 600\n")
+
+    def try_standby(self):
+        """A standby at the desk's socket, by the desk's file; a copy of what it is fed under load halts it, as it does a desk."""
+        self.stand_by("acd", "acd-follow", "/etc/acd/follow.env", "/var/lib/acd")
+        self.done("systemd-run", "--quiet", "--unit=load", "sh", "-c", LOAD)
+        halted = self.journal("acd-copy").count("the desk was halted for ")
+        self.done("systemctl", "start", "acd-copy")
+        self.expect("it was halted for the copy", self.journal("acd-copy").count("the desk was halted for "), halted + 1)
+        self.done("systemctl", "stop", "load")
+        self.serve_by_order("acd", "acd-follow", "/var/lib/acd/desk.db")
 
     def try_exchange(self):
         """A phone registers, its agent logs off, a caller waits, and somebody speaks TLS; none of it by a second start."""
