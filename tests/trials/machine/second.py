@@ -1,8 +1,7 @@
-"""Cases of a second help line on the same machine, made by the lines of REFERENCE.md as they are there, behind nginx."""
+"""Cases of a second help line on the same machine, made by the lines of REFERENCE.md as they are there, behind nginx, and of its standby."""
 import re
 import subprocess
 
-from booted import AT_SOCKETS
 from edges import Edges
 from sections import section, typed
 
@@ -12,7 +11,7 @@ HASH = "import passlib.hash; print(passlib.hash.bcrypt.using(rounds=5).hash('ses
 
 
 class Second(Edges):
-    places = {**AT_SOCKETS, "north": ("--unix-socket", "/run/acd/north.sock", "http://desk")}
+    places = {**Edges.places, "north": ("--unix-socket", "/run/acd/north.sock", "http://desk")}
 
     def lines(self, heading):
         """The lines that are to be typed under a heading."""
@@ -59,3 +58,14 @@ class Second(Edges):
         self.expect(f"nora logs in ({said[:300]})", bool(cookie))
         with_it = ("-k", "-H", f"Cookie: {cookie[1] if cookie else ''}")
         self.expect("her session at both lines", [self.curl(f"https://127.0.0.1:{port}/queues/500", *with_it) for port in (8453, 8443)], [200, 401])
+
+    def try_standby(self):
+        """A standby of the second line alone, by a unit that the page's words make: the first line's desk serves all the while."""
+        page = section(self.container.inside(PAGE).read_text(), "A second help line")
+        words = re.search(r"`(sed '[^`]*' /lib/systemd/system/acd-follow\.service)`", page)[1]
+        self.done("sh", "-c", f"{words} >/etc/systemd/system/acd-follow-north.service && systemctl daemon-reload")
+        began = self.done("systemctl", "show", "--value", "-p", "MainPID", "acd")
+        self.stand_by("acd-north", "acd-follow-north", "/etc/acd/north-follow.env", "/var/lib/acd/north", "north")
+        self.serve_by_order("acd-north", "acd-follow-north", "/var/lib/acd/north/desk.db", "north")
+        self.expect("both lines serve", [self.asked(port, login, path) for port, login, path in ((8443, "sup", "/queues/300"), (8453, "nora", "/queues/300"))], [404, 200])
+        self.expect("the first one's desk is the same", self.done("systemctl", "show", "--value", "-p", "MainPID", "acd"), began)

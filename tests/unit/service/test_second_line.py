@@ -65,6 +65,12 @@ class SecondLine(unittest.TestCase):
     def test_records_come_into_a_folder_of_their_own(self):
         self.assertRegex(self.units()["acd-records-north"], r"(?m)^ExecStart=/usr/bin/acdctl records --copies \$\{ACD_COPY_FOLDER\} /var/lib/acd-records-north$")
 
+    def test_its_standby_leaves_the_first_line_alone(self):
+        words = re.search(r"`(sed '[^`]*' /lib/systemd/system/acd-follow\.service)`", LINES)[1]
+        made = subprocess.run(["sh", "-ec", words.replace("/lib/systemd/system/", f"{TOP}/service/units/")], stdout=subprocess.PIPE, text=True, check=True).stdout
+        found = [line for line in made.splitlines() if line.startswith(("Conflicts=", "Before=", "EnvironmentFile="))]
+        self.assertEqual(found, ["Conflicts=acd-north.service", "Before=acd-north.service", "EnvironmentFile=-/etc/acd/north.env", "EnvironmentFile=/etc/acd/north-follow.env"])
+
 
 if __name__ == "__main__":
     unittest.main()
