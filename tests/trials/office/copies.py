@@ -1,6 +1,7 @@
 """Cases of copies: by the timer's unit and by hand, what a copy lacks, and putting one back; done wrong first, and then right."""
 import json
 import re
+from collections import Counter
 
 from office import FILE, HOME, STATE, Planned
 
@@ -10,6 +11,7 @@ STARTS = 9
 BACK = "Put a copy back"
 # what a restore changes names by, and where all lies as it was before one
 CALLS = ("rename", "link", "symlink", "unlink", "unlinkat", "rmdir", "mkdir")
+STRACE = ("strace", "-f", "-q", "-o", "/tmp/steps", "-e", f"trace={','.join(CALLS)}")
 BEFORE = "/srv/before"
 # how a restore is ended that was broken off
 UNENDED = r"^acdctl ready: the (restore|undo) of \S+ isn't ended: (acdctl restore \S+ ends it, )?acdctl restore --undo (takes it back|ends it)$"
@@ -53,9 +55,10 @@ class Copies(Planned):
         self.expect("nobody else reads them", self.done("find", COPIES, "-perm", "/077"), "")
 
     def try_from_anywhere(self):
-        """As the desk's user, from a folder that this one may not enter."""
+        """As the desk's user, from a folder that this one may not enter; what is the gate's is in copies by the unit alone."""
         status, said = self.typed("runuser -u acd -- acd-copy")
-        self.expect_in(f"from root's home, {status}", said, rf"\Athe desk was halted for \d+ ms\nsound: {COPIES}/{MOMENT}\n(cleared away: {COPIES}/{MOMENT}\n)?\Z")
+        lacks = r"acd-copy: the copy lacks the logins and names that the office gave: /var/lib/acd-gate: Permission denied; systemctl start acd-copy copies them too\n"
+        self.expect_in(f"from root's home, {status}", said, rf"\Athe desk was halted for \d+ ms\n{lacks}sound: {COPIES}/{MOMENT}\n(cleared away: {COPIES}/{MOMENT}\n)?\Z")
 
     def try_plain_copy(self):
         """The file that is served is copied by `cp`, without its log: the audit says `sound` of what lacks the last answers. A copy by the unit has them."""
@@ -63,7 +66,7 @@ class Copies(Planned):
         self.done("sh", "-c", f"mkdir {HOME}/plain && cp {FILE} {HOME}/plain")
         self.expect("the audit says", self.ran("acd", "audit", "--file", f"{HOME}/plain/desk.db"), (0, "sound\n"))
         self.expect("the last answers aren't there", self.kept("plain", f"{HOME}/plain"), [])
-        self.expect_in("the page says so", self.page("What an audit cannot see").replace("\n", " "), "`sound` .* Nor does it say that nothing is missing at the end: .* so is a file without its log")
+        self.expect_in("the page says so", self.page("What an audit cannot see").replace("\n", " "), "`sound` .* Nor that nothing is missing at the end: .* so is a file without its log")
         self.expect("a copy by the unit has them", self.kept("plain", f"{COPIES}/{self.copied('with its log')}"), [1, 2, 3, 4, 5])
 
     def put_back(self, moment):
@@ -125,8 +128,8 @@ class Copies(Planned):
                 for end in ends:
                     what = f"{words[0]} killed at {call} {number}"
                     self.laid_out(moment, words)
-                    status, _ = self.ran("strace", "-qq", "-o", "/tmp/steps", "-e", f"trace={','.join(CALLS)}", "-e", f"inject={call}:signal=KILL:when={number}", *restoring(words))
-                    self.expect(f"{what}: it is killed", status not in (0, 1))
+                    self.ran(*STRACE, "-e", f"inject={call}:signal=KILL:when={number}", *restoring(words))
+                    self.expect(f"{what}: it is killed", "+++ killed by SIGKILL" in self.done("cat", "/tmp/steps"))
                     seen.add(self.start_of_one(what))
                     self.end_by(what, end)
                     kills += 1
@@ -141,11 +144,11 @@ class Copies(Planned):
             self.done("acd-copy", "--restore", moment)
 
     def steps(self, moment, words):
-        """Each call by which this changes a name, and which one of its kind it is."""
+        """Each call by which this changes a name, and which one of its kind it is, as strace counts them, of one process each: the desk's file is one's, and the gate's folder another's."""
         self.laid_out(moment, words)
-        self.done("strace", "-qq", "-o", "/tmp/steps", "-e", f"trace={','.join(CALLS)}", *restoring(words))
-        made = re.findall(r"^(\w+)\(", self.done("cat", "/tmp/steps"), re.MULTILINE)
-        return [(call, number) for call in CALLS for number in range(1, made.count(call) + 1)]
+        self.done(*STRACE, *restoring(words))
+        made = Counter(re.findall(r"^(\d+) +(\w+)\(", self.done("cat", "/tmp/steps"), re.MULTILINE))
+        return [(call, number) for call in CALLS for number in range(1, max((count for (_, of), count in made.items() if of == call), default=0) + 1)]
 
     def start_of_one(self, what):
         """What a start serves: the rows of a requester that only one of the two has, or none."""

@@ -41,7 +41,7 @@ class Damage(Planned):
             for number in (1, 2):
                 self.restarts(f"start {number} behind {what}")
                 self.expect("it answers", self.service("beside", len(what) + 100 * number, "tick").get("result"), {})
-        self.expect("the note is of what is there", re.findall(r"(\d+) ", self.inside(NOTE).read_text()), [str(self.inside(path).stat().st_ino) for path in (FILE, LOG)])
+        self.expect("the note is of what is there", re.findall(r"(?m)^(?:file|log) (\d+) ", self.inside(NOTE).read_text()), [str(self.inside(path).stat().st_ino) for path in (FILE, LOG)])
 
     def try_removed_log(self):
         """Behind a stop the log may go, and behind a kill it may not: told until it is back, or a copy is."""
