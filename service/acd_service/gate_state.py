@@ -240,10 +240,12 @@ def beside(own: Path | None, work: Callable[[Files | None], Files | None], after
     with open(ends[0], encoding="utf-8") as came:
         text = came.read()
     status = os.waitstatus_to_exitcode(os.waitpid(child, 0)[1])
+    if status < 0:
+        raise Fault(f"signal {-status} ended it; the same command again ends what it began")
     if status == 0:
         put_back(own, json.loads(text))
         after()
-    sys.exit(status if status >= 0 else command.FAILED)
+    sys.exit(status)
 
 
 def put_back(own: Path | None, files: Files | None) -> None:

@@ -100,7 +100,8 @@ class Copies(Planned):
         self.sent("late", 2)
         self.done("systemctl", "stop", "acd")
         for words in (("--restore", moment), ("--undo",)):
-            self.ran("strace", "-f", "-qq", "-o", "/dev/null", "-e", "inject=rename:signal=KILL:when=5", "acdctl", "restore", moment)
+            said = self.ran("strace", "-f", "-qq", "-o", "/dev/null", "-e", "inject=rename:signal=KILL:when=5", "acdctl", "restore", moment)
+            self.expect("it tells that it was killed", said, (1, "acdctl restore: signal 9 ended it; the same command again ends what it began\n"))
             says = f"the restore of {moment} isn't ended: acdctl restore {moment} ends it, acdctl restore --undo takes it back"
             self.expect("it is broken off", self.ran("readlink", FILE), (0, f"/dev/null/{says}\n"))
             self.fails(f"a start before acd-copy {words[0]}", says)

@@ -211,6 +211,8 @@ class ByOwner(Own):
         super().setUp()
         os.chmod(self.folder, 0o755)
         os.chown(self.own, *GATE)
+        handlers = [signal.getsignal(one) for one in ground.SIGNALS]
+        self.addCleanup(lambda: [signal.signal(one, was) for one, was in zip(ground.SIGNALS, handlers)])
 
     def beside(self, work):
         """The status, and what was printed."""
@@ -224,8 +226,6 @@ class ByOwner(Own):
         return end.exception.code, printed.getvalue()
 
     def test_done(self):
-        handlers = [signal.getsignal(one) for one in ground.SIGNALS]
-        self.addCleanup(lambda: [signal.signal(one, was) for one, was in zip(ground.SIGNALS, handlers)])
         self.assertEqual(self.beside(lambda now: FILES), (0, f"Put the logins and names that the office gave into {self.own}\nafter\n"))
         self.assertEqual((self.there(), {(file.stat().st_uid, file.stat().st_gid) for file in self.own.iterdir()}), (FILES, {GATE}))
         self.assertEqual(self.beside(lambda now: None), (0, "after\n"))
@@ -235,6 +235,11 @@ class ByOwner(Own):
             raise gate_state.Fault("no copy")
 
         self.assertEqual(self.beside(refuses), (1, ""))
+        self.assertEqual(self.there(), {})
+
+    def test_killed(self):
+        with self.assertRaisesRegex(gate_state.Fault, r"\Asignal 9 ended it; the same command again ends what it began\Z"):
+            gate_state.beside(self.own, lambda now: os.kill(os.getpid(), signal.SIGKILL), lambda: None)
         self.assertEqual(self.there(), {})
 
 
