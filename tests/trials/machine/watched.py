@@ -53,7 +53,9 @@ class Watched(Edges):
         self.expect("another one is there", self.eventually(lambda: self.curl(self.at("/snapshot")), 200, 60), 200)
         spent = time.monotonic() - begun
         self.expect(f"in its time ({spent:.0f} s)", 4 <= spent <= 40)
-        self.expect("it is another process, started again once", (self.shown("MainPID")[0] != process, self.shown("NRestarts", "ActiveState")), (True, ["1", "active"]))
+        # it answers a moment before systemd is told so
+        is_active = self.eventually(lambda: self.shown("NRestarts", "ActiveState"), ["1", "active"])
+        self.expect("it is another process, started again once", (self.shown("MainPID")[0] != process, is_active), (True, ["1", "active"]))
         self.expect("with what was answered", '"900"' in self.read("/snapshot"), True)
         self.expect_in("systemd says why", self.journal("acd"), "Watchdog timeout")
         time.sleep(20)
