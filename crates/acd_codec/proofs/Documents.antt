@@ -66,6 +66,11 @@ some_then : {A B : Type 0} (o : Option A) (f : A → Option B) (b : Bool) → ((
 some_then None f b h = refl
 some_then (Some a) f b h = h a
 
+-- reading what was mapped is to map and read
+pub mapped_then : {A B C : Type 0} (o : Option A) (f : A → B) (g : B → Option C) → option_and_then g (option_map f o) ≡ option_and_then (λ a. g (f a)) o
+mapped_then None f g = refl
+mapped_then (Some a) f g = refl
+
 mapped : {A B : Type 0} (o : Option A) (f : A → B) → is_some (option_map f o) ≡ is_some o
 mapped None f = refl
 mapped (Some a) f = refl

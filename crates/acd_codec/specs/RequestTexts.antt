@@ -1,5 +1,7 @@
 -- The one text of a request: its members in the order of their names.
-use Rattle.std.specs.Prelude.{ℕ, List}
+use Rattle.std.specs.Prelude.{ℕ, List, Result}
+use Rattle.std.specs.Borrow.{MutBor}
+use Rattle.json.specs.Written.{Written}
 use Rattle.serde_json.specs.Data.{Data, string, number, object, unsigned, Members, member, no_members}
 use Rattle.serde_json.specs.Written.{compact_text}
 use Rattle.acd_terms.specs.Forms.{digits_of}
@@ -16,6 +18,8 @@ use Rattle.acd_codec.specs.declared.service.Service.{Service}
 use Rattle.acd_codec.specs.Members.{member_name}
 use Rattle.acd_codec.specs.Parts.{written_before, groups_parts}
 use Rattle.acd_codec.specs.Services.{service_name, taken_apart, requested_state_name}
+use Rattle.acd_codec.specs.Tokens.{AddsMembers}
+use denote.Triple.Both.{Both}
 
 -- a member that is a text, before the others
 abbrev pub text : Member → List ℕ → Members → Members
@@ -66,6 +70,10 @@ service_members key s (Monitor monitor) = whole m.Invoke key.1 (whole m.Monitor 
 service_members key s (Priority device priority) =
     digits m.Device device (whole m.Invoke key.1 (whole m.Priority priority (sent_by key.0 s no_members)))
 service_members key s Nothing = sent key s no_members
+
+-- those of the request's service are written after what the buffer holds, unless memory ran out
+abbrev pub AddsService : {E : Type 0} → Result (Unit {0}) E → Both (MutBor Written) (MutBor Written) → Request → Service → Details → Type 0
+AddsService r out request s details = AddsMembers r out.entry.now out.exit.now (service_members (whose request) s details)
 
 abbrev pub request_members : List ℕ → ℕ → Command → Members
 request_members q i c = service_members (q, i) (taken_apart c).0 (taken_apart c).1

@@ -4,7 +4,7 @@ ghost use Rattle.std.specs.Prelude.{◌≡◌, ◌<◌, ◌==◌, ◌&&◌, leng
 ghost use Rattle.json.specs.Json.{if_last};
 ghost use Rattle.json.specs.Find.{as_array};
 ghost use Rattle.json.specs.Value.{value_view, items_view, members_view};
-ghost use Rattle.serde_json.specs.Data.{Members as DataMembers};
+ghost use Rattle.serde_json.specs.Data.{Members};
 ghost use Rattle.fast_float.specs.Text.{minus};
 ghost use Rattle.serde_json.specs.Read.{read, of_json, of_members, number_of, number_from};
 ghost use Rattle.serde_json.specs.Find.{as_object, as_number, as_u64};
@@ -87,7 +87,7 @@ impl<'a> Document<'a> {
 
     // The member, the last one of its name.
     fn find(&self, member: Member) -> Option<&Value<'a>>
-        ensures { option_and_then of_json (option_map (λ v. value_view v.now) result)
+        ensures { option_and_then (λ v. value_data v.now) result
             ≡ member_in member (data_of self.now) }
     {
         self.value.get(member.name())
@@ -195,7 +195,7 @@ fn are_items_in_range(items: &Vec<Value<'_>>) -> bool
 
 #[cycle(is_in_range)]
 fn are_members_in_range(members: &Vec<(&str, Value<'_>)>) -> bool
-    ensures { (found : DataMembers)
+    ensures { (found : Members)
         → result ≡ is_some (of_members (members_view members.now.items) found) }
 {
     for member in members {

@@ -3,7 +3,7 @@
 ghost use Rattle.std.specs.Prelude.{◌≡◌, codes, IfOk, string_bytes};
 ghost use Rattle.serde_json.specs.Data.{string, no_members};
 ghost use Rattle.acd_codec.specs.Services.{service_name};
-ghost use Rattle.acd_codec.specs.RequestTexts.{named, asked, sent, service_members, request_text, members_of, whose};
+ghost use Rattle.acd_codec.specs.RequestTexts.{named, asked, sent, AddsService, request_text, members_of, whose};
 ghost use Rattle.acd_codec.specs.Tokens.{AddsMembers, AddsMember};
 
 use crate::service::{Details, RequestedState, Service, taken_apart};
@@ -51,8 +51,7 @@ fn put_at_group(
     ring: Seconds,
     wrap: Seconds,
 ) -> Result<(), AllocError>
-    ensures { AddsMembers result out.old out.new
-        (service_members (whose request.now) service (Details.Group device name.now ring wrap)) }
+    ensures { AddsService result out request.now service (Details.Group device name.now ring wrap) }
 {
     put_device(out, "device", Some(device))?;
     put_named(out, request, name)?;
@@ -68,8 +67,7 @@ fn put_at_agent(
     agent: AgentId,
     name: &Name,
 ) -> Result<(), AllocError>
-    ensures { AddsMembers result out.old out.new
-        (service_members (whose request.now) service (Details.Agent agent name.now)) }
+    ensures { AddsService result out request.now service (Details.Agent agent name.now) }
 {
     put_agent(out, "agent", Some(agent))?;
     put_named(out, request, name)?;
@@ -82,8 +80,7 @@ fn put_at_device(
     service: Service,
     device: DeviceId,
 ) -> Result<(), AllocError>
-    ensures { AddsMembers result out.old out.new
-        (service_members (whose request.now) service (Details.Device device)) }
+    ensures { AddsService result out request.now service (Details.Device device) }
 {
     put_device(out, "device", Some(device))?;
     put_sent(out, request, service)
@@ -96,8 +93,7 @@ fn put_at_connection(
     call: Serial,
     device: DeviceId,
 ) -> Result<(), AllocError>
-    ensures { AddsMembers result out.old out.new
-        (service_members (whose request.now) service (Details.Connection call device)) }
+    ensures { AddsService result out request.now service (Details.Connection call device) }
 {
     put_serial(out, "call", call)?;
     put_at_device(out, request, service, device)
@@ -111,8 +107,7 @@ fn put_to_device(
     device: DeviceId,
     to: DeviceId,
 ) -> Result<(), AllocError>
-    ensures { AddsMembers result out.old out.new
-        (service_members (whose request.now) service (Details.Transfer call device to)) }
+    ensures { AddsService result out request.now service (Details.Transfer call device to) }
 {
     put_at_connection(out, request, service, call, device)?;
     put_device(out, "to", Some(to))
@@ -125,8 +120,7 @@ fn put_arrive_call(
     caller: DeviceId,
     called: DeviceId,
 ) -> Result<(), AllocError>
-    ensures { AddsMembers result out.old out.new
-        (service_members (whose request.now) service (Details.Arrival caller called)) }
+    ensures { AddsService result out request.now service (Details.Arrival caller called) }
 {
     put_device(out, "called", Some(called))?;
     put_device(out, "caller", Some(caller))?;
@@ -140,8 +134,7 @@ fn put_make_call(
     device: DeviceId,
     called: DeviceId,
 ) -> Result<(), AllocError>
-    ensures { AddsMembers result out.old out.new
-        (service_members (whose request.now) service (Details.Making device called)) }
+    ensures { AddsService result out request.now service (Details.Making device called) }
 {
     put_device(out, "called", Some(called))?;
     put_at_device(out, request, service, device)
@@ -169,8 +162,7 @@ fn put_set_agent_state(
     agent: AgentId,
     requested: Requested,
 ) -> Result<(), AllocError>
-    ensures { AddsMembers result out.old out.new
-        (service_members (whose request.now) service (Details.State agent requested)) }
+    ensures { AddsService result out request.now service (Details.State agent requested) }
 {
     put_agent(out, "agent", Some(agent))?;
     match requested {
@@ -189,8 +181,7 @@ fn put_monitor_stop(
     service: Service,
     monitor: Serial,
 ) -> Result<(), AllocError>
-    ensures { AddsMembers result out.old out.new
-        (service_members (whose request.now) service (Details.Monitor monitor)) }
+    ensures { AddsService result out request.now service (Details.Monitor monitor) }
 {
     put_invoke(out, request.invoke)?;
     put_serial(out, "monitor", monitor)?;
@@ -205,8 +196,7 @@ fn put_set_group_priority(
     device: DeviceId,
     priority: Priority,
 ) -> Result<(), AllocError>
-    ensures { AddsMembers result out.old out.new
-        (service_members (whose request.now) service (Details.Priority device priority)) }
+    ensures { AddsService result out request.now service (Details.Priority device priority) }
 {
     put_device(out, "device", Some(device))?;
     put_invoke(out, request.invoke)?;
@@ -222,8 +212,7 @@ fn put_members(
     service: Service,
     details: &Details,
 ) -> Result<(), AllocError>
-    ensures { AddsMembers result out.old out.new
-        (service_members (whose request.now) service details.now) }
+    ensures { AddsService result out request.now service details.now }
 {
     match details {
         Details::Group {

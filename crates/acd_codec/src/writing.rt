@@ -1,6 +1,6 @@
 //! Values that are written token by token.
 
-ghost use Rattle.std.specs.Prelude.{◌≡◌, [], ◌∷◌, ◌++◌, codes, IfOk, option_map, string_bytes};
+ghost use Rattle.std.specs.Prelude.{◌≡◌, [], ◌∷◌, ◌++◌, codes, IfOk, option_copied, string_bytes};
 ghost use Rattle.json.specs.Print.{print};
 ghost use Rattle.json.specs.Token.{end_object};
 ghost use Rattle.serde_json.specs.Data.{Data, string, number, unsigned, member, no_members};
@@ -93,7 +93,7 @@ pub(crate) fn put_text_if(
     text: Option<&str>,
 ) -> Result<(), AllocError>
     ensures { AddsPart result out.old out.new
-        (text_part name.now (option_map (λ t. t.now) text.entry)) }
+        (text_part name.now (option_copied text.entry)) }
 {
     match text {
         None => Ok(()),
