@@ -1,8 +1,8 @@
 //! Moves made on the tables. Nothing else writes them.
 
-ghost use Rattle.std.specs.Prelude.{◌≡◌, ◌++◌, [], OnOk};
+ghost use Rattle.std.specs.Prelude.{◌≡◌, [], OnOk};
 ghost use Rattle.acd_model.specs.Moves.{changed, with_event};
-ghost use Rattle.acd_services.specs.MovesOnTables.{AreMade};
+ghost use Rattle.acd_services.specs.MovesOnTables.{AreMade, ExtendsList};
 
 use acd_model::{Change, Move};
 use acd_tables::Tables;
@@ -35,8 +35,8 @@ fn make(
     events: &mut Vec<Event>,
 ) -> Result<(), AllocError>
     ensures rows { OnOk result (tables.new ≡ changed tables.old one.now.change) }
-    ensures events { OnOk result
-        (events.new.items ≡ events.old.items ++ with_event moment one.now.report []) }
+    ensures events { ExtendsList result events.old events.new
+        (with_event moment one.now.report []) }
 {
     change(tables, &one.change)?;
     if let Some(report) = one.report {
@@ -56,8 +56,7 @@ pub fn make_all(
     moves: &[Move],
     events: &mut Vec<Event>,
 ) -> Result<(), AllocError>
-    ensures { OnOk result (AreMade moment moves.now (tables.old, events.old)
-        (tables.new, events.new)) }
+    ensures { OnOk result (AreMade moment moves.now tables events) }
 {
     for one in moves {
         make(tables, moment, one, events)?;

@@ -1,9 +1,9 @@
 //! One service on the tables.
 
 ghost use Rattle.std.specs.Prelude.{◌≡◌, ◌<◌, ◌^◌, ◌-◌, IfOk, OnOk};
-ghost use Rattle.acd_model.specs.ServiceAnswers.{outcome_of, moves_of};
+ghost use Rattle.acd_model.specs.ServiceAnswers.{outcome_of};
 ghost use Rattle.acd_model.specs.Services.Serve.{serve};
-ghost use Rattle.acd_services.specs.MovesOnTables.{AreMade};
+ghost use Rattle.acd_services.specs.MovesOnTables.{AreMade, moves_for};
 ghost use Rattle.acd_services.specs.NoTick.{IsNoTick};
 
 use crate::add_agent::add_agent;
@@ -97,8 +97,7 @@ pub fn serve(
     ensures outcome { IfOk result
         (λ o. o ≡ outcome_of (serve tables.old at command.now)) }
     ensures made { OnOk result
-        (AreMade at.moment (moves_of (serve tables.old at command.now)) (tables.old, events.old)
-        (tables.new, events.new)) }
+        (AreMade at.moment (moves_for command.now tables.old at) tables events) }
 {
     match decide(tables, at, command) {
         Err(refusal) => Ok(Outcome::Refused(refusal)),

@@ -20,7 +20,7 @@ fn make_offer(
     journal: &mut Journal,
 ) -> Result<(), AllocError>
     ensures { OnOk result (Carries moment (offer_moves tables.old moment offered)
-        (tables.old, journal.old) (tables.new, journal.new)) }
+        tables journal) }
 {
     let Some(connection) = tables.connection(offered.call, offered.group) else {
         return Ok(());
@@ -40,8 +40,7 @@ fn make_offer(
 
 /// Makes offers until there is none. After an error tables and journal are only to be dropped.
 pub fn distribute(tables: &mut Tables, moment: u32, journal: &mut Journal) -> Result<(), AllocError>
-    ensures { OnOk result (Carries moment (distribution tables.old moment) (tables.old, journal.old)
-        (tables.new, journal.new)) }
+    ensures { OnOk result (Carries moment (distribution tables.old moment) tables journal) }
 {
     let most = tables.queued_count();
     for round in 0..most {

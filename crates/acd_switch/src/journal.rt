@@ -7,7 +7,8 @@ ghost use Rattle.acd_model.specs.Changes.{with_change, changed_by, growth_by, gr
 ghost use Rattle.acd_model.specs.Figures.{with_figures};
 ghost use Rattle.acd_model.specs.Rules.Plan.{group_order};
 ghost use Rattle.acd_switch.specs.FigureSums.{CountingFits};
-ghost use Rattle.acd_switch.specs.CarriedOutMoves.{Carries, ExtendsList, RecordsGrowth};
+ghost use Rattle.acd_switch.specs.CarriedOutMoves.{Carries, RecordsGrowth};
+ghost use Rattle.acd_services.specs.MovesOnTables.{ExtendsList};
 
 use crate::figures::{counted_group, counting};
 use acd_model::{Change, Move};
@@ -45,8 +46,7 @@ impl Journal {
         moment: u32,
         moves: &[Move],
     ) -> Result<(), AllocError>
-        ensures { OnOk result (Carries moment moves.now (tables.old, self.old)
-            (tables.new, self.new)) }
+        ensures { OnOk result (Carries moment moves.now tables self) }
     {
         for one in moves {
             self.make(tables, moment, one)?;
@@ -56,8 +56,7 @@ impl Journal {
 
     // Makes one move.
     fn make(&mut self, tables: &mut Tables, moment: u32, one: &Move) -> Result<(), AllocError>
-        ensures { OnOk result (Carries moment (one.now ∷ []) (tables.old, self.old)
-            (tables.new, self.new)) }
+        ensures { OnOk result (Carries moment (one.now ∷ []) tables self) }
     {
         make_change(tables, &one.change, &mut self.changes)?;
         if let Some(report) = one.report {

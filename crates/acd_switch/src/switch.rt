@@ -4,7 +4,7 @@ ghost use Rattle.std.specs.Prelude.{◌≡◌, ◌<◌, ◌+◌, ◌-◌, ◌^�
 ghost use Rattle.acd_terms.specs.Rows.{empty_rows};
 ghost use Rattle.acd_terms.specs.Limits.{limits_fit};
 ghost use Rattle.acd_terms.specs.Lists.{IsAscending};
-ghost use Rattle.acd_model.specs.ServiceAnswers.{outcome_of, moves_of};
+ghost use Rattle.acd_model.specs.ServiceAnswers.{outcome_of};
 ghost use Rattle.acd_model.specs.Services.Serve.{serve};
 ghost use Rattle.acd_model.specs.Step.{step, numbered};
 ghost use Rattle.acd_model.specs.Changes.{step_changes};
@@ -13,10 +13,10 @@ ghost use Rattle.acd_model.specs.Rules.Plan.{group_order};
 ghost use Rattle.acd_services.specs.NoTick.{IsNoTick};
 ghost use Rattle.acd_switch.specs.RowFaults.{IsFaultOf};
 ghost use Rattle.acd_switch.specs.Room.{HasRoom, CountersFit, closed};
-ghost use Rattle.acd_switch.specs.SwitchAnswers.{figures_at, IsRefusedOutcome};
-ghost use Rattle.acd_switch.specs.CarriedOutMoves.{Carries, RecordsGrowth};
+ghost use Rattle.acd_switch.specs.SwitchAnswers.{figures_at, ChangesNothingIfRefused};
+ghost use Rattle.acd_switch.specs.CarriedOutMoves.{CarriesAt, RecordsGrowth};
+ghost use Rattle.acd_services.specs.MovesOnTables.{moves_for};
 ghost use Rattle.acd_switch.specs.ExecutedRows.{IsMadeBy};
-ghost use Rattle.acd_laws.specs.RefusalLaws.{ChangesNothing};
 ghost use Rattle.acd_laws.specs.Due.{is_due_by};
 
 use crate::distribution::distribute;
@@ -97,7 +97,7 @@ impl Switch {
         ensures rows { OnOk result (self.new ≡ (step self.old moment command.now).rows) }
         ensures kept { OnOk result (BreaksNoRule self.new) }
         ensures refused { IfOk result
-            (λ r. IsRefusedOutcome r.0 → ChangesNothing self.old moment command.now) }
+            (λ r. ChangesNothingIfRefused r.0 self.old moment command.now) }
     {
         let executed = self.step_with_changes(moment, command)?;
         Ok((executed.outcome, executed.events))
@@ -121,7 +121,7 @@ impl Switch {
         ensures made { IfOk result (λ r. IsMadeBy r self.old moment self.new) }
         ensures kept { OnOk result (BreaksNoRule self.new) }
         ensures refused { IfOk result
-            (λ r. IsRefusedOutcome r.outcome → ChangesNothing self.old moment command.now) }
+            (λ r. ChangesNothingIfRefused r.outcome self.old moment command.now) }
     {
         execute(self.alloc, &mut self.tables, moment, command)
     }
@@ -240,8 +240,7 @@ fn run_command(
     ensures outcome { IfOk result
         (λ o. o ≡ outcome_of (serve tables.old at command.now)) }
     ensures carried { OnOk result
-        (Carries at.moment (moves_of (serve tables.old at command.now)) (tables.old, journal.old)
-        (tables.new, journal.new)) }
+        (CarriesAt at (moves_for command.now) tables journal) }
 {
     match command {
         Command::Tick => {
@@ -263,8 +262,7 @@ fn run_service(
     ensures outcome { IfOk result
         (λ o. o ≡ outcome_of (serve tables.old at command.now)) }
     ensures carried { OnOk result
-        (Carries at.moment (moves_of (serve tables.old at command.now)) (tables.old, journal.old)
-        (tables.new, journal.new)) }
+        (CarriesAt at (moves_for command.now) tables journal) }
 {
     let served = decide(tables, at, command);
     match &served {

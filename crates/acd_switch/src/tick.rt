@@ -181,7 +181,7 @@ fn take_back(
     journal: &mut Journal,
 ) -> Result<(), AllocError>
     ensures { OnOk result (Carries at.moment (return_moves tables.old at connection.now)
-        (tables.old, journal.old) (tables.new, journal.new)) }
+        tables journal) }
 {
     let Some(group) = connection.group else {
         return Ok(());
@@ -197,8 +197,7 @@ fn end_work(
     agent: &AgentRecord,
     journal: &mut Journal,
 ) -> Result<(), AllocError>
-    ensures { OnOk result (Carries at.moment (wrap_up_moves at agent.now) (tables.old, journal.old)
-        (tables.new, journal.new)) }
+    ensures { OnOk result (Carries at.moment (wrap_up_moves at agent.now) tables journal) }
 {
     let moves = [go_from(at, agent, AgentState::Ready)];
     journal.make_all(tables, at.moment, &moves)
@@ -210,8 +209,7 @@ fn return_overdue(
     at: Turn,
     journal: &mut Journal,
 ) -> Result<(), AllocError>
-    ensures { OnOk result (CarriesAt at returns (tables.old, journal.old)
-        (tables.new, journal.new)) }
+    ensures { OnOk result (CarriesAt at returns tables journal) }
 {
     let overdue = overdue_in(alloc, tables, at.moment)?;
     for connection in overdue.as_slice() {
@@ -226,7 +224,7 @@ fn end_wrap_ups(
     at: Turn,
     journal: &mut Journal,
 ) -> Result<(), AllocError>
-    ensures { OnOk result (CarriesAt at wraps (tables.old, journal.old) (tables.new, journal.new)) }
+    ensures { OnOk result (CarriesAt at wraps tables journal) }
 {
     let rested = wrapped_up_in(alloc, tables, at.moment)?;
     for agent in rested.as_slice() {
@@ -243,7 +241,7 @@ pub fn tick(
     at: Turn,
     journal: &mut Journal,
 ) -> Result<(), AllocError>
-    ensures { OnOk result (CarriesAt at tick (tables.old, journal.old) (tables.new, journal.new)) }
+    ensures { OnOk result (CarriesAt at tick tables journal) }
 {
     return_overdue(alloc, tables, at, journal)?;
     end_wrap_ups(alloc, tables, at, journal)
