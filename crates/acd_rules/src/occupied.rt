@@ -104,8 +104,8 @@ fn are_all_attended(lookups: &Lookups) -> bool
 }
 
 fn are_busy_only_talking(lookups: &Lookups) -> bool
-    ensures { result ≡ list_all (is_busy_only_talking lookups.now.rows.now)
-        lookups.now.rows.now.agents }
+    ensures { let s = lookups.now.rows.now in
+        result ≡ list_all (is_busy_only_talking s) s.agents }
 {
     lookups
         .rows

@@ -4,11 +4,12 @@ use Rattle.std.specs.List.{list_any}
 use Rattle.std.specs.declared.ops.Bound.{Bound}
 use Rattle.std.specs.declared.ops.Bound.TheVariants.{Included, Excluded, Unbounded}
 use Rattle.acd_terms.specs.States.{is_distributed, is_live, is_occupying}
-use Rattle.acd_terms.specs.Numbers.{Device, CallId}
+use Rattle.acd_terms.specs.Numbers.{Agent, Device, CallId}
 use Rattle.acd_terms.specs.declared.rows.Rows.{Rows}
+use Rattle.acd_terms.specs.declared.record.AgentRecord.{AgentRecord}
 use Rattle.acd_terms.specs.declared.record.ConnectionRecord.{ConnectionRecord}
-use Rattle.acd_model.specs.Scans.{connection_of, has}
-use Rattle.acd_tables.specs.IndexedRows.{is_busying}
+use Rattle.acd_model.specs.Scans.{agent_of, connection_of, has}
+use Rattle.acd_tables.specs.IndexedRows.{is_busying, is_ringing, is_working}
 use Rattle.acd_tables.specs.declared.uses.Use.{Use}
 use Rattle.acd_tables.specs.declared.uses.Use.TheVariants.{Live, Occupying, Distributed, Busying}
 
@@ -47,3 +48,11 @@ past_lines device = if device == 2 ^ 64 - 1 then Unbounded else Excluded (device
 abbrev pub kept : {T : Type 0} → (T → Bool) → Option T → Option T
 kept p None = None
 kept p (Some x) = if p x then Some x else None
+
+-- the connection of these keys, if it is an offer that rings
+abbrev pub ringing_of : Rows → CallId × Device → Option ConnectionRecord
+ringing_of s keys = kept is_ringing (connection_of s keys.0 keys.1)
+
+-- the agent, if in after-call work
+abbrev pub working_of : Rows → Agent → Option AgentRecord
+working_of s agent = kept is_working (agent_of s agent)

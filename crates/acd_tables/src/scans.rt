@@ -2,11 +2,11 @@
 
 ghost use Rattle.std.specs.Prelude.{◌≡◌, None, length, filter, is_some, IfSome, IfOk};
 ghost use Rattle.acd_terms.specs.Lists.{first_two};
-ghost use Rattle.acd_model.specs.Scans.{is_group, agent_of, agent_at, connection_of, connections_of, other_of, is_live_at, is_idle, is_occupied, is_eligible, is_calling, is_used, queued_in_all};
+ghost use Rattle.acd_model.specs.Scans.{is_group, agent_at, connections_of, other_of, is_live_at, is_idle, is_occupied, is_eligible, is_calling, is_used, queued_in_all};
 ghost use Rattle.acd_model.specs.Choice.{first_waiting, first_eligible, offer_of};
 ghost use Rattle.acd_tables.specs.IndexedRows.{pair_cmp, is_ringing, is_working, waiting_pairs, ready_pairs};
 ghost use Rattle.acd_tables.specs.Sets.{IsSetOf};
-ghost use Rattle.acd_tables.specs.Uses.{kept, is_in_use};
+ghost use Rattle.acd_tables.specs.Uses.{ringing_of, working_of, is_in_use};
 ghost use Rattle.acd_tables.specs.FirstOffer.{offer_by_key};
 ghost use Rattle.acd_tables.specs.AtDevice.{line_at, connections_at};
 ghost use Rattle.std.specs.List.{filter_map};
@@ -221,7 +221,7 @@ impl Tables {
 
     /// Call and device of the offers that ring, in ascending order.
     pub fn ringing_keys(&self) -> Iter<'_, (u64, DeviceId)>
-        ensures { filter_map (λ p. kept is_ringing (connection_of self.now p.0 p.1)) result
+        ensures { filter_map (ringing_of self.now) result
             ≡ filter is_ringing self.now.connections }
     {
         self.indexes.ringing.iter()
@@ -229,15 +229,14 @@ impl Tables {
 
     /// The numbers of the agents in after-call work, in ascending order.
     pub fn working_keys(&self) -> Iter<'_, AgentId>
-        ensures { filter_map (λ n. kept is_working (agent_of self.now n)) result
-            ≡ filter is_working self.now.agents }
+        ensures { filter_map (working_of self.now) result ≡ filter is_working self.now.agents }
     {
         self.indexes.working.iter()
     }
 
     // The connection of the call at the device, if it is an offer that rings.
     fn ringing_at(&self, call: u64, device: DeviceId) -> Option<ConnectionRecord>
-        ensures { result ≡ kept is_ringing (connection_of self.now call device) }
+        ensures { result ≡ ringing_of self.now (call, device) }
     {
         match self.connection(call, device) {
             None => None,
@@ -247,7 +246,7 @@ impl Tables {
 
     // The agent, if in after-call work.
     fn working_of(&self, agent: AgentId) -> Option<AgentRecord>
-        ensures { result ≡ kept is_working (agent_of self.now agent) }
+        ensures { result ≡ working_of self.now agent }
     {
         match self.agent(agent) {
             None => None,
