@@ -118,15 +118,15 @@ as_variant(DESK + "proofs/OldStates.antt", ("serve_old s turn (ChangeAgent agent
 # ---- laws
 
 LAWS = "crates/acd_laws/proofs/"
-as_variant(LAWS + "Effects.antt", (", change_group, change_agent", ", park_here"), ("deed_of_serve s turn (ChangeAgent agent name) = inl (refl, inl (deed_change_agent s turn agent name))\n", "deed_of_serve s turn (ParkHere call device) = inl (refl, inl (deed_park_here s turn call device))\n"))
-put(LAWS + "Effects.antt", ("deed_retrieve_call : ", """\
-deed_park_here : (s : Rows) (turn : Turn) (call device : ℕ) → EffectBy s turn (park_here s call device)
+as_variant(LAWS + "Effects.antt", (", change_group, change_agent", ", park_here"), ("effect_of_serve s turn (ChangeAgent agent name) = inl (refl, inl (effect_of_change_agent s turn agent name))\n", "effect_of_serve s turn (ParkHere call device) = inl (refl, inl (effect_of_park_here s turn call device))\n"))
+put(LAWS + "Effects.antt", ("effect_of_retrieve_call : ", """\
+effect_of_park_here : (s : Rows) (turn : Turn) (call device : ℕ) → EffectBy s turn (park_here s call device)
 unfolding park_here
-deed_park_here s turn call device =
+effect_of_park_here s turn call device =
     party _ _ _ (λ p _ at. unless _ _ (λ state. unless _ _ (λ station.
     holds p (ap (is_station s) at ∙ not-false (is_station s device) station) (not-false (is_connected p.x.state) state))))
 
-deed_retrieve_call : """))
+effect_of_retrieve_call : """))
 as_variant(LAWS + "Names/UnnamedServices.antt", (", change_group, change_agent", ", park_here"), ("unnamed_serve s turn (ChangeAgent agent name) = unnamed_change_agent s turn agent name\n", "unnamed_serve s turn (ParkHere call device) = unnamed_park_here s turn call device\n"))
 put(LAWS + "Names/UnnamedServices.antt", ("  unnamed_retrieve_call : ", """\
   unnamed_park_here : IsUnnamed (park_here (unnamed s) call device) (park_here s call device)

@@ -1,4 +1,4 @@
--- The effect of a service, as deeds: the one walk over refusals; and the rounds of a step.
+-- The effect of a service: the one walk over refusals; and the rounds of a step.
 use Rattle.std.proofs.Common.{◌≡◌, ◌≤◌, arith, Bool, true, false, Option, Some, None, refl, ℕ, ◌⊎◌, inl, inr, not, ◌&&◌, ◌||◌, cond, List, [], ◌∷◌, length, ◌∙◌, ap, subst, sym, Err}
 use Rattle.std.specs.Option.{ok_or}
 use Rattle.acd_lemmas.proofs.Words.{Rows, AgentRecord, CallRecord, ConnectionRecord, Pending, Command, Move, Offer, Refusal, Requested, Served, is_null, is_working_after_call, state_wanted, is_in, is_initiated, is_alerting, is_connected, is_hold, is_queued, agent_of, call_of, connection_of, is_group, is_station, is_planned, agent_at, other_of, is_live_at, is_occupied, silent, group_of, Every, GroupRecord, is_distributed}
@@ -99,7 +99,7 @@ pub data Effect (s : Rows) (turn : Turn) : List Move → Type 0 where
   goes : (a : AgentRecord) (wanted : Pending) → agent_of s a.agent ≡ Some a → is_null a.state ≡ false → is_occupied s a ≡ false
       → Effect s turn (go_from turn a a.station (state_wanted wanted) ∷ [])
 
--- the effect of setGroupPriority and changeGroup: no deeds, so that these commands alone change a planned group's
+-- what setGroupPriority and changeGroup do: no effect, so that these commands alone change a planned group's
 -- record
 pub data ChangesGroup (s : Rows) (c : Command) : List Move → Type 0 where
   refuses : (device : ℕ) → regroups c ≡ Some device → group_of s device ≡ None → ChangesGroup s c []
@@ -148,54 +148,54 @@ party {s} {turn} {call} {device} r q rest h = with _ _ (λ c ec. with _ _ (λ x 
 apart_if : {T : Type 0} (o : Option T) → is_some o ≡ false → o ≡ None
 apart_if o new = none_from o (λ z e. cc (new, ap is_some e))
 
-deed_add_group : (s : Rows) (turn : Turn) (device : ℕ) (name : List ℕ) (ring wrap : ℕ) → EffectBy s turn (add_group s device name ring wrap)
+effect_of_add_group : (s : Rows) (turn : Turn) (device : ℕ) (name : List ℕ) (ring wrap : ℕ) → EffectBy s turn (add_group s device name ring wrap)
 unfolding add_group
-deed_add_group s turn device name ring wrap = unless _ _ (λ free. unless _ _ (λ room. adds_group device name ring wrap free room))
+effect_of_add_group s turn device name ring wrap = unless _ _ (λ free. unless _ _ (λ room. adds_group device name ring wrap free room))
 
-deed_add_station : (s : Rows) (turn : Turn) (device : ℕ) → EffectBy s turn (add_station s device)
+effect_of_add_station : (s : Rows) (turn : Turn) (device : ℕ) → EffectBy s turn (add_station s device)
 unfolding add_station
-deed_add_station s turn device = unless _ _ (λ free. unless _ _ (λ room. adds_station device free room))
+effect_of_add_station s turn device = unless _ _ (λ free. unless _ _ (λ room. adds_station device free room))
 
-deed_add_agent : (s : Rows) (turn : Turn) (agent : ℕ) (name : List ℕ) → EffectBy s turn (add_agent s turn agent name)
+effect_of_add_agent : (s : Rows) (turn : Turn) (agent : ℕ) (name : List ℕ) → EffectBy s turn (add_agent s turn agent name)
 unfolding add_agent
-deed_add_agent s turn agent name = unless _ _ (λ new. unless _ _ (λ room. adds_agent agent name (apart_if (agent_of s agent) new) room))
+effect_of_add_agent s turn agent name = unless _ _ (λ new. unless _ _ (λ room. adds_agent agent name (apart_if (agent_of s agent) new) room))
 
-deed_arrive_call : (s : Rows) (turn : Turn) (caller called : ℕ) → EffectBy s turn (arrive_call s turn caller called)
+effect_of_arrive_call : (s : Rows) (turn : Turn) (caller called : ℕ) → EffectBy s turn (arrive_call s turn caller called)
 unfolding arrive_call
-deed_arrive_call s turn caller called =
+effect_of_arrive_call s turn caller called =
     unless _ _ (λ outside. unless _ _ (λ known. unless _ _ (λ room. arrives caller called outside (not-false (is_planned s called) known) room)))
 
-deed_make_call : (s : Rows) (turn : Turn) (device called : ℕ) → EffectBy s turn (make_call s turn.moment device called)
+effect_of_make_call : (s : Rows) (turn : Turn) (device called : ℕ) → EffectBy s turn (make_call s turn.moment device called)
 unfolding make_call
-deed_make_call s turn device called =
+effect_of_make_call s turn device called =
     unless _ _ (λ planned. unless _ _ (λ station. unless _ _ (λ known. unless _ _ (λ differ. unless _ _ (λ free. unless _ _ (λ room.
     makes device called (not-false (is_planned s device) planned) (not-false (is_station s device) station) (not-false (is_planned s called) known) differ free
     room))))))
 
-deed_phone_off_hook : (s : Rows) (turn : Turn) (call device : ℕ) → EffectBy s turn (phone_off_hook s turn call device)
+effect_of_phone_off_hook : (s : Rows) (turn : Turn) (call device : ℕ) → EffectBy s turn (phone_off_hook s turn call device)
 unfolding phone_off_hook
-deed_phone_off_hook s turn call device = party _ _ _ (λ p same _. unless _ _ (λ state.
+effect_of_phone_off_hook s turn call device = party _ _ _ (λ p same _. unless _ _ (λ state.
     subst (λ n. Effect s turn (originate p.x p.about.called ∷ arrive s turn n p.about.called NewCall ∷ [])) same
     (goes_out p (not-false (is_initiated p.x.state) state))))
 
-deed_answer_call : (s : Rows) (turn : Turn) (call device : ℕ) → EffectBy s turn (answer_call s turn call device)
+effect_of_answer_call : (s : Rows) (turn : Turn) (call device : ℕ) → EffectBy s turn (answer_call s turn call device)
 unfolding answer_call
-deed_answer_call s turn call device = party _ _ _ (λ p _ _. unless _ _ (λ state. answers p (not-false (is_alerting p.x.state) state)))
+effect_of_answer_call s turn call device = party _ _ _ (λ p _ _. unless _ _ (λ state. answers p (not-false (is_alerting p.x.state) state)))
 
-deed_hold_call : (s : Rows) (turn : Turn) (call device : ℕ) → EffectBy s turn (hold_call s call device)
+effect_of_hold_call : (s : Rows) (turn : Turn) (call device : ℕ) → EffectBy s turn (hold_call s call device)
 unfolding hold_call
-deed_hold_call s turn call device =
+effect_of_hold_call s turn call device =
     party _ _ _ (λ p _ at. unless _ _ (λ station. unless _ _ (λ state.
     holds p (ap (is_station s) at ∙ not-false (is_station s device) station) (not-false (is_connected p.x.state) state))))
 
-deed_retrieve_call : (s : Rows) (turn : Turn) (call device : ℕ) → EffectBy s turn (retrieve_call s call device)
+effect_of_retrieve_call : (s : Rows) (turn : Turn) (call device : ℕ) → EffectBy s turn (retrieve_call s call device)
 unfolding retrieve_call
-deed_retrieve_call s turn call device =
+effect_of_retrieve_call s turn call device =
     party _ _ _ (λ p _ at. unless _ _ (λ state. unless _ _ (λ free. retrieves p (not-false (is_hold p.x.state) state) (ap (is_live_at s) at ∙ free))))
 
-deed_clear_connection : (s : Rows) (turn : Turn) (call device : ℕ) → EffectBy s turn (clear_connection s turn call device)
+effect_of_clear_connection : (s : Rows) (turn : Turn) (call device : ℕ) → EffectBy s turn (clear_connection s turn call device)
 unfolding clear_connection
-deed_clear_connection s turn call device = party _ _ _ (λ p _ _. clears p)
+effect_of_clear_connection s turn call device = party _ _ _ (λ p _ _. clears p)
 
 -- the call can go to a planned device at which it has no connection
 free : (s : Rows) (call to : ℕ) (x : ConnectionRecord) → x.call ≡ call → not (is_planned s to) ≡ false → is_in_call s call to ≡ false → Free s x to
@@ -204,16 +204,16 @@ free s call to x same known new = record {
   apart = ap (λ n. connection_of s n to) same ∙ apart_if (connection_of s call to) new;
 }
 
-deed_deflect_call : (s : Rows) (turn : Turn) (call device to : ℕ) → EffectBy s turn (deflect_call s turn call device to)
+effect_of_deflect_call : (s : Rows) (turn : Turn) (call device to : ℕ) → EffectBy s turn (deflect_call s turn call device to)
 unfolding deflect_call
-deed_deflect_call s turn call device to =
+effect_of_deflect_call s turn call device to =
     party _ _ _ (λ p same _. unless _ _ (λ state. unless _ _ (λ known. unless _ _ (λ new. unless _ _ (λ _.
     subst (λ n. Effect s turn (divert p.x to Deflected ∷ arrive s turn n to Deflected ∷ release s turn p.x (ending_of p.x) ∷ [])) same
     (deflects p to (not-false (is_alerting p.x.state || is_queued p.x.state) state) (free s call to p.x same known new)))))))
 
-deed_single_step_transfer : (s : Rows) (turn : Turn) (call device to : ℕ) → EffectBy s turn (single_step_transfer s turn call device to)
+effect_of_single_step_transfer : (s : Rows) (turn : Turn) (call device to : ℕ) → EffectBy s turn (single_step_transfer s turn call device to)
 unfolding single_step_transfer
-deed_single_step_transfer s turn call device to =
+effect_of_single_step_transfer s turn call device to =
     party _ _ _ (λ p same _. unless _ _ (λ _. unless _ _ (λ state. unless _ _ (λ known. unless _ _ (λ new. unless _ _ (λ _.
     let both =
     and_parts (is_connected p.x.state) (is_answered_by (other_of s p.x)) (not-false (is_connected p.x.state && is_answered_by (other_of s p.x)) state) in
@@ -236,9 +236,9 @@ passes : {s : Rows} {turn : Turn} (v : Result (Unit {0}) Refusal) (rest : Served
 passes (Ok u) rest h = h refl
 passes (Err r) rest h = nothing
 
-deed_log_on : (s : Rows) (turn : Turn) (agent device : ℕ) (groups : List ℕ) → EffectBy s turn (log_on s turn agent device groups)
+effect_of_log_on : (s : Rows) (turn : Turn) (agent device : ℕ) (groups : List ℕ) → EffectBy s turn (log_on s turn agent device groups)
 unfolding log_on
-deed_log_on s turn agent device groups =
+effect_of_log_on s turn agent device groups =
     with _ _
     (λ a ea. unless _ _ (λ null. unless _ _ (λ _. unless _ _ (λ station. unless _ _ (λ taken. passes (all_groups s groups) _ (λ all. unless _ _ (λ choice.
     logs_on a device groups (agent_itself s agent a ea) (not-false (is_null a.state) null) (not-false (is_station s device) station)
@@ -249,36 +249,36 @@ either : {s : Rows} {turn : Turn} (b : Bool) (v w : Served) → (b ≡ true → 
 either true v w h g = h refl
 either false v w h g = g refl
 
-deed_change_state : (s : Rows) (turn : Turn) (agent : ℕ) (wanted : Pending) → EffectBy s turn (change_state s turn agent wanted)
+effect_of_change_state : (s : Rows) (turn : Turn) (agent : ℕ) (wanted : Pending) → EffectBy s turn (change_state s turn agent wanted)
 unfolding change_state
-deed_change_state s turn agent wanted =
+effect_of_change_state s turn agent wanted =
     with _ _ (λ a ea. unless _ _ (λ seated.
     either (is_occupied s a) _ _ (λ busy. waits a wanted (agent_itself s agent a ea) seated busy) (λ free.
     either (is_in a.state wanted) _ _ (λ _. nothing) (λ _. goes a wanted (agent_itself s agent a ea) seated free))))
 
-deed_set_agent_state : (s : Rows) (turn : Turn) (agent : ℕ) (q : Requested) → EffectBy s turn (set_agent_state s turn agent q)
-deed_set_agent_state s turn agent (requested.LoggedOn device groups) = deed_log_on s turn agent device groups
-deed_set_agent_state s turn agent (requested.State wanted) = deed_change_state s turn agent wanted
+effect_of_set_agent_state : (s : Rows) (turn : Turn) (agent : ℕ) (q : Requested) → EffectBy s turn (set_agent_state s turn agent q)
+effect_of_set_agent_state s turn agent (requested.LoggedOn device groups) = effect_of_log_on s turn agent device groups
+effect_of_set_agent_state s turn agent (requested.State wanted) = effect_of_change_state s turn agent wanted
 
-deed_monitor_start : (s : Rows) (turn : Turn) (device : ℕ) → EffectBy s turn (monitor_start s device)
+effect_of_monitor_start : (s : Rows) (turn : Turn) (device : ℕ) → EffectBy s turn (monitor_start s device)
 unfolding monitor_start
-deed_monitor_start s turn device = unless _ _ (λ known. unless _ _ (λ room. watches device (not-false (is_planned s device) known) room))
+effect_of_monitor_start s turn device = unless _ _ (λ known. unless _ _ (λ room. watches device (not-false (is_planned s device) known) room))
 
-deed_monitor_stop : (s : Rows) (turn : Turn) (monitor : ℕ) → EffectBy s turn (monitor_stop s monitor)
+effect_of_monitor_stop : (s : Rows) (turn : Turn) (monitor : ℕ) → EffectBy s turn (monitor_stop s monitor)
 unfolding monitor_stop
-deed_monitor_stop s turn monitor =
+effect_of_monitor_stop s turn monitor =
     with {T = MonitorRecord} {o = monitor_of s monitor} UnknownMonitor (λ _. gives Nothing (silent (RemoveMonitor monitor) ∷ [])) (λ w _. unwatches monitor)
 
-deed_reject_call : (s : Rows) (turn : Turn) (call device : ℕ) → EffectBy s turn (reject_call s turn call device)
+effect_of_reject_call : (s : Rows) (turn : Turn) (call device : ℕ) → EffectBy s turn (reject_call s turn call device)
 unfolding reject_call
-deed_reject_call s turn call device = party _ _ _ (λ p _ _. unless _ _ (λ state.
+effect_of_reject_call s turn call device = party _ _ _ (λ p _ _. unless _ _ (λ state.
     let rings = and_parts (is_alerting p.x.state) (is_distributed p.x) (not-false (is_alerting p.x.state && is_distributed p.x) state) in
     let g = some_from p.x.group (and_parts (is_some p.x.group) (not (is_queued p.x.state)) rings.1).0 in
     subst (λ o. Effect s turn (return_to s turn p.x o)) (sym g.1) (rejects p g.0 rings.0 g.1)))
 
-deed_change_agent : (s : Rows) (turn : Turn) (agent : ℕ) (name : List ℕ) → EffectBy s turn (change_agent s agent name)
+effect_of_change_agent : (s : Rows) (turn : Turn) (agent : ℕ) (name : List ℕ) → EffectBy s turn (change_agent s agent name)
 unfolding change_agent
-deed_change_agent s turn agent name = with _ _ (λ a ea. renames a name (agent_itself s agent a ea))
+effect_of_change_agent s turn agent name = with _ _ (λ a ea. renames a name (agent_itself s agent a ea))
 
 -- a planned device that is a group gets what the command gives
 regroups_of : (s : Rows) (c : Command) (device : ℕ) → regroups c ≡ Some device
@@ -297,27 +297,27 @@ regroups_of s c device it = by (group_of s device) refl
         (λ _. refuses device it e) (λ _. refuses device it e)
     by (Some g) e = puts device g it e
 
--- the effect of a command: a deed or a tick, or a change of a planned group's record
-pub deed_of_serve : (s : Rows) (turn : Turn) (c : Command)
+-- the effect of a command: that of a service or a tick, or a change of a planned group's record
+pub effect_of_serve : (s : Rows) (turn : Turn) (c : Command)
     → ((regroups c ≡ None) × (EffectBy s turn (serve s turn c) ⊎ (moves_of (serve s turn c) ≡ tick s turn))) ⊎ ChangesGroup s c (moves_of (serve s turn c))
 unfolding set_group_priority change_group
-deed_of_serve s turn (AddGroup device name ring wrap) = inl (refl, inl (deed_add_group s turn device name ring wrap))
-deed_of_serve s turn (AddStation device) = inl (refl, inl (deed_add_station s turn device))
-deed_of_serve s turn (AddAgent agent name) = inl (refl, inl (deed_add_agent s turn agent name))
-deed_of_serve s turn (ArriveCall caller called) = inl (refl, inl (deed_arrive_call s turn caller called))
-deed_of_serve s turn (MakeCall device called) = inl (refl, inl (deed_make_call s turn device called))
-deed_of_serve s turn (PhoneOffHook call device) = inl (refl, inl (deed_phone_off_hook s turn call device))
-deed_of_serve s turn (AnswerCall call device) = inl (refl, inl (deed_answer_call s turn call device))
-deed_of_serve s turn (HoldCall call device) = inl (refl, inl (deed_hold_call s turn call device))
-deed_of_serve s turn (RetrieveCall call device) = inl (refl, inl (deed_retrieve_call s turn call device))
-deed_of_serve s turn (ClearConnection call device) = inl (refl, inl (deed_clear_connection s turn call device))
-deed_of_serve s turn (DeflectCall call device to) = inl (refl, inl (deed_deflect_call s turn call device to))
-deed_of_serve s turn (SingleStepTransfer call device to) = inl (refl, inl (deed_single_step_transfer s turn call device to))
-deed_of_serve s turn (SetAgentState agent q) = inl (refl, inl (deed_set_agent_state s turn agent q))
-deed_of_serve s turn (MonitorStart device) = inl (refl, inl (deed_monitor_start s turn device))
-deed_of_serve s turn (MonitorStop monitor) = inl (refl, inl (deed_monitor_stop s turn monitor))
-deed_of_serve s turn Tick = inl (refl, inr refl)
-deed_of_serve s turn (SetGroupPriority device priority) = inr (regroups_of s (SetGroupPriority device priority) device refl)
-deed_of_serve s turn (RejectCall call device) = inl (refl, inl (deed_reject_call s turn call device))
-deed_of_serve s turn (ChangeGroup device name ring wrap) = inr (regroups_of s (ChangeGroup device name ring wrap) device refl)
-deed_of_serve s turn (ChangeAgent agent name) = inl (refl, inl (deed_change_agent s turn agent name))
+effect_of_serve s turn (AddGroup device name ring wrap) = inl (refl, inl (effect_of_add_group s turn device name ring wrap))
+effect_of_serve s turn (AddStation device) = inl (refl, inl (effect_of_add_station s turn device))
+effect_of_serve s turn (AddAgent agent name) = inl (refl, inl (effect_of_add_agent s turn agent name))
+effect_of_serve s turn (ArriveCall caller called) = inl (refl, inl (effect_of_arrive_call s turn caller called))
+effect_of_serve s turn (MakeCall device called) = inl (refl, inl (effect_of_make_call s turn device called))
+effect_of_serve s turn (PhoneOffHook call device) = inl (refl, inl (effect_of_phone_off_hook s turn call device))
+effect_of_serve s turn (AnswerCall call device) = inl (refl, inl (effect_of_answer_call s turn call device))
+effect_of_serve s turn (HoldCall call device) = inl (refl, inl (effect_of_hold_call s turn call device))
+effect_of_serve s turn (RetrieveCall call device) = inl (refl, inl (effect_of_retrieve_call s turn call device))
+effect_of_serve s turn (ClearConnection call device) = inl (refl, inl (effect_of_clear_connection s turn call device))
+effect_of_serve s turn (DeflectCall call device to) = inl (refl, inl (effect_of_deflect_call s turn call device to))
+effect_of_serve s turn (SingleStepTransfer call device to) = inl (refl, inl (effect_of_single_step_transfer s turn call device to))
+effect_of_serve s turn (SetAgentState agent q) = inl (refl, inl (effect_of_set_agent_state s turn agent q))
+effect_of_serve s turn (MonitorStart device) = inl (refl, inl (effect_of_monitor_start s turn device))
+effect_of_serve s turn (MonitorStop monitor) = inl (refl, inl (effect_of_monitor_stop s turn monitor))
+effect_of_serve s turn Tick = inl (refl, inr refl)
+effect_of_serve s turn (SetGroupPriority device priority) = inr (regroups_of s (SetGroupPriority device priority) device refl)
+effect_of_serve s turn (RejectCall call device) = inl (refl, inl (effect_of_reject_call s turn call device))
+effect_of_serve s turn (ChangeGroup device name ring wrap) = inr (regroups_of s (ChangeGroup device name ring wrap) device refl)
+effect_of_serve s turn (ChangeAgent agent name) = inl (refl, inl (effect_of_change_agent s turn agent name))

@@ -30,7 +30,7 @@ use Rattle.acd_lemmas.proofs.KeyedLists.{eqb_self, cmp_self}
 use Rattle.acd_laws.proofs.MoveKinds.{AgentMove, stays, remains, reports, Arrival, queues, alerts, fails, arrival_of, releases, occupies, goes_from, released_by, agent_connections, agent_others}
 use Rattle.acd_laws.proofs.Effects.{Effect, nothing, adds_group, adds_station, adds_agent, watches, unwatches, arrives, makes, goes_out, answers, holds, retrieves, clears, deflects, transfers, logs_on, rejects, renames, waits, goes, ChangesGroup, refuses, puts, Round, offers, returns, rests}
 use Rattle.acd_laws.proofs.Offers.DistributionSteps.{Back, return_stays, other_call, overdue_back, returned}
-use Rattle.acd_laws.proofs.Rules.RulesOfSteps.{RoundKeeps, rules_serve, by_rounds, by_tick, by_deeds}
+use Rattle.acd_laws.proofs.Rules.RulesOfSteps.{RoundKeeps, rules_serve, by_rounds, by_tick, by_effects}
 use Rattle.acd_laws.proofs.Rules.RulesOfEnds.{kept_return_to}
 use Rattle.acd_laws.proofs.Rules.RulesOfPlanning.{kept_rest_moves}
 use Rattle.acd_laws.proofs.Rules.StepEnds.{rules_step, rules_first}
@@ -133,30 +133,30 @@ module _ (u : Rows) (t : ℕ) where
 
   -- the moves of a service
 
-  fits_deed : (s : Rows) (turn : Turn) (ms : List Move) → t ≤ turn.moment → Effect s turn ms → Every Works s.agents → AllFit ms
+  fits_effect : (s : Rows) (turn : Turn) (ms : List Move) → t ≤ turn.moment → Effect s turn ms → Every Works s.agents → AllFit ms
   unfolding is_overdue is_wrapped_up
-  fits_deed s turn _ l nothing h = tt
-  fits_deed s turn _ l (adds_group _ _ _ _ _ _) h = (tt, tt)
-  fits_deed s turn _ l (adds_station _ _ _) h = (tt, tt)
-  fits_deed s turn _ l (adds_agent _ _ _ _) h = (refl, tt)
-  fits_deed s turn _ l (watches _ _ _) h = (tt, tt)
-  fits_deed s turn _ l (unwatches _) h = (tt, tt)
-  fits_deed s turn _ l (arrives caller called _ _ _) h = (tt, (refl, (fits_arrive s turn (next_call s) called NewCall, tt)))
-  fits_deed s turn _ l (makes _ _ _ _ _ _ _ _) h = (tt, (refl, tt))
-  fits_deed s turn _ l (goes_out p _) h = (refl, (fits_arrive s turn p.x.call p.about.called NewCall, tt))
-  fits_deed s turn _ l (answers p _) h =
+  fits_effect s turn _ l nothing h = tt
+  fits_effect s turn _ l (adds_group _ _ _ _ _ _) h = (tt, tt)
+  fits_effect s turn _ l (adds_station _ _ _) h = (tt, tt)
+  fits_effect s turn _ l (adds_agent _ _ _ _) h = (refl, tt)
+  fits_effect s turn _ l (watches _ _ _) h = (tt, tt)
+  fits_effect s turn _ l (unwatches _) h = (tt, tt)
+  fits_effect s turn _ l (arrives caller called _ _ _) h = (tt, (refl, (fits_arrive s turn (next_call s) called NewCall, tt)))
+  fits_effect s turn _ l (makes _ _ _ _ _ _ _ _) h = (tt, (refl, tt))
+  fits_effect s turn _ l (goes_out p _) h = (refl, (fits_arrive s turn p.x.call p.about.called NewCall, tt))
+  fits_effect s turn _ l (answers p _) h =
       (refl, (fits_agent turn _ l (occupies Works s turn p.x (λ a e. every_among Works s.agents a h (agent_seat s p.x.device a e).0)), tt))
-  fits_deed s turn _ l (holds _ _ _) h = (refl, tt)
-  fits_deed s turn _ l (retrieves _ _ _) h = (refl, tt)
-  fits_deed s turn _ l (clears p) h =
+  fits_effect s turn _ l (holds _ _ _) h = (refl, tt)
+  fits_effect s turn _ l (retrieves _ _ _) h = (refl, tt)
+  fits_effect s turn _ l (clears p) h =
       (tt, (fits_clear_other (other_of s p.x), (tt, (fits_release s turn p.x (ending_of p.x) l h, (fits_release_other s turn (other_of s p.x) l h, tt)))))
-  fits_deed s turn _ l (deflects p to _ _) h = (tt, (fits_arrive s turn p.x.call to Deflected, (fits_release s turn p.x (ending_of p.x) l h, tt)))
-  fits_deed s turn _ l (transfers p to _ _ _) h = (tt, (fits_arrive s turn p.x.call to Transferred, (fits_release s turn p.x (ending_of p.x) l h, tt)))
-  fits_deed s turn _ l (logs_on _ _ _ _ _ _ _ _) h = (refl, tt)
-  fits_deed s turn _ l (rejects p g _ _) h = fits_return s turn p.x g l h
-  fits_deed s turn _ l (renames a _ found) h = (every_among Works s.agents a h (agent_among s a.agent a found), tt)
-  fits_deed s turn _ l (waits a _ found _ _) h = (every_among Works s.agents a h (agent_among s a.agent a found), tt)
-  fits_deed s turn _ l (goes a wanted found _ _) h =
+  fits_effect s turn _ l (deflects p to _ _) h = (tt, (fits_arrive s turn p.x.call to Deflected, (fits_release s turn p.x (ending_of p.x) l h, tt)))
+  fits_effect s turn _ l (transfers p to _ _ _) h = (tt, (fits_arrive s turn p.x.call to Transferred, (fits_release s turn p.x (ending_of p.x) l h, tt)))
+  fits_effect s turn _ l (logs_on _ _ _ _ _ _ _ _) h = (refl, tt)
+  fits_effect s turn _ l (rejects p g _ _) h = fits_return s turn p.x g l h
+  fits_effect s turn _ l (renames a _ found) h = (every_among Works s.agents a h (agent_among s a.agent a found), tt)
+  fits_effect s turn _ l (waits a _ found _ _) h = (every_among Works s.agents a h (agent_among s a.agent a found), tt)
+  fits_effect s turn _ l (goes a wanted found _ _) h =
       (fits_agent turn _ l (goes_from Works turn a a.station (state_wanted wanted) (every_among Works s.agents a h (agent_among s a.agent a found))), tt)
 
   fits_regroups : (s : Rows) (c : Command) (ms : List Move) → ChangesGroup s c ms → AllFit ms
@@ -184,8 +184,8 @@ module _ (u : Rows) (t : ℕ) where
   holds_step s moment c r l h =
       let turn : Turn = next_turn s moment in
       let later : t ≤ turn.moment = omega (arith, l) in
-      by_deeds HoldsAlong turn c
-      (λ _ v es ms d _ w. holds_moves v ms (fits_deed v turn ms later d w.1) w)
+      by_effects HoldsAlong turn c
+      (λ _ v es ms d _ w. holds_moves v ms (fits_effect v turn ms later d w.1) w)
       (λ v es ms d _ w. holds_moves v ms (fits_regroups v c ms d) w)
       (holds_round turn later) s [] r h
 

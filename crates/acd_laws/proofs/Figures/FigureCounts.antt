@@ -1,4 +1,4 @@
--- The figures that a group keeps are those counted from all events: by each deed, step and run.
+-- The figures that a group keeps are those counted from all events: by each effect, step and run.
 use Rattle.std.proofs.Common.{◌≡◌, ℕ, ◌⊎◌, inl, inr, true, false, true≢false, ◌||◌, cond, List, [], ◌∷◌, Option, Some, None, refl, subst, ◌+◌, ◌++◌, sym, ◌∙◌, ap, length, append-nil, eq-eqb}
 use Rattle.std.specs.Prelude.{is_some, option_map, ◌==◌}
 use Rattle.std.proofs.lemmas.Bool.{or_parts, eqb-true, false_from_ne_true}
@@ -24,7 +24,7 @@ use Rattle.acd_model.specs.Step.{numbered, step_moves, step, next_turn}
 use Rattle.acd_laws.specs.FigureLaws.{KeepsFigures, RunKeepsFigures, regroups, group_given, regrouped}
 use Rattle.acd_laws.proofs.Rules.StepEnds.{rules_step, rules_first, kept_by_run, KeptByRules}
 use Rattle.acd_laws.proofs.Offers.DistributionSteps.{Kept}
-use Rattle.acd_laws.proofs.Rules.RulesOfSteps.{by_deeds, by_parts}
+use Rattle.acd_laws.proofs.Rules.RulesOfSteps.{by_effects, by_parts}
 use Rattle.acd_terms.specs.declared.command.Turn.{Turn}
 
 -- there is no group, or it is one of these
@@ -109,7 +109,7 @@ fits_round s turn _ (returns x g there _ e) r =
     ((tt, in_group), ((tt, subst (IsAmongGroups s.groups) e in_group), (fits_agent s.groups (released_by s turn x NoAnswer), tt)))
 fits_round s turn _ (rests a _ _) r = (fits_agent s.groups (goes_from Anyone turn a a.station Ready tt), tt)
 
--- each deed: it fits, or adds a group
+-- each effect: it fits, or adds a group
 
 pub record Adds (s : Rows) (ms : List Move) : Type 0 where
   pub group : GroupRecord
@@ -117,35 +117,35 @@ pub record Adds (s : Rows) (ms : List Move) : Type 0 where
   pub unused : is_group s group.device ≡ false
   pub new : group.figures ≡ no_figures
 
-pub fits_deed : (s : Rows) (turn : Turn) (ms : List Move) → Effect s turn ms → Rules s → AllFit s.groups ms ⊎ Adds s ms
-fits_deed s turn _ nothing r = inl tt
-fits_deed s turn _ (adds_group device name ring wrap free _) r =
+pub fits_effect : (s : Rows) (turn : Turn) (ms : List Move) → Effect s turn ms → Rules s → AllFit s.groups ms ⊎ Adds s ms
+fits_effect s turn _ nothing r = inl tt
+fits_effect s turn _ (adds_group device name ring wrap free _) r =
     inr (record {
       group = new_group device name ring wrap;
       alone = refl;
       unused = (or_parts (is_group s device) (is_station s device) (or_parts (is_planned s device) (is_calling s device) free).0).0;
       new = refl;
     })
-fits_deed s turn _ (adds_station _ _ _) r = inl ((tt, tt), tt)
-fits_deed s turn _ (adds_agent _ _ _ _) r = inl ((tt, tt), tt)
-fits_deed s turn _ (watches _ _ _) r = inl ((tt, tt), tt)
-fits_deed s turn _ (unwatches _) r = inl ((tt, tt), tt)
-fits_deed s turn _ (arrives caller called _ _ _) r = inl ((tt, tt), ((tt, tt), (fits_arrive s turn _ called _, tt)))
-fits_deed s turn _ (makes _ _ _ _ _ _ _ _) r = inl ((tt, tt), ((tt, tt), tt))
-fits_deed s turn _ (goes_out p _) r = inl ((tt, tt), (fits_arrive s turn _ p.about.called _, tt))
-fits_deed s turn _ (answers p _) r =
+fits_effect s turn _ (adds_station _ _ _) r = inl ((tt, tt), tt)
+fits_effect s turn _ (adds_agent _ _ _ _) r = inl ((tt, tt), tt)
+fits_effect s turn _ (watches _ _ _) r = inl ((tt, tt), tt)
+fits_effect s turn _ (unwatches _) r = inl ((tt, tt), tt)
+fits_effect s turn _ (arrives caller called _ _ _) r = inl ((tt, tt), ((tt, tt), (fits_arrive s turn _ called _, tt)))
+fits_effect s turn _ (makes _ _ _ _ _ _ _ _) r = inl ((tt, tt), ((tt, tt), tt))
+fits_effect s turn _ (goes_out p _) r = inl ((tt, tt), (fits_arrive s turn _ p.about.called _, tt))
+fits_effect s turn _ (answers p _) r =
     inl ((tt, fits_answered s.groups turn.moment p.x p.x.group (party_known s p r)), (fits_agent s.groups (occupied_by s turn p.x), tt))
-fits_deed s turn _ (holds _ _ _) r = inl ((tt, tt), tt)
-fits_deed s turn _ (retrieves _ _ _) r = inl ((tt, tt), tt)
-fits_deed s turn _ (clears p) r = inl (fits_clearing s turn p.x (other_of s p.x) (party_known s p r) (λ y e. known s y r (other_among s p.x y e)))
-fits_deed s turn _ (deflects p to _ _) r =
+fits_effect s turn _ (holds _ _ _) r = inl ((tt, tt), tt)
+fits_effect s turn _ (retrieves _ _ _) r = inl ((tt, tt), tt)
+fits_effect s turn _ (clears p) r = inl (fits_clearing s turn p.x (other_of s p.x) (party_known s p r) (λ y e. known s y r (other_among s p.x y e)))
+fits_effect s turn _ (deflects p to _ _) r =
     inl ((tt, party_known s p r), (fits_arrive s turn _ to _, (fits_agent s.groups (released_by s turn p.x (ending_of p.x)), tt)))
-fits_deed s turn _ (transfers p to _ _ _) r = inl ((tt, tt), (fits_arrive s turn _ to _, (fits_agent s.groups (released_by s turn p.x (ending_of p.x)), tt)))
-fits_deed s turn _ (logs_on _ _ _ _ _ _ _ _) r = inl ((tt, tt), tt)
-fits_deed s turn _ (rejects p g alerting group) r = inl (fits_round s turn _ (returns p.x g p.found alerting group) r)
-fits_deed s turn _ (renames _ _ _) r = inl ((tt, tt), tt)
-fits_deed s turn _ (waits _ _ _ _ _) r = inl ((tt, tt), tt)
-fits_deed s turn _ (goes a wanted _ _ _) r = inl (fits_agent s.groups (goes_from Anyone turn a a.station (state_wanted wanted) tt), tt)
+fits_effect s turn _ (transfers p to _ _ _) r = inl ((tt, tt), (fits_arrive s turn _ to _, (fits_agent s.groups (released_by s turn p.x (ending_of p.x)), tt)))
+fits_effect s turn _ (logs_on _ _ _ _ _ _ _ _) r = inl ((tt, tt), tt)
+fits_effect s turn _ (rejects p g alerting group) r = inl (fits_round s turn _ (returns p.x g p.found alerting group) r)
+fits_effect s turn _ (renames _ _ _) r = inl ((tt, tt), tt)
+fits_effect s turn _ (waits _ _ _ _ _) r = inl ((tt, tt), tt)
+fits_effect s turn _ (goes a wanted _ _ _) r = inl (fits_agent s.groups (goes_from Anyone turn a a.station (state_wanted wanted) tt), tt)
 
 -- moves that fit leave the groups, and what they report counts for these alone
 
@@ -226,10 +226,10 @@ unfolding with_group group_of
 uncounted_with old m s es g unused new k =
     subst (Uncounted old (put_by (at_group g.device) s.groups g)) (sym (append-nil es)) (uncounted_added old s.groups es g unused new k)
 
-uncounted_deed : (old : List Event) (turn : Turn) (s : Rows) (es : List Event) (ms : List Move) → Effect s turn ms → Rules s → UncountedIn old s es
+uncounted_effect : (old : List Event) (turn : Turn) (s : Rows) (es : List Event) (ms : List Move) → Effect s turn ms → Rules s → UncountedIn old s es
     → Kept (UncountedIn old) turn.moment s es ms
-uncounted_deed old turn s es ms d r h =
-    elim (fits_deed s turn ms d r) [
+uncounted_effect old turn s es ms d r h =
+    elim (fits_effect s turn ms d r) [
       | inl f ↦ uncounted_moved old turn.moment s es ms f h
       | inr a ↦ subst (Kept (UncountedIn old) turn.moment s es) (sym a.alone) (uncounted_with old turn.moment s es a.group a.unused a.new h)
     ]
@@ -282,7 +282,7 @@ step_keeps_figures s events moment command r k =
     let m : ℕ = turn.moment in
     let ms : List Move = step_moves s m (serve s turn command) in
     keeps_ended (moved s ms) events (events_of m ms) s.last_event turn.stamp m (s.last_event + length (events_of m ms)) (rules_step s moment command r)
-    (by_deeds (UncountedIn events) turn command (λ _ t es ns d rt h. uncounted_deed events turn t es ns d rt h)
+    (by_effects (UncountedIn events) turn command (λ _ t es ns d rt h. uncounted_effect events turn t es ns d rt h)
     (λ t es ns d rt h. uncounted_regroups events m t es command ns d h)
     (λ t es ns d rt h. uncounted_moved events m t es ns (fits_round t turn ns d rt) h) s [] r (over_lists s events k))
 
@@ -369,7 +369,7 @@ step_adds_figures s moment command d g r e =
     found_ended (moved s ms) (events_of turn.moment ms) s.last_event turn.stamp turn.moment (s.last_event + length (events_of turn.moment ms)) d
     (regrouped command g)
     (by_parts (λ t es. group_of t d ≡ Some g) (λ t es. group_of t d ≡ Some (regrouped command g)) turn command
-    (λ other t es ns deed rt h. left other (moved t ns) (elim (fits_deed t turn ns deed rt) [
+    (λ other t es ns effect rt h. left other (moved t ns) (elim (fits_effect t turn ns effect rt) [
       | inl f ↦ found_moved t ns d g f h
       | inr a ↦ subst (λ w. group_of (moved t w) d ≡ Some g) (sym a.alone) (found_added t a.group g d a.unused h)
     ])) (λ t es ns regroup rt h. found_regroups t command ns d g regroup h) (λ other t es h. left other t h)

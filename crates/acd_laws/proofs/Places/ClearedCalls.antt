@@ -1,4 +1,4 @@
--- Moves that clear just the calls that they end, and name none above the last; so does each deed.
+-- Moves that clear just the calls that they end, and name none above the last; so does each effect.
 use Rattle.std.proofs.Common.{◌≡◌, ℕ, ◌+◌, ◌<◌, ◌≤◌, ◌&&◌, List, [], ◌∷◌, ◌++◌, Option, Some, None, refl, sym, ◌∙◌, ap, subst, arith, Bool, true, false, cond, eq-eqb}
 use Rattle.std.specs.Prelude.{nat_le, is_none, ◌==◌, max}
 use Rattle.acd_lemmas.proofs.Words.{Rows, AgentRecord, CallRecord, ConnectionRecord, AgentState, Cause, Change, Event, Move, Report, find_by, Among, Every, IsAscending, state_wanted, at_call, call_of, other_of, with_group, with_station, with_agent, with_call, with_connection, with_monitor, without_call, without_connection, without_monitor, no_move, silent, reported, changed, moved, with_event, events_of, call_order, parties_of, Command}
@@ -317,7 +317,7 @@ counted_clearing s turn p r =
       counted_plain (changed t (RemoveCall x.call)) last (plain_agent (released_by s turn x (ending_of x)), (plain_release_other s turn o, tt)),
     )
 
--- each deed and each round
+-- each effect and each round
 
 -- a new call, whose number the state before allows, and moves that speak of it
 counted_new : (s : Rows) (c : CallRecord) (ms : List Move) → Rules s → c.call ≡ s.last_call + 1 → ((l : ℕ) → c.call ≤ l → Every (Plain l) ms)
@@ -332,35 +332,35 @@ counted_round s turn ms (returns x g there _ _) r =
     counted_plain s ms (plain_reported tt (λ _. refl) le, (plain_reported tt (λ _. refl) le, (plain_agent (released_by s turn x NoAnswer), tt)))
 counted_round s turn ms (rests a _ _) r = counted_plain s ms (plain_agent (goes_from Anyone turn a a.station Ready tt), tt)
 
-pub counted_deed : (s : Rows) (turn : Turn) (ms : List Move) → Effect s turn ms → Rules s → AllCounted s ms
-counted_deed s turn _ nothing r = tt
-counted_deed s turn ms (adds_group _ _ _ _ _ _) r = counted_plain s ms (plain_silent tt, tt)
-counted_deed s turn ms (adds_station _ _ _) r = counted_plain s ms (plain_silent tt, tt)
-counted_deed s turn ms (adds_agent _ _ _ _) r = counted_plain s ms (plain_silent tt, tt)
-counted_deed s turn ms (watches _ _ _) r = counted_plain s ms (plain_silent tt, tt)
-counted_deed s turn ms (unwatches _) r = counted_plain s ms (plain_silent tt, tt)
-counted_deed s turn _ (arrives caller called _ _ _) r =
+pub counted_effect : (s : Rows) (turn : Turn) (ms : List Move) → Effect s turn ms → Rules s → AllCounted s ms
+counted_effect s turn _ nothing r = tt
+counted_effect s turn ms (adds_group _ _ _ _ _ _) r = counted_plain s ms (plain_silent tt, tt)
+counted_effect s turn ms (adds_station _ _ _) r = counted_plain s ms (plain_silent tt, tt)
+counted_effect s turn ms (adds_agent _ _ _ _) r = counted_plain s ms (plain_silent tt, tt)
+counted_effect s turn ms (watches _ _ _) r = counted_plain s ms (plain_silent tt, tt)
+counted_effect s turn ms (unwatches _) r = counted_plain s ms (plain_silent tt, tt)
+counted_effect s turn _ (arrives caller called _ _ _) r =
     counted_new s (new_call s turn.moment caller called) (connect_caller (next_call s) caller ∷ arrive s turn (next_call s) called NewCall ∷ []) r refl
     (λ l up. (plain_silent tt, (plain_arrive s turn _ _ _ up, tt)))
-counted_deed s turn _ (makes device called _ _ _ _ _ _) r =
+counted_effect s turn _ (makes device called _ _ _ _ _ _) r =
     counted_new s (new_call s turn.moment device called) (initiate (next_call s) device ∷ []) r refl (λ l up. (plain_reported tt (λ _. refl) up, tt))
-counted_deed s turn ms (goes_out p _) r =
+counted_effect s turn ms (goes_out p _) r =
     counted_plain s ms (plain_reported tt (λ _. refl) (party_up_to s p r), (plain_arrive s turn _ _ _ (party_up_to s p r), tt))
-counted_deed s turn ms (answers p _) r = counted_plain s ms (plain_reported tt (λ _. refl) (party_up_to s p r), (plain_agent (occupied_by s turn p.x), tt))
-counted_deed s turn ms (holds p _ _) r = counted_plain s ms (plain_reported tt (λ _. refl) (party_up_to s p r), tt)
-counted_deed s turn ms (retrieves p _ _) r = counted_plain s ms (plain_reported tt (λ _. refl) (party_up_to s p r), tt)
-counted_deed s turn _ (clears_call p) r = counted_clearing s turn p r
-counted_deed s turn ms (deflects p to _ _) r =
+counted_effect s turn ms (answers p _) r = counted_plain s ms (plain_reported tt (λ _. refl) (party_up_to s p r), (plain_agent (occupied_by s turn p.x), tt))
+counted_effect s turn ms (holds p _ _) r = counted_plain s ms (plain_reported tt (λ _. refl) (party_up_to s p r), tt)
+counted_effect s turn ms (retrieves p _ _) r = counted_plain s ms (plain_reported tt (λ _. refl) (party_up_to s p r), tt)
+counted_effect s turn _ (clears_call p) r = counted_clearing s turn p r
+counted_effect s turn ms (deflects p to _ _) r =
     let le = party_up_to s p r in
     counted_plain s ms (plain_reported tt (λ _. refl) le, (plain_arrive s turn _ _ _ le, (plain_agent (released_by s turn p.x (ending_of p.x)), tt)))
-counted_deed s turn ms (transfers p to _ _ _) r =
+counted_effect s turn ms (transfers p to _ _ _) r =
     let le = party_up_to s p r in
     counted_plain s ms (plain_reported tt (λ _. refl) le, (plain_arrive s turn _ _ _ le, (plain_agent (released_by s turn p.x (ending_of p.x)), tt)))
-counted_deed s turn ms (logs_on _ _ _ _ _ _ _ _) r = counted_plain s ms (plain_reported tt (λ _. refl) tt, tt)
-counted_deed s turn ms (rejects p g alerting group) r = counted_round s turn ms (returns p.x g p.found alerting group) r
-counted_deed s turn ms (renames _ _ _) r = counted_plain s ms (plain_silent tt, tt)
-counted_deed s turn ms (waits _ _ _ _ _) r = counted_plain s ms (plain_silent tt, tt)
-counted_deed s turn ms (goes a wanted _ _ _) r = counted_plain s ms (plain_agent (goes_from Anyone turn a a.station (state_wanted wanted) tt), tt)
+counted_effect s turn ms (logs_on _ _ _ _ _ _ _ _) r = counted_plain s ms (plain_reported tt (λ _. refl) tt, tt)
+counted_effect s turn ms (rejects p g alerting group) r = counted_round s turn ms (returns p.x g p.found alerting group) r
+counted_effect s turn ms (renames _ _ _) r = counted_plain s ms (plain_silent tt, tt)
+counted_effect s turn ms (waits _ _ _ _ _) r = counted_plain s ms (plain_silent tt, tt)
+counted_effect s turn ms (goes a wanted _ _ _) r = counted_plain s ms (plain_agent (goes_from Anyone turn a a.station (state_wanted wanted) tt), tt)
 
 pub counted_regroups : (s : Rows) (c : Command) (ms : List Move) → ChangesGroup s c ms → AllCounted s ms
 counted_regroups s c _ (refuses _ _ _) = tt

@@ -13,9 +13,9 @@ use Rattle.acd_model.specs.Figures.{with_figures}
 use Rattle.acd_model.specs.Services.Serve.{serve}
 use Rattle.acd_model.specs.Step.{step_moves, step, next_turn}
 use Rattle.acd_laws.proofs.Offers.DistributionSteps.{Kept}
-use Rattle.acd_laws.proofs.Rules.RulesOfSteps.{by_deeds}
+use Rattle.acd_laws.proofs.Rules.RulesOfSteps.{by_effects}
 use Rattle.acd_laws.proofs.Rules.StepEnds.{rules_step, ended, kept_by_run, rules_first, KeptByRules}
-use Rattle.acd_laws.proofs.Places.ClearedCalls.{AllCounted, Named, SameCalls, same_clearings, clearings_moved, clearings_numbered, names_moved, names_numbered, counted_deed, counted_regroups, counted_round}
+use Rattle.acd_laws.proofs.Places.ClearedCalls.{AllCounted, Named, SameCalls, same_clearings, clearings_moved, clearings_numbered, names_moved, names_numbered, counted_effect, counted_regroups, counted_round}
 use Rattle.std.proofs.lemmas.Bool.Decides.{leb_tells}
 use Rattle.acd_terms.specs.Columns.{columns_of}
 use Rattle.acd_terms.specs.declared.event.Report.TheVariants as report
@@ -95,12 +95,12 @@ pub places_exclude : PlacesExclude
 places_exclude s events c =
     (λ a b. cc (a.ended, b.there), λ a b. cc (a.ended, b.there), λ a b. let e = a.once in let z = b.none_queued in absurd (omega (arith, e, z)))
 
--- a property that counted moves keep, deeds and rounds keep, and so a step's moves
+-- a property that counted moves keep, effects and rounds keep, and so a step's moves
 moves_keep : (P : Rows → List Event → Type 0) (turn : Turn)
     → ((s : Rows) (es : List Event) (ms : List Move) → AllCounted s ms → P s es → Kept P turn.moment s es ms)
     → (s : Rows) (es : List Event) (c : Command) → Rules s → P s es → Kept P turn.moment s es (step_moves s turn.moment (serve s turn c))
 moves_keep P turn f s es c r h =
-    by_deeds P turn c (λ _ v fs ms d rv p. f v fs ms (counted_deed v turn ms d rv) p) (λ v fs ms d rv p. f v fs ms (counted_regroups v c ms d) p)
+    by_effects P turn c (λ _ v fs ms d rv p. f v fs ms (counted_effect v turn ms d rv) p) (λ v fs ms d rv p. f v fs ms (counted_regroups v c ms d) p)
     (λ v fs ms d rv p. f v fs ms (counted_round v turn ms d rv) p) s es r h
 
 -- the end of a step sets figures and counters: calls stay

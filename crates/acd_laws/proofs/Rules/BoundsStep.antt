@@ -1,4 +1,4 @@
--- The moves of a step stay within bounds: by each deed, and by rounds.
+-- The moves of a step stay within bounds: by each effect, and by rounds.
 use Rattle.acd_lemmas.proofs.KeyedLists.{counted_old}
 use Rattle.std.proofs.Common.{◌≡◌, ℕ, ◌+◌, ◌≤◌, ◌⊎◌, inl, inr, Bool, true, false, List, [], ◌∷◌, Option, Some, None, refl, sym, ◌∙◌, ap, subst, arith, length, cond, ◌++◌}
 use Rattle.std.specs.Prelude.{◌==◌, is_some, nat_le}
@@ -20,7 +20,7 @@ use Rattle.acd_lemmas.proofs.Lists.{every_among, every_from, every-put, one, cou
 use Rattle.acd_lemmas.proofs.State.{group_put, station_put, group_among, by_group}
 use Rattle.acd_laws.proofs.Watched.Order.{entry_by}
 use Rattle.acd_laws.specs.FigureLaws.{group_given}
-use Rattle.acd_laws.proofs.Effects.{new_call, Effect, nothing, adds_group, adds_station, adds_agent, watches, unwatches, arrives, makes, goes_out, answers, holds, retrieves, clears, deflects, transfers, logs_on, rejects, renames, waits, goes, ChangesGroup, refuses, puts, given_device, given_figures, given_priority, given_planned, deed_of_serve, returns}
+use Rattle.acd_laws.proofs.Effects.{new_call, Effect, nothing, adds_group, adds_station, adds_agent, watches, unwatches, arrives, makes, goes_out, answers, holds, retrieves, clears, deflects, transfers, logs_on, rejects, renames, waits, goes, ChangesGroup, refuses, puts, given_device, given_figures, given_priority, given_planned, effect_of_serve, returns}
 use Rattle.acd_laws.proofs.Rules.MoveOrder.{Steady, knows, AllSteady, IsNew, IsRegrouped, IsGroupAfter, Steadied, Settled, settled, steadied, sizes_steadied, monitored_steadied, WaitsUpTo, Neat, Steps, done, neat, comes, neat_quiet, neat_silent, neat_agent, neat_remove, neat_put, neat_turned, timed_plain, comes_to, steady_agent, steady_arrive, steps_timed, steps_place, Fit}
 use Rattle.acd_model.specs.ServiceAnswers.{moves_of}
 use Rattle.acd_model.specs.Figures.{is_entry}
@@ -235,7 +235,7 @@ settled_call s c ms room n f =
       last_event = f.last_event;
     }
 
--- each deed
+-- each effect
 
 clears_other : {k m : ℕ} {t : Rows} (o : Option ConnectionRecord) → Neat k m t (clear_other o)
 clears_other None = neat_silent Nothing tt tt
@@ -269,18 +269,18 @@ given s k m to x e why b w n =
 agent_behaves : (s : Rows) (k m : ℕ) (x : Move) → Before s k m → AgentMove (Recorded s) (turn_at m k) x → Behaves s k m (x ∷ [])
 agent_behaves s k m x b h = steadily b (neat (neat_agent s b.stamp b.timed h) done) (omega arith) (steady_agent s h, tt)
 
-pub behaves_deed : (s : Rows) (k m : ℕ) (ms : List Move) → Effect s (turn_at m k) ms → Before s k m → Behaves s k m ms
-behaves_deed s k m _ nothing b = steadily b done (omega arith) tt
-behaves_deed s k m _ (adds_group device name ring wrap free room) b =
+pub behaves_effect : (s : Rows) (k m : ℕ) (ms : List Move) → Effect s (turn_at m k) ms → Before s k m → Behaves s k m ms
+behaves_effect s k m _ nothing b = steadily b done (omega arith) tt
+behaves_effect s k m _ (adds_group device name ring wrap free room) b =
     behaves_group s k m (new_group device name ring wrap) room
     (refl, (or_parts (is_group s device) (is_station s device) (or_parts (is_planned s device) (is_calling s device) free).0).0, refl)
-behaves_deed s k m _ (adds_station device _ room) b = behaves_station s k m (record { device = device }) room
-behaves_deed s k m _ (adds_agent agent name _ room) b =
+behaves_effect s k m _ (adds_station device _ room) b = behaves_station s k m (record { device = device }) room
+behaves_effect s k m _ (adds_agent agent name _ room) b =
     behaves_agent s k m (new_agent (turn_at m k) agent name) room (record { above = b.stamp; stamp = omega arith; since = omega arith })
-behaves_deed s k m _ (watches device planned room) b =
+behaves_effect s k m _ (watches device planned room) b =
     behaves_monitor s k m (record { monitor = next_monitor s; device = device; after_event = s.last_event }) room planned refl refl
-behaves_deed s k m _ (unwatches monitor) b = steadily b (neat (neat_silent (RemoveMonitor monitor) tt tt) done) (omega arith) (tt, tt)
-behaves_deed s k m _ (arrives caller called _ _ room) b =
+behaves_effect s k m _ (unwatches monitor) b = steadily b (neat (neat_silent (RemoveMonitor monitor) tt tt) done) (omega arith) (tt, tt)
+behaves_effect s k m _ (arrives caller called _ _ room) b =
     let n : ℕ = next_call s in
     let c : CallRecord = new_call s m caller called in
     let u : Rows = with_call s c in
@@ -296,7 +296,7 @@ behaves_deed s k m _ (arrives caller called _ _ room) b =
           settled_call s c rest room refl
           (steadied u rest (ascending_called s c b.rules.orders.agents) (tt, (steady_arrive s u (turn_at m k) n called NewCall, tt)));
     }
-behaves_deed s k m _ (makes device called _ _ _ _ _ room) b =
+behaves_effect s k m _ (makes device called _ _ _ _ _ room) b =
     let n : ℕ = next_call s in
     let c : CallRecord = new_call s m device called in
     let rest : List Move = initiate n device ∷ [] in
@@ -309,24 +309,24 @@ behaves_deed s k m _ (makes device called _ _ _ _ _ room) b =
       few = omega arith;
       settled = settled_call s c rest room refl (steadied (with_call s c) rest (ascending_called s c b.rules.orders.agents) (tt, tt));
     }
-behaves_deed s k m _ (goes_out p _) b = steadily b
+behaves_effect s k m _ (goes_out p _) b = steadily b
     (neat (neat_turned s p.x S.Connected (report.Originated p.x.call p.x.device p.about.called) b.timed b.rules.orders.connections p.found tt (λ g. refl))
     (comes (comes_to s k m p.x.call p.about.called NewCall b.stamp) done))
     (omega arith) (tt, (steady_arrive s s (turn_at m k) p.x.call p.about.called NewCall, tt))
-behaves_deed s k m _ (answers p _) b =
+behaves_effect s k m _ (answers p _) b =
     let h = occupies_here s (turn_at m k) p.x b.rules.orders.agents in
     let e : Report = report.Established p.x.call p.x.device (waited_by m p.x.queued p.x.group) in
     let t : ConnectionTimed k m (talking p.x) = record { place = tt; queued = tt; offered = tt; order = tt } in steadily b
     (neat (neat_put (talking p.x) (Some e) t refl (waits_answer m p.x.call p.x.device p.x.queued p.x.group) (λ g. refl))
     (neat (neat_agent s b.stamp b.timed h) done))
     (omega arith) (tt, (steady_agent s h, tt))
-behaves_deed s k m _ (holds p _ _) b =
+behaves_effect s k m _ (holds p _ _) b =
     steadily b (neat (neat_turned s p.x S.Hold (report.Held p.x.call p.x.device) b.timed b.rules.orders.connections p.found tt (λ g. refl)) done) (omega arith)
     (tt, tt)
-behaves_deed s k m _ (retrieves p _ _) b =
+behaves_effect s k m _ (retrieves p _ _) b =
     steadily b (neat (neat_turned s p.x S.Connected (report.Retrieved p.x.call p.x.device) b.timed b.rules.orders.connections p.found tt (λ g. refl)) done)
     (omega arith) (tt, tt)
-behaves_deed s k m _ (clears p) b =
+behaves_effect s k m _ (clears p) b =
     let x : ConnectionRecord = p.x in
     let o : Option ConnectionRecord = other_of s x in
     let h = releases_here s (turn_at m k) x (ending_of x) b.rules.orders.agents in
@@ -335,9 +335,9 @@ behaves_deed s k m _ (clears p) b =
     (neat (clears_other o) (neat (neat_quiet (RemoveCall x.call) (Some (report.CallCleared x.call (cleared_group x o))) tt tt tt (λ g. refl))
     (neat (neat_agent s b.stamp b.timed h) (neat (neat_agent s b.stamp b.timed g) done)))))
     (omega arith) (tt, (steady_clears s o, (tt, (steady_agent s h, (steady_agent s g, tt)))))
-behaves_deed s k m _ (deflects p to _ _) b = given s k m to p.x (report.Diverted p.x.call p.x.device to Deflected p.x.group) Deflected b tt (λ g. refl)
-behaves_deed s k m _ (transfers p to _ _ _) b = given s k m to p.x (report.Transferred p.x.call p.x.device to) Transferred b tt (λ g. refl)
-behaves_deed s k m _ (logs_on a device groups found _ _ _ _) b =
+behaves_effect s k m _ (deflects p to _ _) b = given s k m to p.x (report.Diverted p.x.call p.x.device to Deflected p.x.group) Deflected b tt (λ g. refl)
+behaves_effect s k m _ (transfers p to _ _ _) b = given s k m to p.x (report.Transferred p.x.call p.x.device to) Transferred b tt (λ g. refl)
+behaves_effect s k m _ (logs_on a device groups found _ _ _ _) b =
     let c : AgentRecord = record a { state = A.NotReady; pending = None; station = Some device; groups = groups; stamp = k; since = m } in
     steadily b
     (neat
@@ -345,11 +345,11 @@ behaves_deed s k m _ (logs_on a device groups found _ _ _ _) b =
     (record { above = b.stamp; stamp = omega arith; since = omega arith }) tt tt (λ g. refl))
     done)
     (omega arith) (ap is_some found, tt)
-behaves_deed s k m _ (rejects p g alerting group) b =
+behaves_effect s k m _ (rejects p g alerting group) b =
     let f = round_steps s k m _ b.stamp (returns p.x g p.found alerting group) b.rules b.timed in steadily b f.0 (omega arith) f.1
-behaves_deed s k m _ (renames a name found) b = agent_behaves s k m _ b (remains a name a.pending found)
-behaves_deed s k m _ (waits a wanted found _ _) b = agent_behaves s k m _ b (remains a a.name (Some wanted) found)
-behaves_deed s k m _ (goes a wanted found _ _) b = agent_behaves s k m _ b (goes_from (Recorded s) (turn_at m k) a a.station (state_wanted wanted) found)
+behaves_effect s k m _ (renames a name found) b = agent_behaves s k m _ b (remains a name a.pending found)
+behaves_effect s k m _ (waits a wanted found _ _) b = agent_behaves s k m _ b (remains a a.name (Some wanted) found)
+behaves_effect s k m _ (goes a wanted found _ _) b = agent_behaves s k m _ b (goes_from (Recorded s) (turn_at m k) a a.station (state_wanted wanted) found)
 
 behaves_regroups : (s : Rows) (k m : ℕ) (c : Command) (ms : List Move) → ChangesGroup s c ms → Before s k m → Behaves s k m ms
 behaves_regroups s k m c _ (refuses device it none) b = steadily b done (omega arith) tt
@@ -450,9 +450,9 @@ after_tick s k m b =
 
 after_serve : (s : Rows) (k m : ℕ) (c : Command) → Before s k m
     → After s k m 13000 (moved s (moves_of (serve s (turn_at m k) c))) (events_of m (moves_of (serve s (turn_at m k) c)))
-after_serve s k m c b = elim (deed_of_serve s (turn_at m k) c) [
+after_serve s k m c b = elim (effect_of_serve s (turn_at m k) c) [
   | inl w ↦ elim w.1 [
-    | inl d ↦ after_service s k m _ b (behaves_deed s k m _ d b)
+    | inl d ↦ after_service s k m _ b (behaves_effect s k m _ d b)
     | inr e ↦ subst (λ ms. After s k m 13000 (moved s ms) (events_of m ms)) (sym e) (after_tick s k m b)
   ]
   | inr d ↦ after_service s k m _ b (behaves_regroups s k m c _ d b)

@@ -1,4 +1,4 @@
--- Deeds and rounds: their reports, balance and order.
+-- Effects and rounds: their reports, balance and order.
 use Rattle.std.proofs.Common.{◌≡◌, ℕ, ◌+◌, ◌<◌, ◌≤◌, inl, inr, true, false, ◌||◌, cond, List, [], ◌∷◌, Option, Some, None, refl, sym, ◌∙◌, ap, subst, arith, eq-eqb}
 use Rattle.std.specs.Prelude.{◌==◌}
 use Rattle.std.proofs.lemmas.Bool.{and_right, and_from, or_right}
@@ -406,49 +406,49 @@ sound_round s turn b _ (offers o x a d h) r =
 sound_round s turn b _ (returns x g found alerting group) r = sound_return s turn b g x r found alerting group
 sound_round s turn b _ (rests a found _) r = sound_agent (goes_from (Recorded s) turn a a.station A.Ready found)
 
--- each deed
+-- each effect
 
-pub sound_deed : (s : Rows) (turn : Turn) (b : ℕ) (ms : List Move) → Effect s turn ms → Rules s → b < turn.stamp → Sound turn.moment b turn.stamp s ms
-sound_deed s turn b _ nothing r l = later l (sound_nothing turn.moment b s)
-sound_deed s turn b _ (adds_group device name ring wrap free _) r l =
+pub sound_effect : (s : Rows) (turn : Turn) (b : ℕ) (ms : List Move) → Effect s turn ms → Rules s → b < turn.stamp → Sound turn.moment b turn.stamp s ms
+sound_effect s turn b _ nothing r l = later l (sound_nothing turn.moment b s)
+sound_effect s turn b _ (adds_group device name ring wrap free _) r l =
     later l (silently (PutGroup (new_group device name ring wrap)) (truthful_group s (new_group device name ring wrap) (none_stands s device r free)) tt)
-sound_deed s turn b _ (adds_station device free _) r l =
+sound_effect s turn b _ (adds_station device free _) r l =
     later l (silently (PutStation (record { device = device })) (truthful_station s (record { device = device }) (none_stands s device r free)) tt)
-sound_deed s turn b _ (adds_agent agent name new _) r l =
+sound_effect s turn b _ (adds_agent agent name new _) r l =
     later l (silently (PutAgent (new_agent turn agent name)) (truthful_silent_agent s (new_agent turn agent name) (ap seat_of (sym new))) tt)
-sound_deed s turn b _ (watches device _ _) r l =
+sound_effect s turn b _ (watches device _ _) r l =
     let w : MonitorRecord = record { monitor = next_monitor s; device = device; after_event = s.last_event } in
     later l (silently (PutMonitor w) (truthful_unseen s (PutMonitor w) tt tt tt) tt)
-sound_deed s turn b _ (unwatches monitor) r l = later l (silently (RemoveMonitor monitor) (truthful_unseen s (RemoveMonitor monitor) tt tt tt) tt)
-sound_deed s turn b _ (arrives caller called outside inside _) r l = sound_arrives s turn b caller called r l outside inside
-sound_deed s turn b _ (makes device called planned _ _ _ _ _) r l = later l (sound_makes s turn.moment b device called r planned)
-sound_deed s turn b _ (goes_out p state) r l = sound_out s turn b p r l state
-sound_deed s turn b _ (answers p state) r l = later l (sound_answers s turn b p r state)
-sound_deed s turn b _ (holds p station state) r l = later l
+sound_effect s turn b _ (unwatches monitor) r l = later l (silently (RemoveMonitor monitor) (truthful_unseen s (RemoveMonitor monitor) tt tt tt) tt)
+sound_effect s turn b _ (arrives caller called outside inside _) r l = sound_arrives s turn b caller called r l outside inside
+sound_effect s turn b _ (makes device called planned _ _ _ _ _) r l = later l (sound_makes s turn.moment b device called r planned)
+sound_effect s turn b _ (goes_out p state) r l = sound_out s turn b p r l state
+sound_effect s turn b _ (answers p state) r l = later l (sound_answers s turn b p r state)
+sound_effect s turn b _ (holds p station state) r l = later l
     (sound_turned s turn.moment b p.x S.Hold (report.Held p.x.call p.x.device) r p.found refl (planned_station s p.x.device station)
     (connected_shut p.x.state state) (record { call = refl; device = refl; agent = refl; state = refl; none_enters = λ g. refl; none_goes = λ g. refl }))
-sound_deed s turn b _ (retrieves p state _) r l =
+sound_effect s turn b _ (retrieves p state _) r l =
     let is : p.x.state ≡ S.Hold = hold_is p.x.state state in
     let station : is_station s p.x.device ≡ true = subst (StandsAt s p.x) is (connection_rule s r p.x.call p.x.device p.x p.found).2 in later l
     (sound_turned s turn.moment b p.x S.Connected (report.Retrieved p.x.call p.x.device) r p.found refl (planned_station s p.x.device station) (rw is refl)
     (record { call = refl; device = refl; agent = refl; state = refl; none_enters = λ g. refl; none_goes = λ g. refl }))
-sound_deed s turn b _ (clears p) r l = later l (sound_clearing s turn b p.x (other_of s p.x) r p.found refl)
-sound_deed s turn b _ (deflects p to state free) r l =
+sound_effect s turn b _ (clears p) r l = later l (sound_clearing s turn b p.x (other_of s p.x) r p.found refl)
+sound_effect s turn b _ (deflects p to state free) r l =
     let o = r.one_open p.x.call in let f : one (is_open p.x.state) ≡ 1 = ap one (open_cases p.x.state state).1 in
     sound_given s turn b to p (report.Diverted p.x.call p.x.device to cause.Deflected p.x.group) cause.Deflected r l
     (sound_deflects s turn.moment b to p r state) free refl (omega (arith, f, o))
-sound_deed s turn b _ (transfers p to state other free) r l =
+sound_effect s turn b _ (transfers p to state other free) r l =
     sound_given s turn b to p (report.Transferred p.x.call p.x.device to) cause.Transferred r l (sound_transfers s turn.moment b to p r state) free refl
     (closed_call s p.x r (connection_among s p.x.call p.x.device p.x p.found) state other)
-sound_deed s turn b _ (logs_on a device groups _ _ _ _ _) r l =
+sound_effect s turn b _ (logs_on a device groups _ _ _ _ _) r l =
     let c : AgentRecord = record a { state = A.NotReady; pending = None; station = Some device; groups = groups; stamp = turn.stamp; since = turn.moment } in
     later l (sound_unheard turn.moment b s (log_on_at turn a device groups)
     (truthful_agent s c (report.AgentLoggedOn a.agent device (only_group groups)) refl refl refl)
     (record { leaves = tt; entry = λ g. refl; gone = λ g. refl }))
-sound_deed s turn b _ (rejects p g alerting group) r l = later l (sound_round s turn b _ (returns p.x g p.found alerting group) r)
-sound_deed s turn b _ (renames a name found) r l = later l (sound_agent {turn = turn} (remains a name a.pending found))
-sound_deed s turn b _ (waits a wanted found _ _) r l = later l (sound_agent {turn = turn} (remains a a.name (Some wanted) found))
-sound_deed s turn b _ (goes a wanted found _ _) r l = later l (sound_agent (goes_from (Recorded s) turn a a.station (state_wanted wanted) found))
+sound_effect s turn b _ (rejects p g alerting group) r l = later l (sound_round s turn b _ (returns p.x g p.found alerting group) r)
+sound_effect s turn b _ (renames a name found) r l = later l (sound_agent {turn = turn} (remains a name a.pending found))
+sound_effect s turn b _ (waits a wanted found _ _) r l = later l (sound_agent {turn = turn} (remains a a.name (Some wanted) found))
+sound_effect s turn b _ (goes a wanted found _ _) r l = later l (sound_agent (goes_from (Recorded s) turn a a.station (state_wanted wanted) found))
 
 pub sound_regroups : (s : Rows) (turn : Turn) (b : ℕ) (c : Command) (ms : List Move) → ChangesGroup s c ms → b < turn.stamp → Sound turn.moment b turn.stamp s ms
 sound_regroups s turn b c _ (refuses _ _ _) l = later l (sound_nothing turn.moment b s)

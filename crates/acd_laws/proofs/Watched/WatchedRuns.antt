@@ -10,7 +10,7 @@ use Rattle.acd_laws.proofs.Watched.ReportedState.{shown, seat, after-append, sho
 use Rattle.acd_laws.proofs.Figures.EventCounts.{figures_joined, figures_numbered}
 use Rattle.acd_laws.proofs.Watched.Order.{holding, balanced_events, Ordered, ordered_on}
 use Rattle.acd_laws.proofs.Watched.MoveReports.{Sound}
-use Rattle.acd_laws.proofs.Watched.EffectReports.{sound_deed, sound_regroups, sound_round}
+use Rattle.acd_laws.proofs.Watched.EffectReports.{sound_effect, sound_regroups, sound_round}
 use Rattle.acd_laws.proofs.Rules.RulesOfSteps.{by_parts, rules_serve}
 use Rattle.std.specs.Prelude.{◌==◌, is_some, option_map}
 use Rattle.acd_terms.specs.declared.state.ConnectionState.TheVariants as S
@@ -94,7 +94,7 @@ pub follows_step : (s : Rows) (turn : Turn) (b : ℕ) (c : Command) → Rules s 
     → Follows s b turn.stamp (moved s (step_moves s turn.moment (serve s turn c))) (events_of turn.moment (step_moves s turn.moment (serve s turn c)))
 follows_step s turn b c r l =
     by_parts (Follows s b b) (Follows s b turn.stamp) turn c
-    (λ _ t es ms d rt f. follows_moves s b b turn.stamp turn.moment t es ms f (sound_deed t turn b ms d rt l))
+    (λ _ t es ms d rt f. follows_moves s b b turn.stamp turn.moment t es ms f (sound_effect t turn b ms d rt l))
     (λ t es ms d rt f. follows_moves s b b turn.stamp turn.moment t es ms f (sound_regroups t turn b c ms d l))
     (λ _ t es f. follows_later s b b turn.stamp t es (omega (arith, l)) f)
     (λ t es ms d rt f. follows_moves s b turn.stamp turn.stamp turn.moment t es ms f (sound_round t turn turn.stamp ms d rt)) s [] r (follows_nothing s b)
