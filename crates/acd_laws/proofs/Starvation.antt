@@ -242,18 +242,26 @@ one_step : (s t : Rows) (q : TimedCommand) (more : List TimedCommand) (o : Outco
 unfolding run
 one_step s t q more o es e = ap (λ x. then_run x (run x.rows more)) e
 
+-- a request while the call waits: it is done, and so many of its events are answers, all of other calls
+record Steps (s t : Rows) (q : TimedCommand) (o : Outcome) (es : List Event) (m : ℕ) : Type 0 where
+  pub step_is : step s q.moment q.command ≡ record { outcome = o; rows = t; events = es }
+  pub waits : Waits s
+  pub done : IsDone o
+  pub answers : answered_in es ≡ m
+  pub silent : Every IsSilent es
+
 by_step : {s t : Rows} {q : TimedCommand} {more : List TimedCommand} {o : Outcome} {es : List Event} (m n all : ℕ) → m + n ≡ all
-    → step s q.moment q.command ≡ record { outcome = o; rows = t; events = es } → Waits s → IsDone o
-    → answered_in es ≡ m → Every IsSilent es → Through t more n → Through s (q ∷ more) all
-by_step {s} {t} {q} {more} {o} {es} m n all sum e w d a h rest =
-    let is : run s (q ∷ more) ≡ then_events es o (run t more) = one_step s t q more o es e in
+    → Steps s t q o es m → Through t more n → Through s (q ∷ more) all
+by_step {s} {t} {q} {more} {o} {es} m n all sum first rest =
+    let is : run s (q ∷ more) ≡ then_events es o (run t more) = one_step s t q more o es first.step_is in
     let c = count-append (λ (e : Event). is_answered_there e.report) es (run t more).events in
+    let a = first.answers in
     let r = rest.answers in
     record {
-      waits = (w, subst (λ x. WaitsThrough x.rows more) (sym e) rest.waits);
-      done = subst (λ (r : AfterRun). Every IsDone r.outcomes) (sym is) (d, rest.done);
+      waits = (first.waits, subst (λ x. WaitsThrough x.rows more) (sym first.step_is) rest.waits);
+      done = subst (λ (r : AfterRun). Every IsDone r.outcomes) (sym is) (first.done, rest.done);
       answers = ap (λ (r : AfterRun). answered_in r.events) is ∙ omega (arith, c, a, r, sum);
-      silent = subst (λ (r : AfterRun). Every IsSilent r.events) (sym is) (every-append IsSilent es (run t more).events h rest.silent);
+      silent = subst (λ (r : AfterRun). Every IsSilent r.events) (sym is) (every-append IsSilent es (run t more).events first.silent rest.silent);
     }
 
 waits_here : (n k : Numbers) (state : AgentState) (calls : List CallRecord) (connections : List ConnectionRecord)
@@ -276,15 +284,36 @@ through (suc n) k h =
     let other : next k ≢ 1 = omega (arith, c) in
     let rest = through n (numbers_4 k) (goes_on k h) in
     let fourth =
-    by_step 0 n n (omega arith) (ends k s) (waits_here (numbers_3 k) (numbers_3 k) A.Busy (its_call k ∷ []) (talks k ∷ calls k ∷ [])) tt refl
-    (other, (other, (other, (tt, tt)))) rest in
+    by_step 0 n n (omega arith) (record {
+      step_is = ends k s;
+      waits = waits_here (numbers_3 k) (numbers_3 k) A.Busy (its_call k ∷ []) (talks k ∷ calls k ∷ []);
+      done = tt;
+      answers = refl;
+      silent = (other, (other, (other, (tt, tt))));
+    }) rest in
     let third =
-    by_step 1 n (suc n) (omega arith) (is_answered k s) (waits_here (numbers_2 k) (numbers_2 k) A.Ready (its_call k ∷ []) (rings k ∷ calls k ∷ [])) tt refl
-    (other, (tt, tt)) fourth in
+    by_step 1 n (suc n) (omega arith) (record {
+      step_is = is_answered k s;
+      waits = waits_here (numbers_2 k) (numbers_2 k) A.Ready (its_call k ∷ []) (rings k ∷ calls k ∷ []);
+      done = tt;
+      answers = refl;
+      silent = (other, (tt, tt));
+    }) fourth in
     let second =
-    by_step 0 (suc n) (suc n) (omega arith) (is_ready k s) (waits_here (numbers_1 k) k A.WorkingAfterCall (its_call k ∷ []) (waits k ∷ calls k ∷ []))
-    tt refl (tt, (other, (other, tt))) third in
-    by_step 0 (suc n) (suc n) (omega arith) (arrives k s) (waits_here k k A.WorkingAfterCall [] []) tt refl (other, tt) second
+    by_step 0 (suc n) (suc n) (omega arith) (record {
+      step_is = is_ready k s;
+      waits = waits_here (numbers_1 k) k A.WorkingAfterCall (its_call k ∷ []) (waits k ∷ calls k ∷ []);
+      done = tt;
+      answers = refl;
+      silent = (tt, (other, (other, tt)));
+    }) third in
+    by_step 0 (suc n) (suc n) (omega arith) (record {
+      step_is = arrives k s;
+      waits = waits_here k k A.WorkingAfterCall [] [];
+      done = tt;
+      answers = refl;
+      silent = (other, tt);
+    }) second
 
 length_rounds : (n call : ℕ) → length (rounds_from call n) ≡ 4 * n
 length_rounds zero call = refl
