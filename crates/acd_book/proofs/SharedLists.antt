@@ -244,6 +244,10 @@ split_there {T = T} f last archived current past (x ∷ carried) rest whole mine
 
 -- ---- what comes next ----
 
+-- the first above a number
+abbrev pub next_above : {T : Type 0} → (T → ℕ) → ℕ → List T → List T
+next_above {T = T} f n xs = take 1 (filter (λ (x : T). nat_lt n (f x)) xs)
+
 pub none_above : {T : Type 0} (f : T → ℕ) (n : ℕ) (xs : List T) → Every (λ (x : T). f x ≤ n) xs → filter (λ (x : T). nat_lt n (f x)) xs ≡ []
 none_above f n [] low = refl
 none_above {T = T} f n (x ∷ xs) low =
@@ -261,7 +265,7 @@ all_above {T = T} f n m (x ∷ xs) le up =
 
 -- a book reads above a number what is left there
 pub next_left : {T : Type 0} (f : T → ℕ) (n : ℕ) (xs past left : List T) → IsSplitAt f n xs past left
-    → take 1 (filter (λ (x : T). nat_lt n (f x)) xs) ≡ take 1 left
+    → next_above f n xs ≡ take 1 left
 next_left {T = T} f n xs past left s =
     let p : T → Bool = λ (x : T). nat_lt n (f x) in
     ap (λ (l : List T). take 1 (filter p l)) s.whole
@@ -271,11 +275,11 @@ current_split : {T : Type 0} (f : T → ℕ) (cut n : ℕ) (archived current : L
 current_split f cut n archived current s = record { whole = s.mine; below = s.done_low; above = s.rest_high }
 
 pub archived_left : {T : Type 0} (f : T → ℕ) (cut n : ℕ) (archived current : List T) (s : Shares f cut n archived current)
-    → take 1 (filter (λ (x : T). nat_lt n (f x)) archived) ≡ take 1 s.left
+    → next_above f n archived ≡ take 1 s.left
 archived_left f cut n archived current s = next_left f n archived (s.past ++ s.done) s.left (archived_split f cut n archived current s)
 
 pub current_left : {T : Type 0} (f : T → ℕ) (cut n : ℕ) (archived current : List T) (s : Shares f cut n archived current)
-    → take 1 (filter (λ (x : T). nat_lt n (f x)) current) ≡ take 1 s.rest
+    → next_above f n current ≡ take 1 s.rest
 current_left f cut n archived current s = next_left f n current s.done s.rest (current_split f cut n archived current s)
 
 pub first_is : {T : Type 0} (x : T) (xs ys : List T) → take 1 xs ≡ x ∷ ys → (tail : List T) × (xs ≡ x ∷ tail)
@@ -288,8 +292,7 @@ none_first (x ∷ xs) h = absurd (cons_not_nil x [] h)
 
 -- both have the same next
 pub same_next : {T : Type 0} (f : T → ℕ) (cut n : ℕ) (archived current : List T) (s : Shares f cut n archived current) (x : T) (xs ys : List T)
-    → take 1 (filter (λ (x : T). nat_lt n (f x)) archived) ≡ x ∷ xs → take 1 (filter (λ (x : T). nat_lt n (f x)) current) ≡ x ∷ ys
-    → Shares f cut (f x) archived current
+    → next_above f n archived ≡ x ∷ xs → next_above f n current ≡ x ∷ ys → Shares f cut (f x) archived current
 same_next f cut n archived current s x xs ys is_archived is_current =
     let left = first_is x s.left xs (sym (archived_left f cut n archived current s) ∙ is_archived) in
     let rest = first_is x s.rest ys (sym (current_left f cut n archived current s) ∙ is_current) in
@@ -297,8 +300,7 @@ same_next f cut n archived current s x xs ys is_archived is_current =
 
 -- they haven't
 pub other_next : {T : Type 0} (f : T → ℕ) (cut n last : ℕ) (archived current : List T) (s : Shares f cut n archived current) (x : T) (xs : List T)
-    → take 1 (filter (λ (x : T). nat_lt n (f x)) archived) ≡ x ∷ xs
-    → (take 1 (filter (λ (x : T). nat_lt n (f x)) current) ≡ take 1 (filter (λ (x : T). nat_lt n (f x)) archived) → ⊥) → ¬ Begins f cut last archived current
+    → next_above f n archived ≡ x ∷ xs → ¬ (next_above f n current ≡ next_above f n archived) → ¬ Begins f cut last archived current
 other_next {T = T} f cut n last archived current s x xs is_archived other b =
     let left = first_is x s.left xs (sym (archived_left f cut n archived current s) ∙ is_archived) in
     let rest : s.rest ≡ x ∷ (left.0 ++ b.rest) = begins_left f cut n last archived current s b ∙ ap (λ (l : List T). l ++ b.rest) left.1 in

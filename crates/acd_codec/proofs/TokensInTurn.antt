@@ -71,13 +71,13 @@ pub object_added : {E : Type 0} (r : Result (Unit {0}) E) (old begun filled new 
 object_added {E} r old begun filled new ps a b c =
     rw (members_closed (written_parts ps), parts_written ps) (adds_then r old filled new (begin_object ∷ parts_tokens ps) (end_object ∷ []) (and_then old begun filled (begin_object ∷ []) (parts_tokens ps) a b) c)
 
--- a list is its items between brackets
-pub list_added : {E : Type 0} {T : Type 0} (r : Result (Unit {0}) E) (old named begun filled new : Written) (k : List ℕ) (f : T → Data) (xs : List T)
-    → Added old named (key k ∷ []) → Added named begun (begin_array ∷ []) → Added begun filled (each_tokens f xs) → AddsTokens r filled new (end_array ∷ [])
+-- a list is its items between brackets, after its key
+pub list_added : {E : Type 0} {T : Type 0} (r : Result (Unit {0}) E) (old begun filled new : Written) (k : List ℕ) (f : T → Data) (xs : List T)
+    → Added old begun (key k ∷ begin_array ∷ []) → Added begun filled (each_tokens f xs) → AddsTokens r filled new (end_array ∷ [])
     → AddsTokens r old new (part_tokens (list_part k (items_of f xs)))
-list_added {E} {T} r old named begun filled new k f xs a b c d =
-    let opened = and_then old named begun (key k ∷ []) (begin_array ∷ []) a b in
-    rw (items_closed f xs) (adds_then r old filled new (key k ∷ begin_array ∷ each_tokens f xs) (end_array ∷ []) (and_then old begun filled (key k ∷ begin_array ∷ []) (each_tokens f xs) opened c) d)
+list_added {E} {T} r old begun filled new k f xs opened items closed =
+    rw (items_closed f xs) (adds_then r old filled new (key k ∷ begin_array ∷ each_tokens f xs) (end_array ∷ [])
+    (and_then old begun filled (key k ∷ begin_array ∷ []) (each_tokens f xs) opened items) closed)
 
 -- members that were written where an object begins, and then closed, are its text
 pub printed_members : (begun filled : Written) (ms : Members) → Begun begun → Added begun filled (tokens_of ms) → print (filled.tokens ++ end_object ∷ []) ≡ compact_text (object ms)

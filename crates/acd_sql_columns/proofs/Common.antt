@@ -67,8 +67,12 @@ pub cast_null : cast Integer Null ≡ Null
 unfolding unary
 cast_null = either _ Null
 
+-- whatever relations the transaction saw, it now sees what this makes of them
+abbrev pub ChangesEach : (Relations → Relations) → State → State → Type 0
+ChangesEach change old new = (c : Relations) → HoldsUncommitted old c → HoldsUncommitted new (change c)
+
 pub changes_uncommitted : (sql : List ℕ) (params : Row) (change : Relations → Relations) (old new : State) (r : Result (Unit {0}) Error)
     → ((c : Relations) (count : ℕ) → HoldsUncommitted old c → Executes sql params old new (Ok count) → HoldsUncommitted new (change c))
-    → OnOk r (RanStatement sql params old new) → OnOk r ((c : Relations) → HoldsUncommitted old c → HoldsUncommitted new (change c))
+    → OnOk r (RanStatement sql params old new) → OnOk r (ChangesEach change old new)
 changes_uncommitted sql params change old new (Err e) law ran = tt
 changes_uncommitted sql params change old new (Ok x) law ran = λ (c : Relations) (d : HoldsUncommitted old c). law c ran.0 d ran.1

@@ -62,7 +62,7 @@ use Rattle.acd_sql_columns.proofs.CompositeKeys.{both_same, both_are, same_id, l
 use Rattle.acd_sql_columns.proofs.KeyedRows.{id_cmp, id_tied, put_back}
 use Rattle.acd_sql_columns.proofs.Listings.{Listing, query_of, begun, end_of}
 use Rattle.acd_sql_columns.proofs.Members.{Differ, apart_under, same_members}
-use Rattle.acd_sql_columns.proofs.OrderedQueries.{asking, given, answered, strict}
+use Rattle.acd_sql_columns.proofs.OrderedQueries.{asking, given, in_its_order, answered, strict}
 use Rattle.acd_sql_columns.proofs.Puts.{truth_back}
 use Rattle.acd_sql_columns.proofs.ValuesInRange.{beside}
 use Rattle.acd_sql_columns.proofs.Scans.{scan, showing, passing}
@@ -500,9 +500,9 @@ module _ {R : Type 0} (h : Heap R) (f : Heaped h) where
         let all = shown_all (old.now.trees h.layout.tree) (h.records (relations_of c)) are in
         let every : map part (old.now.trees h.layout.tree) ≡ map part (passing [] [] (old.now.trees h.layout.tree)) =
         ap (map part) (sym (filter_true (old.now.trees h.layout.tree))) in
-        answered (by_both h) (by_both_total h) h.layout.tree [] (shown_columns (after_both h)) by_columns no_limit old.now.trees [] rows out
-        (h.records (relations_of c)) ranks are.ascending
-        (subst (IsPermutation (map out (h.records (relations_of c)))) every all) read.answer
+        answered (by_both h) (by_both_total h) (query_of listing) [] out (h.records (relations_of c)) _ rows
+        (record { alike = ranks; ascending = are.ascending; all = subst (IsPermutation (map out (h.records (relations_of c)))) every all })
+        (in_its_order h.layout.tree [] (shown_columns (after_both h)) by_columns no_limit old.now.trees [] rows read.answer)
 
     pub asks : AsksAll h.table base text listing
     asks = record { tree = heap_tree; all = refl; unlimited = refl; shows = λ row. ap (λ (t : Row × Bool). t.0) (f.of_row row) }

@@ -29,6 +29,7 @@ use Rattle.acd_sql_columns.specs.Schema.{tables_1, added_in_2, book_schema}
 use Rattle.acd_sql_columns.specs.Schema as schema
 use Rattle.acd_sql_columns.specs.Tables.{connections}
 use Rattle.acd_sql_columns.specs.Values.{id_value}
+use Rattle.acd_sql_columns.proofs.Common.{ChangesEach}
 use Rattle.acd_sql_columns.proofs.FieldLaws.{casts_all}
 use Rattle.acd_sql_columns.proofs.Frames.{framed}
 use Rattle.acd_sql_columns.proofs.CompositeKeyed.{Heaped, UpdatesOne, DeletesThose, SelectsAll, by_two, has_twin, inserted_in, updated_in, unchanged_in, deleted_in, of_two, listing, shows_all}
@@ -83,8 +84,7 @@ sets_connection x c old new count d ran some = updated_in connections connection
 -- where the UPDATE changed no row, an INSERT after it makes what it would make of the rows before
 pub after_none : (x : ConnectionRecord) (change : Relations → Relations) (old mid new : State) (none : ℕ) (result : Result (Unit {0}) Error)
     → Executes UPDATE_CONNECTION.now (connection_values x) old mid (Ok none) → none ≡ 0
-    → OnOk result ((c : Relations) → HoldsUncommitted mid c → HoldsUncommitted new (change c))
-    → OnOk result ((c : Relations) → HoldsUncommitted old c → HoldsUncommitted new (change (with_part table.Connections c.connections c)))
+    → OnOk result (ChangesEach change mid new) → OnOk result (ChangesEach (λ c. change (with_part table.Connections c.connections c)) old new)
 after_none x change old mid late none (Err e) ran missed put = tt
 after_none x change old mid late none (Ok done) ran missed put = λ (c : Relations) (d : HoldsUncommitted old c).
     put (with_part table.Connections c.connections c)

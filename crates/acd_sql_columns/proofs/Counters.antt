@@ -34,7 +34,7 @@ use Rattle.acd_sql_columns.proofs.KeyedRows.{id_tied}
 use Rattle.acd_sql_columns.proofs.Common.{run, inert, cast_id, cast_null}
 use Rattle.acd_sql_columns.proofs.FieldLaws.{casts_all}
 use Rattle.acd_sql_columns.proofs.DescribedTable.{by_id}
-use Rattle.acd_sql_columns.proofs.Puts.{Inserts, inserted_row}
+use Rattle.acd_sql_columns.proofs.Puts.{Inserts, RanOver, inserted_row}
 use Rattle.acd_sql_columns.proofs.ValuesInRange.{beside}
 use Rattle.acd_sql_columns.proofs.Statements.{Insertion, inert_works, replaces}
 use Rattle.acd_sql_columns.proofs.Updates.{Updating, updating_edit, updated}
@@ -170,7 +170,9 @@ pub starts_meta : (m : Meta) (old new : State) (count : ℕ) → Builds old book
 unfolding meta_put meta_text
 starts_meta m old new count b ran =
     let none : AreRows (λ (m : Meta). 1) meta_row (old.now.trees schema.meta.tree) [] = record { rows_are = b.rows_are.0; ascending = tt } in
-    let made = (inserted_row book_schema INSERT_META.now (λ (m : Meta). 1) meta_row meta_values meta_put m [] old new count b.schema_is none ran).replaces in
+    let over : RanOver book_schema INSERT_META.now schema.meta.tree (λ (m : Meta). 1) meta_row (meta_values m)
+    = record { old = old; new = new; records = []; count = count; schema_is = b.schema_is; are_rows = none; ran = ran } in
+    let made = (inserted_row book_schema INSERT_META.now (λ (m : Meta). 1) meta_row meta_values meta_put m over).replaces in
     record {
       inside = made.mode ∙ b.inside;
       schema = made.schema_is;

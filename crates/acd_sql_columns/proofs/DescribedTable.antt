@@ -38,7 +38,7 @@ use Rattle.acd_sql_columns.proofs.KeyedRows.{by_key, id_tied}
 use Rattle.acd_sql_columns.proofs.Listings.{schema_is, Listing, Lists, listed, held_begins}
 use Rattle.acd_sql_columns.proofs.WholeTableQueries.{AsksAll}
 use Rattle.acd_sql_columns.proofs.OrderedQueries.{asking}
-use Rattle.acd_sql_columns.proofs.Puts.{Files, Inserts, inserted_row, truth_back}
+use Rattle.acd_sql_columns.proofs.Puts.{Files, Inserts, RanOver, inserted_row, truth_back}
 use Rattle.acd_sql_columns.proofs.Removals.{Removes, removed_row}
 use Rattle.acd_sql_columns.proofs.Scans.{scan, showing}
 use Rattle.acd_sql_columns.proofs.Sets.{Sets, set_none, set_row, none_has_key}
@@ -218,13 +218,24 @@ module _ {R : Type 0} (d : Description R) (f : Described d) where
   every_read : (r : R) (c : Relations) (db : Trees) → AreTables db c → d.IsRead r → Every d.IsRead (put_by (by_key d.key r) (d.records c) r)
   every_read r c db encodes reads = every-put (by_key d.key r) d.IsRead r reads (d.records c) (f.held c db encodes).1
 
+  -- a statement that ran over the table
+  abbrev ran_over : (text : List ℕ) (params : Row) (c : Relations) (old new : State) (count : ℕ) → HoldsUncommitted old c → Executes text params old new (Ok count)
+      → RanOver book_schema text d.layout.tree d.key (row_of d) params
+  ran_over text params c old new count uncommitted ran = record {
+    old = old;
+    new = new;
+    records = d.records c;
+    count = count;
+    schema_is = uncommitted.schema;
+    are_rows = (f.held c old.now.trees uncommitted.tables).0;
+    ran = ran;
+  }
+
   pub inserted_in : (r : R) → d.IsRead r → (c : Relations) (old new : State) (count : ℕ) → HoldsUncommitted old c
       → Executes d.insert (d.values r) old new (Ok count)
       → HoldsUncommitted new (d.with_records (put_by (by_key d.key r) (d.records c) r) c)
   inserted_in r reads c old new count uncommitted ran =
-      let made =
-      inserted_row book_schema d.insert d.key (row_of d) d.values puts r (d.records c) old new count uncommitted.schema
-      (f.held c old.now.trees uncommitted.tables).0 ran in
+      let made = inserted_row book_schema d.insert d.key (row_of d) d.values puts r (ran_over d.insert (d.values r) c old new count uncommitted ran) in
       holds_replaced _ _ old new c made.are_rows (every_read r c old.now.trees uncommitted.tables reads) made.replaces uncommitted
 
   held_by : (old : State) (c : Content) → HoldsContent old c → AreRows d.key (row_of d) (old.now.trees d.layout.tree) (d.records (relations_of c))
@@ -327,9 +338,7 @@ module _ {R : Type 0} (d : Description R) (f : Described d) where
         → HoldsUncommitted new (d.with_records (put_by (by_key d.key r) (d.records c) r) c)
     unfolding sets
     updated_in r reads c old new count uncommitted ran some =
-        let made =
-        set_row book_schema text d.key (row_of d) d.values sets r (d.records c) old new count uncommitted.schema
-        (f.held c old.now.trees uncommitted.tables).0 ran some in
+        let made = set_row book_schema text d.key (row_of d) d.values sets r (ran_over text (d.values r) c old new count uncommitted ran) some in
         holds_replaced _ _ old new c made.are_rows (every_read r c old.now.trees uncommitted.tables reads) made.replaces uncommitted
 
     -- where none was changed, no record has the key
@@ -337,8 +346,7 @@ module _ {R : Type 0} (d : Description R) (f : Described d) where
         → filter (λ y. d.key y == d.key r) (d.records c) ≡ []
     unfolding sets
     none_in r c old new count uncommitted ran missed =
-        none_has_key book_schema text d.key (row_of d) d.values sets r (d.records c) old new count uncommitted.schema
-        (f.held c old.now.trees uncommitted.tables).0 ran missed
+        none_has_key book_schema text d.key (row_of d) d.values sets r (ran_over text (d.values r) c old new count uncommitted ran) missed
 
     -- of a record that has none
     pub put_in : (r : R) → d.IsRead r → (c : Relations) (old mid new : State) (none count : ℕ) → HoldsUncommitted old c
@@ -375,5 +383,5 @@ module _ {R : Type 0} (d : Description R) (f : Described d) where
     unfolding removes
     removed_in n c old new count uncommitted ran =
         let old_rows = f.held c old.now.trees uncommitted.tables in
-        let made = removed_row book_schema text d.key (row_of d) removes n (d.records c) old new count uncommitted.schema old_rows.0 ran in
+        let made = removed_row book_schema text d.key (row_of d) removes n (ran_over text (id_value n ∷ []) c old new count uncommitted ran) in
         holds_replaced _ _ old new c made.are_rows (every-remove (λ x. nat_cmp n (d.key x)) d.IsRead (d.records c) old_rows.1) made.replaces uncommitted

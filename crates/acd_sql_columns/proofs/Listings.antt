@@ -33,7 +33,7 @@ use Rattle.acd_sql_columns.specs.Content.{AreRows, Stores, tree_of, part}
 use Rattle.acd_sql_columns.specs.Transactions.{HoldsContent, Quiet, NoStop}
 use Rattle.acd_sql_columns.specs.ReadResults.{Finds}
 use Rattle.acd_sql_columns.proofs.KeyedRows.{by_key, by_key_total, id_cmp}
-use Rattle.acd_sql_columns.proofs.OrderedQueries.{asking, given, answered}
+use Rattle.acd_sql_columns.proofs.OrderedQueries.{asking, given, in_its_order, answered}
 use Rattle.acd_sql_columns.proofs.Scans.{showing, passing, filter_like, each, filter_mapped}
 
 -- a text asks for this: the tests, the columns, the order and the limit of a query over one table; and so it does whatever tables come later than
@@ -120,27 +120,33 @@ module _ {R : Type 0} {base : List Made} (text : List ℕ) (it : Listing base te
         reads_as text params old new whole_schema (begun base old.now.schema b) _ (it.command b.0 old.now.schema) (it.plain b.0 old.now.schema)
         (it.unlisted b.0 old.now.schema) rows h in
         let moved = IsPermutation-same _ _ (sym (passed (old.now.trees it.tree) rs are.rows_are)) in
-        answered (by_key key) (by_key_total key) it.tree it.terms it.project it.order it.limit old.now.trees params rows out (filter P rs) same
-        (ascending-filter (by_key key) P rs are.ascending) moved read.answer
+        answered (by_key key) (by_key_total key) (query_of it) params out (filter P rs) _ rows
+        (record { alike = same; ascending = ascending-filter (by_key key) P rs are.ascending; all = moved })
+        (in_its_order it.tree it.terms it.project it.order it.limit old.now.trees params rows read.answer)
         ∙ ap (limited (as_count (eval it.limit (params ∷ [])))) (map_same (λ r. showing params it.project (row r)) values l.shows (filter P rs))
 
 -- ---- the read
 
-module _ (text : List ℕ) (params : Row) (old new : State) (r : Result (Vec Row Global) Error) (plain : IsPlain (understood book_schema text))
-    (IsAnswer : Content → List Row → Type 0) where
-  pub finds : (HasCleanDisk new → OnOk r (IsTrue new.is_open)) → (IsPlain (understood book_schema text) → Quiet old new)
-      → (HasCleanDisk new → IsPlain (understood book_schema text) → (c : Content) → HoldsContent old c → NoStop old new)
-      → (HasCleanDisk new → IfOk r (λ rows. Shown text params old new rows.items))
-      → ((rows : List Row) (c : Content) → HoldsContent old c → Shown text params old new rows → IsAnswer c rows)
-      → Finds old new r (λ c rows. IsAnswer c rows.items)
-  finds up quiet stops shown answer = record {
-    up = up;
-    quiet = quiet plain;
-    stops = λ clean. stops clean plain;
-    answer = λ clean. go r (shown clean);
-  }
-    where
-      go : (r : Result (Vec Row Global) Error) → IfOk r (λ rows. Shown text params old new rows.items)
-          → IfOk r (λ rows. (c : Content) → HoldsContent old c → IsAnswer c rows.items)
-      go (Err e) h = tt
-      go (Ok rows) h = λ (c : Content) (held : HoldsContent old c). answer rows.items c held h
+-- a query that ran, as the store says it of a plain text
+pub record Queried (text : List ℕ) (params : Row) (old new : State) (r : Result (Vec Row Global) Error) : Type 0 where
+  pub up : HasCleanDisk new → OnOk r (IsTrue new.is_open)
+  pub quiet : IsPlain (understood book_schema text) → Quiet old new
+  pub stops : HasCleanDisk new → IsPlain (understood book_schema text) → (c : Content) → HoldsContent old c → NoStop old new
+  pub shown : HasCleanDisk new → IfOk r (λ rows. Shown text params old new rows.items)
+
+pub finds : (text : List ℕ) (params : Row) (old new : State) (r : Result (Vec Row Global) Error) (plain : IsPlain (understood book_schema text))
+    (IsAnswer : Content → List Row → Type 0)
+    → Queried text params old new r
+    → ((rows : List Row) (c : Content) → HoldsContent old c → Shown text params old new rows → IsAnswer c rows)
+    → Finds old new r (λ c rows. IsAnswer c rows.items)
+finds text params old new r plain IsAnswer q answer = record {
+  up = q.up;
+  quiet = q.quiet plain;
+  stops = λ clean. q.stops clean plain;
+  answer = λ clean. go r (q.shown clean);
+}
+  where
+    go : (r : Result (Vec Row Global) Error) → IfOk r (λ rows. Shown text params old new rows.items)
+        → IfOk r (λ rows. (c : Content) → HoldsContent old c → IsAnswer c rows.items)
+    go (Err e) h = tt
+    go (Ok rows) h = λ (c : Content) (held : HoldsContent old c). answer rows.items c held h

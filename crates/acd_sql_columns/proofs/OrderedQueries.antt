@@ -77,33 +77,38 @@ given q params r = output q (params ∷ r ∷ [])
 given_is : (q : Query) (params : Row) (rows : List Row) → map (output q) (map (λ r. params ∷ r ∷ []) rows) ≡ map (given q params) rows
 given_is q params rows = map-map (output q) (λ r. params ∷ r ∷ []) rows
 
--- the first rows, in some order, of those that pass
-pub in_some_order : (t : ℕ) (terms project : List Term) (order : List (Term × Key)) (limit : Term) (db : Trees) (params : Row) (rows : List Row)
-    → IsProgramAnswer [] (asking t terms project order limit) db params rows
-    → (ordered : List Output) × IsPermutation (map (given (asking t terms project order limit) params) (passing params terms (db t))) ordered
-    × (rows ≡ limited (as_count (eval limit (params ∷ []))) (map (λ (o : Output). o.1) ordered))
-in_some_order t terms project order limit db params rows h =
-    let q = asking t terms project order limit in
-    let a : IsAnswer q (overlay db []) params rows = h Null in
-    let staged =
-    a.grouped ∙ staged_is params terms (overlay db [] t) ∙ ap (λ (l : List Row). map (λ r. params ∷ r ∷ []) (passing params terms l)) (nothing_over db t) in
-    let kept = a.distinct ∙ ap (map (output q)) staged ∙ given_is q params (passing params terms (db t)) in
-    (a.ordered, subst (λ k. IsPermutation k a.ordered) kept a.same, a.shown)
+-- the first rows of these outputs, in the order of the query
+pub record AnswersInOrder (q : Query) (params : Row) (outputs : List Output) (rows : List Row) : Type 0 where
+  pub ordered : List Output
+  pub same : IsPermutation outputs ordered
+  pub sorted : IsSorted (output_cmp q) ordered
+  pub shown : rows ≡ limited (as_count (eval q.limit (params ∷ []))) (map (λ (o : Output). o.1) ordered)
 
--- the first rows in order of those that pass
-pub answered : {R : Type 0} (cmp : R → R → Ordering) (total : IsTotalOrder cmp) (t : ℕ) (terms project : List Term) (order : List (Term × Key)) (limit : Term)
-    (db : Trees) (params : Row) (rows : List Row)
-    (out : R → Output) (records : List R) → ((a b : R) → output_cmp (asking t terms project order limit) (out a) (out b) ≡ cmp a b) → IsAscending cmp records
-    → IsPermutation (map out records) (map (given (asking t terms project order limit) params) (passing params terms (db t)))
+-- they are those of the rows that pass
+pub in_its_order : (t : ℕ) (terms project : List Term) (order : List (Term × Key)) (limit : Term) (db : Trees) (params : Row) (rows : List Row)
     → IsProgramAnswer [] (asking t terms project order limit) db params rows
-    → rows ≡ limited (as_count (eval limit (params ∷ []))) (map (λ r. (out r).1) records)
-answered cmp total t terms project order limit db params rows out records same up all h =
+    → AnswersInOrder (asking t terms project order limit) params (map (given (asking t terms project order limit) params) (passing params terms (db t))) rows
+in_its_order t terms project order limit db params rows h =
     let q = asking t terms project order limit in
     let a : IsAnswer q (overlay db []) params rows = h Null in
     let staged =
     a.grouped ∙ staged_is params terms (overlay db [] t) ∙ ap (λ (l : List Row). map (λ r. params ∷ r ∷ []) (passing params terms l)) (nothing_over db t) in
     let kept = a.distinct ∙ ap (map (output q)) staged ∙ given_is q params (passing params terms (db t)) in
-    let moved : IsPermutation (map out records) a.ordered = IsPermutation-trans _ _ _ all (subst (λ k. IsPermutation k a.ordered) kept a.same) in
-    let is = only_order cmp total (output_cmp q) out same records a.ordered up moved a.sorted in
-    a.shown ∙ ap (λ (l : List Output). limited (as_count (eval limit (params ∷ []))) (map (λ o. o.1) l)) is
-    ∙ ap (limited (as_count (eval limit (params ∷ [])))) (map-map (λ (o : Output). o.1) out records)
+    record { ordered = a.ordered; same = subst (λ k. IsPermutation k a.ordered) kept a.same; sorted = a.sorted; shown = a.shown }
+
+-- ascending records have these outputs, which the query compares as the records are compared
+pub record Ascends {R : Type 0} (cmp : R → R → Ordering) (q : Query) (out : R → Output) (records : List R) (outputs : List Output) : Type 0 where
+  pub alike : (a b : R) → output_cmp q (out a) (out b) ≡ cmp a b
+  pub ascending : IsAscending cmp records
+  pub all : IsPermutation (map out records) outputs
+
+-- so the rows are the first of those that the records show
+pub answered : {R : Type 0} (cmp : R → R → Ordering) (total : IsTotalOrder cmp) (q : Query) (params : Row) (out : R → Output) (records : List R)
+    (outputs : List Output) (rows : List Row)
+    → Ascends cmp q out records outputs → AnswersInOrder q params outputs rows
+    → rows ≡ limited (as_count (eval q.limit (params ∷ []))) (map (λ r. (out r).1) records)
+answered cmp total q params out records outputs rows up h =
+    let moved : IsPermutation (map out records) h.ordered = IsPermutation-trans _ _ _ up.all h.same in
+    let is = only_order cmp total (output_cmp q) out up.alike records h.ordered up.ascending moved h.sorted in
+    h.shown ∙ ap (λ (l : List Output). limited (as_count (eval q.limit (params ∷ []))) (map (λ o. o.1) l)) is
+    ∙ ap (limited (as_count (eval q.limit (params ∷ [])))) (map-map (λ (o : Output). o.1) out records)

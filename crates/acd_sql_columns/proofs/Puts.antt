@@ -42,21 +42,15 @@ keyed_by layout key row f r = ap rowid (f.headed r)
 number_kept : (rows : List Row) (row : Row) (n : ℕ) → row ≡ id_value n ∷ drop 1 row → with_rowid Chosen rows row ≡ row
 number_kept rows row n h = subst (λ k. with_rowid Chosen rows k ≡ k) (sym h) refl
 
--- ---- INSERT
-
-pub inserts : {R : Type 0} (schema : Schema) (text : List ℕ) (key : R → ℕ) (row params : R → Row) (i : Inserts schema text key row params) (r : R) (rs : List R)
-    (old new : State) (count : ℕ)
-    → old.now.schema ≡ schema → old.now.trees i.it.layout.tree ≡ map row rs → Executes text (params r) old new (Ok count)
-    → Replaces schema i.it.layout.tree (map row (put_by (by_key key r) rs r)) old new
-inserts schema text key row params i r rs old new count has is ran =
-    let table = table_of i.it.layout in
-    let db = old.now.trees in
-    let made = inserted schema text i.it (params r) old new count has ran in
-    let source = ap (λ l. edited db (edit_of db table [] Chosen 0 l)) (i.source r) in
-    let cast = ap (λ k. put_row (with_rowid Chosen (db i.it.layout.tree) k) (db i.it.layout.tree)) (i.files.casts r) in
-    let number = ap (λ k. put_row k (db i.it.layout.tree)) (number_kept (db i.it.layout.tree) (row r) (key r) (i.files.headed r)) in
-    replaces schema old new (insertion_edit i.it (params r) db) _ made
-    (source ∙ cast ∙ number ∙ ap (put_row (row r)) is ∙ puts key row (keyed_by i.it.layout key row i.files) r rs)
+-- a statement that ran, and the records of the table before
+pub record RanOver {R : Type 0} (schema : Schema) (text : List ℕ) (tree : ℕ) (key : R → ℕ) (row : R → Row) (params : Row) : Type 1 where
+  pub old : State
+  pub new : State
+  pub records : List R
+  pub count : ℕ
+  pub schema_is : old.now.schema ≡ schema
+  pub are_rows : AreRows key row (old.now.trees tree) records
+  pub ran : Executes text params old new (Ok count)
 
 -- ---- the row that has a record's key, changed into the record's
 
@@ -105,9 +99,20 @@ pub are_put : {R : Type 0} (key : R → ℕ) (row : R → Row) (r : R) (rs : Lis
     → AreRows key row (map row (put_by (by_key key r) rs r)) (put_by (by_key key r) rs r)
 are_put key row r rs up = record { rows_are = refl; ascending = ascending-put (by_key key) (by_key_total key) r rs up }
 
+-- ---- INSERT
+
 pub inserted_row : {R : Type 0} (schema : Schema) (text : List ℕ) (key : R → ℕ) (row params : R → Row) (i : Inserts schema text key row params) (r : R)
-    (rs : List R) (old new : State) (count : ℕ)
-    → old.now.schema ≡ schema → AreRows key row (old.now.trees i.it.layout.tree) rs → Executes text (params r) old new (Ok count)
-    → Put schema i.it.layout.tree key row r rs old new
-inserted_row schema text key row params i r rs old new count has are ran =
-    record { replaces = inserts schema text key row params i r rs old new count has are.rows_are ran; are_rows = are_put key row r rs are.ascending }
+    (o : RanOver schema text i.it.layout.tree key row (params r))
+    → Put schema i.it.layout.tree key row r o.records o.old o.new
+inserted_row schema text key row params i r o =
+    let table = table_of i.it.layout in
+    let db = o.old.now.trees in
+    let made = inserted schema text i.it (params r) o.old o.new o.count o.schema_is o.ran in
+    let source = ap (λ l. edited db (edit_of db table [] Chosen 0 l)) (i.source r) in
+    let cast = ap (λ k. put_row (with_rowid Chosen (db i.it.layout.tree) k) (db i.it.layout.tree)) (i.files.casts r) in
+    let number = ap (λ k. put_row k (db i.it.layout.tree)) (number_kept (db i.it.layout.tree) (row r) (key r) (i.files.headed r)) in
+    record {
+      replaces = replaces schema o.old o.new (insertion_edit i.it (params r) db) _ made
+          (source ∙ cast ∙ number ∙ ap (put_row (row r)) o.are_rows.rows_are ∙ puts key row (keyed_by i.it.layout key row i.files) r o.records);
+      are_rows = are_put key row r o.records o.are_rows.ascending;
+    }

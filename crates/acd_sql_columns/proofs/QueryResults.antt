@@ -54,7 +54,7 @@ use Rattle.acd_sql_columns.proofs.Connections.{connections_heaped, connections_s
 use Rattle.acd_sql_columns.proofs.CompositeKeyed.{asks}
 use Rattle.acd_sql_columns.proofs.KeyedRows.{id_cmp, by_key}
 use Rattle.acd_sql_columns.proofs.Listings.{Listing, Lists, query_of, listed, begun}
-use Rattle.acd_sql_columns.proofs.OrderedQueries.{given, in_some_order}
+use Rattle.acd_sql_columns.proofs.OrderedQueries.{given, in_its_order}
 use Rattle.acd_sql_columns.proofs.Puts.{truth_back}
 use Rattle.acd_sql_columns.specs.declared.texts.TheConstants.{SELECT_CONNECTIONS, SELECT_EVENTS_AFTER, SELECT_KEPT_AFTER, SELECT_LOW_EVENT, SELECT_LOW_KEPT, SELECT_META, SELECT_STANDING_CONNECTIONS, SELECT_VERSION}
 use Rattle.acd_sql_columns.proofs.Scans.{showing, passing}
@@ -132,20 +132,19 @@ module _ {base : List Made} (text : List ℕ) (it : Listing base text) (params :
   pub rows_come : AllByRecursion
       (λ row. (r : Row) × Has (d.trees it.tree) r × (list_all (holds (params ∷ r ∷ [])) it.terms ≡ true) × (row ≡ showing params it.project r)) rows
   rows_come =
-      let some =
-      in_some_order it.tree it.terms it.project it.order it.limit d.trees params rows (answer_in base text it params d old new rows old_database b h) in
+      let some = in_its_order it.tree it.terms it.project it.order it.limit d.trees params rows (answer_in base text it params d old new rows old_database b h) in
       let P = λ (row : Row). (r : Row) × Has (d.trees it.tree) r × (list_all (holds (params ∷ r ∷ [])) it.terms ≡ true) × (row ≡ showing params it.project r) in
-      subst (AllByRecursion P) (sym some.2) (all_limited P (as_count (eval it.limit (params ∷ []))) (map (λ (o : Output). o.1) some.0)
-      (mapped_all P (λ (o : Output). o.1) some.0 (come some.0 some.1)))
+      subst (AllByRecursion P) (sym some.shown)
+      (all_limited P (as_count (eval it.limit (params ∷ []))) (map (λ (o : Output). o.1) some.ordered)
+      (mapped_all P (λ (o : Output). o.1) some.ordered (come some.ordered some.same)))
 
   -- where no more than the first is asked for, and none is shown
   pub rows_lack : as_count (eval it.limit (params ∷ [])) ≡ Some 1 → rows ≡ []
       → AllByRecursion (λ r. list_all (holds (params ∷ r ∷ [])) it.terms ≡ false) (d.trees it.tree)
   rows_lack one none =
-      let some =
-      in_some_order it.tree it.terms it.project it.order it.limit d.trees params rows (answer_in base text it params d old new rows old_database b h) in
-      let empty = first_none some.0 (sym (some.2 ∙ ap (λ o. limited o (map (λ (o : Output). o.1) some.0)) one) ∙ none) in
-      let long = length_permutation _ some.0 some.1 in
+      let some = in_its_order it.tree it.terms it.project it.order it.limit d.trees params rows (answer_in base text it params d old new rows old_database b h) in
+      let empty = first_none some.ordered (sym (some.shown ∙ ap (λ o. limited o (map (λ (o : Output). o.1) some.ordered)) one) ∙ none) in
+      let long = length_permutation _ some.ordered some.same in
       none_pass (λ r. list_all (holds (params ∷ r ∷ [])) it.terms) (d.trees it.tree)
       (none_given (passing params it.terms (d.trees it.tree)) (sym long ∙ ap length empty))
     where

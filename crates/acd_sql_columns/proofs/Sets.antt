@@ -1,5 +1,6 @@
 -- A record put by an UPDATE of the row that has its key. Where no row has it, the UPDATE changes none.
 use Rattle.std.proofs.Common.{◌≡◌, inl, ℕ, List, [], ◌∷◌, drop, filter, length, map, ◌==◌, Ok, refl, sym, ap, subst, ◌∙◌, arith}
+use Rattle.std.proofs.Math.ListN.{length-map}
 use Rattle.std.specs.List.{list_all}
 use Rattle.std.specs.List.Sorted.{IsPermutation}
 use Rattle.std.proofs.lemmas.List.Sorted.{length_permutation}
@@ -12,7 +13,7 @@ use Rattle.acd_terms.specs.Lists.{Among}
 use Rattle.acd_lemmas.proofs.Lists.{filter_among}
 use Rattle.acd_sql_columns.specs.Values.{id_value}
 use Rattle.acd_sql_columns.specs.Content.{AreRows}
-use Rattle.acd_sql_columns.proofs.Puts.{Files, Put, are_put, keyed_by, one_changed}
+use Rattle.acd_sql_columns.proofs.Puts.{Files, RanOver, Put, are_put, keyed_by, one_changed}
 use Rattle.acd_sql_columns.proofs.Scans.{showing, passing, found_rows}
 use Rattle.acd_sql_columns.proofs.Statements.{Replaces, replaces}
 use Rattle.acd_sql_columns.proofs.Updates.{Updating, updating_edit, updated}
@@ -39,12 +40,11 @@ set_none schema text it params old new count has ran missed =
     let none = no_rows made.rows (sym made.counted ∙ missed) in
     replaces schema old new (updating_edit db it.layout made.rows) (db it.layout.tree) made.changed (ap (λ l. edited db (updating_edit db it.layout l)) none)
 
--- where a row was shown, a record has the key
-some_record : {R : Type 0} (key : R → ℕ) (shows : R → Row) (new : R) (rs : List R) (rows : List Row) (count : ℕ) (found : List R)
-    → filter (λ r. key r == key new) rs ≡ found
-    → IsPermutation (map shows found) rows → count ≡ length rows → (count ≡ 0 → ⊥) → (x : R) × Among x rs × (key x ≡ key new)
-some_record key shows new rs rows count [] is same counted some = absurd (some (counted ∙ length_permutation [] rows same))
-some_record {R = R} key shows new rs rows count (x ∷ more) is same counted some =
+-- where some are found, a record has the key
+some_record : {R : Type 0} (key : R → ℕ) (new : R) (rs found : List R) → filter (λ r. key r == key new) rs ≡ found → (length found ≡ 0 → ⊥)
+    → (x : R) × Among x rs × (key x ≡ key new)
+some_record key new rs [] is some = absurd (some refl)
+some_record {R = R} key new rs (x ∷ more) is some =
     let met = filter_among (λ (r : R). key r == key new) rs x (subst (Among x) (sym is) (inl refl)) in
     (x, met.0, sym (same_number (key x) (key new) met.1))
 
@@ -66,41 +66,37 @@ shown_keyed {R = R} schema text key row params s r rs rows are =
     (λ (y : R). s.finds r y) rs in
     ap (map shows) passed ∙ map_twice shows row (filter (λ (y : R). key y == key r) rs)
 
--- a row was changed
-pub set_row : {R : Type 0} (schema : Schema) (text : List ℕ) (key : R → ℕ) (row params : R → Row) (s : Sets schema text key row params) (r : R) (rs : List R)
-    (old new : State) (count : ℕ)
-    → old.now.schema ≡ schema → AreRows key row (old.now.trees s.it.layout.tree) rs → Executes text (params r) old new (Ok count) → (count ≡ 0 → ⊥)
-    → Put schema s.it.layout.tree key row r rs old new
-set_row {R = R} schema text key row params s r rs old new count has are ran some =
-    let db = old.now.trees in
-    let made = updated schema text s.it (params r) old new count has ran in
-    let shows = showing (params r) s.it.project in
-    let tests = λ (y : R). s.finds r y in
-    let shown = shown_keyed schema text key row params s r rs (db s.it.layout.tree) are in
-    let x =
-    some_record key (λ (y : R). shows (row y)) r rs made.rows count (filter (λ (y : R). key y == key r) rs) refl
-    (subst (λ l. IsPermutation l made.rows) shown made.found) made.counted some in
-    record {
-      replaces = replaces schema old new (updating_edit db s.it.layout made.rows) _ made.changed
-          (one_changed s.it.layout key row s.files (params r) s.it.terms s.it.project r tests (λ (y : R). s.shows r y) x.0 rs db made.rows are.rows_are
-          are.ascending x.1 x.2 made.found);
-      are_rows = are_put key row r rs are.ascending;
-    }
+-- as many rows are changed as records have the key
+changed_keyed : {R : Type 0} (schema : Schema) (text : List ℕ) (key : R → ℕ) (row params : R → Row) (s : Sets schema text key row params) (r : R)
+    (o : RanOver schema text s.it.layout.tree key row (params r))
+    → length (filter (λ y. key y == key r) o.records) ≡ o.count
+changed_keyed {R = R} schema text key row params s r o =
+    let made = updated schema text s.it (params r) o.old o.new o.count o.schema_is o.ran in
+    let with_key = filter (λ (y : R). key y == key r) o.records in
+    let shows = λ (y : R). showing (params r) s.it.project (row y) in
+    let shown = shown_keyed schema text key row params s r o.records (o.old.now.trees s.it.layout.tree) o.are_rows in
+    let same = length_permutation (map shows with_key) made.rows (subst (λ l. IsPermutation l made.rows) shown made.found) in
+    sym (made.counted ∙ same ∙ length-map with_key shows)
 
-unmapped : {X Y : Type 0} (f : X → Y) (xs : List X) → length (map f xs) ≡ 0 → xs ≡ []
-unmapped f [] e = refl
-unmapped f (x ∷ xs) e = absurd (omega (arith, e))
+-- a row was changed
+pub set_row : {R : Type 0} (schema : Schema) (text : List ℕ) (key : R → ℕ) (row params : R → Row) (s : Sets schema text key row params) (r : R)
+    (o : RanOver schema text s.it.layout.tree key row (params r)) → (o.count ≡ 0 → ⊥)
+    → Put schema s.it.layout.tree key row r o.records o.old o.new
+set_row {R = R} schema text key row params s r o some =
+    let db = o.old.now.trees in
+    let made = updated schema text s.it (params r) o.old o.new o.count o.schema_is o.ran in
+    let many = changed_keyed schema text key row params s r o in
+    let x = some_record key r o.records (filter (λ (y : R). key y == key r) o.records) refl (λ none. some (sym many ∙ none)) in
+    record {
+      replaces = replaces schema o.old o.new (updating_edit db s.it.layout made.rows) _ made.changed
+          (one_changed s.it.layout key row s.files (params r) s.it.terms s.it.project r (λ (y : R). s.finds r y) (λ (y : R). s.shows r y) x.0 o.records db
+          made.rows o.are_rows.rows_are o.are_rows.ascending x.1 x.2 made.found);
+      are_rows = are_put key row r o.records o.are_rows.ascending;
+    }
 
 -- where none was, no record has the key
 pub none_has_key : {R : Type 0} (schema : Schema) (text : List ℕ) (key : R → ℕ) (row params : R → Row) (s : Sets schema text key row params) (r : R)
-    (rs : List R) (old new : State) (count : ℕ)
-    → old.now.schema ≡ schema → AreRows key row (old.now.trees s.it.layout.tree) rs → Executes text (params r) old new (Ok count) → count ≡ 0
-    → filter (λ y. key y == key r) rs ≡ []
-none_has_key {R = R} schema text key row params s r rs old new count has are ran missed =
-    let made = updated schema text s.it (params r) old new count has ran in
-    let old_records = filter (λ (y : R). key y == key r) rs in
-    let shown = shown_keyed schema text key row params s r rs (old.now.trees s.it.layout.tree) are in
-    let same =
-    length_permutation (map (λ (y : R). showing (params r) s.it.project (row y)) old_records) made.rows
-    (subst (λ l. IsPermutation l made.rows) shown made.found) in
-    unmapped (λ (y : R). showing (params r) s.it.project (row y)) old_records (sym same ∙ (sym made.counted ∙ missed))
+    (o : RanOver schema text s.it.layout.tree key row (params r)) → o.count ≡ 0
+    → filter (λ y. key y == key r) o.records ≡ []
+none_has_key {R = R} schema text key row params s r o missed =
+    no_rows (filter (λ (y : R). key y == key r) o.records) (changed_keyed schema text key row params s r o ∙ missed)

@@ -1,5 +1,5 @@
 -- The query of a table: what it finds, and what it finds in a table whose rows may hold anything.
-use Rattle.std.proofs.Common.{◌≡◌, ◌&&◌, ◌||◌, ℕ, not, List, [], ◌∷◌, map, Bool, true, false, Result, Ok, Err, IfOk, OnOk, IsTrue, Some, refl, sym, ap, ap₂, subst, ◌∙◌}
+use Rattle.std.proofs.Common.{◌≡◌, ◌&&◌, ◌||◌, ℕ, not, List, [], ◌∷◌, map, Bool, true, false, Result, Ok, Err, IfOk, Some, refl, sym, ap, ap₂, subst, ◌∙◌}
 use Rattle.std.specs.Prelude.{Vec, IsPermutation}
 use Rattle.std.specs.List.{list_any}
 use Rattle.std.specs.declared.alloc.Global.{Global}
@@ -8,21 +8,19 @@ use Rattle.sqlite_value.specs.Order.{Row}
 use Rattle.sqlite_schema.specs.declared.schema.Table.{Table as Made}
 use Rattle.sqlite.specs.Effect.{Database}
 use Rattle.sqlite.specs.Listing.{understood}
-use Rattle.sqlite.specs.State.{State, HasCleanDisk, Shown}
+use Rattle.sqlite.specs.State.{State, Shown}
 use Rattle.sqlite.specs.declared.error.Error.{Error}
 use Rattle.sqlite.proofs.Callers.{IsPlain}
-use Rattle.acd_book.specs.Content.{Content}
 use Rattle.acd_sql_columns.specs.declared.tables.Table.{Table}
 use Rattle.acd_sql_columns.specs.AnyRows.{is_good, is_good_in, rows_in, FindsGood}
 use Rattle.acd_sql_columns.specs.AnyRows as any
-use Rattle.acd_sql_columns.specs.Transactions.{HoldsContent, Quiet, NoStop}
 use Rattle.acd_sql_columns.specs.ReadResults.{Finds}
 use Rattle.acd_sql_columns.specs.Relations.{relations_of}
 use Rattle.acd_sql_columns.specs.Schema.{book_schema, BeginsSchema}
 use Rattle.acd_sql_columns.specs.DatabaseView.{Sees}
 use Rattle.acd_sql_columns.proofs.SnapshotReads.{sees_on}
 use Rattle.acd_sql_columns.specs.Descriptions.{Description, are_read}
-use Rattle.acd_sql_columns.proofs.Listings.{finds, plain_of}
+use Rattle.acd_sql_columns.proofs.Listings.{Queried, finds, plain_of}
 use Rattle.acd_sql_columns.proofs.WholeTableQueries.{sees_all}
 use Rattle.acd_sql_columns.proofs.DescribedTable.{Described, Selects, listing, shows_all, asks, good}
 use Rattle.acd_lemmas.proofs.Lists.{head_is, tail_is}
@@ -32,12 +30,9 @@ module _ {R : Type 0} (d : Description R) (f : Described d) (base : List Made) (
   plain : IsPlain (understood book_schema text)
   plain = subst (λ t. IsPlain (understood book_schema t)) (sym is) (plain_of base select (listing d f base select s) book_schema s.begins)
 
-  pub rows_found : (HasCleanDisk new → OnOk r (IsTrue new.is_open)) → (IsPlain (understood book_schema text) → Quiet old new)
-      → (HasCleanDisk new → IsPlain (understood book_schema text) → (c : Content) → HoldsContent old c → NoStop old new)
-      → (HasCleanDisk new → IfOk r (λ rows. Shown text [] old new rows.items))
-      → Finds old new r (λ c rows. rows.items ≡ map d.values (d.records (relations_of c)))
-  rows_found up quiet stops shown =
-      finds text [] old new r plain (λ c rows. rows ≡ map d.values (d.records (relations_of c))) up quiet stops shown
+  pub rows_found : Queried text [] old new r → Finds old new r (λ c rows. rows.items ≡ map d.values (d.records (relations_of c)))
+  rows_found q =
+      finds text [] old new r plain (λ c rows. rows ≡ map d.values (d.records (relations_of c))) q
       (λ rows c held h. shows_all d f base select s old new rows c held (subst (λ t. Shown t [] old new rows) is h))
 
   pub rows_seen : (b : Database) → BeginsSchema base b.schema

@@ -1,11 +1,10 @@
 -- Records taken out of the table of their kind, up to a key.
-use Rattle.std.proofs.Common.{◌≡◌, ℕ, List, [], ◌∷◌, map, filter, nat_lt, not, ◌&&◌, Bool, true, false, Ok, refl, sym, ap, subst, ◌∙◌, arith, slice_get, Some, Option}
+use Rattle.std.proofs.Common.{◌≡◌, ℕ, List, [], ◌∷◌, map, filter, nat_lt, not, Bool, true, false, Ok, refl, sym, ap, subst, ◌∙◌, arith, Option}
 use Rattle.std.specs.List.{list_all}
 use Rattle.std.specs.Ordering.{is_le, nat_cmp}
 use Rattle.std.proofs.lemmas.Bool.Decides.{nat_tests}
 use Rattle.sqlite_value.specs.declared.keys.Collation.TheVariants.{Binary}
 use Rattle.sqlite_value.specs.Order.{Row, column, value_cmp}
-use Rattle.sqlite_trees.specs.Tree.{Trees}
 use Rattle.sqlite_trees.proofs.ListLemmas.{ascending-filter}
 use Rattle.sqlite_sql.specs.Ops.{binary}
 use Rattle.sqlite_sql.specs.Term.{Term, col, op2, holds}
@@ -18,12 +17,11 @@ use Rattle.sqlite.specs.Listing.{understood}
 use Rattle.sqlite.specs.State.{State, Executes}
 use Rattle.sqlite.proofs.Callers.{IsPlain, command_of}
 use Rattle.sqlite_tied.specs.Compute.{everything}
-use Rattle.acd_terms.specs.Lists.{Every}
 use Rattle.acd_lemmas.proofs.Lists.{every-filter}
 use Rattle.acd_sql_columns.specs.Content.{AreRows}
 use Rattle.acd_sql_columns.specs.Descriptions.{Description, row_of}
 use Rattle.acd_sql_columns.specs.Relations.{Relations}
-use Rattle.acd_sql_columns.specs.Schema.{table_of, book_schema}
+use Rattle.acd_sql_columns.specs.Schema.{book_schema}
 use Rattle.acd_sql_columns.specs.Tables.{events, kept}
 use Rattle.acd_sql_columns.specs.declared.texts.TheConstants.{DELETE_EVENTS_UP_TO, DELETE_KEPT_UP_TO}
 use Rattle.acd_sql_columns.specs.Transactions.{HoldsUncommitted}
@@ -33,7 +31,7 @@ use Rattle.acd_sql_columns.proofs.DescribedTable.{Described, headed}
 use Rattle.acd_sql_columns.proofs.KeyedRows.{id_cmp}
 use Rattle.acd_sql_columns.proofs.Puts.{truth_back}
 use Rattle.acd_sql_columns.proofs.Scans.{scan, taken_out, filter_like, each}
-use Rattle.acd_sql_columns.proofs.Statements.{Deletion, deletion_edit, deleted, Replaces, replaces, inert_works}
+use Rattle.acd_sql_columns.proofs.Statements.{Deletion, deletion_edit, deleted, replaces, inert_works}
 use Rattle.acd_sql_columns.proofs.TablesDescribed.{kept_described, events_described}
 
 abbrev pub up_to_parameter : List Term

@@ -15,6 +15,7 @@ use Rattle.acd_sql_columns.specs.declared.tables.Table.TheVariants as table
 use Rattle.acd_sql_columns.specs.Transactions.{HoldsUncommitted}
 use Rattle.acd_sql_columns.specs.ReadResults.{Finds}
 use Rattle.acd_sql_columns.specs.Relations.{Relations, pair_order, group_part, agent_part, further_in, priorities_in, joined_group, joined_agent, all_put}
+use Rattle.acd_sql_columns.proofs.Common.{ChangesEach}
 use Rattle.acd_sql_columns.proofs.RowsOfRecords.{groups_rise, agents_rise}
 use Rattle.acd_sql_columns.proofs.JoinedRecords.{groups_joined, agents_joined}
 use Rattle.acd_sql_columns.proofs.Listings.{stored}
@@ -73,10 +74,6 @@ same_numbers (x ∷ xs) (y ∷ ys) h =
     let both = and_parts (nat_eq x y) (pointwise nat_eq xs ys) h in ap₂ (λ z zs. z ∷ zs) (eqb-true x y both.0) (same_numbers xs ys both.1)
 
 -- ---- statements, one after the other
-
--- the tables of the one are what this makes of those of the other
-abbrev pub ChangesEach : (Relations → Relations) → State → State → Type 0
-ChangesEach change old new = (x : Relations) → HoldsUncommitted old x → HoldsUncommitted new (change x)
 
 pub leaves_on : (old mid new : State) (r : Result (Unit {0}) Error) (f g h : Relations → Relations) → ChangesEach f old mid → OnOk r (ChangesEach g mid new)
     → ((x : Relations) → g (f x) ≡ h x) → OnOk r (ChangesEach h old new)

@@ -125,8 +125,8 @@ module _ {R : Type 0} (in_row : Row → Option R) (t : Table) (decides : (row : 
       absurd (let apart = sym good ∙ (sees.answer k old_database).bad refl in cc)
 
   pub looks_decoded : {B : Type 0} (Is Was : Database → Type 0) (old new : State) (rows : Vec Row Global) (r : Result B Error)
-      → ((d : Database) → Is d → is_good_in t d.trees ≡ true) → HasLookCause Was old new (Ok rows)
-      → ((d : Database) → Is d → Sees d old new (Ok rows) (λ rows. IsPermutation (rows_in t d.trees) rows.items)) → IfErr r (FailsToDecode in_row rows.items)
+      → Implies Is (λ d. is_good_in t d.trees ≡ true) → HasLookCause Was old new (Ok rows)
+      → SeesWhere Is old new (Ok rows) (λ d rows. IsPermutation (rows_in t d.trees) rows.items) → IfErr r (FailsToDecode in_row rows.items)
       → HasLookCause Is old new r
   looks_decoded Is Was old new rows r good h seen fails = record {
     spares = h.spares;

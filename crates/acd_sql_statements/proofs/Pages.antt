@@ -62,6 +62,12 @@ same_limit xs limit fewer = elim (fits_or_not limit) [
       ap (λ n. take n xs) is ∙ under greatest limit xs (subst (λ n. length (take n xs) < greatest) is (fewer large)) (at_greatest limit large)
 ]
 
+-- the rows of a page by such numbers are those of the page that was meant
+pub record IsMeant (number limit : ℕ) (rows : Vec Row Global) (r : Result (Vec Row Global) Error) : Type 0 where
+  pub same : IfOk r (λ page. page ≡ rows)
+  pub none : OnOk r (¬ (Fits number) → rows.items ≡ [])
+  pub fewer : OnOk r (¬ (Fits limit) → length rows.items < greatest)
+
 -- ---- where a greater number leaves less
 
 module _ {X : Type 0} (test : ℕ → X → Bool) (falls : (a b : ℕ) (x : X) → a ≤ b → test b x ≡ true → test a x ≡ true) where
@@ -100,16 +106,16 @@ module _ {X : Type 0} (test : ℕ → X → Bool) (falls : (a b : ℕ) (x : X) �
     pub paged : (part : Content → List X) (old new : State) (rows : Vec Row Global) (r : Result (Vec Row Global) Error) (least page : ℕ)
         → least ≡ min number greatest → page ≡ min limit greatest
         → Finds {E = Error} old new (Ok rows) (λ c rows. rows.items ≡ map values (take page (filter (test least) (part c))))
-        → IfOk r (λ same. same ≡ rows) → OnOk r (¬ (Fits number) → rows.items ≡ []) → OnOk r (¬ (Fits limit) → length rows.items < greatest)
+        → IsMeant number limit rows r
         → Finds old new r (λ c rows. rows.items ≡ map values (take limit (filter (test number) (part c))))
-    paged part old new rows (Err e) least page low short h same none fewer = record { up = λ k. tt; quiet = h.quiet; stops = h.stops; answer = λ k. tt }
-    paged part old new rows (Ok found) least page low short h same none fewer = record {
+    paged part old new rows (Err e) least page low short h m = record { up = λ k. tt; quiet = h.quiet; stops = h.stops; answer = λ k. tt }
+    paged part old new rows (Ok found) least page low short h m = record {
       up = h.up;
       quiet = h.quiet;
       stops = h.stops;
       answer =
-          λ k c held. ap (λ (v : Vec Row Global). v.items) same
-          ∙ page_is (part c) rows.items (h.answer k c held ∙ ap₂ (λ l n. map values (take l (filter (test n) (part c)))) short low) none fewer;
+          λ k c held. ap (λ (v : Vec Row Global). v.items) m.same
+          ∙ page_is (part c) rows.items (h.answer k c held ∙ ap₂ (λ l n. map values (take l (filter (test n) (part c)))) short low) m.none m.fewer;
     }
 
 -- ---- tests of a number

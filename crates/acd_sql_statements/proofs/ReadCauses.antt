@@ -202,13 +202,13 @@ cause_after old mid new a r first quiet live clean next = record {
 }
 
 -- the second asks for what the first one's answer gives
-pub cause_then : {A B : Type 0} (P : Content → Type 0) (IsAnswer : Content → A → Type 0) (old mid new : State) (a : A) (r : Result B Error)
-    → HasReadCause old mid (Ok a) → Finds {E = Error} old mid (Ok a) IsAnswer → ((c : Content) → IsAnswer c a → P c)
-    → (HasCleanDisk new → HasCleanDisk mid) → HasReadCauseIf P mid new r → HasReadCause old new r
-cause_then P IsAnswer old mid new a r first found so clean next = record {
+pub cause_then : {A B : Type 0} (IsAnswer : Content → A → Type 0) (old mid new : State) (a : A) (r : Result B Error)
+    → HasReadCause old mid (Ok a) → Finds {E = Error} old mid (Ok a) IsAnswer → Quiet mid new → HasReadCauseIf (λ c. IsAnswer c a) mid new r
+    → HasReadCause old new r
+cause_then IsAnswer old mid new a r first found quiet next = record {
   spares = read_then first.spares next.spares;
-  cause = λ k c held any. let m = clean k in
-      later_if c old mid new r first.spares.counts first.spares.limit (next.cause k c (found.quiet.same m c held (found.up m)) (so c (found.answer m c held)));
+  cause = λ k c held any. let m = quiet.clean k in
+      later_if c old mid new r first.spares.counts first.spares.limit (next.cause k c (found.quiet.same m c held (found.up m)) (found.answer m c held));
 }
 
 pub cause_given : {A : Type 0} (P : Content → Type 0) (old new : State) (r : Result A Error) → HasReadCause old new r → HasReadCauseIf P old new r

@@ -17,7 +17,7 @@ use Rattle.acd_book.specs.Content.{Content}
 use Rattle.acd_sql_columns.specs.declared.tables.Table.TheVariants as table
 use Rattle.acd_sql_columns.specs.Transactions.{HoldsGood}
 use Rattle.acd_sqlbook.specs.WriteChoice.{is_taken_away, written_changes, IsWrittenNext}
-use Rattle.acd_sqlbook.specs.Commit.{applied, all_applied}
+use Rattle.acd_sqlbook.specs.Commit.{applied, all_applied, MakesOfEach}
 
 module _ {T K : Type 0} (r : Keyed T K) (x : T) where
   others_stay : (xs : List T) → filter (λ y. not (r.has (r.key x) y)) (put_by (r.order x) xs x) ≡ filter (λ y. not (r.has (r.key x) y)) xs
@@ -48,17 +48,19 @@ in_vain first second x call device is_put is_gone same_call same_device c up =
     subst (λ s. applied (applied c first) s ≡ applied c s) (sym gone)
     (subst (λ f. applied (applied c f) (RemoveConnection x.call x.device) ≡ applied c (RemoveConnection x.call x.device)) (sym is_put) (put_in_vain x c up))
 
+-- the transaction sees a content from which the rest of the changes leads where all of them lead from this one
+abbrev pub HoldsBefore : State → List Change → List Change → Content → Type 0
+HoldsBefore s rest changes c = (x : Content) × HoldsGood s x × (all_applied x rest ≡ all_applied c changes)
+
 -- the one that is written next, and the last of them
 pub next_applied : (old new : State) (first : Change) (rest remaining changes : List Change) (c : Content)
     → ((x : Content) → IsAscending connection_order x.rows.connections → all_applied x rest ≡ all_applied (applied x first) remaining)
-    → ((x : Content) → HoldsGood old x → HoldsGood new (applied x first))
-    → (x : Content) × HoldsGood old x × (all_applied x rest ≡ all_applied c changes)
-    → (x : Content) × HoldsGood new x × (all_applied x remaining ≡ all_applied c changes)
+    → MakesOfEach (λ x. applied x first) old new
+    → HoldsBefore old rest changes c → HoldsBefore new remaining changes c
 next_applied old new first rest remaining changes c step put held =
     (applied held.0 first, put held.0 held.1, sym (step held.0 (held.1.relations.tables table.Connections).ascending) ∙ held.2)
 
-pub none_left : (s : State) (rest changes : List Change) (c : Content) → rest ≡ []
-    → (x : Content) × HoldsGood s x × (all_applied x rest ≡ all_applied c changes) → HoldsGood s (all_applied c changes)
+pub none_left : (s : State) (rest changes : List Change) (c : Content) → rest ≡ [] → HoldsBefore s rest changes c → HoldsGood s (all_applied c changes)
 none_left s rest changes c none held = subst (λ x. HoldsGood s x) (ap (all_applied held.0) (sym none) ∙ held.2) held.1
 
 -- ---- the one that is written next

@@ -1,5 +1,5 @@
 -- A prune: what it leaves of a content, and why it fails.
-use Rattle.std.proofs.Common.{◌≡◌, ◌⊎◌, inl, inr, ℕ, nat_lt, None, Result, Ok, Err, IsTrue, IfErr, OnOk, OnErr, refl, sym, subst}
+use Rattle.std.proofs.Common.{◌≡◌, ◌⊎◌, inl, inr, ℕ, nat_lt, None, Result, Ok, Err, IsTrue, IfErr, OnOk, refl, sym, subst}
 use Rattle.sqlite.specs.declared.error.Error.{Error}
 use Rattle.sqlite.specs.State.{State, HasCleanDisk}
 use Rattle.acd_terms.specs.declared.event.Event.{Event}
@@ -12,9 +12,10 @@ use Rattle.acd_book.specs.declared.kept.Kept.{Kept}
 use Rattle.acd_sql_columns.specs.InRange.{IsInRange, IsGoodEvent, IsGoodKept}
 use Rattle.acd_sql_columns.specs.InTables.{content_of}
 use Rattle.acd_sql_columns.specs.Relations.{Relations, relations_of}
-use Rattle.acd_sql_columns.specs.Transactions.{HoldsContent, HoldsGood, HoldsUncommitted, Quiet, NoStop, AddsStop}
+use Rattle.acd_sql_columns.specs.Transactions.{HoldsGood, HoldsUncommitted, Quiet, NoStop}
 use Rattle.acd_sql_columns.proofs.KeptInRange.{AllGood, goods, in_range}
 use Rattle.acd_sql_statements.specs.ReadFailures.{FailsToRead, HasReadCause}
+use Rattle.acd_sql_columns.proofs.Common.{ChangesEach}
 use Rattle.acd_sqlbook.specs.Calls.{HasRead, HasReplaced}
 use Rattle.acd_sqlbook.specs.Causes.{StoreCause, prune, unfit, refused}
 use Rattle.acd_sqlbook.specs.Commit.{MakesOfEach}
@@ -49,8 +50,7 @@ KeepsRange after = (c : Content) → IsInRange c → IsInRange (after c)
 
 pub leaving_both : (old mid new : State) (r : Result (Unit {0}) Error) (first second : Relations → Relations) (after : Content → Content)
     → ((c : Content) → second (first (relations_of c)) ≡ relations_of (after c)) → KeepsRange after
-    → ((x : Relations) → HoldsUncommitted old x → HoldsUncommitted mid (first x))
-    → OnOk r ((x : Relations) → HoldsUncommitted mid x → HoldsUncommitted new (second x)) → OnOk r (MakesOfEach after old new)
+    → ChangesEach first old mid → OnOk r (ChangesEach second mid new) → OnOk r (MakesOfEach after old new)
 leaving_both old mid new (Err e) first second after same stays one two = tt
 leaving_both old mid new (Ok x) first second after same stays one two =
     λ (c : Content) (d : HoldsGood old c). record {

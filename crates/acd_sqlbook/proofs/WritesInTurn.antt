@@ -30,7 +30,8 @@ use Rattle.acd_sql_columns.proofs.RowsOfRecords.{groups_rise, agents_rise}
 use Rattle.acd_sql_columns.proofs.JoinedRecords.{further_put, agents_put, priority_put, groups_put}
 use Rattle.acd_lemmas.proofs.RuleTests.{ascending_from}
 use Rattle.acd_sqlbook.specs.WriteChoice.{IsNextPart}
-use Rattle.acd_sqlbook.specs.Commit.{applied, content_with_event, with_events}
+use Rattle.acd_sql_columns.proofs.Common.{ChangesEach}
+use Rattle.acd_sqlbook.specs.Commit.{applied, content_with_event, with_events, MakesTablesOfEach}
 
 -- a fold that takes the first of the list first takes the last one last
 module _ {X C : Type 0} (all : C → List X → C) (one : C → X → C) (none : (c : C) → all c [] ≡ c)
@@ -61,23 +62,19 @@ all_applied_at_once c (e ∷ es) = all_applied_at_once (content_with_event c e) 
 -- the relations that a statement makes of those of a content that the transaction saw
 pub leaving : (old new : State) (r : Result (Unit {0}) Error) (made : Relations → Relations) (after : Content → Content)
     → ((c : Content) → HoldsUncommitted old (relations_of c) → made (relations_of c) ≡ relations_of (after c))
-    → OnOk r ((x : Relations) → HoldsUncommitted old x → HoldsUncommitted new (made x))
-    → OnOk r ((c : Content) → HoldsUncommitted old (relations_of c) → HoldsUncommitted new (relations_of (after c)))
+    → OnOk r (ChangesEach made old new) → OnOk r (MakesTablesOfEach after old new)
 leaving old new (Err e) made after same put = tt
 leaving old new (Ok x) made after same put =
     λ (c : Content) (d : HoldsUncommitted old (relations_of c)). subst (HoldsUncommitted new) (same c d) (put (relations_of c) d)
 
 -- the same of a change that is known by another name
 pub named : (old new : State) (r : Result (Unit {0}) Error) (change v : Change) → change ≡ v
-    → OnOk r ((c : Content) → HoldsUncommitted old (relations_of c) → HoldsUncommitted new (relations_of (applied c v)))
-    → OnOk r ((c : Content) → HoldsUncommitted old (relations_of c) → HoldsUncommitted new (relations_of (applied c change)))
-named old new r change v is =
-    subst (λ w. OnOk r ((c : Content) → HoldsUncommitted old (relations_of c) → HoldsUncommitted new (relations_of (applied c w)))) (sym is)
+    → OnOk r (MakesTablesOfEach (λ c. applied c v) old new) → OnOk r (MakesTablesOfEach (λ c. applied c change) old new)
+named old new r change v is = subst (λ w. OnOk r (MakesTablesOfEach (λ c. applied c w) old new)) (sym is)
 
 pub applying : (old new : State) (r : Result (Unit {0}) Error) (change v : Change) (made : Relations → Relations) → change ≡ v
     → ((c : Content) → made (relations_of c) ≡ relations_of (applied c v))
-    → OnOk r ((x : Relations) → HoldsUncommitted old x → HoldsUncommitted new (made x))
-    → OnOk r ((c : Content) → HoldsUncommitted old (relations_of c) → HoldsUncommitted new (relations_of (applied c change)))
+    → OnOk r (ChangesEach made old new) → OnOk r (MakesTablesOfEach (λ c. applied c change) old new)
 applying old new r change v made is same put = named old new r change v is (leaving old new r made (λ c. applied c v) (λ c seen. same c) put)
 
 -- a group and an agent that are put change their two tables, which are in ascending number

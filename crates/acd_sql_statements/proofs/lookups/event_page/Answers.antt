@@ -16,7 +16,8 @@ returns g c = record {
       paged (λ (n : ℕ) (e : Event). nat_lt n e.number) (λ a b e low h. still_below a b e.number low h) event_values c.args.number c.args.limit
       (λ (x : Content). x.events)
       (state g.S.Store c.args.conn.now) (state g.S.Store c.event_rows.new.conn) c.in_ok-rows.rows c.meant.result c.min.result c.min-2.result c.min.ensures
-      c.min-2.ensures c.in_ok-rows.ensures.found c.meant.ensures.same c.meant.ensures.none c.meant.ensures.fewer;
+      c.min-2.ensures c.in_ok-rows.ensures.found
+      (record { same = c.meant.ensures.same; none = c.meant.ensures.none; fewer = c.meant.ensures.fewer });
   cause =
       cause_page (λ (n : ℕ) (e : Event). nat_lt n e.number) (λ (e : Event). e.number) event_values (λ n e h. below_is n e.number h) (λ e. refl)
       (λ (x : Content). x.events)

@@ -14,7 +14,8 @@ returns g c = record {
   found =
       paged (is_at_after (Some c.args.device)) (falls_at_after (Some c.args.device)) event_values c.args.number c.args.limit (λ (x : Content). x.events)
       (state g.S.Store c.args.conn.now) (state g.S.Store c.event_rows_at.new.conn) c.in_ok-rows.rows c.meant.result c.min.result c.min-2.result c.min.ensures
-      c.min-2.ensures c.in_ok-rows.ensures.found c.meant.ensures.same c.meant.ensures.none c.meant.ensures.fewer;
+      c.min-2.ensures c.in_ok-rows.ensures.found
+      (record { same = c.meant.ensures.same; none = c.meant.ensures.none; fewer = c.meant.ensures.fewer });
   cause =
       cause_page (λ (n : ℕ) (e : Event). is_at_after (Some c.args.device) n e) (λ (e : Event). e.number) event_values
       (λ n e h. number_is_above (Some c.args.device) n e h) (λ e. refl) (λ (x : Content). x.events)

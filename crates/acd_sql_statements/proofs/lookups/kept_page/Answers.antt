@@ -16,7 +16,8 @@ returns g c = record {
       paged (λ (n : ℕ) (k : Kept). nat_lt n k.stamp) (λ a b k low h. still_below a b k.stamp low h) kept_values c.args.stamp c.args.limit
       (λ (x : Content). x.kept)
       (state g.S.Store c.args.conn.now) (state g.S.Store c.kept_rows.new.conn) c.in_ok-rows.rows c.meant.result c.min.result c.min-2.result c.min.ensures
-      c.min-2.ensures c.in_ok-rows.ensures.found c.meant.ensures.same c.meant.ensures.none c.meant.ensures.fewer;
+      c.min-2.ensures c.in_ok-rows.ensures.found
+      (record { same = c.meant.ensures.same; none = c.meant.ensures.none; fewer = c.meant.ensures.fewer });
   cause =
       cause_page (λ (n : ℕ) (k : Kept). nat_lt n k.stamp) (λ (k : Kept). k.stamp) kept_values (λ n k h. below_is n k.stamp h) (λ k. refl)
       (λ (x : Content). x.kept)

@@ -21,11 +21,10 @@ returns g c = record {
       (λ (x : Content) (found : Vec AgentRecord Global). found.items ≡ x.rows.agents) c.in_ok-parts.ensures.found
       (λ x found p q. q (c.deref.ensures.value ∙ p)) c.grouped.ensures.found;
   cause =
-      cause_then (λ (x : Content). c.deref.result.now ≡ map agent_part x.rows.agents)
-      (λ (x : Content) (parts : Vec AgentRow Global). parts.items ≡ map agent_part x.rows.agents) (state g.S.Store c.args.conn.now)
+      cause_then (λ (x : Content) (parts : Vec AgentRow Global). parts.items ≡ map agent_part x.rows.agents) (state g.S.Store c.args.conn.now)
       (state g.S.Store c.records.new.conn) (state g.S.Store c.grouped.new.conn) c.in_ok-parts.parts c.grouped.result
-      (c.in_ok-parts.ensures.cause agents_answered agents_have_values) c.in_ok-parts.ensures.found (λ x is. c.deref.ensures.value ∙ is)
-      c.grouped.ensures.found.quiet.clean c.grouped.ensures.cause;
+      (c.in_ok-parts.ensures.cause agents_answered agents_have_values) c.in_ok-parts.ensures.found c.grouped.ensures.found.quiet
+      (rw c.deref.ensures.value at c.grouped.ensures.cause);
 }
 
 pub returns-in_err-parts : goal.returns-in_err-parts

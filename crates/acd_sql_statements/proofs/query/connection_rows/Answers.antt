@@ -12,8 +12,8 @@ use Rattle.acd_sql_statements.proofs.query.connection_rows.Goals as goal
 pub returns-clause-found : goal.returns-clause-found
 returns-clause-found g c =
     let e = c.read.ensures in
-    finds _ _ (state g.S.Store c.args.conn.now) (state g.S.Store c.read.new.conn) c.read.result connections_plain _ e.up e.quiet e.stops e.shown
-    (shows_connections _ _)
+    finds _ _ (state g.S.Store c.args.conn.now) (state g.S.Store c.read.new.conn) c.read.result connections_plain _
+    (record { up = e.up; quiet = e.quiet; stops = e.stops; shown = e.shown }) (shows_connections _ _)
 
 pub returns-clause-seen : goal.returns-clause-seen
 returns-clause-seen g c d is =

@@ -19,7 +19,8 @@ pub returns-clause-found : goal.returns-clause-found
 returns-clause-found g c =
     let e = c.read.ensures in
     finds SELECT_EVENTS_AFTER.now (id_value c.args.number ∷ id_value c.args.limit ∷ []) (state g.S.Store c.args.conn.now) (state g.S.Store c.read.new.conn)
-    c.read.result (events_pages.plain added_in_2 book_schema) _ e.up e.quiet e.stops (λ clean. rw (c.integer.ensures, c.integer-2.ensures) at (e.shown clean))
+    c.read.result (events_pages.plain added_in_2 book_schema) _
+    (record { up = e.up; quiet = e.quiet; stops = e.stops; shown = λ clean. rw (c.integer.ensures, c.integer-2.ensures) at (e.shown clean) })
     (shows_page events events_described SELECT_EVENTS_AFTER.now events_pages c.args.number c.args.limit _ _)
 
 pub returns-clause-seen : goal.returns-clause-seen

@@ -13,8 +13,13 @@ returns g c = record {
   found =
       let e = c.read.ensures in
       finds SELECT_KEPT_OF_REQUEST.now (Text c.args.requester.now ∷ id_value c.args.invoke ∷ []) (state g.S.Store c.args.conn.now)
-      (state g.S.Store c.read.new.conn) c.read.result key_plain _ e.up e.quiet e.stops
-      (λ clean. rw (c.text.ensures, c.as_bytes.ensures.value, c.small.ensures, c.number.ensures.value) at (e.shown clean))
+      (state g.S.Store c.read.new.conn) c.read.result key_plain _
+      (record {
+        up = e.up;
+        quiet = e.quiet;
+        stops = e.stops;
+        shown = λ clean. rw (c.text.ensures, c.as_bytes.ensures.value, c.small.ensures, c.number.ensures.value) at (e.shown clean);
+      })
       (shows_kept_under c.args.requester.now c.args.invoke _ _);
   cause =
       (rw (c.text.ensures, c.as_bytes.ensures.value, c.small.ensures, c.number.ensures.value) at c.read.ensures.cause)

@@ -12,7 +12,7 @@ returns g c = record {
   found =
       let e = c.read.ensures in
       finds SELECT_MONITOR.now (id_value c.args.monitor ∷ []) (state g.S.Store c.args.conn.now) (state g.S.Store c.read.new.conn) c.read.result monitor_plain _
-      e.up e.quiet e.stops (λ clean. rw (c.integer.ensures) at (e.shown clean))
+      (record { up = e.up; quiet = e.quiet; stops = e.stops; shown = λ clean. rw (c.integer.ensures) at (e.shown clean) })
       (shows_monitor c.args.monitor _ _);
   cause = (rw (c.integer.ensures) at c.read.ensures.cause) (monitor_answered c.args.monitor);
 }

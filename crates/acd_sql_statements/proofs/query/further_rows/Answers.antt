@@ -9,7 +9,7 @@ pub returns : goal.returns
 returns g c = record {
   found =
       let e = c.read.ensures in
-      finds _ _ (state g.S.Store c.args.conn.now) (state g.S.Store c.read.new.conn) c.read.result groups_plain _ e.up e.quiet e.stops e.shown
-      (shows_groups _ _);
+      finds _ _ (state g.S.Store c.args.conn.now) (state g.S.Store c.read.new.conn) c.read.result groups_plain _
+      (record { up = e.up; quiet = e.quiet; stops = e.stops; shown = e.shown }) (shows_groups _ _);
   cause = c.read.ensures.cause further_answered;
 }

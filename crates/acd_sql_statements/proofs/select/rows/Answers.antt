@@ -15,8 +15,8 @@ returns-clause-found g c =
     let e = c.read.ensures in
     rows_found g.R.Stored.descr g.met.R.Stored.described g.R.Stored.descr.base (the_text g.R.Stored.descr.select)
     (the_said g.R.Stored.descr.select (Selects g.R.Stored.descr g.R.Stored.descr.base) c.requires.selects g.met.R.Stored.described.selects)
-    c.select_text.result.now c.select_text.ensures (state g.S.Store c.args.conn.now) (state g.S.Store c.read.new.conn) c.read.result e.up e.quiet e.stops
-    e.shown
+    c.select_text.result.now c.select_text.ensures (state g.S.Store c.args.conn.now) (state g.S.Store c.read.new.conn) c.read.result
+    (record { up = e.up; quiet = e.quiet; stops = e.stops; shown = e.shown })
 
 pub returns-clause-seen : goal.returns-clause-seen
 returns-clause-seen g c d is =
