@@ -1,12 +1,14 @@
 -- The result of a migration of version 1, and what a crash leaves of it.
 use Rattle.std.specs.Prelude.{◌≡◌, ◌≢◌, ◌⊎◌, ℕ, true, [], ◌∷◌, Option, Result, IsTrue, OnErr}
+use Rattle.std.specs.Borrow.{MutBor}
 use Rattle.sqlite_trees.specs.Tree.{Trees}
 use Rattle.sqlite_trees.specs.declared.store.Store.{Ghosts}
 use Rattle.sqlite_catalog.specs.Listing.{IsSound}
 use Rattle.sqlite.specs.Effect.{Database}
-use Rattle.sqlite.specs.Held.{Held, state}
-use Rattle.sqlite.specs.State.{State, HasCleanDisk}
+use Rattle.sqlite.specs.Held.{Held}
+use Rattle.sqlite.specs.State.{State}
 use Rattle.sqlite.specs.declared.error.Error.{Error}
+use Rattle.sqlite.specs.declared.transaction.Transaction.{Transaction}
 use Rattle.acd_sql_columns.specs.declared.meta.Meta.{Meta}
 use Rattle.acd_sql_columns.specs.declared.tables.Table.{Table}
 use Rattle.acd_sql_columns.specs.declared.tables.Table.TheVariants as table
@@ -16,6 +18,8 @@ use Rattle.acd_sql_columns.specs.Content.{tree_of, IsIn}
 use Rattle.acd_sql_columns.specs.Rows.{meta_row, meta_row_as}
 use Rattle.acd_sql_columns.specs.Schema.{old_schema, book_schema}
 use Rattle.acd_sql_statements.specs.StoreFailures.{IsMemory, StoreHasFailed, Refuses}
+use Rattle.acd_sql_schema.specs.Creation.{IfClean}
+use denote.Triple.Both.{Both}
 
 -- a database that obeys the schema of version 2, with the nine tables as they were but for the version, and two empty ones
 pub record IsMigration (old new : Trees) : Type 0 where
@@ -25,13 +29,17 @@ pub record IsMigration (old new : Trees) : Type 0 where
   pub further : new (tree_of table.AgentGroups) ≡ []
   pub priorities : new (tree_of table.GroupPriority) ≡ []
 
--- this holds where the tables were those of version 1, and no disk lied
-abbrev pub IfFirst : {S : Type 0} → Ghosts S → Held S → Held S → (State → State → Type 0) → Type 0
-IfFirst g old new Fact = HasCleanDisk (state g new) → (state g old).now.schema ≡ old_schema → Fact (state g old) (state g new)
+-- this holds where the tables were those of version 1
+abbrev pub OfFirst : (State → State → Type 0) → State → State → Type 0
+OfFirst Fact old new = old.now.schema ≡ old_schema → Fact old new
+
+-- so it is with a connection over a call, where no disk lied
+abbrev pub IfFirst : {S : Type 0} → Ghosts S → Both (MutBor (Held S)) (MutBor (Held S)) → (State → State → Type 0) → Type 0
+IfFirst g conn Fact = IfClean g conn.entry.now conn.exit.now (OfFirst Fact)
 
 -- the same of the states within the transaction
-abbrev pub IfFirstInside : {S : Type 0} → Ghosts S → Held S → Held S → (State → State → Type 0) → Type 0
-IfFirstInside g old new Fact = HasCleanDisk (state g new) → IsTrue (state g old).in_transaction → (state g old).now.schema ≡ old_schema → Fact (state g old) (state g new)
+abbrev pub IfFirstInside : {S : Type 0} → Ghosts S → Both (MutBor (Transaction S)) (MutBor (Transaction S)) → (State → State → Type 0) → Type 0
+IfFirstInside g tx Fact = IfClean g tx.entry.now.conn.now tx.exit.now.conn.now (λ (old new : State). IsTrue old.in_transaction → OfFirst Fact old new)
 
 -- inside the transaction
 pub record IsAltered (old new : State) : Type 0 where

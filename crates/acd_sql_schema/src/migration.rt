@@ -15,10 +15,8 @@ use sqlite::{Alter, Connection, Error, Transaction};
 fn alter<S: Alter>(tx: &mut Transaction<'_, S>) -> Result<(), Error>
     ensures same { tx.new.conn.ghost_name ≡ tx.old.conn.ghost_name }
     ensures works { Works (state S.Store tx.old.conn.now) (state S.Store tx.new.conn.now) }
-    ensures altered { IfFirstInside S.Store tx.old.conn.now tx.new.conn.now
-        (IfSucceeds result IsAltered) }
-    ensures failed { IfFirstInside S.Store tx.old.conn.now tx.new.conn.now
-        (IfFails result FailsToMigrate) }
+    ensures altered { IfFirstInside S.Store tx (IfSucceeds result IsAltered) }
+    ensures failed { IfFirstInside S.Store tx (IfFails result FailsToMigrate) }
 {
     make_two(tx)?;
     set_second_version(tx)
@@ -32,12 +30,12 @@ pub fn migrate<S: Alter>(conn: &mut Connection<S>) -> Result<(), Error>
     ensures idle { conn.new.in_transaction ≡ false }
     ensures clean { HasCleanDisk (state S.Store conn.new) → HasCleanDisk (state S.Store conn.old) }
     ensures was { WasOpen S.Store conn.old conn.new }
-    ensures made { IfFirst S.Store conn.old conn.new (IfSucceeds result IsMade) }
-    ensures undone { IfFirst S.Store conn.old conn.new (IfFailsRestored result) }
-    ensures stops { IfFirst S.Store conn.old conn.new MayAlter }
+    ensures made { IfFirst S.Store conn (IfSucceeds result IsMade) }
+    ensures undone { IfFirst S.Store conn (IfFailsRestored result) }
+    ensures stops { IfFirst S.Store conn MayAlter }
     ensures counts { (state S.Store conn.old).faults ≤ (state S.Store conn.new).faults }
     ensures limit { (state S.Store conn.new).step_limit ≡ (state S.Store conn.old).step_limit }
-    ensures failed { IfFirst S.Store conn.old conn.new (IfFails result FailsToMigrate) }
+    ensures failed { IfFirst S.Store conn (IfFails result FailsToMigrate) }
 {
     let mut tx = conn.transaction();
     alter(&mut tx)?;

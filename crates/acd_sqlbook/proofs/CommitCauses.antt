@@ -19,9 +19,9 @@ use Rattle.acd_sql_statements.specs.StoreFailures.{IsMemory}
 use Rattle.acd_sql_statements.specs.ReadFailures.{HasReadCause, FailsToRead}
 use Rattle.acd_sqlbook.specs.Calls.{HasRead}
 use Rattle.acd_sqlbook.specs.WriteChoice.{written_changes}
-use Rattle.acd_sqlbook.specs.Counters.{AreCounters, StopsWith}
+use Rattle.acd_sqlbook.specs.Counters.{AreCounters, StopsOn}
 use Rattle.acd_sqlbook.specs.Commit.{ChangeFits, EventFits, KeptFits, counted, applied, all_applied, with_events}
-use Rattle.acd_sqlbook.specs.CommitStops.{AllNumbersFit, AreCounted, HasReadCauseOr, Drops, HasAbove, IsCausedByReadOr, FailsToApply, IsUndone, IsUncounted, RefusesInAll, RefusesInChanges, RefusesInEvents, StopsInAll, StopsInChanges, StopsInEvents, StopsCommit, StopsReplace}
+use Rattle.acd_sqlbook.specs.CommitStops.{AllNumbersFit, AreCounted, HasReadCauseOr, Drops, HasAbove, IsCausedByReadOr, FailsToApply, IsUndone, IsUncounted, RefusesInAll, RefusesInChanges, RefusesInEvents, StopsInAll, StopsInChanges, StopsInEvents, StopsCounted, StopsReplace}
 use Rattle.acd_sqlbook.proofs.TableReplacement.{Leading}
 use Rattle.acd_sqlbook.proofs.AfterProbe.{Counts}
 
@@ -34,7 +34,7 @@ counts_not {A} {B} R old new e r is h =
 pub counts_unfit : {A : Type 0} (old new : State) (held : Option Meta) (meta : Meta) (e : Error) (changes : List Change) (events : ℕ) (kept : Kept)
     → HasRead {A = Meta} old new (Ok meta) (λ c found. AreCounters held c → found ≡ meta_of c.rows)
     → ¬ (MetaFits (counted meta changes events kept) × KeptFits kept)
-    → HasReadCauseOr {A = A} (StopsWith held (IsUncounted changes events kept)) old new (Err e)
+    → HasReadCauseOr {A = A} (StopsOn held (IsUncounted changes events kept)) old new (Err e)
 counts_unfit old new held meta e changes events kept read unfit = record {
   cause = λ k c holds. inr (λ of. subst (λ m. ¬ (MetaFits (counted m changes events kept) × KeptFits kept)) (read.value k c holds of) unfit);
   counts = tt;
@@ -71,10 +71,10 @@ module _ {A : Type 0} (R Stops All : Content → Type 0) (IsAnswer : Content →
 
 module _ (held : Option Meta) (changes : List Change) (events : List Event) (kept : Kept) where
   abbrev Uncounted : Content → Type 0
-  Uncounted = StopsWith held (IsUncounted changes (length events) kept)
+  Uncounted = StopsOn held (IsUncounted changes (length events) kept)
 
   abbrev Stopped : Content → Type 0
-  Stopped = StopsWith held (StopsCommit changes events kept)
+  Stopped = StopsOn held (StopsCounted changes events kept)
 
   not_counted : (old new : State) (c : Content) (e : Error) → FailsToRead c old new e ⊎ Uncounted c → FailsToRead c old new e ⊎ Stopped c
   not_counted old new c e (inl read) = inl read

@@ -20,9 +20,9 @@ use Rattle.acd_sql_columns.specs.InRange.{IsInRange}
 use Rattle.acd_sql_statements.specs.ReadFailures.{FailsToRead, HasReadCause}
 use Rattle.acd_sql_schema.specs.Creation.{FailsToSetUp, IsUnstarted}
 use Rattle.acd_sqlbook.specs.Commit.{counted}
-use Rattle.acd_sqlbook.specs.Counters.{AreCounters, StopsWith}
+use Rattle.acd_sqlbook.specs.Counters.{AreCounters, StopsOn}
 use Rattle.acd_sql_columns.specs.declared.meta.Meta.{Meta}
-use Rattle.acd_sqlbook.specs.CommitStops.{AllNumbersFit, Drops, HasAbove, IsCausedByReadOr, IsUncounted, RefusesInAll, StopsCommit, StopsReplace}
+use Rattle.acd_sqlbook.specs.CommitStops.{AllNumbersFit, Drops, HasAbove, IsCausedByReadOr, IsUncounted, RefusesInAll, StopsCounted, StopsReplace}
 use Rattle.acd_sqlbook.specs.State.{IsSoundState, fault_of, book_result, failures_after}
 use Rattle.acd_sqlbook.specs.Causes.{StoreCall, StoreCause, HasCause, IsUnreadable, RefusesToCommit, create, read, failed, change, replace, shut, unfit, unreadable, occupied, drops, refused}
 use Rattle.acd_sqlbook.proofs.BookStates.{held_is}
@@ -103,7 +103,7 @@ module _ (asked : StoreCall) (old new : State) (Stops : Content → Type 0) (fre
       ]
 
 module _ (changes : List Change) (events : List Event) (kept : Kept) (old new : State) (free : old.step_limit ≡ None) where
-  change_stops : (c : Content) → content_of old.committed.trees ≡ c → StopsCommit changes events kept c → StoreCause (change changes events kept) old new
+  change_stops : (c : Content) → content_of old.committed.trees ≡ c → StopsCounted changes events kept c → StoreCause (change changes events kept) old new
   change_stops c is (inl large) = unfit (inl (subst (IsUncounted changes (length events) kept) (sym is) large))
   change_stops c is (inr stops) =
       elim (parted (HasAbove (Some c.rows.last_call) c) changes events kept (counted (meta_of c.rows) changes (length events) kept) c stops) [
@@ -113,16 +113,16 @@ module _ (changes : List Change) (events : List Event) (kept : Kept) (old new : 
 
   -- with the counters that are held, which are those of what the connection holds while it is open
   held_stops : (held : Option Meta) → (IsTrue old.is_open → AreCounters held (content_of old.committed.trees)) → (c : Content)
-      → content_of old.committed.trees ≡ c → StopsWith held (StopsCommit changes events kept) c → StoreCause (change changes events kept) old new
+      → content_of old.committed.trees ≡ c → StopsOn held (StopsCounted changes events kept) c → StoreCause (change changes events kept) old new
   held_stops held of c is stops =
       elim (cases_Bool old.is_open) [ inl up ↦ change_stops c is (stops (subst (AreCounters held) is (of up))) | inr down ↦ shut down ]
 
   pub changes_caused : (held : Option Meta) → (IsTrue old.is_open → AreCounters held (content_of old.committed.trees))
       → (r : Result (Unit {0}) Error) (answer : Result (Unit {0}) BookFault) → answer ≡ book_result r
-      → IsCausedByReadOr (StopsWith held (StopsCommit changes events kept)) old new r
+      → IsCausedByReadOr (StopsOn held (StopsCounted changes events kept)) old new r
       → HasCleanDisk new → IsSoundState old → answer ≡ Err Store → StoreCause (change changes events kept) old new
   changes_caused held of =
-      commit_caused (change changes events kept) old new (StopsWith held (StopsCommit changes events kept)) free (λ out. out) (held_stops held of)
+      commit_caused (change changes events kept) old new (StopsOn held (StopsCounted changes events kept)) free (λ out. out) (held_stops held of)
 
 module _ (rows : Rows) (events : List Event) (kept : Kept) (old new : State) (free : old.step_limit ≡ None) where
   replace_stops : (c : Content) → content_of old.committed.trees ≡ c → StopsReplace rows events kept c → StoreCause (replace rows events kept) old new

@@ -23,6 +23,7 @@ use Rattle.acd_sqlbook.specs.State.{IsSoundState}
 use Rattle.acd_sqlbook.specs.View.{BookView, book_of}
 use Rattle.acd_sqlbook.specs.Commit.{counted}
 use Rattle.acd_sqlbook.specs.CommitStops.{AllNumbersFit, AreCounted, Drops, HasAbove, IsUncounted, RefusesInAll}
+use Rattle.acd_sqlbook.specs.Lent.{Lent}
 use Rattle.acd_sqlbook.specs.Pruning.{IsUnfitPrune, RefusesPrune}
 
 -- the calls of a book
@@ -98,9 +99,10 @@ pub record HasCause {A : Type 0} (asked : StoreCall) (old new : State) (failures
   pub count : HasCleanDisk new → IsSoundState old → failures < next → StoreCause asked old new
 
 -- so it is with a book
-abbrev pub IsCaused : {S A : Type 0} → StoreCall → Ghosts S → BookView S → BookView S → Result A BookFault → Type 0
-IsCaused asked g old new result = HasCause asked (state g old.conn) (state g new.conn) old.failures new.failures result
+abbrev pub IsCaused : {S A : Type 0} → StoreCall → Ghosts S → Lent (BookView S) → Result A BookFault → Type 0
+IsCaused asked g book result =
+    HasCause asked (state g book.entry.now.conn) (state g book.exit.now.conn) book.entry.now.failures book.exit.now.failures result
 
 -- the same of a book that is sound, its cache too
-abbrev pub IsCausedIfSound : {S A : Type 0} → StoreCall → Ghosts S → BookView S → BookView S → Result A BookFault → Type 0
-IsCausedIfSound asked g old new result = (book_of g old).is_sound → IsCaused asked g old new result
+abbrev pub IsCausedIfSound : {S A : Type 0} → StoreCall → Ghosts S → Lent (BookView S) → Result A BookFault → Type 0
+IsCausedIfSound asked g book result = (book_of g book.entry.now).is_sound → IsCaused asked g book result

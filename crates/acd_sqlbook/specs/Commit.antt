@@ -1,11 +1,11 @@
 -- The result of a commit of a content, write by write.
 use Rattle.std.specs.Prelude.{ℕ, ◌+◌, List, [], ◌∷◌, ⊤, IfSome, OnOk, Result, length, max}
-use Rattle.std.specs.Borrow.{MutBor}
 use Rattle.std.specs.Ordering.{nat_cmp}
 use Rattle.sqlite_trees.specs.declared.store.Store.{Ghosts}
-use Rattle.sqlite.specs.Held.{Held, state}
+use Rattle.sqlite.specs.Held.{state}
 use Rattle.sqlite.specs.State.{State, HasCleanDisk}
 use Rattle.sqlite.specs.declared.error.Error.{Error}
+use Rattle.sqlite.specs.declared.transaction.Transaction.{Transaction}
 use Rattle.acd_terms.specs.Lists.{put_by}
 use Rattle.acd_terms.specs.declared.event.Event.{Event}
 use Rattle.acd_model.specs.Moves.{changed}
@@ -18,6 +18,7 @@ use Rattle.acd_sql_columns.specs.declared.meta.Meta.{Meta}
 use Rattle.acd_sql_columns.specs.InRange.{IsGoodGroup, IsGoodStation, IsGoodAgent, IsGoodCall, IsGoodConnection, IsGoodMonitor, IsReported, IsStamp, IsStatus}
 use Rattle.acd_sql_columns.specs.Relations.{meta_of, relations_of}
 use Rattle.acd_sql_columns.specs.Transactions.{HoldsGood, HoldsUncommitted, Fits, FiguresFitColumns}
+use Rattle.acd_sqlbook.specs.Lent.{Lent, Shown}
 
 -- a stamp, a place or the number of an event, which its column can hold
 abbrev pub StampFits : ℕ → Type 0
@@ -87,6 +88,10 @@ with_meta m c = record c {
 abbrev pub made_by : List Change → List Event → Kept → Meta → Content → Content
 made_by changes events kept meta c = with_meta meta (with_kept (with_events (all_applied c changes) events) kept)
 
+-- the same of what a call is shown
+abbrev pub made_from : Shown (List Change) → Shown (List Event) → Shown Kept → Shown Meta → Content → Content
+made_from changes events kept meta = made_by changes.entry.now events.entry.now kept.entry.now meta.entry.now
+
 -- each content that the transaction saw, with each value in its range, is now what `change` makes of it
 abbrev pub MakesOfEach : (Content → Content) → State → State → Type 0
 MakesOfEach change old new = (c : Content) → HoldsGood old c → HoldsGood new (change c)
@@ -96,19 +101,22 @@ abbrev pub MakesTablesOfEach : (Content → Content) → State → State → Typ
 MakesTablesOfEach change old new = (c : Content) → HoldsUncommitted old (relations_of c) → HoldsUncommitted new (relations_of (change c))
 
 -- so it is after a write that succeeded, if no disk broke a promise
-abbrev pub CommitLeaves : {S : Type 0} → Ghosts S → MutBor (Held S) → MutBor (Held S) → Result (Unit {0}) Error → (Content → Content) → Type 0
-CommitLeaves g old new result change = HasCleanDisk (state g new.now) → OnOk result (MakesOfEach change (state g old.now) (state g new.now))
+abbrev pub CommitLeaves : {S : Type 0} → Ghosts S → Lent (Transaction S) → Result (Unit {0}) Error → (Content → Content) → Type 0
+CommitLeaves g tx result change =
+    HasCleanDisk (state g tx.exit.now.conn.now) → OnOk result (MakesOfEach change (state g tx.entry.now.conn.now) (state g tx.exit.now.conn.now))
 
 -- the tables of a change, after a write that succeeded
-abbrev pub PutsChange : {S : Type 0} → Ghosts S → MutBor (Held S) → MutBor (Held S) → Result (Unit {0}) Error → Change → Type 0
-PutsChange g old new result change = HasCleanDisk (state g new.now) → OnOk result (MakesTablesOfEach (λ c. applied c change) (state g old.now) (state g new.now))
+abbrev pub PutsChange : {S : Type 0} → Ghosts S → Lent (Transaction S) → Result (Unit {0}) Error → Change → Type 0
+PutsChange g tx result change =
+    HasCleanDisk (state g tx.exit.now.conn.now)
+    → OnOk result (MakesTablesOfEach (λ c. applied c change) (state g tx.entry.now.conn.now) (state g tx.exit.now.conn.now))
 
 -- a write makes this change, or all of these
-abbrev pub WritesChange : {S : Type 0} → Ghosts S → MutBor (Held S) → MutBor (Held S) → Result (Unit {0}) Error → Change → Type 0
-WritesChange g old new result change = CommitLeaves g old new result (λ c. applied c change)
+abbrev pub WritesChange : {S : Type 0} → Ghosts S → Lent (Transaction S) → Result (Unit {0}) Error → Change → Type 0
+WritesChange g tx result change = CommitLeaves g tx result (λ c. applied c change)
 
-abbrev pub WritesChanges : {S : Type 0} → Ghosts S → MutBor (Held S) → MutBor (Held S) → Result (Unit {0}) Error → List Change → Type 0
-WritesChanges g old new result changes = CommitLeaves g old new result (λ c. all_applied c changes)
+abbrev pub WritesChanges : {S : Type 0} → Ghosts S → Lent (Transaction S) → Result (Unit {0}) Error → List Change → Type 0
+WritesChanges g tx result changes = CommitLeaves g tx result (λ c. all_applied c changes)
 
 -- ---- the counters of a commit
 

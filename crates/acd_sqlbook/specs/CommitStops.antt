@@ -1,8 +1,8 @@
 -- Why a part of a commit isn't written, inside a transaction that saw a content, on a connection without a limit of steps.
 use Rattle.std.specs.Prelude.{◌≡◌, ◌⊎◌, ℕ, ◌≤◌, ◌∷◌, [], List, length, Bool, IsTrue, Option, None, Some, Result, IfErr, OnOk}
-use Rattle.std.specs.Borrow.{MutBor}
 use Rattle.sqlite_trees.specs.declared.store.Store.{Ghosts}
 use Rattle.sqlite.specs.declared.error.Error.{Error}
+use Rattle.sqlite.specs.declared.transaction.Transaction.{Transaction}
 use Rattle.sqlite.specs.Held.{Held, state}
 use Rattle.sqlite.specs.State.{State, HasCleanDisk}
 use Rattle.acd_terms.specs.Lists.{Every}
@@ -27,6 +27,8 @@ use Rattle.acd_sql_statements.specs.StoreFailures.{IsMemory, StoreHasFailed}
 use Rattle.acd_sql_statements.specs.ReadFailures.{FailsToRead}
 use Rattle.acd_sql_statements.specs.WriteRefusals.{HasWriteCause, RefusesOn, RefusesPut, RefusesPutConnection, RefusesGroup, RefusesAgent}
 use Rattle.acd_sql_statements.specs.SeveralEvents.{RefusesEvents}
+use Rattle.acd_sqlbook.specs.Counters.{StopsOn}
+use Rattle.acd_sqlbook.specs.Lent.{Lent, Shown, state_before, state_after}
 use Rattle.acd_sqlbook.specs.WriteChoice.{written_changes}
 use Rattle.acd_sqlbook.specs.Commit.{ChangeFits, EventFits, KeptFits, counted, counters_after, applied, all_applied, with_events, with_kept}
 
@@ -101,9 +103,9 @@ StopsInRest events kept meta c = StopsInEvents events c ⊎ StopsAtLast kept met
 abbrev pub StopsInAll : Type 0 → List Change → List Event → Kept → Meta → Content → Type 0
 StopsInAll Meets changes events kept meta c = StopsInChanges Meets (written_changes changes) c ⊎ StopsInRest events kept meta (all_applied c changes)
 
--- the same of a commit that inserts what is above the last call's number
-abbrev pub StopsInCommit : Option ℕ → List Change → List Event → Kept → Meta → Content → Type 0
-StopsInCommit last changes events kept meta c = StopsInAll (HasAbove last c) changes events kept meta c
+-- the same of what a call is shown, which inserts what is above the last call's number
+abbrev pub StopsInCommit : Option ℕ → Shown (List Change) → Shown (List Event) → Shown Kept → Shown Meta → Content → Type 0
+StopsInCommit last changes events kept meta c = StopsInAll (HasAbove last c) changes.entry.now events.entry.now kept.entry.now meta.entry.now c
 
 -- ---- what of it doesn't fit, and what the store refuses
 
@@ -136,31 +138,39 @@ abbrev pub IsStopped : {A : Type 0} → (Content → Type 0) → State → State
 IsStopped Stops old new result = HasCleanDisk new → (c : Content) → HoldsGood old c → IfErr result (FailsToApply Stops c old new)
 
 -- so it is with the connection of a transaction
-abbrev pub FailsAt : {S A : Type 0} → Ghosts S → MutBor (Held S) → MutBor (Held S) → Result A Error → (Content → Type 0) → Type 0
-FailsAt g old new result Stops = IsStopped Stops (state g old.now) (state g new.now) result
+abbrev pub FailsAt : {S A : Type 0} → Ghosts S → Lent (Transaction S) → Result A Error → (Content → Type 0) → Type 0
+FailsAt g tx result Stops = IsStopped Stops (state g tx.entry.now.conn.now) (state g tx.exit.now.conn.now) result
 
 -- the same of one statement, which the store may refuse
-abbrev pub HasWriteCauseAt : {S A : Type 0} → Ghosts S → MutBor (Held S) → MutBor (Held S) → Result A Error → (Option ℕ → Relations → Type 0) → Type 0
-HasWriteCauseAt g old new result Refuses = HasWriteCause Refuses (state g old.now) (state g new.now) result
+abbrev pub HasWriteCauseAt : {S A : Type 0} → Ghosts S → Lent (Transaction S) → Result A Error → (Option ℕ → Relations → Type 0) → Type 0
+HasWriteCauseAt g tx result Refuses = HasWriteCause Refuses (state g tx.entry.now.conn.now) (state g tx.exit.now.conn.now) result
 
 -- of a whole commit, on a connection that holds a content
 abbrev pub IsUndone : {A : Type 0} → (Content → Type 0) → State → State → Result A Error → Type 0
 IsUndone Stops old new result = HasCleanDisk new → (c : Content) → HoldsContent old c → IfErr result (FailsToApply Stops c old new)
 
 -- the same of what a connection holds before and after
-abbrev pub IsUndoneAt : {S A : Type 0} → Ghosts S → Held S → Held S → Result A Error → (Content → Type 0) → Type 0
-IsUndoneAt g old new result Stops = IsUndone Stops (state g old) (state g new) result
+abbrev pub IsUndoneAt : {S A : Type 0} → Ghosts S → Lent (Held S) → Result A Error → (Content → Type 0) → Type 0
+IsUndoneAt g conn result Stops = IsUndone Stops (state_before g conn) (state_after g conn) result
 
 -- ---- a commit of changes
 
--- the counters after so many events don't fit their columns, or the kept record doesn't fit
+-- these counters don't fit their columns after so many events, or the kept record doesn't fit
+abbrev pub AreUncounted : Meta → List Change → ℕ → Kept → Type 0
+AreUncounted meta changes events kept = ¬ (MetaFits (counted meta changes events kept) × KeptFits kept)
+
+-- the same of a content's
 abbrev pub IsUncounted : List Change → ℕ → Kept → Content → Type 0
-IsUncounted changes events kept c = ¬ (MetaFits (counted (meta_of c.rows) changes events kept) × KeptFits kept)
+IsUncounted changes events kept c = AreUncounted (meta_of c.rows) changes events kept
 
 -- those don't fit, or it stops at something that it writes
-abbrev pub StopsCommit : List Change → List Event → Kept → Content → Type 0
-StopsCommit changes events kept c =
-    IsUncounted changes (length events) kept c ⊎ StopsInCommit (Some c.rows.last_call) changes events kept (counters_after changes events kept c) c
+abbrev pub StopsCounted : List Change → List Event → Kept → Content → Type 0
+StopsCounted changes events kept c =
+    IsUncounted changes (length events) kept c ⊎ StopsInAll (HasAbove (Some c.rows.last_call) c) changes events kept (counters_after changes events kept c) c
+
+-- the same of what a call is shown, with the counters that are held before it
+abbrev pub StopsCommit : Lent (Option Meta) → Shown (List Change) → Shown (List Event) → Shown Kept → Content → Type 0
+StopsCommit held changes events kept = StopsOn held.entry.now (StopsCounted changes.entry.now events.entry.now kept.entry.now)
 
 -- ---- a commit of tables
 

@@ -10,5 +10,5 @@ AreCounters None c = ⊤
 AreCounters (Some m) c = m ≡ meta_of c.rows
 
 -- it stops at this, on a content of which they are held
-abbrev pub StopsWith : Option Meta → (Content → Type 0) → Content → Type 0
-StopsWith held Stops c = AreCounters held c → Stops c
+abbrev pub StopsOn : Option Meta → (Content → Type 0) → Content → Type 0
+StopsOn held Stops c = AreCounters held c → Stops c

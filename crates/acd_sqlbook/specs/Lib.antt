@@ -1,5 +1,6 @@
 pub mod Commit
 pub mod WriteChoice
+pub mod Lent
 pub mod Calls
 pub mod State
 pub mod View

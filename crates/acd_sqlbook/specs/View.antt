@@ -7,6 +7,7 @@ use Rattle.acd_book.specs.Content.{Content, Commit}
 use Rattle.acd_book.specs.State.{BookState, BookReads, BookFinds, BookLists, BookCommits}
 use Rattle.acd_book.specs.declared.fault.BookFault.{BookFault}
 use Rattle.acd_sqlbook.specs.Caches.{followed}
+use Rattle.acd_sqlbook.specs.Lent.{Lent}
 use Rattle.acd_sqlbook.specs.State.{book_state}
 use Rattle.acd_sqlbook.specs.contracts.cache.Cache.{the_row}
 use Rattle.acd_sqlbook.specs.declared.cache.Cache.{Cache}
@@ -28,14 +29,14 @@ book_of store b = followed b.cache (book_state (state store b.conn) b.failures)
 
 -- ---- a call of it: a read finds what `IsAnswer` says, just this of the content, or just this list; or it commits
 
-abbrev pub SqlReads : {S A : Type 0} → Ghosts S → BookView S → BookView S → Result A BookFault → (Content → A → Type 0) → Type 0
-SqlReads store old new result IsAnswer = BookReads (book_of store) old new result IsAnswer
+abbrev pub SqlReads : {S A : Type 0} → Ghosts S → Lent (BookView S) → Result A BookFault → (Content → A → Type 0) → Type 0
+SqlReads store book result IsAnswer = BookReads (book_of store) book.entry.now book.exit.now result IsAnswer
 
-abbrev pub SqlFinds : {S A : Type 0} → Ghosts S → BookView S → BookView S → Result A BookFault → (Content → A) → Type 0
-SqlFinds store old new result answer = BookFinds (book_of store) old new result answer
+abbrev pub SqlFinds : {S A : Type 0} → Ghosts S → Lent (BookView S) → Result A BookFault → (Content → A) → Type 0
+SqlFinds store book result answer = BookFinds (book_of store) book.entry.now book.exit.now result answer
 
-abbrev pub SqlLists : {S T Z : Type 0} → Ghosts S → BookView S → BookView S → Result (Vec T Z) BookFault → (Content → List T) → Type 0
-SqlLists store old new result answer = BookLists (book_of store) old new result answer
+abbrev pub SqlLists : {S T Z : Type 0} → Ghosts S → Lent (BookView S) → Result (Vec T Z) BookFault → (Content → List T) → Type 0
+SqlLists store book result answer = BookLists (book_of store) book.entry.now book.exit.now result answer
 
-abbrev pub SqlCommits : {S : Type 0} → Ghosts S → BookView S → BookView S → Result (Unit {0}) BookFault → Commit → Type 0
-SqlCommits store old new result commit = BookCommits (book_of store) old new result commit
+abbrev pub SqlCommits : {S : Type 0} → Ghosts S → Lent (BookView S) → Result (Unit {0}) BookFault → Commit → Type 0
+SqlCommits store book result commit = BookCommits (book_of store) book.entry.now book.exit.now result commit

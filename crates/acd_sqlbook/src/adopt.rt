@@ -1,10 +1,10 @@
 //! Takes a connection over a book where each value is in its range, and makes version 2 of one of version 1.
 
-ghost use Rattle.std.specs.Prelude.{◌≡◌, false, None, IfOk, IfErr};
+ghost use Rattle.std.specs.Prelude.{◌≡◌, false, IfOk, IfErr};
 ghost use Rattle.acd_sql_columns.specs.Schema.{old_schema, book_schema};
 ghost use Rattle.acd_sql_schema.specs.Migration.{IsMade};
 ghost use Rattle.acd_sqlbook.specs.Adoption.{IsUntouched, MayMigrate};
-ghost use Rattle.acd_sqlbook.specs.Calls.{WasClean};
+ghost use Rattle.acd_sqlbook.specs.Calls.{IsUnlimited, WasClean};
 ghost use Rattle.acd_sqlbook.specs.Caches.{IsBlank};
 ghost use Rattle.acd_sqlbook.specs.Opening.{HasAdoptCause, IfHandedBack, IfOpened, IfSchema, IsAdoptedOver, IsHandedBackOver, IsLeftAlone, WasCanonical};
 
@@ -35,10 +35,10 @@ impl<S: Alter> SqlBook<S> {
         ensures canonical { IfOk result (WasCanonical S.Store conn) }
         ensures counted { IfOk result (λ b. b.failures ≡ 0) }
         ensures blank { IfOk result (λ b. IsBlank b.cache) }
-        ensures unlimited { IfOk result (λ b. b.conn.step_limit ≡ None) }
+        ensures unlimited { IfOk result (λ b. IsUnlimited b.conn) }
         ensures clean { IfOk result (λ b. WasClean S.Store conn b.conn) }
         ensures idle { IfErr result (λ e. e.1.in_transaction ≡ false) }
-        ensures limit { IfErr result (λ e. e.1.step_limit ≡ None) }
+        ensures limit { IfErr result (λ e. IsUnlimited e.1) }
         ensures doubted { IfErr result (λ e. WasClean S.Store conn e.1) }
         ensures handed_back { IfErr result (IsHandedBackOver S.Store conn) }
         ensures left_alone { IfHandedBack S.Store conn result IsLeftAlone }

@@ -1,8 +1,8 @@
 //! A book over a connection.
 
-ghost use Rattle.std.specs.Prelude.{◌≡◌, ◌≤◌, false, None, Err, is_ok, IsTrue, IfOk, IfErr};
+ghost use Rattle.std.specs.Prelude.{◌≡◌, ◌≤◌, false, Err, is_ok, IsTrue, IfOk, IfErr};
 ghost use Rattle.acd_sql_columns.specs.Transactions.{LimitsFit};
-ghost use Rattle.acd_sqlbook.specs.Calls.{WasClean};
+ghost use Rattle.acd_sqlbook.specs.Calls.{IsUnlimited, WasClean};
 ghost use Rattle.acd_sqlbook.specs.State.{fault_of, book_result, failures_after};
 ghost use Rattle.acd_sqlbook.specs.Caches.{IsBlank};
 ghost use Rattle.acd_sqlbook.specs.Opening.{HasCreateCause, HasNoTables, IfHandedBack, IsNewOver};
@@ -103,13 +103,13 @@ impl<S: Alter> SqlBook<S> {
         ensures made { IfOk result (IsNewOver S.Store limits) }
         ensures counted { IfOk result (λ b. b.failures ≡ 0) }
         ensures blank { IfOk result (λ b. IsBlank b.cache) }
-        ensures unlimited { IfOk result (λ b. b.conn.step_limit ≡ None) }
+        ensures unlimited { IfOk result (λ b. IsUnlimited b.conn) }
         ensures clean { IfOk result (λ b. WasClean S.Store conn b.conn) }
         ensures refused { ¬ (LimitsFit limits) → result ≡ Err (BookFault.Store, conn) }
         ensures occupied { ¬ (HasNoTables S.Store conn) → result ≡ Err (BookFault.Store, conn) }
         ensures handed_back { IfErr result (λ e. e.1.in_transaction ≡ false) }
         ensures limit { LimitsFit limits → HasNoTables S.Store conn
-            → IfErr result (λ e. e.1.step_limit ≡ None) }
+            → IfErr result (λ e. IsUnlimited e.1) }
         ensures doubted { IfErr result (λ e. WasClean S.Store conn e.1) }
         ensures stops { IfHandedBack S.Store conn result (λ fault old new. MayMake old new limits) }
         ensures caused { IfHandedBack S.Store conn result (HasCreateCause limits) }
@@ -139,8 +139,8 @@ impl<S: Alter> SqlBook<S> {
     ///
     /// A stamp or a number that no INTEGER column can hold is [`BookFault::Store`].
     pub fn prune(&mut self, stamp: u64, number: u64) -> Result<(), BookFault>
-        ensures commits { SqlCommits S.Store self.old self.new result (prune_by stamp number) }
-        ensures caused { IsCaused (pruning stamp number) S.Store self.old self.new result }
+        ensures commits { SqlCommits S.Store self result (prune_by stamp number) }
+        ensures caused { IsCaused (pruning stamp number) S.Store self result }
     {
         self.cache.forget();
         let done = prune_ready(&mut self.ready, stamp, number);
@@ -150,7 +150,7 @@ impl<S: Alter> SqlBook<S> {
     /// Gives the connection up. It takes no memory.
     pub fn into_connection(self) -> Connection<S>
         ensures idle { result.in_transaction ≡ false }
-        ensures unlimited { result.step_limit ≡ None }
+        ensures unlimited { IsUnlimited result }
         ensures same { result ≡ self.conn }
     {
         let SqlBook {
@@ -192,49 +192,48 @@ impl<S: Alter> Book for SqlBook<S> {
     }
 
     fn limits(&mut self) -> Result<Limits, BookFault>
-        ensures reads { SqlFinds S.Store self.old self.new result (λ c. c.rows.limits) }
-        ensures caused { IsCaused reading S.Store self.old self.new result }
+        ensures reads { SqlFinds S.Store self result (λ c. c.rows.limits) }
+        ensures caused { IsCaused reading S.Store self result }
     {
         let found = self.ready.limits();
         recorded(found, &mut self.ready.known_open, &mut self.failures)
     }
 
     fn rows(&mut self) -> Result<Rows, BookFault>
-        ensures reads { SqlFinds S.Store self.old self.new result (λ c. c.rows) }
-        ensures caused { IsCaused reading S.Store self.old self.new result }
+        ensures reads { SqlFinds S.Store self result (λ c. c.rows) }
+        ensures caused { IsCaused reading S.Store self result }
     {
         let found = self.ready.rows(self.alloc);
         recorded(found, &mut self.ready.known_open, &mut self.failures)
     }
 
     fn kept(&mut self, requester: &Requester, invoke: Invoke) -> Result<Option<Kept>, BookFault>
-        ensures reads { SqlFinds S.Store self.old self.new result
-            (kept_under requester.now invoke) }
-        ensures caused { IsCaused reading S.Store self.old self.new result }
+        ensures reads { SqlFinds S.Store self result (kept_under requester.now invoke) }
+        ensures caused { IsCaused reading S.Store self result }
     {
         let found = self.ready.kept(self.alloc, requester, invoke);
         recorded(found, &mut self.ready.known_open, &mut self.failures)
     }
 
     fn kept_after(&mut self, stamp: u64) -> Result<Option<Kept>, BookFault>
-        ensures reads { SqlReads S.Store self.old self.new result (IsNextKept stamp) }
-        ensures caused { IsCaused reading S.Store self.old self.new result }
+        ensures reads { SqlReads S.Store self result (IsNextKept stamp) }
+        ensures caused { IsCaused reading S.Store self result }
     {
         let found = kept_followed(self.alloc, &mut self.ready, &mut self.cache.ahead, stamp);
         recorded(found, &mut self.ready.known_open, &mut self.failures)
     }
 
     fn requests_after(&mut self, stamp: u64, limit: usize) -> Result<Vec<Kept>, BookFault>
-        ensures reads { SqlLists S.Store self.old self.new result (records_page stamp limit) }
-        ensures caused { IsCaused reading S.Store self.old self.new result }
+        ensures reads { SqlLists S.Store self result (records_page stamp limit) }
+        ensures caused { IsCaused reading S.Store self result }
     {
         let found = self.ready.records_after(self.alloc, stamp, limit);
         recorded(found, &mut self.ready.known_open, &mut self.failures)
     }
 
     fn events_after(&mut self, number: u64, limit: usize) -> Result<Vec<Event>, BookFault>
-        ensures reads { SqlLists S.Store self.old self.new result (events_page number limit) }
-        ensures caused { IsCaused reading S.Store self.old self.new result }
+        ensures reads { SqlLists S.Store self result (events_page number limit) }
+        ensures caused { IsCaused reading S.Store self result }
     {
         let found = self.ready.events_after(self.alloc, number, limit);
         recorded(found, &mut self.ready.known_open, &mut self.failures)
@@ -246,9 +245,8 @@ impl<S: Alter> Book for SqlBook<S> {
         number: u64,
         limit: usize,
     ) -> Result<Vec<Event>, BookFault>
-        ensures reads { SqlLists S.Store self.old self.new result
-            (monitor_page monitor number limit) }
-        ensures caused { IsCaused reading S.Store self.old self.new result }
+        ensures reads { SqlLists S.Store self result (monitor_page monitor number limit) }
+        ensures caused { IsCaused reading S.Store self result }
     {
         let found = page_followed(
             self.alloc,
@@ -262,10 +260,8 @@ impl<S: Alter> Book for SqlBook<S> {
     }
 
     fn commit(&mut self, rows: &Rows, events: &[Event], kept: &Kept) -> Result<(), BookFault>
-        ensures commits { SqlCommits S.Store self.old self.new result
-            (commit_of rows.now events.now kept.now) }
-        ensures caused { IsCaused (replacing rows.now events.now kept.now)
-            S.Store self.old self.new result }
+        ensures commits { SqlCommits S.Store self result (commit_of rows.now events.now kept.now) }
+        ensures caused { IsCaused (replacing rows.now events.now kept.now) S.Store self result }
     {
         self.cache.forget();
         let done = commit_rows(self.alloc, &mut self.ready, rows, events, kept);
@@ -278,12 +274,12 @@ impl<S: Alter> Book for SqlBook<S> {
         events: &[Event],
         kept: &Kept,
     ) -> Result<(), BookFault>
-        ensures commits { SqlCommits S.Store self.old self.new result
+        ensures commits { SqlCommits S.Store self result
             (commit_by changes.now events.now kept.now) }
         // It counts from what is remembered: so the book is sound with what it remembers, as `commits` asks too. A new
         // or an adopted one is, and each call leaves it so.
         ensures caused { IsCausedIfSound (changing changes.now events.now kept.now)
-            S.Store self.old self.new result }
+            S.Store self result }
     {
         let counters = &mut self.cache.counters;
         let done = self

@@ -7,7 +7,7 @@ ghost use Rattle.acd_codec.specs.RequestTexts.{request_text};
 ghost use Rattle.acd_terms.specs.Lists.{Every};
 ghost use Rattle.acd_sqlbook.specs.Calls.{AddsOneStop, CommitsContent, KeepsContent, StaysOpen, WasClean};
 ghost use Rattle.acd_sqlbook.specs.WriteChoice.{is_taken_away, IsVainBefore, IsWrittenNext, IsNextPart, puts_the_same, is_put_once, is_above, is_new};
-ghost use Rattle.acd_sqlbook.specs.Commit.{CommitLeaves, PutsChange, WritesChange, WritesChanges, ChangeFits, EventFits, KeptFits, StampFits, IsGoodChange, with_events, made_by, top_call, top_monitor, last_call, last_monitor, counted};
+ghost use Rattle.acd_sqlbook.specs.Commit.{CommitLeaves, PutsChange, WritesChange, WritesChanges, ChangeFits, EventFits, KeptFits, StampFits, IsGoodChange, with_events, made_from, top_call, top_monitor, last_call, last_monitor, counted};
 ghost use Rattle.acd_sqlbook.specs.CommitStops.{RefusesWrite, StopsWrite, StopsInWritten, StopsAtEvents, StopsInEvents, StopsInCommit, FailsAt, HasWriteCauseAt, IsUndoneAt};
 ghost use Rattle.acd_sql_schema.specs.Creation.{WasOpen};
 ghost use Rattle.acd_sql_statements.specs.WriteRefusals.{RefusesAgent};
@@ -138,9 +138,8 @@ fn write_agent<S: Alter>(tx: &mut Transaction<'_, S>, agent: &AgentRecord) -> Re
     requires { Fits agent.now.stamp }
     ensures same { tx.new.conn.ghost_name ≡ tx.old.conn.ghost_name }
     ensures works { Works (state S.Store tx.old.conn.now) (state S.Store tx.new.conn.now) }
-    ensures put { PutsChange S.Store tx.old.conn tx.new.conn result (Change.PutAgent agent.now) }
-    ensures failed { HasWriteCauseAt S.Store tx.old.conn tx.new.conn result
-        (RefusesAgent agent.now) }
+    ensures put { PutsChange S.Store tx result (Change.PutAgent agent.now) }
+    ensures failed { HasWriteCauseAt S.Store tx result (RefusesAgent agent.now) }
 {
     let _ascending = agent.groups.as_slice();
     put_agent(tx, agent)
@@ -156,9 +155,8 @@ fn make_change<S: Alter>(
     requires free { (state S.Store tx.old.conn.now).step_limit ≡ None }
     ensures same { tx.new.conn.ghost_name ≡ tx.old.conn.ghost_name }
     ensures works { Works (state S.Store tx.old.conn.now) (state S.Store tx.new.conn.now) }
-    ensures put { PutsChange S.Store tx.old.conn tx.new.conn result change.now }
-    ensures failed { FailsAt S.Store tx.old.conn tx.new.conn result
-        (RefusesWrite is_new change.now) }
+    ensures put { PutsChange S.Store tx result change.now }
+    ensures failed { FailsAt S.Store tx result (RefusesWrite is_new change.now) }
 {
     match change {
         Change::Nothing => Ok(()),
@@ -184,8 +182,8 @@ fn write_change<S: Alter>(
     requires { (state S.Store tx.old.conn.now).step_limit ≡ None }
     ensures same { tx.new.conn.ghost_name ≡ tx.old.conn.ghost_name }
     ensures works { Works (state S.Store tx.old.conn.now) (state S.Store tx.new.conn.now) }
-    ensures put { WritesChange S.Store tx.old.conn tx.new.conn result change.now }
-    ensures failed { FailsAt S.Store tx.old.conn tx.new.conn result (StopsWrite is_new change.now) }
+    ensures put { WritesChange S.Store tx result change.now }
+    ensures failed { FailsAt S.Store tx result (StopsWrite is_new change.now) }
 {
     if !change_fits(change) {
         return Err(too_large());
@@ -295,9 +293,8 @@ fn write_changes<S: Alter>(
     requires { (state S.Store tx.old.conn.now).step_limit ≡ None }
     ensures same { tx.new.conn.ghost_name ≡ tx.old.conn.ghost_name }
     ensures works { Works (state S.Store tx.old.conn.now) (state S.Store tx.new.conn.now) }
-    ensures put { WritesChanges S.Store tx.old.conn tx.new.conn result changes.now }
-    ensures failed { FailsAt S.Store tx.old.conn tx.new.conn result
-        (StopsInWritten last changes.now) }
+    ensures put { WritesChanges S.Store tx result changes.now }
+    ensures failed { FailsAt S.Store tx result (StopsInWritten last changes.now) }
 {
     let mut rest = changes;
     while let Some((change, remaining)) = next_statement(rest) {
@@ -338,10 +335,8 @@ fn write_some<S: Alter>(tx: &mut Transaction<'_, S>, events: &[Event]) -> Result
     requires few { length events.now ≤ 4 }
     ensures same { tx.new.conn.ghost_name ≡ tx.old.conn.ghost_name }
     ensures works { Works (state S.Store tx.old.conn.now) (state S.Store tx.new.conn.now) }
-    ensures put { CommitLeaves S.Store tx.old.conn tx.new.conn result
-        (λ c. with_events c events.now) }
-    ensures failed { FailsAt S.Store tx.old.conn tx.new.conn result
-        (StopsAtEvents events.now) }
+    ensures put { CommitLeaves S.Store tx result (λ c. with_events c events.now) }
+    ensures failed { FailsAt S.Store tx result (StopsAtEvents events.now) }
 {
     if !events_fit(events) {
         return Err(too_large());
@@ -353,10 +348,8 @@ fn write_events<S: Alter>(tx: &mut Transaction<'_, S>, events: &[Event]) -> Resu
     requires { (state S.Store tx.old.conn.now).step_limit ≡ None }
     ensures same { tx.new.conn.ghost_name ≡ tx.old.conn.ghost_name }
     ensures works { Works (state S.Store tx.old.conn.now) (state S.Store tx.new.conn.now) }
-    ensures put { CommitLeaves S.Store tx.old.conn tx.new.conn result
-        (λ c. with_events c events.now) }
-    ensures failed { FailsAt S.Store tx.old.conn tx.new.conn result
-        (StopsInEvents events.now) }
+    ensures put { CommitLeaves S.Store tx result (λ c. with_events c events.now) }
+    ensures failed { FailsAt S.Store tx result (StopsInEvents events.now) }
 {
     let mut rest = events;
     while let Some((some, remaining)) = next_events(rest) {
@@ -438,10 +431,8 @@ fn write_all<S: Alter>(
     requires free { (state S.Store tx.old.conn.now).step_limit ≡ None }
     ensures same { tx.new.conn.ghost_name ≡ tx.old.conn.ghost_name }
     ensures works { Works (state S.Store tx.old.conn.now) (state S.Store tx.new.conn.now) }
-    ensures put { CommitLeaves S.Store tx.old.conn tx.new.conn result
-        (made_by changes.now events.now kept.now meta.now) }
-    ensures failed { FailsAt S.Store tx.old.conn tx.new.conn result
-        (StopsInCommit last changes.now events.now kept.now meta.now) }
+    ensures put { CommitLeaves S.Store tx result (made_from changes events kept meta) }
+    ensures failed { FailsAt S.Store tx result (StopsInCommit last changes events kept meta) }
 {
     write_changes(tx, last, changes)?;
     write_events(tx, events)?;
@@ -469,17 +460,14 @@ pub(crate) fn commit_all<S: Alter>(
     requires idle { conn.old.in_transaction ≡ false }
     requires unlimited { conn.old.step_limit ≡ None }
     ensures idle { conn.new.in_transaction ≡ false }
-    ensures done { CommitsContent S.Store conn.old conn.new result
-        (made_by changes.now events.now kept.now meta.now) }
+    ensures done { CommitsContent S.Store conn result (made_from changes events kept meta) }
     ensures clean { WasClean S.Store conn.old conn.new }
-    ensures up { StaysOpen S.Store conn.old conn.new result }
+    ensures up { StaysOpen S.Store conn result }
     ensures was { WasOpen S.Store conn.old conn.new }
-    ensures undone { KeepsContent S.Store conn.old conn.new result }
-    ensures stops { AddsOneStop S.Store conn.old conn.new
-        (made_by changes.now events.now kept.now meta.now) }
+    ensures undone { KeepsContent S.Store conn result }
+    ensures stops { AddsOneStop S.Store conn (made_from changes events kept meta) }
     ensures limit { (state S.Store conn.new).step_limit ≡ (state S.Store conn.old).step_limit }
-    ensures failed { IsUndoneAt S.Store conn.old conn.new result
-        (StopsInCommit last changes.now events.now kept.now meta.now) }
+    ensures failed { IsUndoneAt S.Store conn result (StopsInCommit last changes events kept meta) }
 {
     let mut tx = conn.transaction();
     write_all(&mut tx, last, changes, events, kept, request, meta)?;

@@ -19,9 +19,9 @@ pub(crate) fn kept_followed<S: Alter>(
     ahead: &mut Ahead,
     stamp: u64,
 ) -> Result<Option<Kept>, Error>
-    ensures recorded { Carries ready.old ready.new (IsAheadOf ahead.old) (IsAheadOf ahead.new) }
-    ensures read { ReadyReads ready.old ready.new result (IsNextAfter ahead.old stamp) }
-    ensures cause { ReadyFails ready.old ready.new result }
+    ensures recorded { Carries ready (IsAheadOf ahead.old) (IsAheadOf ahead.new) }
+    ensures read { ReadyReads ready result (IsNextAfter ahead.old stamp) }
+    ensures cause { ReadyFails ready result }
 {
     if ready.known_open {
         if let Some(kept) = ahead.next(stamp) {

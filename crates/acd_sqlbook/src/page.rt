@@ -84,11 +84,9 @@ pub(crate) fn page_followed<S: Alter>(
     number: u64,
     limit: usize,
 ) -> Result<Vec<Event>, Error>
-    ensures recorded { Carries ready.old ready.new
-        (IsIndexIn recorded.old) (IsIndexIn recorded.new) }
-    ensures read { ReadyReads ready.old ready.new result
-        (IsPageBy recorded.old monitor number limit) }
-    ensures cause { ReadyFails ready.old ready.new result }
+    ensures recorded { Carries ready (IsIndexIn recorded.old) (IsIndexIn recorded.new) }
+    ensures read { ReadyReads ready result (IsPageBy recorded.old monitor number limit) }
+    ensures cause { ReadyFails ready result }
 {
     let next = index_or_rebuild(alloc, ready, recorded.take())?;
     ready.known_open = false;

@@ -30,8 +30,8 @@ fn remove_old<S: Alter>(tx: &mut Transaction<'_, S>, stamp: u64, number: u64) ->
     requires free { (state S.Store tx.old.conn.now).step_limit ≡ None }
     ensures same { tx.new.conn.ghost_name ≡ tx.old.conn.ghost_name }
     ensures works { Works (state S.Store tx.old.conn.now) (state S.Store tx.new.conn.now) }
-    ensures put { CommitLeaves S.Store tx.old.conn tx.new.conn result (pruned stamp number) }
-    ensures failed { FailsAt S.Store tx.old.conn tx.new.conn result (RefusesPrune stamp number) }
+    ensures put { CommitLeaves S.Store tx result (pruned stamp number) }
+    ensures failed { FailsAt S.Store tx result (RefusesPrune stamp number) }
 {
     remove_up_to(tx, Log::Kept, stamp)?;
     remove_up_to(tx, Log::Events, number)
@@ -44,14 +44,14 @@ fn prune_all<S: Alter>(conn: &mut Connection<S>, stamp: u64, number: u64) -> Res
     requires idle { conn.old.in_transaction ≡ false }
     requires unlimited { conn.old.step_limit ≡ None }
     ensures idle { conn.new.in_transaction ≡ false }
-    ensures done { CommitsContent S.Store conn.old conn.new result (pruned stamp number) }
+    ensures done { CommitsContent S.Store conn result (pruned stamp number) }
     ensures clean { WasClean S.Store conn.old conn.new }
-    ensures up { StaysOpen S.Store conn.old conn.new result }
+    ensures up { StaysOpen S.Store conn result }
     ensures was { WasOpen S.Store conn.old conn.new }
-    ensures undone { KeepsContent S.Store conn.old conn.new result }
-    ensures stops { AddsOneStop S.Store conn.old conn.new (pruned stamp number) }
+    ensures undone { KeepsContent S.Store conn result }
+    ensures stops { AddsOneStop S.Store conn (pruned stamp number) }
     ensures limit { (state S.Store conn.new).step_limit ≡ (state S.Store conn.old).step_limit }
-    ensures failed { IsUndoneAt S.Store conn.old conn.new result (RefusesPrune stamp number) }
+    ensures failed { IsUndoneAt S.Store conn result (RefusesPrune stamp number) }
 {
     let mut tx = conn.transaction();
     remove_old(&mut tx, stamp, number)?;
@@ -65,8 +65,8 @@ pub(crate) fn prune_ready<S: Alter>(
     stamp: u64,
     number: u64,
 ) -> Result<(), Error>
-    ensures commits { ReadyCommits ready.old ready.new result (prune_by stamp number) }
-    ensures cause { ReadyStops ready.old ready.new result (StopsPrune stamp number) }
+    ensures commits { ReadyCommits ready result (prune_by stamp number) }
+    ensures cause { ReadyStops ready result (StopsPrune stamp number) }
 {
     if !both_fit(stamp, number) {
         return Err(too_large());

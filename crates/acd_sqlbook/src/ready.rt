@@ -1,17 +1,17 @@
 //! A connection that may have failed before. Its store is tried first where it isn't known to work, since a failure may
 //! have shut it.
 
-ghost use Rattle.std.specs.Prelude.{◌≡◌, ◌↔◌, false, None, Some, IsTrue, IfOk, IfErr, OnOk, OnErr};
+ghost use Rattle.std.specs.Prelude.{◌≡◌, ◌↔◌, false, None, Some, IsTrue, IfOk, OnOk, OnErr};
 ghost use Rattle.sqlite.specs.State.{HasCleanDisk};
 ghost use Rattle.sqlite.specs.Held.{state};
 ghost use Rattle.acd_book.specs.Content.{events_page, kept_under, records_page};
 ghost use Rattle.acd_sqlbook.specs.Commit.{KeptFits, counted, counters_of};
-ghost use Rattle.acd_sqlbook.specs.Counters.{StopsWith};
+ghost use Rattle.acd_sqlbook.specs.Counters.{StopsOn};
 ghost use Rattle.acd_sql_columns.specs.Relations.{meta_of};
 ghost use Rattle.acd_sql_columns.specs.Transactions.{Quiet, NoStop, LimitsFit, MetaFits};
 ghost use Rattle.acd_sql_schema.specs.Creation.{IfClean};
 ghost use Rattle.acd_sql_statements.specs.ReadsBetween.{IsUp};
-ghost use Rattle.acd_sqlbook.specs.CommitStops.{IsUncounted, StopsCommit};
+ghost use Rattle.acd_sqlbook.specs.CommitStops.{AreUncounted, IsUncounted, StopsCommit};
 
 use crate::commit::{commit_all, counted, kept_fits};
 use acd_book::Kept;
@@ -64,8 +64,7 @@ fn next_meta(meta: &Meta, changes: &[Change], events: u64, kept: &Kept) -> Resul
     ensures is { IfOk result (λ next. next ≡ counted meta.now changes.now events kept.now) }
     ensures fits { IfOk result (λ next. MetaFits next) }
     ensures kept { OnOk result (KeptFits kept.now) }
-    ensures unfit { IfErr result (λ _.
-        ¬ (MetaFits (counted meta.now changes.now events kept.now) × KeptFits kept.now)) }
+    ensures unfit { OnErr result (AreUncounted meta.now changes.now events kept.now) }
 {
     match counted(meta, changes, events, kept) {
         Some(next) if meta_fits(&next) && kept_fits(kept) => Ok(next),
@@ -93,7 +92,7 @@ impl<S: Alter> Ready<S> {
         ensures up { IsUp (state S.Store self.new.conn) result }
         ensures quiet { Quiet (state S.Store self.old.conn) (state S.Store self.new.conn) }
         ensures stops { IfClean S.Store self.old.conn self.new.conn NoStop }
-        ensures cause { ReadyFails self.old self.new result }
+        ensures cause { ReadyFails self result }
     {
         if self.known_open {
             self.known_open = false;
@@ -104,8 +103,8 @@ impl<S: Alter> Ready<S> {
 
     // The limits and the counters: those that are held or, where none are, those of the database.
     fn meta(&mut self, held: Option<Meta>) -> Result<Meta, Error>
-        ensures read { ReadyCounts self.old self.new held result (λ c. meta_of c.rows) }
-        ensures cause { ReadyFails self.old self.new result }
+        ensures read { ReadyCounts self held result (λ c. meta_of c.rows) }
+        ensures cause { ReadyFails self result }
     {
         self.refresh()?;
         match held {
@@ -116,8 +115,8 @@ impl<S: Alter> Ready<S> {
 
     /// The limits.
     pub(crate) fn limits(&mut self) -> Result<Limits, Error>
-        ensures read { ReadyFinds self.old self.new result (λ c. c.rows.limits) }
-        ensures cause { ReadyFails self.old self.new result }
+        ensures read { ReadyFinds self result (λ c. c.rows.limits) }
+        ensures cause { ReadyFails self result }
     {
         let meta = self.meta(None)?;
         Ok(meta.limits)
@@ -125,8 +124,8 @@ impl<S: Alter> Ready<S> {
 
     /// The limits, the tables and the counters.
     pub(crate) fn rows(&mut self, alloc: Global) -> Result<Rows, Error>
-        ensures read { ReadyFinds self.old self.new result (λ c. c.rows) }
-        ensures cause { ReadyFails self.old self.new result }
+        ensures read { ReadyFinds self result (λ c. c.rows) }
+        ensures cause { ReadyFails self result }
     {
         self.refresh()?;
         rows(alloc, &mut self.conn)
@@ -139,8 +138,8 @@ impl<S: Alter> Ready<S> {
         requester: &Requester,
         invoke: Invoke,
     ) -> Result<Option<Kept>, Error>
-        ensures read { ReadyFinds self.old self.new result (kept_under requester.now invoke) }
-        ensures cause { ReadyFails self.old self.new result }
+        ensures read { ReadyFinds self result (kept_under requester.now invoke) }
+        ensures cause { ReadyFails self result }
     {
         self.refresh()?;
         kept_under(alloc, &mut self.conn, requester, invoke)
@@ -153,8 +152,8 @@ impl<S: Alter> Ready<S> {
         stamp: u64,
         limit: usize,
     ) -> Result<Vec<Kept>, Error>
-        ensures read { ReadyLists self.old self.new result (records_page stamp limit) }
-        ensures cause { ReadyFails self.old self.new result }
+        ensures read { ReadyLists self result (records_page stamp limit) }
+        ensures cause { ReadyFails self result }
     {
         self.refresh()?;
         records_after(alloc, &mut self.conn, stamp, limit)
@@ -167,8 +166,8 @@ impl<S: Alter> Ready<S> {
         number: u64,
         limit: usize,
     ) -> Result<Vec<Event>, Error>
-        ensures read { ReadyLists self.old self.new result (events_page number limit) }
-        ensures cause { ReadyFails self.old self.new result }
+        ensures read { ReadyLists self result (events_page number limit) }
+        ensures cause { ReadyFails self result }
     {
         self.refresh()?;
         events_after(alloc, &mut self.conn, number, limit)
@@ -182,12 +181,11 @@ impl<S: Alter> Ready<S> {
         events: u64,
         kept: &Kept,
     ) -> Result<(u64, Meta), Error>
-        ensures read { ReadyCounts self.old self.new held result
-            (counters_of changes.now events kept.now) }
+        ensures read { ReadyCounts self held result (counters_of changes.now events kept.now) }
         ensures fits { IfOk result (λ found. MetaFits found.1) }
         ensures kept { OnOk result (KeptFits kept.now) }
-        ensures cause { ReadyFailsOr self.old self.new result
-            (StopsWith held (IsUncounted changes.now events kept.now)) }
+        ensures cause { ReadyFailsOr self result
+            (StopsOn held (IsUncounted changes.now events kept.now)) }
     {
         let meta = self.meta(held)?;
         let next = next_meta(&meta, changes, events, kept)?;
@@ -204,13 +202,11 @@ impl<S: Alter> Ready<S> {
         events: &[Event],
         kept: &Kept,
     ) -> Result<(), Error>
-        ensures commits { ReadyCommits self.old self.new result
-            (commit_on counters.old changes.now events.now kept.now) }
-        ensures counted { HoldsCounters self.old self.new result counters.new
-            (commit_on counters.old changes.now events.now kept.now) }
+        ensures commits { ReadyCommits self result (commit_on counters changes events kept) }
+        ensures counted { HoldsCounters self result counters.new
+            (commit_on counters changes events kept) }
         ensures forgotten { OnErr result (counters.new ≡ None) }
-        ensures cause { ReadyStops self.old self.new result
-            (StopsWith counters.old (StopsCommit changes.now events.now kept.now)) }
+        ensures cause { ReadyStops self result (StopsCommit counters changes events kept) }
     {
         let held = counters.take();
         let request = request_text(alloc, &kept.request)?;

@@ -67,8 +67,8 @@ pub(crate) fn index_or_rebuild<S: Alter>(
     ready: &mut Ready<S>,
     recorded: Option<Index>,
 ) -> Result<Option<Index>, Error>
-    ensures read { ReadyReads ready.old ready.new result (KeepsIndex recorded) }
-    ensures cause { ReadyFails ready.old ready.new result }
+    ensures read { ReadyReads ready result (KeepsIndex recorded) }
+    ensures cause { ReadyFails ready result }
 {
     ready.refresh()?;
     match recorded {

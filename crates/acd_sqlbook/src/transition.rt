@@ -47,9 +47,8 @@ fn changes_to<S: Alter>(
     ready: &mut Ready<S>,
     rows: &Rows,
 ) -> Result<Vec<Change>, Error>
-    ensures read { ReadyReads ready.old ready.new result
-        (λ c found. ChangesLeadTo rows.now c found.items) }
-    ensures cause { ReadyFailsOr ready.old ready.new result (Drops rows.now) }
+    ensures read { ReadyReads ready result (λ c found. ChangesLeadTo rows.now c found.items) }
+    ensures cause { ReadyFailsOr ready result (Drops rows.now) }
 {
     let held = ready.rows(alloc)?;
     whole_changes(alloc, &held, rows)
@@ -88,10 +87,8 @@ pub(crate) fn commit_rows<S: Alter>(
     events: &[Event],
     kept: &Kept,
 ) -> Result<(), Error>
-    ensures commits { ReadyCommits ready.old ready.new result
-        (commit_of rows.now events.now kept.now) }
-    ensures cause { ReadyStops ready.old ready.new result
-        (StopsReplace rows.now events.now kept.now) }
+    ensures commits { ReadyCommits ready result (commit_of rows.now events.now kept.now) }
+    ensures cause { ReadyStops ready result (StopsReplace rows.now events.now kept.now) }
 {
     let request = request_text(alloc, &kept.request)?;
     let meta = meta_of(rows, kept)?;

@@ -5,8 +5,8 @@ use Rattle.sqlite.specs.declared.error.ErrorCode.TheVariants.{OutOfMemory}
 use Rattle.acd_sql_columns.specs.declared.meta.Meta.{Meta}
 use Rattle.acd_sqlbook.specs.Calls.{HasReplaced}
 use Rattle.acd_sqlbook.specs.Commit.{written_by}
-use Rattle.acd_sqlbook.specs.Counters.{AreCounters, StopsWith}
-use Rattle.acd_sqlbook.specs.CommitStops.{IsCausedByReadOr, StopsCommit}
+use Rattle.acd_sqlbook.specs.Counters.{AreCounters, StopsOn}
+use Rattle.acd_sqlbook.specs.CommitStops.{IsCausedByReadOr, StopsCounted}
 use Rattle.acd_sqlbook.proofs.CommitCauses.{no_request, commit_uncounted, commit_undone}
 use Rattle.acd_sqlbook.proofs.AfterProbe.{Counts, replaces_none, replaces_unasked, commits_counted, holds_counted}
 use Rattle.acd_sqlbook.proofs.ready.Ready.commit_changes.Goals as goal
@@ -44,7 +44,7 @@ returns-in-Ok-clause-counted g c clean x holds of =
 
 pub returns-in_err-request-clause-cause : goal.returns-in_err-request-clause-cause
 returns-in_err-request-clause-cause g c =
-    no_request (StopsWith c.args.counters.now (StopsCommit c.args.changes.now c.args.events.now c.args.kept.now)) (state g.S.Store c.args.self.now.conn)
+    no_request (StopsOn c.args.counters.now (StopsCounted c.args.changes.now c.args.events.now c.args.kept.now)) (state g.S.Store c.args.self.now.conn)
     (SqliteFailure OutOfMemory) c.from_residual.result (search rules) refl
 
 pub returns-clause-cause : goal.returns-clause-cause
@@ -53,7 +53,7 @@ returns-clause-cause g c =
     let new = state g.S.Store c.counters.new.self.conn in
     let taken : c.take-held.result ≡ c.args.counters.now = search rules in
     subst
-    (λ (o : Option Meta). IsCausedByReadOr {A = Unit {0}} (StopsWith o (StopsCommit c.args.changes.now c.args.events.now c.args.kept.now)) old new
+    (λ (o : Option Meta). IsCausedByReadOr {A = Unit {0}} (StopsOn o (StopsCounted c.args.changes.now c.args.events.now c.args.kept.now)) old new
     (Err c.in-Err.error))
     taken
     (commit_uncounted c.take-held.result c.args.changes.now c.args.events.now c.args.kept.now old new c.in-Err.error c.in-Err.ensures.cause)
@@ -64,7 +64,7 @@ returns-in-Ok-clause-cause g c =
     let new = state g.S.Store c.commit_all-done.new.conn in
     let taken : c.take-held.result ≡ c.args.counters.now = search rules in
     subst
-    (λ (o : Option Meta). IsCausedByReadOr (StopsWith o (StopsCommit c.args.changes.now c.args.events.now c.args.kept.now)) old new
+    (λ (o : Option Meta). IsCausedByReadOr (StopsOn o (StopsCounted c.args.changes.now c.args.events.now c.args.kept.now)) old new
     c.commit_all-done.result)
     taken
     (commit_undone c.take-held.result c.args.changes.now c.args.events.now c.args.kept.now old (state g.S.Store c.counters.new.self.conn) new
