@@ -1,5 +1,5 @@
 -- The steps from one list of records to another, both in ascending key.
-use Rattle.std.specs.Prelude.{◌≡◌, ◌↔◌, Bool, true, false, List, [], ◌∷◌, ◌++◌, ◌+◌, ◌<◌, length, map, option_to_list, Option, Vec, if◌then◌else◌}
+use Rattle.std.specs.Prelude.{◌≡◌, ◌↔◌, Bool, true, false, List, [], ◌∷◌, ◌++◌, ◌+◌, ◌<◌, length, map, option_to_list, Option, None, Some, Vec, if◌then◌else◌}
 use Rattle.std.specs.Borrow.{Bor}
 use Rattle.std.specs.declared.alloc.Global.{Global}
 use Rattle.std.specs.declared.cmp.Ordering.{Ordering}
@@ -78,8 +78,8 @@ pub record Comparing (T : Type 0) : Type 0 where
   pub changes : Changes T
 
 -- ordered by the key
-abbrev pub keyed_steps : {T K : Type 0} → (T → K) → (K → K → Ordering) → (T → T → Bool) → Changes T → Comparing T
-keyed_steps key_of cmp same changes = record { order = λ x y. cmp (key_of x) (key_of y); same = same; changes = changes }
+abbrev pub keyed : {T K : Type 0} → (T → K) → (K → K → Ordering) → (T → T → Bool) → Changes T → Comparing T
+keyed key_of cmp same changes = record { order = λ x y. cmp (key_of x) (key_of y); same = same; changes = changes }
 
 -- the changes of one list to the other
 abbrev pub differences_of : {T : Type 0} → Comparing T → List T → List T → List Change
@@ -94,9 +94,10 @@ AreDifferences c held new changes =
 abbrev pub Turn : Type 0 → Type 0
 Turn T = Option Change × Bor (List T) × Bor (List T)
 
--- the changes are that one and those of what is left
-abbrev pub IsTurn : {T : Type 0} → Comparing T → List T → List T → Turn T → Type 0
-IsTurn c held new t = differences_of c held new ≡ option_to_list t.0 ++ differences_of c t.1.now t.2.now
+-- the changes are that one and those of what is left; without a turn there are none
+abbrev pub IsTurn : {T : Type 0} → Comparing T → List T → List T → Option (Turn T) → Type 0
+IsTurn c held new None = differences_of c held new ≡ []
+IsTurn c held new (Some t) = differences_of c held new ≡ option_to_list t.0 ++ differences_of c t.1.now t.2.now
 
 -- less is left of both lists
 abbrev pub IsShorter : {T : Type 0} → List T → List T → Turn T → Type 0

@@ -1,5 +1,6 @@
 -- The changes from the tables of one state to those of another.
 use Rattle.std.specs.Prelude.{◌≡◌, ◌↔◌, ◌++◌, Bool, List, Vec}
+use Rattle.std.specs.Borrow.{MutBor}
 use Rattle.std.specs.declared.alloc.Global.{Global}
 use Rattle.std.specs.declared.cmp.Ordering.{Ordering}
 use Rattle.acd_terms.specs.Lists.{Every}
@@ -10,6 +11,7 @@ use Rattle.acd_model.specs.declared.moves.Change.{Change}
 use Rattle.acd_model.specs.declared.moves.Change.TheVariants.{Nothing}
 use Rattle.acd_lemmas.specs.Orders.{Orders}
 use Rattle.acd_sql_differences.specs.DifferenceSteps.{IsNoKey, LeadTo, differences, Comparing}
+use denote.Triple.Both.{Both}
 
 -- the lists of one are those of the other; the limits and the counters are not asked for
 pub record HasTables (s t : Rows) : Type 0 where
@@ -47,5 +49,6 @@ abbrev pub AddsSteps : {T : Type 0} → (T → T → Ordering) → (T → T → 
 AddsSteps cmp same off on held new old now = (now ≡ old ++ differences cmp same off on held new) × LeadTo cmp same off on held new (differences cmp same off on held new)
 
 -- the same of a table's
-abbrev pub AddsDifferences : {T : Type 0} → Comparing T → List T → List T → Vec Change Global → Vec Change Global → Type 0
-AddsDifferences c held new old now = AddsSteps c.order c.same c.changes.gone c.changes.put held new old.items now.items
+abbrev pub AddsDifferences : {T : Type 0} → Comparing T → List T → List T → Both (MutBor (Vec Change Global)) (MutBor (Vec Change Global)) → Type 0
+AddsDifferences c held new added =
+    AddsSteps c.order c.same c.changes.gone c.changes.put held new added.entry.now.items added.exit.now.items

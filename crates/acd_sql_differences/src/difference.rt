@@ -1,7 +1,7 @@
 //! The changes from the records that are held to new ones.
 
-ghost use Rattle.std.specs.Prelude.{◌≡◌, ◌++◌, [], None, option_to_list, IfSome, IfOk, OnOk};
-ghost use Rattle.acd_sql_differences.specs.DifferenceSteps.{differences_of, keyed_steps, AreDifferences, Changes, IsShorter, IsTurn};
+ghost use Rattle.std.specs.Prelude.{◌≡◌, ◌++◌, option_to_list, IfSome, IfOk, OnOk};
+ghost use Rattle.acd_sql_differences.specs.DifferenceSteps.{keyed, AreDifferences, Changes, IsShorter, IsTurn};
 ghost use Rattle.acd_sql_differences.specs.ChangeOrder.{agent_changes, call_changes, connection_changes, group_changes, monitor_changes, station_changes};
 
 use acd_model::Change;
@@ -100,11 +100,8 @@ fn turn<'a, R: TableRecord>(
     held: &'a [R],
     new: &'a [R],
 ) -> Option<(Option<Change>, &'a [R], &'a [R])>
-    ensures leads { IfSome result
-        (IsTurn (keyed_steps R.key_of R.Key.cmp R.eq R.changes) held.now new.now) }
+    ensures leads { IsTurn (keyed R.key_of R.Key.cmp R.eq R.changes) held.now new.now result }
     ensures shorter { IfSome result (IsShorter held.now new.now) }
-    ensures ends { result ≡ None
-        → differences_of (keyed_steps R.key_of R.Key.cmp R.eq R.changes) held.now new.now ≡ [] }
 {
     match (held.split_first(), new.split_first()) {
         (None, None) => None,
@@ -139,7 +136,7 @@ pub fn row_changes<R: TableRecord>(
     new: &[R],
 ) -> Result<Vec<Change>, AllocError>
     ensures { IfOk result
-        (AreDifferences (keyed_steps R.key_of R.Key.cmp R.eq R.changes) held.now new.now) }
+        (AreDifferences (keyed R.key_of R.Key.cmp R.eq R.changes) held.now new.now) }
 {
     let mut changes = Vec::new(alloc);
     let mut left = held;

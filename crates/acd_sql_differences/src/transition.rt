@@ -4,7 +4,7 @@
 ghost use Rattle.std.specs.Prelude.{◌≡◌, ◌↔◌, ◌++◌, filter, map, IfOk, OnOk, IsTrue};
 ghost use Rattle.acd_sql_differences.specs.ChangeOrder.{shared_station, agent_station, unseated, stays, plan_differences, traffic_differences, rows_differences};
 ghost use Rattle.acd_sql_differences.specs.Transition.{with_plan, AddsDifferences, AreWhole, AreWholeIfKept, Lead};
-ghost use Rattle.acd_sql_differences.specs.DifferenceSteps.{keyed_steps};
+ghost use Rattle.acd_sql_differences.specs.DifferenceSteps.{keyed};
 
 use crate::difference::{TableRecord, row_changes};
 use acd_model::Change;
@@ -25,8 +25,8 @@ fn add_changes<R: TableRecord>(
     held: &[R],
     new: &[R],
 ) -> Result<(), AllocError>
-    ensures { OnOk result (AddsDifferences (keyed_steps R.key_of R.Key.cmp R.eq R.changes)
-        held.now new.now changes.old changes.new) }
+    ensures { OnOk result
+        (AddsDifferences (keyed R.key_of R.Key.cmp R.eq R.changes) held.now new.now changes) }
 {
     let more = row_changes(alloc, held, new)?;
     extend(changes, &more)
