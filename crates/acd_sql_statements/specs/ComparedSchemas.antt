@@ -1,5 +1,5 @@
 -- Which schemas are compared: those with nothing that no table of a book has.
-use Rattle.std.specs.Prelude.{◌≡◌, ◌≢◌, ◌&&◌, ℕ, ◌-◌, Bool, true, false, List, [], ◌∷◌, Option, None, Some}
+use Rattle.std.specs.Prelude.{◌≡◌, ◌≢◌, ◌&&◌, ℕ, ◌-◌, Bool, true, false, List, [], ◌∷◌, Option, None, Some, IsTrue}
 use Rattle.std.specs.List.{list_all}
 use Rattle.sqlite_value.specs.declared.value.Value.{Value}
 use Rattle.sqlite_value.specs.declared.value.Value.TheVariants.{Null, Int}
@@ -57,6 +57,10 @@ is_plain_schema s = list_all is_plain_table s.tables && is_empty s.views
 abbrev pub is_plain_first : List Table → Bool
 is_plain_first [] = false
 is_plain_first (t ∷ ts) = is_plain_table t
+
+-- where the second is such a one, it says of the same ones that they are the same
+abbrev pub Tells : {T : Type 0} → (T → Bool) → T → T → Bool → Type 0
+Tells is_plain one other says = IsTrue (is_plain other) → one ≡ other → IsTrue says
 
 -- ---- terms by their nodes
 

@@ -1,6 +1,8 @@
 -- Several events put by one statement, four at most.
-use Rattle.std.specs.Prelude.{ℕ, ◌==◌, ◌++◌, List, [], ◌∷◌, Option, cond, length}
+use Rattle.std.specs.Prelude.{ℕ, ◌==◌, ◌++◌, List, [], ◌∷◌, Option, cond, length, take}
 use Rattle.sqlite_value.specs.Order.{Row}
+use Rattle.sqlite_value.specs.declared.value.ValueRef.{ValueRef}
+use Rattle.sqlite.specs.Values.{bound}
 use Rattle.acd_terms.specs.declared.event.Event.{Event}
 use Rattle.acd_sql_columns.specs.Relations.{Relations}
 use Rattle.acd_sql_columns.specs.Tables.{events}
@@ -8,6 +10,10 @@ use Rattle.acd_sql_columns.specs.declared.texts.TheConstants.{INSERT_EVENT}
 use Rattle.acd_sql_statements.specs.WriteRefusals.{RefusesOn}
 use Rattle.acd_sql_statements.specs.StatementEffects.{Writing, with_put}
 use Rattle.acd_sql_statements.specs.declared.several.TheConstants.{INSERT_TWO_EVENTS, INSERT_THREE_EVENTS, INSERT_FOUR_EVENTS}
+
+-- the first so many of these values, as they are bound
+abbrev pub bound_to : ℕ → List ValueRef → Row
+bound_to n values = bound (take n values)
 
 -- the values of each, one after the other
 abbrev pub several_values : List Event → Row

@@ -5,7 +5,7 @@ ghost use Rattle.std.specs.List.{list_all};
 ghost use Rattle.sqlite_sql.specs.Term.{Term};
 ghost use Rattle.sqlite_schema.specs.Code.{op_term, term_to, terms_in};
 ghost use Rattle.acd_sql_columns.specs.AnyRows.{AreSameFirst};
-ghost use Rattle.acd_sql_statements.specs.ComparedSchemas.{is_plain_value, is_plain_term, are_plain_terms, is_plain_column, is_plain_reference, is_plain_stamps, is_plain_table, is_plain_schema, is_plain_first, leaf_value, leaf_of, IsBinaryAt};
+ghost use Rattle.acd_sql_statements.specs.ComparedSchemas.{is_plain_value, is_plain_term, are_plain_terms, is_plain_column, is_plain_reference, is_plain_stamps, is_plain_table, is_plain_schema, is_plain_first, leaf_value, leaf_of, IsBinaryAt, Tells};
 
 use sqlite_items::Items;
 use sqlite_schema::code::{Op, Terms};
@@ -21,12 +21,12 @@ trait Same {
 
     fn is_same(&self, other: &Self) -> bool
         ensures same { IsTrue result → self.now ≡ other.now }
-        ensures back { IsTrue (is_plain other.now) → self.now ≡ other.now → IsTrue result };
+        ensures back { Tells is_plain self.now other.now result };
 }
 
 fn are_same<T: Same>(a: &[T], b: &[T]) -> bool
     ensures same { IsTrue result → a.now ≡ b.now }
-    ensures back { IsTrue (list_all T.is_plain b.now) → a.now ≡ b.now → IsTrue result }
+    ensures back { Tells (list_all T.is_plain) a.now b.now result }
 {
     if a.len() != b.len() {
         return false;
@@ -41,7 +41,7 @@ fn are_same<T: Same>(a: &[T], b: &[T]) -> bool
 
 fn is_same_value(a: &Value, b: &Value) -> bool
     ensures same { IsTrue result → a.now ≡ b.now }
-    ensures back { IsTrue (is_plain_value b.now) → a.now ≡ b.now → IsTrue result }
+    ensures back { Tells is_plain_value a.now b.now result }
 {
     match (a, b) {
         (Value::Null, Value::Null) => true,
@@ -107,8 +107,8 @@ fn binary_at(ops: &[Op], depth: usize, at: usize) -> Option<(BinaryOp, (usize, u
 // Whether two terms are the same, each read to a depth.
 fn is_same_term(a: &[Op], depth: usize, at: usize, b: &[Op], other: usize, there: usize) -> bool
     ensures same { IsTrue result → term_to a.now depth at ≡ term_to b.now other there }
-    ensures back { IsTrue (is_plain_term (term_to b.now other there))
-        → term_to a.now depth at ≡ term_to b.now other there → IsTrue result }
+    ensures back { Tells is_plain_term (term_to a.now depth at)
+        (term_to b.now other there) result }
 {
     let leaf = leaf_at(b, other, there);
     if leaf.is_some() {
@@ -129,8 +129,8 @@ fn is_same_term(a: &[Op], depth: usize, at: usize, b: &[Op], other: usize, there
 
 fn are_same_roots(a: &[Op], roots: &[usize], b: &[Op], others: &[usize]) -> bool
     ensures same { IsTrue result → terms_in a.now roots.now ≡ terms_in b.now others.now }
-    ensures back { IsTrue (are_plain_terms (terms_in b.now others.now))
-        → terms_in a.now roots.now ≡ terms_in b.now others.now → IsTrue result }
+    ensures back { Tells are_plain_terms (terms_in a.now roots.now)
+        (terms_in b.now others.now) result }
 {
     if roots.len() != others.len() {
         return false;
@@ -217,7 +217,7 @@ fn are_same_rules(a: &Table, b: &Table) -> bool
     ensures orders { IsTrue result → a.now.orders ≡ b.now.orders }
     ensures checks { IsTrue result → a.now.checks ≡ b.now.checks }
     ensures references { IsTrue result → a.now.references ≡ b.now.references }
-    ensures back { IsTrue (is_plain_table b.now) → a.now ≡ b.now → IsTrue result }
+    ensures back { Tells is_plain_table a.now b.now result }
 {
     if !are_same(a.uniques.as_slice(), b.uniques.as_slice()) {
         return false;
@@ -238,7 +238,7 @@ fn are_same_columns(a: &Table, b: &Table) -> bool
     ensures columns { IsTrue result → a.now.columns ≡ b.now.columns }
     ensures key { IsTrue result → a.now.key ≡ b.now.key }
     ensures computed { IsTrue result → a.now.computed ≡ b.now.computed }
-    ensures back { IsTrue (is_plain_table b.now) → a.now ≡ b.now → IsTrue result }
+    ensures back { Tells is_plain_table a.now b.now result }
 {
     a.name.as_slice() == b.name.as_slice()
         && a.tree == b.tree
@@ -275,7 +275,7 @@ impl Same for Index {
 /// Whether the tables and their indexes are the same, and neither has a view.
 pub fn is_same_schema(a: &Schema, b: &Schema) -> bool
     ensures same { IsTrue result → a.now ≡ b.now }
-    ensures back { IsTrue (is_plain_schema b.now) → a.now ≡ b.now → IsTrue result }
+    ensures back { Tells is_plain_schema a.now b.now result }
 {
     if !are_same(a.tables.as_slice(), b.tables.as_slice()) {
         return false;

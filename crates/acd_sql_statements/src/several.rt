@@ -1,11 +1,10 @@
 //! Several events put by one statement.
 
-ghost use Rattle.std.specs.Prelude.{◌≡◌, ◌≢◌, ◌≤◌, ◌+◌, ◌*◌, ◌++◌, [], length, take};
-ghost use Rattle.sqlite.specs.Values.{bound};
+ghost use Rattle.std.specs.Prelude.{◌≡◌, ◌≢◌, ◌≤◌, ◌+◌, ◌*◌, ◌++◌, [], length};
 ghost use Rattle.acd_terms.specs.Lists.{Every};
 ghost use Rattle.acd_sql_columns.specs.Tables.{events};
 ghost use Rattle.acd_sql_statements.specs.InTransaction.{WritesRow};
-ghost use Rattle.acd_sql_statements.specs.SeveralEvents.{inserting_events, several_values, several_text};
+ghost use Rattle.acd_sql_statements.specs.SeveralEvents.{bound_to, inserting_events, several_values, several_text};
 
 use crate::write::write;
 use acd_sql_columns::encode::event_values;
@@ -61,8 +60,8 @@ fn fill(values: &mut [ValueRef<'static>], at: usize, event: &Event) -> usize
     requires room { at + 10 ≤ length values.old }
     ensures end { result ≡ at + 10 }
     ensures length { length values.new ≡ length values.old }
-    ensures filled { bound (take result values.new)
-        ≡ bound (take at values.old) ++ events.values event.now }
+    ensures filled { bound_to result values.new
+        ≡ bound_to at values.old ++ events.values event.now }
 {
     let end = at + COLUMNS;
     values[at..end].copy_from_slice(&event_values(event));
@@ -73,7 +72,7 @@ fn fill(values: &mut [ValueRef<'static>], at: usize, event: &Event) -> usize
 fn several_values(items: &[Event]) -> [ValueRef<'static>; MOST * COLUMNS]
     requires fits { Every events.Fits items.now }
     requires few { length items.now ≤ 4 }
-    ensures { bound (take (length items.now * 10) result) ≡ several_values items.now }
+    ensures { bound_to (length items.now * 10) result ≡ several_values items.now }
 {
     let mut values = [ValueRef::Null; MOST * COLUMNS];
     let mut end = 0;
