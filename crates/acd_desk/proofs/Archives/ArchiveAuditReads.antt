@@ -1,20 +1,19 @@
 -- An audit of a desk with an archive: the desk's answer.
-use Rattle.std.proofs.Common.{◌≡◌, Bool, true, false, Option, None, Result, Ok, Err, IfOk, sym, subst, ◌∙◌, inl, inr, true≢false, refl}
+use Rattle.std.proofs.Common.{◌≡◌, false, Ok, Err, sym, subst, ◌∙◌, inl, inr, true≢false, refl}
 use Rattle.acd_book.specs.Content.{Content, IsCounted}
-use Rattle.acd_book.specs.State.{BookState, IfHonest}
+use Rattle.acd_book.specs.State.{BookState}
 use Rattle.acd_book.specs.declared.fault.BookFault.{BookFault}
 use Rattle.acd_book.specs.declared.fault.BookFault.TheVariants as faults
 use Rattle.acd_book.proofs.BookSteps.{step_so}
 use Rattle.acd_desk.specs.declared.audit.ArchiveAudit.{ArchiveAudit}
-use Rattle.acd_desk.specs.declared.fault.DeskFault.{DeskFault}
-use Rattle.acd_desk.specs.declared.fault.DeskFault.TheVariants.{NoMemory, StoreFault}
+use Rattle.acd_desk.specs.declared.fault.DeskFault.TheVariants.{NoMemory}
 use Rattle.acd_desk.specs.declared.working.Working.{Working}
 use Rattle.acd_desk.specs.declared.pair.PairFault.{PairFault}
 use Rattle.acd_desk.specs.declared.pair.PairFault.TheVariants as pair
 use Rattle.acd_desk.specs.ArchiveAudits.{desk_part, archive_part, audit_fault, left_by_pair, IsAuditedWith}
 use Rattle.acd_desk.specs.Pairs.{ReadsBoth}
 use Rattle.acd_desk.specs.Faults.{fault_of, left_by}
-use Rattle.acd_desk.specs.DeskState.{DeskState, InStep, switch_of, is_failed, Mirrors}
+use Rattle.acd_desk.specs.DeskState.{switch_of, is_failed, Mirrors}
 use Rattle.acd_desk.specs.DeskReads.{ReadDone}
 use Rattle.acd_desk.specs.ReplayWith.{AuditsInOrder}
 use Rattle.acd_book.specs.BookReads.{Anything, ReadsIfOpen}
@@ -23,7 +22,8 @@ use Rattle.acd_desk.proofs.Pages.ReadsDone.{stands, without_memory, store_failed
 use Rattle.acd_terms.proofs.Results.{ok_err, same_error}
 
 -- the audit found it
-pub read_found : {T : Type 0} (b d : BookState) (w : Working) (x : T) → ReadsIfOpen {A = T} b d (Ok x) Anything → is_failed w ≡ false → ReadDone {A = T} (stands b w) (stands d w) (Ok x) Anything
+pub read_found : {T : Type 0} (b d : BookState) (w : Working) (x : T) → ReadsIfOpen {A = T} b d (Ok x) Anything → is_failed w ≡ false
+    → ReadDone {A = T} (stands b w) (stands d w) (Ok x) Anything
 read_found b d w x read working = record {
   step = step_so read.step (λ is. absurd (ok_err is));
   unchanged = read.unchanged;
@@ -37,21 +37,26 @@ read_found b d w x read working = record {
 }
 
 -- the book answered nothing
-pub read_failed : {T S : Type 0} (b d : BookState) (w : Working) (f : BookFault) → ReadsIfOpen {A = T} b d (Err f) Anything → is_failed w ≡ false → ReadDone {A = S} (stands b w) (stands d (left_by f w)) (Err (fault_of f)) Anything
-read_failed {S = S} b d w faults.NoMemory read working = without_memory b d w (Anything {T = S}) read.step read.unchanged (λ h. (let same = same_error h in absurd cc)) working
+pub read_failed : {T S : Type 0} (b d : BookState) (w : Working) (f : BookFault) → ReadsIfOpen {A = T} b d (Err f) Anything → is_failed w ≡ false
+    → ReadDone {A = S} (stands b w) (stands d (left_by f w)) (Err (fault_of f)) Anything
+read_failed {S = S} b d w faults.NoMemory read working =
+    without_memory b d w (Anything {T = S}) read.step read.unchanged (λ h. (let same = same_error h in absurd cc)) working
 read_failed {S = S} b d w faults.Store read working = store_failed b d w (Anything {T = S}) read.step read.unchanged (inl (inr (read.cause refl)))
 
 -- the archive answered nothing
-pub other_failed : {T S : Type 0} (b d : BookState) (w : Working) → ReadsIfOpen {A = T} b d (Err faults.NoMemory) Anything → is_failed w ≡ false → ReadDone {A = S} (stands b w) (stands d w) (Err NoMemory) Anything
+pub other_failed : {T S : Type 0} (b d : BookState) (w : Working) → ReadsIfOpen {A = T} b d (Err faults.NoMemory) Anything → is_failed w ≡ false
+    → ReadDone {A = S} (stands b w) (stands d w) (Err NoMemory) Anything
 other_failed {S = S} b d w read working = without_memory b d w (Anything {T = S}) read.step read.unchanged (λ h. (let same = same_error h in absurd cc)) working
 
 -- neither answered anything: the consequence for the desk, and for the archive
-pub both_failed : (a e b d : BookState) (w : Working) (f : PairFault) (P : Content → Content → ArchiveAudit → Type 0) → ReadsBoth a e b d (Err f) P → is_failed w ≡ false
+pub both_failed : (a e b d : BookState) (w : Working) (f : PairFault) (P : Content → Content → ArchiveAudit → Type 0) → ReadsBoth a e b d (Err f) P
+    → is_failed w ≡ false
     → ReadDone {A = ArchiveAudit} (stands b w) (stands d (left_by_pair f w)) (desk_part (Err (audit_fault f))) Anything
 both_failed a e b d w (pair.Current f) P read working = read_failed {T = ArchiveAudit} b d w f read.current working
 both_failed a e b d w (pair.Archive f) P read working = other_failed {T = ArchiveAudit} b d w read.current working
 
-pub archive_neither : (a e b d : BookState) (f : PairFault) (P : Content → Content → ArchiveAudit → Type 0) → ReadsBoth a e b d (Err f) P → ReadsIfOpen {A = ArchiveAudit} a e (archive_part (Err (audit_fault f))) Anything
+pub archive_neither : (a e b d : BookState) (f : PairFault) (P : Content → Content → ArchiveAudit → Type 0) → ReadsBoth a e b d (Err f) P
+    → ReadsIfOpen {A = ArchiveAudit} a e (archive_part (Err (audit_fault f))) Anything
 archive_neither a e b d (pair.Current f) P read = read.archive
 archive_neither a e b d (pair.Archive f) P read = read.archive
 

@@ -30,13 +30,17 @@ kept_whole a left carried cut = ap (λ (x : Content). x.kept) cut.whole
 pub events_whole : (a : Content) (left : Archive) (carried : Content) → IsCut a left carried → a.events ≡ left.events ++ carried.events
 events_whole a left carried cut = ap (λ (x : Content). x.events) cut.whole
 
-pub carried_low : (a : Content) (left : Archive) (carried : Content) → IsCut a left carried → IsCounted a → Every (λ (k : Kept). k.stamp ≤ a.rows.last_stamp) carried.kept
+pub carried_low : (a : Content) (left : Archive) (carried : Content) → IsCut a left carried → IsCounted a
+    → Every (λ (k : Kept). k.stamp ≤ a.rows.last_stamp) carried.kept
 carried_low a left carried cut counted =
-    every_back (λ (k : Kept). k.stamp ≤ a.rows.last_stamp) left.kept carried.kept (subst (Every (λ (k : Kept). k.stamp ≤ a.rows.last_stamp)) (kept_whole a left carried cut) counted.kept)
+    every_back (λ (k : Kept). k.stamp ≤ a.rows.last_stamp) left.kept carried.kept
+    (subst (Every (λ (k : Kept). k.stamp ≤ a.rows.last_stamp)) (kept_whole a left carried cut) counted.kept)
 
-pub carried_events_low : (a : Content) (left : Archive) (carried : Content) → IsCut a left carried → IsCounted a → Every (λ (e : Event). e.number ≤ a.rows.last_event) carried.events
+pub carried_events_low : (a : Content) (left : Archive) (carried : Content) → IsCut a left carried → IsCounted a
+    → Every (λ (e : Event). e.number ≤ a.rows.last_event) carried.events
 carried_events_low a left carried cut counted =
-    every_back (λ (e : Event). e.number ≤ a.rows.last_event) left.events carried.events (subst (Every (λ (e : Event). e.number ≤ a.rows.last_event)) (events_whole a left carried cut) counted.events)
+    every_back (λ (e : Event). e.number ≤ a.rows.last_event) left.events carried.events
+    (subst (Every (λ (e : Event). e.number ≤ a.rows.last_event)) (events_whole a left carried cut) counted.events)
 
 pub carried_rows : (a : Content) (left : Archive) (carried : Content) → IsCut a left carried → carried.rows ≡ a.rows
 carried_rows a left carried cut = sym (ap (λ (x : Content). x.rows) cut.whole)
@@ -52,7 +56,8 @@ carried_counted a left carried cut counted =
 -- the rest behind the same front
 same_rest : (p : Archive) (c d : Content) → together p c ≡ together p d → c ≡ d
 same_rest p c d is =
-    same_content c d (ap (λ (x : Content). x.rows) is) (append_cancel_left p.events c.events d.events (ap (λ (x : Content). x.events) is)) (append_cancel_left p.kept c.kept d.kept (ap (λ (x : Content). x.kept) is))
+    same_content c d (ap (λ (x : Content). x.rows) is) (append_cancel_left p.events c.events d.events (ap (λ (x : Content). x.events) is))
+    (append_cancel_left p.kept c.kept d.kept (ap (λ (x : Content). x.kept) is))
 
 -- ---- a content that is led from the carried part ----
 
@@ -65,9 +70,11 @@ pub record Newer (a c : Content) (goes : IsLedFrom a c) : Type 0 where
 
 pub led_newer : (a c : Content) (goes : IsLedFrom a c) → Newer a c goes
 led_newer a c goes =
-    let grown : Grows goes.carried (led goes.carried (arrivals_of goes.newer)) (length (arrivals_of goes.newer)) = led_grows goes.carried (arrivals_of goes.newer) in
+    let grown : Grows goes.carried (led goes.carried (arrivals_of goes.newer)) (length (arrivals_of goes.newer))
+    = led_grows goes.carried (arrivals_of goes.newer) in
     let rows : goes.carried.rows ≡ a.rows = carried_rows a goes.left goes.carried goes.cut in
-    let more : grown.more ≡ goes.newer = append_cancel_left goes.carried.kept grown.more goes.newer (sym grown.kept ∙ sym (ap (λ (x : Content). x.kept) goes.made) ∙ goes.kept) in
+    let more : grown.more ≡ goes.newer
+    = append_cancel_left goes.carried.kept grown.more goes.newer (sym grown.kept ∙ sym (ap (λ (x : Content). x.kept) goes.made) ∙ goes.kept) in
     record {
       reported = grown.reported;
       events = ap (λ (x : Content). x.events) goes.made ∙ grown.events;
@@ -95,14 +102,16 @@ all_made c d newer made kept = all_new c (arrivals_of newer) newer (sym (ap (λ 
 
 new_front : (xs ys : List Kept) (list : List Arrival) → AreNewTo (xs ++ ys) list → AreNewTo xs list
 new_front xs ys list new =
-    every_each (λ (a : Arrival). kept_of (xs ++ ys) a.request.requester a.request.invoke ≡ None) (λ (a : Arrival). kept_of xs a.request.requester a.request.invoke ≡ None) list
+    every_each (λ (a : Arrival). kept_of (xs ++ ys) a.request.requester a.request.invoke ≡ None)
+    (λ (a : Arrival). kept_of xs a.request.requester a.request.invoke ≡ None) list
     (λ a none. none_front xs ys a.request.requester a.request.invoke none) new
 
 -- no newer request has a key of the archive
 pub none_sent_again : (a c : Content) (goes : IsSoundWith a c) → AreNewTo a.kept (arrivals_of goes.newer)
 none_sent_again a c goes =
     all_made a (together goes.left c) goes.newer goes.made
-    (ap (λ (l : List Kept). goes.left.kept ++ l) goes.kept ∙ sym (append_assoc goes.left.kept goes.carried.kept goes.newer) ∙ ap (λ (l : List Kept). l ++ goes.newer) (sym (kept_whole a goes.left goes.carried goes.cut)))
+    (ap (λ (l : List Kept). goes.left.kept ++ l) goes.kept ∙ sym (append_assoc goes.left.kept goes.carried.kept goes.newer)
+    ∙ ap (λ (l : List Kept). l ++ goes.newer) (sym (kept_whole a goes.left goes.carried goes.cut)))
 
 none_left_again : (a c : Content) (goes : IsSoundWith a c) → NoneSentAgain goes.left (arrivals_of goes.newer)
 none_left_again a c goes =
@@ -115,7 +124,7 @@ sound_made a c goes =
     same_rest goes.left c (led goes.carried list)
     (goes.made ∙ ap (λ (x : Content). led x list) goes.cut.whole ∙ sym (goes_on goes.left goes.carried list (none_left_again a c goes)).content)
 
-pub sound_is_led : (a c : Content) → IsSoundWith a c → IsLedFrom a c
+abbrev pub sound_is_led : (a c : Content) → IsSoundWith a c → IsLedFrom a c
 sound_is_led a c goes = record { left = goes.left; carried = goes.carried; cut = goes.cut; newer = goes.newer; kept = goes.kept; made = sound_made a c goes }
 
 pub led_is_sound : (a c : Content) (goes : IsLedFrom a c) → NoneSentAgain goes.left (arrivals_of goes.newer) → IsSoundWith a c
@@ -140,7 +149,9 @@ none_is (Some k) h = absurd (true≢false h)
 pub first_none : (p : Archive) (newer : List Kept) → first_sent_again p newer ≡ None → NoneSentAgain p (arrivals_of newer)
 first_none p [] none = tt
 first_none p (k ∷ newer) none =
-    let P : Bool → Type 0 = λ b. is_some (kept_of p.kept k.request.requester k.request.invoke) ≡ b → cond b (Some k) (first_sent_again p newer) ≡ None → NoneSentAgain p (arrivals_of (k ∷ newer)) in
+    let P : Bool → Type 0
+    = λ b. is_some (kept_of p.kept k.request.requester k.request.invoke) ≡ b → cond b (Some k) (first_sent_again p newer) ≡ None
+    → NoneSentAgain p (arrivals_of (k ∷ newer)) in
     (elim (is_some (kept_of p.kept k.request.requester k.request.invoke)) as P [
       | true ↦ λ is same. absurd cc
       | false ↦ λ is same. (none_is (kept_of p.kept k.request.requester k.request.invoke) is, first_none p newer same)
@@ -152,11 +163,13 @@ none_first p (k ∷ newer) new =
     ap₂ (λ (o f : Option Kept). cond (is_some o) (Some k) f) new.0 (none_first p newer new.1)
 
 -- a content where there is one isn't sound with its archive
-pub sent_again_unsound : (a c : Content) (goes : IsLedFrom a c) (n : ℕ) → IsCounted a → option_map stamp_of (first_sent_again goes.left goes.newer) ≡ Some n → ¬ IsSoundWith a c
+pub sent_again_unsound : (a c : Content) (goes : IsLedFrom a c) (n : ℕ) → IsCounted a → option_map stamp_of (first_sent_again goes.left goes.newer) ≡ Some n
+    → ¬ IsSoundWith a c
 sent_again_unsound a c goes n counted first = λ sound.
-    let other : IsLedFrom a c = record { left = sound.left; carried = sound.carried; cut = sound.cut; newer = sound.newer; kept = sound.kept; made = sound_made a c sound } in
+    let other : IsLedFrom a c = sound_is_led a c sound in
     let once = split_once stamp_of a.rows.last_stamp goes.carried.kept goes.newer sound.carried.kept sound.newer (sym goes.kept ∙ sound.kept)
-    (carried_low a goes.left goes.carried goes.cut counted) (carried_low a sound.left sound.carried sound.cut counted) (led_newer a c goes).kept_rise (led_newer a c other).kept_rise in
+    (carried_low a goes.left goes.carried goes.cut counted) (carried_low a sound.left sound.carried sound.cut counted) (led_newer a c goes).kept_rise
+    (led_newer a c other).kept_rise in
     let new : NoneSentAgain goes.left (arrivals_of goes.newer)
     = new_front goes.left.kept goes.carried.kept (arrivals_of goes.newer)
     (subst (λ (l : List Kept). AreNewTo l (arrivals_of goes.newer)) (kept_whole a goes.left goes.carried goes.cut)
@@ -169,20 +182,25 @@ sent_again_unsound a c goes n counted first = λ sound.
 -- ---- a part goes from the front ----
 
 -- of the content, and of what was carried over
-pub cut_without : (a : Content) (left q : Archive) (old carried : Content) → IsCut a left old → old ≡ together q carried → ComeBefore q.events carried.kept → IsCut a (joined left q) carried
+pub cut_without : (a : Content) (left q : Archive) (old carried : Content) → IsCut a left old → old ≡ together q carried → ComeBefore q.events carried.kept
+    → IsCut a (joined left q) carried
 cut_without a left q old carried cut is clean = record {
   whole = cut.whole ∙ ap (together left) is ∙ (cut_again left q carried).content;
   events = every-append (λ (e : Event). Every (λ (k : Kept). e.moment < k.moment) carried.kept) left.events q.events
-      (every_each (λ (e : Event). Every (λ (k : Kept). e.moment < k.moment) old.kept) (λ (e : Event). Every (λ (k : Kept). e.moment < k.moment) carried.kept) left.events
-      (λ e before. every_back (λ (k : Kept). e.moment < k.moment) q.kept carried.kept (subst (λ (x : Content). Every (λ (k : Kept). e.moment < k.moment) x.kept) is before)) cut.events)
+      (every_each (λ (e : Event). Every (λ (k : Kept). e.moment < k.moment) old.kept)
+      (λ (e : Event). Every (λ (k : Kept). e.moment < k.moment) carried.kept) left.events
+      (λ e before. every_back (λ (k : Kept). e.moment < k.moment) q.kept carried.kept
+      (subst (λ (x : Content). Every (λ (k : Kept). e.moment < k.moment) x.kept) is before)) cut.events)
       clean;
 }
 
-kept_without : (c old carried : Content) (q : Archive) (newer : List Kept) → q.kept ++ c.kept ≡ old.kept ++ newer → old ≡ together q carried → c.kept ≡ carried.kept ++ newer
+kept_without : (c old carried : Content) (q : Archive) (newer : List Kept) → q.kept ++ c.kept ≡ old.kept ++ newer → old ≡ together q carried
+    → c.kept ≡ carried.kept ++ newer
 kept_without c old carried q newer kept is =
     append_cancel_left q.kept c.kept (carried.kept ++ newer) (kept ∙ ap (λ (x : Content). x.kept ++ newer) is ∙ append_assoc q.kept carried.kept newer)
 
-pub sound_without : (a c : Content) (q : Archive) (carried : Content) (goes : IsSoundWith a (together q c)) → goes.carried ≡ together q carried → ComeBefore q.events carried.kept → IsSoundWith a c
+pub sound_without : (a c : Content) (q : Archive) (carried : Content) (goes : IsSoundWith a (together q c)) → goes.carried ≡ together q carried
+    → ComeBefore q.events carried.kept → IsSoundWith a c
 sound_without a c q carried goes is clean = record {
   left = joined goes.left q;
   carried = carried;
@@ -193,17 +211,21 @@ sound_without a c q carried goes is clean = record {
 }
 
 -- what was left in the archive and this part have the key of none that what was left there doesn't
-first_without : (left q : Archive) (newer : List Kept) → NoneSentAgain q (arrivals_of newer) → first_sent_again (joined left q) newer ≡ first_sent_again left newer
+first_without : (left q : Archive) (newer : List Kept) → NoneSentAgain q (arrivals_of newer)
+    → first_sent_again (joined left q) newer ≡ first_sent_again left newer
 first_without left q [] new = refl
 first_without left q (k ∷ newer) new =
-    ap₂ (λ (o f : Option Kept). cond (is_some o) (Some k) f) (only_front left.kept q.kept k.request.requester k.request.invoke new.0) (first_without left q newer new.1)
+    ap₂ (λ (o f : Option Kept). cond (is_some o) (Some k) f) (only_front left.kept q.kept k.request.requester k.request.invoke new.0)
+    (first_without left q newer new.1)
 
-pub led_without : (a c : Content) (q : Archive) (carried : Content) (goes : IsLedFrom a (together q c)) → goes.carried ≡ together q carried → ComeBefore q.events carried.kept
+pub led_without : (a c : Content) (q : Archive) (carried : Content) (goes : IsLedFrom a (together q c)) → goes.carried ≡ together q carried
+    → ComeBefore q.events carried.kept
     → (on : IsLedFrom a c) × (first_sent_again on.left on.newer ≡ first_sent_again goes.left goes.newer)
 led_without a c q carried goes is clean =
     let list : List Arrival = arrivals_of goes.newer in
     let new : NoneSentAgain q list
-    = new_front q.kept carried.kept list (subst (λ (x : Content). AreNewTo x.kept list) is (all_made goes.carried (together q c) goes.newer goes.made goes.kept)) in (
+    = new_front q.kept carried.kept list
+    (subst (λ (x : Content). AreNewTo x.kept list) is (all_made goes.carried (together q c) goes.newer goes.made goes.kept)) in (
       record {
         left = joined goes.left q;
         carried = carried;

@@ -54,7 +54,8 @@ next_number n [] y ys go = let here = go.0 in omega (arith, here)
 next_number n (x ∷ xs) y ys go = let rest = next_number (n + 1) xs y ys go.1 in omega (arith, rest)
 
 -- where the next of these is above this number, none of them is below it
-none_below : (n number : ℕ) (past : List Event) (e : Event) (rest : List Event) → GoOn n (past ++ e ∷ rest) → Every (λ (x : Event). x.number ≤ number - 1) past → Every (λ (x : Event). 0 < x.number) past → number < e.number → past ≡ []
+none_below : (n number : ℕ) (past : List Event) (e : Event) (rest : List Event) → GoOn n (past ++ e ∷ rest) → Every (λ (x : Event). x.number ≤ number - 1) past
+    → Every (λ (x : Event). 0 < x.number) past → number < e.number → past ≡ []
 none_below n number [] e rest go low positive above = refl
 none_below n number (x ∷ past) e rest go low positive above =
     let most : n + length (x ∷ past) ≤ number - 1 = last_number n (number - 1) x past (go_front n (x ∷ past) (e ∷ rest) go) low in
@@ -65,7 +66,8 @@ none_below n number (x ∷ past) e rest go low positive above =
     clash l number next first most is above positive low = omega (arith, most, is, above, positive, low)
 
 -- where none is above it, there is none
-none_at_all : (n number last : ℕ) (past : List Event) → GoOn n past → n + length past ≡ last → number ≤ last → Every (λ (x : Event). x.number ≤ number - 1) past → past ≡ []
+none_at_all : (n number last : ℕ) (past : List Event) → GoOn n past → n + length past ≡ last → number ≤ last
+    → Every (λ (x : Event). x.number ≤ number - 1) past → past ≡ []
 none_at_all n number last [] go is le low = refl
 none_at_all n number last (x ∷ past) go is le low =
     let most : n + length (x ∷ past) ≤ number - 1 = last_number n (number - 1) x past go low in
@@ -102,7 +104,8 @@ earlier_all m e (k ∷ carried) lt h = (before e.moment m k.moment lt h.0, earli
     before : (a m n : ℕ) → a < m → m ≤ n → a < n
     before a m n lt le = omega (arith, lt, le)
 
-earlier_each : (m top : ℕ) (carried : List Kept) (left : List Event) → top < m → Every (λ (e : Event). e.moment ≤ top) left → Every (λ (k : Kept). m ≤ k.moment) carried → Every (IsEarlier carried) left
+earlier_each : (m top : ℕ) (carried : List Kept) (left : List Event) → top < m → Every (λ (e : Event). e.moment ≤ top) left
+    → Every (λ (k : Kept). m ≤ k.moment) carried → Every (IsEarlier carried) left
 earlier_each m top carried [] lt low h = tt
 earlier_each m top carried (e ∷ left) lt low h = (earlier_all m e carried (below e.moment top m low.0 lt) h, earlier_each m top carried left lt low.1 h)
 
@@ -110,37 +113,29 @@ pred : (n : ℕ) → n - 1 ≤ n
 pred n = omega arith
 
 -- the event of the number is the last one left in the archive
-at_number : (number : ℕ) (past : List Event) (e : Event) (rest left reported : List Event) → past ++ e ∷ rest ≡ left ++ reported → Every (λ (x : Event). x.number ≤ number - 1) past → Rises number_of (number - 1) (e ∷ rest) → e.number ≡ number
-    → Every (λ (x : Event). x.number ≤ number) left → Rises number_of number reported → past ++ e ∷ [] ≡ left
-at_number number past e rest left reported is low up here lows ups =
-    (split_once number_of number (past ++ e ∷ []) rest left reported (append_assoc past (e ∷ []) rest ∙ is)
-    (every-append (λ (x : Event). x.number ≤ number) past (e ∷ []) (every_upto number_of (number - 1) number past (pred number) low) (subst (λ (n : ℕ). n ≤ number) (sym here) (le_refl number), tt)) lows
-    (subst (λ (n : ℕ). Rises number_of n rest) here up.1) ups).0
+at_number : (number : ℕ) {es past : List Event} {e : Event} {rest left reported : List Event} → IsSplitAt number_of (number - 1) es past (e ∷ rest)
+    → IsSplitAt number_of number es left reported → e.number ≡ number → past ++ e ∷ [] ≡ left
+at_number number {past = past} {e = e} {rest = rest} {left = left} {reported = reported} one two here =
+    (split_once number_of number (past ++ e ∷ []) rest left reported (append_assoc past (e ∷ []) rest ∙ sym one.whole ∙ two.whole)
+    (every-append (λ (x : Event). x.number ≤ number) past (e ∷ []) (every_upto number_of (number - 1) number past (pred number) one.below)
+    (subst (λ (n : ℕ). n ≤ number) (sym here) (le_refl number), tt))
+    two.below (subst (λ (n : ℕ). Rises number_of n rest) here one.above.1) two.above).0
 
 -- no event has the number: none is left in the archive
-beside_number : (number : ℕ) (past : List Event) (e : Event) (rest left reported : List Event) → past ++ e ∷ rest ≡ left ++ reported → Every (λ (x : Event). x.number ≤ number - 1) past → Rises number_of (number - 1) (e ∷ rest) → number < e.number
-    → Every (λ (x : Event). x.number ≤ number) left → Rises number_of number reported → past ≡ left
-beside_number number past e rest left reported is low up above lows ups =
-    (split_once number_of number past (e ∷ rest) left reported is (every_upto number_of (number - 1) number past (pred number) low) lows (above, up.1) ups).0
-
-above_it : (n m : ℕ) → n - 1 < m → (m ≡ n → ⊥) → n < m
-above_it n m lt other =
-    let cases : (b : Bool) → nat_lt n m ≡ b → n < m
-    = λ b. elim b as (λ b. nat_lt n m ≡ b → n < m) [
-      | true ↦ λ is. ltb-true n m is
-      | false ↦ λ is. absurd (other (equal n m lt (ltb-false n m is)))
-    ] in
-    cases (nat_lt n m) refl
-  where
-    equal : (n m : ℕ) → n - 1 < m → m ≤ n → m ≡ n
-    equal n m lt le = omega (arith, lt, le)
+beside_number : (number : ℕ) {es past : List Event} {e : Event} {rest left reported : List Event} → IsSplitAt number_of (number - 1) es past (e ∷ rest)
+    → IsSplitAt number_of number es left reported → number < e.number → past ≡ left
+beside_number number {past = past} {e = e} {rest = rest} {left = left} {reported = reported} one two above =
+    (split_once number_of number past (e ∷ rest) left reported (sym one.whole ∙ two.whole)
+    (every_upto number_of (number - 1) number past (pred number) one.below) two.below (above, one.above.1) two.above).0
 
 -- the events left in the archive, by the event that comes first above the number before
-clean_left : (a : Content) (number moment : ℕ) (past rest left reported : List Event) (carried : List Kept) → StandsInTime a → number ≤ a.rows.last_event → IsSplitAt number_of (number - 1) a.events past rest → IsSplitAt number_of number a.events left reported
-    → IsBefore (take 1 rest) number moment → Every (λ (k : Kept). moment ≤ k.moment) carried → Every (IsEarlier carried) left
+clean_left : (a : Content) (number moment : ℕ) (past rest left reported : List Event) (carried : List Kept) → StandsInTime a → number ≤ a.rows.last_event
+    → IsSplitAt number_of (number - 1) a.events past rest → IsSplitAt number_of number a.events left reported → IsBefore (take 1 rest) number moment
+    → Every (λ (k : Kept). moment ≤ k.moment) carried → Every (IsEarlier carried) left
 clean_left a number moment past [] left reported carried stands within_last one two before late =
     let whole : a.events ≡ past = one.whole ∙ append-nil past in
-    let none : a.events ≡ [] = whole ∙ none_at_all stands.numbered.before number a.rows.last_event past (subst (GoOn stands.numbered.before) whole stands.numbered.go_on)
+    let none : a.events ≡ [] = whole ∙ none_at_all stands.numbered.before number a.rows.last_event past
+    (subst (GoOn stands.numbered.before) whole stands.numbered.go_on)
     (subst (λ (l : List Event). stands.numbered.before + length l ≡ a.rows.last_event) whole stands.numbered.up_to) within_last one.below in
     subst (Every (IsEarlier carried)) (no_front left reported (sym two.whole ∙ none)) tt
   where
@@ -148,21 +143,22 @@ clean_left a number moment past [] left reported carried stands within_last one 
     no_front [] ys h = refl
     no_front (x ∷ xs) ys h = absurd (cons_not_nil x (xs ++ ys) h)
 clean_left a number moment past (e ∷ rest) left reported carried stands within_last one two before late =
-    let parts : past ++ e ∷ rest ≡ left ++ reported = sym one.whole ∙ two.whole in
     let cases : (b c : Bool) → nat_lt number e.number ≡ b → nat_lt e.number number ≡ c → Every (IsEarlier carried) left
     = λ b. elim b as (λ b. (c : Bool) → nat_lt number e.number ≡ b → nat_lt e.number number ≡ c → Every (IsEarlier carried) left) [
       | true ↦ λ c is other.
           let above : number < e.number = ltb-true number e.number is in
-          let empty : past ≡ [] = none_below stands.numbered.before number past e rest (subst (GoOn stands.numbered.before) one.whole stands.numbered.go_on) one.below
-          (every_front (λ (x : Event). 0 < x.number) past (e ∷ rest) (subst (Every (λ (x : Event). 0 < x.number)) one.whole (positive a.events 0 stands.ordered.events))) above in
-          subst (Every (IsEarlier carried)) (sym empty ∙ beside_number number past e rest left reported parts one.below one.above above two.below two.above) tt
+          let positives : Every (λ (x : Event). 0 < x.number) (past ++ e ∷ rest)
+          = subst (Every (λ (x : Event). 0 < x.number)) one.whole (positive a.events 0 stands.ordered.events) in
+          let empty : past ≡ [] = none_below stands.numbered.before number past e rest (subst (GoOn stands.numbered.before) one.whole stands.numbered.go_on)
+          one.below (every_front (λ (x : Event). 0 < x.number) past (e ∷ rest) positives) above in
+          subst (Every (IsEarlier carried)) (sym empty ∙ beside_number number one two above) tt
       | false ↦ λ c. elim c as (λ c. nat_lt number e.number ≡ false → nat_lt e.number number ≡ c → Every (IsEarlier carried) left) [
         | true ↦ λ is other. absurd (too_low number e.number one.above.0 (ltb-true e.number number other))
         | false ↦ λ is other.
             let here : e.number ≡ number = equal number e.number (ltb-false number e.number is) (ltb-false e.number number other) in
-            let mine : past ++ e ∷ [] ≡ left = at_number number past e rest left reported parts one.below one.above here two.below two.above in
-            subst (Every (IsEarlier carried)) mine
-            (earlier_each moment e.moment carried (past ++ e ∷ []) (before here) (last_most (λ (x : Event). x.moment) 0 past e rest (subst (Ascends (λ (x : Event). x.moment) 0) one.whole stands.events)) late)
+            subst (Every (IsEarlier carried)) (at_number number one two here)
+            (earlier_each moment e.moment carried (past ++ e ∷ []) (before here)
+            (last_most (λ (x : Event). x.moment) 0 past e rest (subst (Ascends (λ (x : Event). x.moment) 0) one.whole stands.events)) late)
       ]
     ] in
     cases (nat_lt number e.number) (nat_lt e.number number) refl refl
@@ -174,33 +170,38 @@ clean_left a number moment past (e ∷ rest) left reported carried stands within
     equal n m le more = omega (arith, le, more)
 
 -- the event is left in the archive, and the record carried over
-before_left : (number moment : ℕ) (past rest left reported : List Event) (k : Kept) (tail : List Kept) → past ++ rest ≡ left ++ reported → Every (λ (x : Event). x.number ≤ number - 1) past → Rises number_of (number - 1) rest
-    → Every (λ (x : Event). x.number ≤ number) left → Rises number_of number reported → k.moment ≡ moment → Every (IsEarlier (k ∷ tail)) left → IsBefore (take 1 rest) number moment
-before_left number moment past [] left reported k tail is low up lows ups at clean = tt
-before_left number moment past (e ∷ rest) left reported k tail is low up lows ups at clean = λ here.
-    let mine : past ++ e ∷ [] ≡ left = at_number number past e rest left reported is low up here lows ups in
-    subst (λ (n : ℕ). e.moment < n) at (every_back (IsEarlier (k ∷ tail)) past (e ∷ []) (subst (Every (IsEarlier (k ∷ tail))) (sym mine) clean)).0.0
+before_left : (number : ℕ) (es past rest left reported : List Event) (k : Kept) (tail : List Kept) → IsSplitAt number_of (number - 1) es past rest
+    → IsSplitAt number_of number es left reported → Every (IsEarlier (k ∷ tail)) left → IsBefore (take 1 rest) number k.moment
+before_left number es past [] left reported k tail one two clean = tt
+before_left number es past (e ∷ rest) left reported k tail one two clean = λ here.
+    (every_back (IsEarlier (k ∷ tail)) past (e ∷ []) (subst (Every (IsEarlier (k ∷ tail))) (sym (at_number number one two here)) clean)).0.0
 
-pub clean_decided : (a : Content) (stamp number before : ℕ) (k : Kept) (found : List Event) (b : Bool) → StandsInTime a → number ≤ a.rows.last_event → IsKeptAfter a.kept stamp (Some k) → before ≡ number - 1 → found ≡ events_after a.events before 1
-    → Decides b (IsBefore found number k.moment) → Decides b (IsCleanCut a stamp number)
+pub clean_decided : (a : Content) (stamp number before : ℕ) (k : Kept) (found : List Event) (b : Bool) → StandsInTime a → number ≤ a.rows.last_event
+    → IsKeptAfter a.kept stamp (Some k) → before ≡ number - 1 → found ≡ events_after a.events before 1 → Decides b (IsBefore found number k.moment)
+    → Decides b (IsCleanCut a stamp number)
 clean_decided a stamp number before k found b stands within_last next is_before is decides =
     let events_two = split_at number_of 0 (number - 1) a.events (omega arith) stands.ordered.events in
     let one : IsSplitAt number_of (number - 1) a.events events_two.0 events_two.1 = events_two.2 in
-    let found_is : found ≡ take 1 events_two.1 = is ∙ ap (λ (n : ℕ). events_after a.events n 1) is_before ∙ next_left number_of (number - 1) a.events events_two.0 events_two.1 one in (
+    let found_is : found ≡ take 1 events_two.1
+    = is ∙ ap (λ (n : ℕ). events_after a.events n 1) is_before ∙ next_left number_of (number - 1) a.events events_two.0 events_two.1 one in
+    let IsNext : List Kept → Type 0 = λ l. IsKeptAfter l stamp (Some k) in (
       λ holds past carried left reported kept_split events_split.
-          let front = next_record stamp past carried k kept_split.below kept_split.above (subst (λ (l : List Kept). IsKeptAfter l stamp (Some k)) kept_split.whole next) in
+          let front = next_record stamp past carried k kept_split.below kept_split.above (subst IsNext kept_split.whole next) in
           let late : Every (λ (x : Kept). k.moment ≤ x.moment) carried
           = subst (Every (λ (x : Kept). k.moment ≤ x.moment)) (sym front.1)
           (first_least (λ (x : Kept). x.moment) 0 k front.0
-          (ascends_back (λ (x : Kept). x.moment) 0 past (k ∷ front.0) (subst (Ascends (λ (x : Kept). x.moment) 0) (kept_split.whole ∙ ap (λ (l : List Kept). past ++ l) front.1) stands.kept))) in
-          clean_left a number k.moment events_two.0 events_two.1 left reported carried stands within_last one events_split (subst (λ (l : List Event). IsBefore l number k.moment) found_is (decides.0 holds)) late,
+          (ascends_back (λ (x : Kept). x.moment) 0 past (k ∷ front.0)
+          (subst (Ascends (λ (x : Kept). x.moment) 0) (kept_split.whole ∙ ap (λ (l : List Kept). past ++ l) front.1) stands.kept))) in
+          clean_left a number k.moment events_two.0 events_two.1 left reported carried stands within_last one events_split
+          (subst (λ (l : List Event). IsBefore l number k.moment) found_is (decides.0 holds)) late,
       λ clean.
           let kept_parts = split_at stamp_of 0 stamp a.kept (omega arith) stands.ordered.kept in
           let kept_split : IsSplitAt stamp_of stamp a.kept kept_parts.0 kept_parts.1 = kept_parts.2 in
           let parts = split_at number_of 0 number a.events (omega arith) stands.ordered.events in
           let events_split : IsSplitAt number_of number a.events parts.0 parts.1 = parts.2 in
-          let front = next_record stamp kept_parts.0 kept_parts.1 k kept_split.below kept_split.above (subst (λ (l : List Kept). IsKeptAfter l stamp (Some k)) kept_split.whole next) in
-          let all : Every (IsEarlier (k ∷ front.0)) parts.0 = subst (λ (ks : List Kept). Every (IsEarlier ks) parts.0) front.1 (clean kept_parts.0 kept_parts.1 parts.0 parts.1 kept_split events_split) in
+          let front = next_record stamp kept_parts.0 kept_parts.1 k kept_split.below kept_split.above (subst IsNext kept_split.whole next) in
+          let all : Every (IsEarlier (k ∷ front.0)) parts.0
+          = subst (λ (ks : List Kept). Every (IsEarlier ks) parts.0) front.1 (clean kept_parts.0 kept_parts.1 parts.0 parts.1 kept_split events_split) in
           decides.1 (subst (λ (l : List Event). IsBefore l number k.moment) (sym found_is)
-          (before_left number k.moment events_two.0 events_two.1 parts.0 parts.1 k front.0 (sym one.whole ∙ events_split.whole) one.below one.above events_split.below events_split.above refl all)),
+          (before_left number a.events events_two.0 events_two.1 parts.0 parts.1 k front.0 one events_split all)),
     )

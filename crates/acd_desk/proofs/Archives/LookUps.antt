@@ -37,7 +37,8 @@ pub only_front : (xs ys : List Kept) (p : List ℕ) (q : ℕ) → kept_of ys p q
 only_front xs ys p q none = looked_up xs ys p q ∙ ap (option_or (kept_of xs p q)) none ∙ or_none (kept_of xs p q)
 
 -- the record of a key that nothing before it has
-pub first_record : (xs ys : List Kept) (k : Kept) → kept_of xs k.request.requester k.request.invoke ≡ None → kept_of (xs ++ k ∷ ys) k.request.requester k.request.invoke ≡ Some k
+pub first_record : (xs ys : List Kept) (k : Kept) → kept_of xs k.request.requester k.request.invoke ≡ None
+    → kept_of (xs ++ k ∷ ys) k.request.requester k.request.invoke ≡ Some k
 first_record xs ys k none =
     looked_up xs (k ∷ ys) k.request.requester k.request.invoke
     ∙ ap (λ (o : Option Kept). option_or o (kept_of (k ∷ ys) k.request.requester k.request.invoke)) none

@@ -37,7 +37,8 @@ none_left n past [] rise h = refl
 none_left n past (k ∷ left) rise h = absurd (not_both n k.stamp rise.0 (every_back (λ (other : Kept). other.stamp ≤ n) past (k ∷ left) h).0)
 
 -- the record of the least greater stamp is the next
-pub next_left : (n : ℕ) (past left : List Kept) (k : Kept) → Every (λ (other : Kept). other.stamp ≤ n) past → Rises stamp_of n left → IsKeptAfter (past ++ left) n (Some k)
+pub next_left : (n : ℕ) (past left : List Kept) (k : Kept) → Every (λ (other : Kept). other.stamp ≤ n) past → Rises stamp_of n left
+    → IsKeptAfter (past ++ left) n (Some k)
     → (tail : List Kept) × (left ≡ k ∷ tail)
 next_left n past [] k h rise found = elim (among_cases k past [] found.0) [
   | inl here ↦ absurd (not_both n k.stamp found.1 (among_every (λ (other : Kept). other.stamp ≤ n) k past h here))

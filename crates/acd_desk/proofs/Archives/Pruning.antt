@@ -18,14 +18,16 @@ use Rattle.acd_desk.specs.Overlap.{IsCleanCut}
 use Rattle.acd_desk.specs.Pruning.{IsPlace, IsGone, StaysLed}
 use Rattle.acd_desk.proofs.Replays.AuditLaws.{zero_least}
 use Rattle.acd_desk.proofs.Replays.Audits.{same_content}
-use Rattle.acd_desk.proofs.Archives.CarriedPart.{kept_whole, events_whole, Newer, led_newer, sound_made, sent_again_unsound, cut_without, sound_without, led_without}
+use Rattle.acd_desk.proofs.Archives.CarriedPart.{kept_whole, events_whole, sound_is_led, sent_again_unsound, cut_without, sound_without, led_without}
+use Rattle.acd_desk.proofs.Archives.NewerRuns.{led_holds}
 use Rattle.acd_book.proofs.SharedLists.{not_both, every_front, every_back, every_each, rises_back, split_at, none_above, all_above}
 
 -- ---- lists in order ----
 
 above_each : {T : Type 0} (f : T → ℕ) (n : ℕ) (xs : List T) → Rises f n xs → Every (λ (x : T). n < f x) xs
 above_each f n [] h = tt
-above_each {T = T} f n (x ∷ xs) h = (h.0, every_each (λ (y : T). f x < f y) (λ (y : T). n < f y) xs (λ y more. later n (f x) (f y) h.0 more) (above_each f (f x) xs h.1))
+above_each {T = T} f n (x ∷ xs) h =
+    (h.0, every_each (λ (y : T). f x < f y) (λ (y : T). n < f y) xs (λ y more. later n (f x) (f y) h.0 more) (above_each f (f x) xs h.1))
   where
     later : (a b c : ℕ) → a < b → b < c → a < c
     later a b c one two = omega (arith, one, two)
@@ -43,7 +45,8 @@ record Divided {T : Type 0} (f : T → ℕ) (n : ℕ) (carried current : List T)
   high : Every (λ (x : T). n < f x) rest
   mine : current ≡ gone ++ filter (λ (x : T). nat_lt n (f x)) current
 
-divided : {T : Type 0} (f : T → ℕ) (n last : ℕ) (archived left carried newer current : List T) → Rises f 0 archived → archived ≡ left ++ carried → current ≡ carried ++ newer → n ≤ last → Rises f last newer → Divided f n carried current
+divided : {T : Type 0} (f : T → ℕ) (n last : ℕ) (archived left carried newer current : List T) → Rises f 0 archived → archived ≡ left ++ carried
+    → current ≡ carried ++ newer → n ≤ last → Rises f last newer → Divided f n carried current
 divided {T = T} f n last archived left carried newer current rise whole mine le up =
     let p : T → Bool = λ (x : T). nat_lt n (f x) in
     let two = split_at f 0 n carried (zero_least n) (rises_back f 0 left carried (subst (Rises f 0) whole rise)) in
@@ -51,7 +54,8 @@ divided {T = T} f n last archived left carried newer current rise whole mine le 
     let parts : current ≡ two.0 ++ (two.1 ++ newer) = mine ∙ ap (λ (l : List T). l ++ newer) split.whole ∙ append_assoc two.0 two.1 newer in
     let left_over : filter p current ≡ two.1 ++ newer
     = ap (filter p) parts ∙ filter-append p two.0 (two.1 ++ newer)
-    ∙ ap₂ (λ (a b : List T). a ++ b) (none_above f n two.0 split.below) (filter-append p two.1 newer ∙ ap₂ (λ (a b : List T). a ++ b) (all_above f n n two.1 (le_refl n) split.above) (all_above f n last newer le up)) in
+    ∙ ap₂ (λ (a b : List T). a ++ b) (none_above f n two.0 split.below)
+    (filter-append p two.1 newer ∙ ap₂ (λ (a b : List T). a ++ b) (all_above f n n two.1 (le_refl n) split.above) (all_above f n last newer le up)) in
     record {
       gone = two.0;
       rest = two.1;
@@ -63,32 +67,39 @@ divided {T = T} f n last archived left carried newer current rise whole mine le 
 
 -- ---- the cut ----
 
--- each of these events is before each of these records, where a clean cut has the events below and the records above
-comes_before : (a : Content) (stamp number : ℕ) (past gone reported : List Event) (front rest : List Kept) → StandsInTime a → IsCleanCut a stamp number → a.events ≡ past ++ (gone ++ reported) → a.kept ≡ front ++ rest
-    → Every (λ (e : Event). e.number ≤ number) gone → Every (λ (k : Kept). stamp < k.stamp) rest → ComeBefore gone rest
-comes_before a stamp number past gone reported front rest stands clean events kept low high =
+-- the events that go are before the records that stay, where the cut is clean
+comes_before : (a c : Content) (stamp number : ℕ) (left : Archive) (carried : Content) → StandsInTime a → IsCleanCut a stamp number → IsCut a left carried
+    → (ks : Divided stamp_of stamp carried.kept c.kept) (es : Divided number_of number carried.events c.events) → ComeBefore es.gone ks.rest
+comes_before a c stamp number left carried stands clean cut ks es =
     let kept_two = split_at stamp_of 0 stamp a.kept (zero_least stamp) stands.ordered.kept in
     let kept_split : IsSplitAt stamp_of stamp a.kept kept_two.0 kept_two.1 = kept_two.2 in
     let events_two = split_at number_of 0 number a.events (zero_least number) stands.ordered.events in
     let events_split : IsSplitAt number_of number a.events events_two.0 events_two.1 = events_two.2 in
-    let IsBeforeRest : Event → Type 0 = λ e. Every (λ (k : Kept). e.moment < k.moment) rest in
+    let IsBefore : Event → Kept → Type 0 = λ e k. e.moment < k.moment in
+    let IsBeforeRest : Event → Type 0 = λ e. Every (IsBefore e) ks.rest in
+    let kept : a.kept ≡ (left.kept ++ ks.gone) ++ ks.rest
+    = kept_whole a left carried cut ∙ ap (λ (l : List Kept). left.kept ++ l) ks.whole ∙ sym (append_assoc left.kept ks.gone ks.rest) in
+    let events : a.events ≡ left.events ++ (es.gone ++ es.rest) = events_whole a left carried cut ∙ ap (λ (l : List Event). left.events ++ l) es.whole in
     -- of one event
-    let one : (e : Event) → Every (λ (k : Kept). e.moment < k.moment) kept_two.1 → IsBeforeRest e
+    let one : (e : Event) → Every (IsBefore e) kept_two.1 → IsBeforeRest e
     = λ e before.
-    every_both (λ (k : Kept). stamp < k.stamp) (λ (k : Kept). e.moment < k.moment) rest high
-    (every_back (λ (k : Kept). stamp < k.stamp → e.moment < k.moment) front rest
-    (subst (Every (λ (k : Kept). stamp < k.stamp → e.moment < k.moment)) (sym kept_split.whole ∙ kept)
-    (every-append (λ (k : Kept). stamp < k.stamp → e.moment < k.moment) kept_two.0 kept_two.1
-    (every_each (λ (k : Kept). k.stamp ≤ stamp) (λ (k : Kept). stamp < k.stamp → e.moment < k.moment) kept_two.0 (λ k le lt. absurd (not_both stamp k.stamp lt le)) kept_split.below)
-    (every_each (λ (k : Kept). e.moment < k.moment) (λ (k : Kept). stamp < k.stamp → e.moment < k.moment) kept_two.1 (λ k before lt. before) before)))) in
-    every_both (λ (e : Event). e.number ≤ number) IsBeforeRest gone low
-    (every_front (λ (e : Event). e.number ≤ number → IsBeforeRest e) gone reported
-    (every_back (λ (e : Event). e.number ≤ number → IsBeforeRest e) past (gone ++ reported)
-    (subst (Every (λ (e : Event). e.number ≤ number → IsBeforeRest e)) (sym events_split.whole ∙ events)
-    (every-append (λ (e : Event). e.number ≤ number → IsBeforeRest e) events_two.0 events_two.1
-    (every_each (λ (e : Event). Every (λ (k : Kept). e.moment < k.moment) kept_two.1) (λ (e : Event). e.number ≤ number → IsBeforeRest e) events_two.0 (λ e before le. one e before)
+    let IfAbove : Kept → Type 0 = λ k. stamp < k.stamp → e.moment < k.moment in
+    every_both (λ (k : Kept). stamp < k.stamp) (IsBefore e) ks.rest ks.high
+    (every_back IfAbove (left.kept ++ ks.gone) ks.rest
+    (subst (Every IfAbove) (sym kept_split.whole ∙ kept)
+    (every-append IfAbove kept_two.0 kept_two.1
+    (every_each (λ (k : Kept). k.stamp ≤ stamp) IfAbove kept_two.0 (λ k le lt. absurd (not_both stamp k.stamp lt le)) kept_split.below)
+    (every_each (IsBefore e) IfAbove kept_two.1 (λ k before lt. before) before)))) in
+    let IfBelow : Event → Type 0 = λ e. e.number ≤ number → IsBeforeRest e in
+    every_both (λ (e : Event). e.number ≤ number) IsBeforeRest es.gone es.low
+    (every_front IfBelow es.gone es.rest
+    (every_back IfBelow left.events (es.gone ++ es.rest)
+    (subst (Every IfBelow) (sym events_split.whole ∙ events)
+    (every-append IfBelow events_two.0 events_two.1
+    (every_each (λ (e : Event). Every (IsBefore e) kept_two.1) IfBelow events_two.0 (λ e before le. one e before)
     (clean kept_two.0 kept_two.1 events_two.0 events_two.1 kept_split events_split))
-    (every_each (λ (e : Event). number < e.number) (λ (e : Event). e.number ≤ number → IsBeforeRest e) events_two.1 (λ e lt le. absurd (not_both number e.number lt le)) (above_each number_of number events_two.1 events_split.above))))))
+    (every_each (λ (e : Event). number < e.number) IfBelow events_two.1 (λ e lt le. absurd (not_both number e.number lt le))
+    (above_each number_of number events_two.1 events_split.above))))))
 
 -- what goes, and what stays of the carried part
 record Parts (a c : Content) (carried : Content) (stamp number : ℕ) : Type 0 where
@@ -98,38 +109,37 @@ record Parts (a c : Content) (carried : Content) (stamp number : ℕ) : Type 0 w
   whole : c ≡ together gone (pruned stamp number c)
   clean : ComeBefore gone.events rest.kept
 
-parts : (a c : Content) (left : Archive) (carried : Content) (newer : List Kept) (reported : List Event) (stamp number : ℕ) → StandsInTime a → IsPlace a stamp number → IsCut a left carried
-    → c.kept ≡ carried.kept ++ newer → c.events ≡ carried.events ++ reported → Rises stamp_of a.rows.last_stamp newer → Rises number_of a.rows.last_event reported → Parts a c carried stamp number
-parts a c left carried newer reported stamp number stands place cut kept events kept_up events_up =
-    let ks : Divided stamp_of stamp carried.kept c.kept
-    = divided stamp_of stamp a.rows.last_stamp a.kept left.kept carried.kept newer c.kept stands.ordered.kept (kept_whole a left carried cut) kept place.records kept_up in
-    let es : Divided number_of number carried.events c.events
-    = divided number_of number a.rows.last_event a.events left.events carried.events reported c.events stands.ordered.events (events_whole a left carried cut) events place.events events_up in
+parts : (a c : Content) (h : HoldsArchive a c) (stamp number : ℕ) → StandsInTime a → IsPlace a stamp number → Parts a c h.carried stamp number
+parts a c h stamp number stands place =
+    let ks : Divided stamp_of stamp h.carried.kept c.kept
+    = divided stamp_of stamp a.rows.last_stamp a.kept h.left.kept h.carried.kept h.kept_left c.kept stands.ordered.kept (kept_whole a h.left h.carried h.cut)
+    h.kept place.records h.kept_rise in
+    let es : Divided number_of number h.carried.events c.events
+    = divided number_of number a.rows.last_event a.events h.left.events h.carried.events h.events_left c.events stands.ordered.events
+    (events_whole a h.left h.carried h.cut) h.events place.events h.events_rise in
     let gone : Archive = record { events = es.gone; kept = ks.gone } in
-    let rest : Content = record { rows = carried.rows; events = es.rest; kept = ks.rest } in
+    let rest : Content = record { rows = h.carried.rows; events = es.rest; kept = ks.rest } in
     record {
       gone = gone;
       rest = rest;
-      carried_is = same_content carried (together gone rest) refl es.whole ks.whole;
+      carried_is = same_content h.carried (together gone rest) refl es.whole ks.whole;
       whole = same_content c (together gone (pruned stamp number c)) refl es.mine ks.mine;
-      clean = comes_before a stamp number left.events es.gone es.rest (left.kept ++ ks.gone) ks.rest stands place.clean
-          (events_whole a left carried cut ∙ ap (λ (l : List Event). left.events ++ l) es.whole)
-          (kept_whole a left carried cut ∙ ap (λ (l : List Kept). left.kept ++ l) ks.whole ∙ sym (append_assoc left.kept ks.gone ks.rest))
-          es.low ks.high;
+      clean = comes_before a c stamp number h.left h.carried stands place.clean h.cut ks es;
     }
 
 -- ---- the laws ----
 
-pub prune_loses_nothing : (a c : Content) (stamp number : ℕ) → StandsInTime a → IsPlace a stamp number → HoldsArchive a c → (gone : Archive) × IsGone a c (pruned stamp number c) gone
+pub prune_loses_nothing : (a c : Content) (stamp number : ℕ) → StandsInTime a → IsPlace a stamp number → HoldsArchive a c
+    → (gone : Archive) × IsGone a c (pruned stamp number c) gone
 prune_loses_nothing a c stamp number stands place h =
-    let p : Parts a c h.carried stamp number = parts a c h.left h.carried h.kept_left h.events_left stamp number stands place h.cut h.kept h.events h.kept_rise h.events_rise in
-    (p.gone, record { whole = p.whole; left = h.left; carried = p.rest; cut = cut_without a h.left p.gone h.carried p.rest h.cut p.carried_is p.clean })
+    let p : Parts a c h.carried stamp number = parts a c h stamp number stands place in (
+      p.gone,
+      record { whole = p.whole; left = h.left; carried = p.rest; cut = cut_without a h.left p.gone h.carried p.rest h.cut p.carried_is p.clean },
+    )
 
 pub prune_stays_sound : (a c : Content) (stamp number : ℕ) → StandsInTime a → IsPlace a stamp number → IsSoundWith a c → IsSoundWith a (pruned stamp number c)
 prune_stays_sound a c stamp number stands place goes =
-    let led : IsLedFrom a c = record { left = goes.left; carried = goes.carried; cut = goes.cut; newer = goes.newer; kept = goes.kept; made = sound_made a c goes } in
-    let new : Newer a c led = led_newer a c led in
-    let p : Parts a c goes.carried stamp number = parts a c goes.left goes.carried goes.newer new.reported stamp number stands place goes.cut goes.kept new.events new.kept_rise new.events_rise in
+    let p : Parts a c goes.carried stamp number = parts a c (led_holds a c (sound_is_led a c goes)) stamp number stands place in
     let whole : IsSoundWith a (together p.gone (pruned stamp number c)) = record {
       left = goes.left;
       carried = goes.carried;
@@ -140,10 +150,10 @@ prune_stays_sound a c stamp number stands place goes =
     } in
     sound_without a (pruned stamp number c) p.gone p.rest whole p.carried_is p.clean
 
-pub prune_stays_led : (a c : Content) (stamp number : ℕ) (goes : IsLedFrom a c) → StandsInTime a → IsPlace a stamp number → StaysLed a c (pruned stamp number c) goes
+pub prune_stays_led : (a c : Content) (stamp number : ℕ) (goes : IsLedFrom a c) → StandsInTime a → IsPlace a stamp number
+    → StaysLed a c (pruned stamp number c) goes
 prune_stays_led a c stamp number goes stands place =
-    let new : Newer a c goes = led_newer a c goes in
-    let p : Parts a c goes.carried stamp number = parts a c goes.left goes.carried goes.newer new.reported stamp number stands place goes.cut goes.kept new.events new.kept_rise new.events_rise in
+    let p : Parts a c goes.carried stamp number = parts a c (led_holds a c goes) stamp number stands place in
     let whole : IsLedFrom a (together p.gone (pruned stamp number c)) = record {
       left = goes.left;
       carried = goes.carried;
@@ -155,7 +165,8 @@ prune_stays_led a c stamp number goes stands place =
     let on = led_without a (pruned stamp number c) p.gone p.rest whole p.carried_is p.clean in
     record { led = on.0; first = on.1 }
 
-pub prune_stays_sent_again : (a c : Content) (stamp number n : ℕ) → StandsInTime a → IsPlace a stamp number → IsSentAgain a c n → IsSentAgain a (pruned stamp number c) n
+pub prune_stays_sent_again : (a c : Content) (stamp number n : ℕ) → StandsInTime a → IsPlace a stamp number → IsSentAgain a c n
+    → IsSentAgain a (pruned stamp number c) n
 prune_stays_sent_again a c stamp number n stands place again =
     let on : StaysLed a c (pruned stamp number c) again.led = prune_stays_led a c stamp number again.led stands place in
     let first : option_map stamp_of (first_sent_again on.led.left on.led.newer) ≡ Some n = ap (option_map stamp_of) on.first ∙ again.first in
