@@ -1,5 +1,8 @@
 -- A read of a desk: what it leaves.
 use Rattle.std.specs.Prelude.{◌≡◌, ℕ, true, false, List, Vec, Option, None, Result, Err, IfOk, OnOk, IsErrOf, MatchResult, String}
+use Rattle.std.specs.Borrow.{Bor}
+use Rattle.std.specs.Fn.{Once, FnOnceReturnsAt}
+use Rattle.acd_terms.specs.declared.rows.Rows.{Rows}
 use Rattle.acd_book.specs.declared.book.Book.{Ghosts}
 use Rattle.acd_book.specs.Content.{Content}
 use Rattle.acd_book.specs.State.{IfHonest, BookStep, Unchanged}
@@ -31,6 +34,10 @@ pub record ReadDone {A : Type 0} (old new : DeskState) (result : Result A DeskFa
 -- a read that answers this fault
 abbrev pub ReadFailed : DeskState → DeskFault → DeskState → Type 0
 ReadFailed old fault new = ReadDone {A = Unit {0}} old new (Err fault) (λ c found. ⊥)
+
+-- a call may make this of the tables of a content
+abbrev pub MadeBy : {F A : Type 0} → Once F (Bor Rows × Unit {0}) A → F → Content → A → Type 0
+MadeBy call make c made = FnOnceReturnsAt call make c.rows made
 
 -- ---- of a desk over a book, by the words of that book
 

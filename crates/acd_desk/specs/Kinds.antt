@@ -1,5 +1,6 @@
 -- What a content keeps in an order: records by their stamps, events by their numbers.
 use Rattle.std.specs.Prelude.{ℕ, List, [], ◌∷◌, take, filter, nat_lt, Option, Some, None}
+use Rattle.std.specs.Borrow.{Bor}
 use Rattle.acd_terms.specs.declared.event.Event.{Event}
 use Rattle.acd_book.specs.declared.kept.Kept.{Kept}
 use Rattle.acd_book.specs.Content.{Content}
@@ -28,7 +29,7 @@ first_above place above limit xs = take limit (all_above place above xs)
 abbrev pub page_above : {T : Type 0} → Kind T → ℕ → ℕ → Content → List T
 page_above kind above limit c = first_above kind.place above limit (kind.all c)
 
--- a member, where there is one, as a list
-abbrev pub listed : {T : Type 0} → Option T → List T
+-- a member that is lent, where there is one, as a list
+abbrev pub listed : {T : Type 0} → Option (Bor T) → List T
 listed None = []
-listed (Some x) = x ∷ []
+listed (Some x) = x.now ∷ []

@@ -1,5 +1,5 @@
 -- How far the replay of a content has come.
-use Rattle.std.specs.Prelude.{◌≡◌, ◌⊎◌, ℕ, ◌+◌, ◌≤◌, take, Bool, true, false, List, [], ◌++◌, length, Option, Some, None, IfSome, option_map}
+use Rattle.std.specs.Prelude.{◌≡◌, ◌⊎◌, ℕ, ◌+◌, ◌<◌, ◌≤◌, take, Bool, true, false, List, [], ◌++◌, length, Option, Some, None, IfSome, option_map}
 use Rattle.std.specs.Bool.{Decides}
 use Rattle.acd_terms.specs.Limits.{limits_fit}
 use Rattle.acd_terms.specs.declared.rows.Rows.{Rows}
@@ -25,6 +25,10 @@ use Rattle.acd_desk.specs.Pages.{IsPageOf}
 -- the rows of its switch
 abbrev pub rows_of : Replay → Rows
 rows_of r = r.loaded.switch.value
+
+-- a request is left of those that may be executed
+abbrev pub HasRoom : Rows → Type 0
+HasRoom s = s.last_stamp < s.limits.requests
 
 -- a kept request, at the moment that its record holds
 abbrev pub again : Kept → Arrival

@@ -96,9 +96,9 @@ answer_at_end r false = Differs ((newer_rows r).last_stamp + 1)
 answer_at_end r true = sound_or r.sent_again
 
 -- the result of a step of the replay from there
-abbrev pub IsStepWith : Content → Content → NewerReplay → NewerStep → Type 0
-IsStepWith a c r (Replayed next) = GoesWith a c r → GoesWith a c next
-IsStepWith a c r (Ended found) = GoesWith a c r → IsAuditWith a c found
+abbrev pub IsStepWith : NewerReplay → Content → Content → NewerStep → Type 0
+IsStepWith r a c (Replayed next) = GoesWith a c r → GoesWith a c next
+IsStepWith r a c (Ended found) = GoesWith a c r → IsAuditWith a c found
 
 -- it replays one record, or ends
 abbrev pub CountsOneWith : Rows → NewerStep → Type 0

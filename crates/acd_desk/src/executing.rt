@@ -1,10 +1,11 @@
 //! One request executed by the switch, before it is kept, and a switch loaded by rows.
 
-ghost use Rattle.std.specs.Prelude.{◌≡◌, ◌<◌, IfOk, IfErr};
+ghost use Rattle.std.specs.Prelude.{◌≡◌, IfOk, IfErr};
 ghost use Rattle.acd_model.specs.Rules.First.{BreaksNoRule};
 ghost use Rattle.acd_desk.specs.Arrivals.{at};
 ghost use Rattle.acd_desk.specs.AbstractDesk.{kept_at};
 ghost use Rattle.acd_desk.specs.PreparedCommit.{HasExecuted};
+ghost use Rattle.acd_desk.specs.Replay.{HasRoom};
 
 use crate::working::LoadedSwitch;
 use acd_book::{BookFault, Kept, Text};
@@ -33,7 +34,7 @@ pub(crate) fn executed(
     request: &Request,
 ) -> Result<(Executed, Kept), AllocError>
     requires rules { BreaksNoRule switch.old }
-    requires room { switch.old.last_stamp < switch.old.limits.requests }
+    requires room { HasRoom switch.old }
     ensures { IfOk result (HasExecuted switch.old (at moment request.now) switch.new) }
 {
     let done = switch.step_with_changes(moment, &request.command)?;

@@ -1,9 +1,10 @@
 //! The requests of a book that are newer than its archive run again, from the archive's state on.
 
-ghost use Rattle.std.specs.Prelude.{◌≡◌, ◌+◌, ◌<◌, IfOk};
+ghost use Rattle.std.specs.Prelude.{◌≡◌, ◌+◌, IfOk};
 ghost use Rattle.acd_book.specs.State.{BookFinds};
 ghost use Rattle.acd_book.specs.BookReads.{MayRead};
 ghost use Rattle.acd_desk.specs.Pairs.{BorrowsSame, BothRead, by_opening};
+ghost use Rattle.acd_desk.specs.Replay.{HasRoom};
 ghost use Rattle.acd_desk.specs.ReplayWith.{is_kept, IsSwitchOf, Notes, first_of_both, with_first, PlaysWith, StepsOnWith, answer_at_end, IsStepWith, CountsOneWith, AuditsFrom, AuditsInOrder};
 
 use crate::audit::ArchiveAudit;
@@ -126,8 +127,7 @@ impl<A: Book, B: Book> Pair<'_, A, B> {
         newer: NewerReplay,
         kept: &Kept,
     ) -> Result<Option<NewerReplay>, PairFault>
-        requires { newer.replay.loaded.switch.value.last_stamp
-            < newer.replay.loaded.switch.value.limits.requests }
+        requires { HasRoom newer.replay.loaded.switch.value }
         ensures same { BorrowsSame self.old self.new }
         ensures read { BothRead A.state B.state (self.old, self.new) result
             (PlaysWith newer kept.now) }
@@ -142,11 +142,10 @@ impl<A: Book, B: Book> Pair<'_, A, B> {
 
     // Replays the next record, where one is left.
     fn next_newer(&mut self, alloc: Global, newer: NewerReplay) -> Result<NewerStep, PairFault>
-        requires { newer.replay.loaded.switch.value.last_stamp
-            < newer.replay.loaded.switch.value.limits.requests }
+        requires { HasRoom newer.replay.loaded.switch.value }
         ensures same { BorrowsSame self.old self.new }
         ensures read { BothRead A.state B.state (self.old, self.new) result
-            (λ a c found. IsStepWith a c newer found) }
+            (IsStepWith newer) }
         ensures counts { IfOk result (CountsOneWith newer.replay.loaded.switch.value) }
     {
         let next = next_stamp(&newer.replay.loaded);

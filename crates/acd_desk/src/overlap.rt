@@ -1,6 +1,6 @@
 //! What a book has in common with the archive that it continues.
 
-ghost use Rattle.std.specs.Prelude.{◌≡◌, IfOk, is_some, option_copied};
+ghost use Rattle.std.specs.Prelude.{◌≡◌, IfOk, is_some};
 ghost use Rattle.std.specs.Bool.{Decides};
 ghost use Rattle.acd_book.specs.Content.{Content};
 ghost use Rattle.acd_book.specs.State.{BookReads};
@@ -90,8 +90,7 @@ pub(crate) enum Next {
 
 // The next of both.
 fn next_of<T: Placed>(archived: Option<&T>, current: Option<&T>, last: u64) -> Next
-    ensures { IsNextOf (T.kind.place, last) (listed (option_copied archived.entry))
-        (listed (option_copied current.entry)) result }
+    ensures { IsNextOf (T.kind.place, last) (listed archived.entry) (listed current.entry) result }
 {
     match (archived, current) {
         (Some(item), Some(other)) => {

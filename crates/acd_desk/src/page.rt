@@ -1,6 +1,6 @@
 //! Records or events of a book that were read ahead, so that a page is read for many steps.
 
-ghost use Rattle.std.specs.Prelude.{◌≡◌, ◌≤◌, length, option_copied, true, IfOk};
+ghost use Rattle.std.specs.Prelude.{◌≡◌, ◌≤◌, length, true, IfOk};
 ghost use Rattle.acd_book.specs.Content.{Content, events_after};
 ghost use Rattle.acd_book.specs.State.{BookReads};
 ghost use Rattle.acd_desk.specs.Kinds.{all_above, first_above, listed};
@@ -62,8 +62,7 @@ impl<T: Placed> Page<T> {
 
     /// The first on the page above a place.
     pub(crate) fn next(&self, above: u64) -> Option<&T>
-        ensures { listed (option_copied result)
-            ≡ first_above T.kind.place above 1 self.now.items.items }
+        ensures { listed result ≡ first_above T.kind.place above 1 self.now.items.items }
     {
         for item in &self.items {
             if item.place() > above {

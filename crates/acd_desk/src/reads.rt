@@ -1,12 +1,12 @@
 //! The reads of a desk.
 
 ghost use Rattle.std.specs.Prelude.{Ok};
-ghost use Rattle.std.specs.Fn.{FnOnceTakesAt, FnOnceReturnsAt};
+ghost use Rattle.std.specs.Fn.{FnOnceTakesAt};
 ghost use Rattle.acd_terms.specs.declared.rows.Rows.{Rows};
 ghost use Rattle.acd_model.specs.Rules.First.{BreaksNoRule};
 ghost use Rattle.acd_book.specs.Content.{events_page, monitor_page};
 ghost use Rattle.acd_desk.specs.DeskState.{state_of};
-ghost use Rattle.acd_desk.specs.DeskReads.{DeskRead, DeskFinds, DeskLists, DeskReadText};
+ghost use Rattle.acd_desk.specs.DeskReads.{MadeBy, DeskRead, DeskFinds, DeskLists, DeskReadText};
 ghost use Rattle.acd_desk.specs.ReadAnswers.{text_read, agent_read, call_read, device_read, queue_read, report_read, snapshot_read, page_read, events_read, history_read, monitor_read, page_size, requests_page, requests_read, question_read, last_event_for, CountsKept};
 
 use crate::desk::Desk;
@@ -38,7 +38,7 @@ impl<B: Book> Desk<B> {
     fn look<T, F: FnOnce(&Tables) -> T>(&mut self, reading: F) -> Result<T, DeskFault>
         requires { (rows : Rows) → BreaksNoRule rows → FnOnceTakesAt F.FnOnce reading rows }
         ensures { DeskRead B.Book self.old self.new result
-            (λ c found. FnOnceReturnsAt F.FnOnce reading c.rows found) }
+            (MadeBy F.FnOnce reading) }
     {
         let loaded = self.switch_out()?;
         let found = reading(loaded.switch.tables());
@@ -53,7 +53,7 @@ impl<B: Book> Desk<B> {
     ) -> Result<Option<String>, DeskFault>
         requires { (rows : Rows) → BreaksNoRule rows → FnOnceTakesAt F.FnOnce reading rows }
         ensures { DeskRead B.Book self.old self.new result
-            (λ c text. FnOnceReturnsAt F.FnOnce reading c.rows (Ok text)) }
+            (λ c text. MadeBy F.FnOnce reading c (Ok text)) }
     {
         match self.look(reading)? {
             Ok(text) => Ok(text),

@@ -1,6 +1,6 @@
 //! The kept requests of a book run again, and compared with what it holds.
 
-ghost use Rattle.std.specs.Prelude.{◌≡◌, ◌<◌, cond, true, [], Some, option_map, IfOk, OnOk};
+ghost use Rattle.std.specs.Prelude.{◌≡◌, cond, true, [], Some, option_map, IfOk, OnOk};
 ghost use Rattle.std.specs.Bool.{Decides};
 ghost use Rattle.acd_book.specs.Content.{Content, events_after};
 ghost use Rattle.acd_book.specs.Memory.{stamp_of};
@@ -12,7 +12,7 @@ ghost use Rattle.acd_desk.specs.AbstractDesk.{stepped};
 ghost use Rattle.acd_desk.specs.Audit.{IsAudit};
 ghost use Rattle.acd_desk.specs.Pages.{IsPageOf};
 ghost use Rattle.acd_book.specs.BookReads.{MayRead, BookDecides, IfOrdered};
-ghost use Rattle.acd_desk.specs.Replay.{again, IsFirstOfKey, IsFirstWith, DecidesFirst, DecidesNext, DecidesKnown, Matches, IsEnd, BeginsReplay, BeginsEmpty, Plays, StepsOn, IsStep, CountsOne, IsAll};
+ghost use Rattle.acd_desk.specs.Replay.{HasRoom, again, IsFirstOfKey, IsFirstWith, DecidesFirst, DecidesNext, DecidesKnown, Matches, IsEnd, BeginsReplay, BeginsEmpty, Plays, StepsOn, IsStep, CountsOne, IsAll};
 
 use crate::audit::Audit;
 use crate::executing::executed;
@@ -120,7 +120,7 @@ fn replays_as_kept<B: Book>(
     kept: &Kept,
 ) -> Result<bool, BookFault>
     requires rules { BreaksNoRule switch.old }
-    requires room { switch.old.last_stamp < switch.old.limits.requests }
+    requires room { HasRoom switch.old }
     ensures read { MayRead B.state book.old book.new result
         (DecidesKnown keys.now (page.old, page.new) kept.now
         (λ c. Matches c switch.old kept.now)) }
@@ -232,7 +232,7 @@ impl Replay {
         book: &mut B,
         kept: &Kept,
     ) -> Result<Option<Replay>, BookFault>
-        requires { self.loaded.switch.value.last_stamp < self.loaded.switch.value.limits.requests }
+        requires { HasRoom self.loaded.switch.value }
         ensures read { MayRead B.state book.old book.new result (Plays self kept.now) }
         ensures stepped { IfOk result (StepsOn self.loaded.switch.value kept.now) }
     {
@@ -253,7 +253,7 @@ impl Replay {
 
     // Replays the next record, where one is left.
     fn next<B: Book>(self, alloc: Global, book: &mut B) -> Result<Step, BookFault>
-        requires { self.loaded.switch.value.last_stamp < self.loaded.switch.value.limits.requests }
+        requires { HasRoom self.loaded.switch.value }
         ensures read { BookReads B.state book.old book.new result (λ c found. IsStep c self found) }
         ensures counts { IfOk result (CountsOne self.loaded.switch.value) }
     {

@@ -222,9 +222,6 @@ knows_newer a c r k g at =
 abbrev pub IsNext : NewerReplay → FindingOfBoth (Option Kept)
 IsNext r a c found = IsKeptAfter c.kept (newer_rows r).last_stamp found
 
-abbrev pub StepOf : NewerReplay → FindingOfBoth NewerStep
-StepOf r a c found = IsStepWith a c r found
-
 pub next_read : {a b : Books} (r : NewerReplay) {n : ℕ} {found next : Option Kept} → n ≡ (newer_rows r).last_stamp → found ≡ next
     → ReadsFrom a b (Ok found) (OfCurrent (IsNextKept n)) → ReadsFrom a b (Ok next) (IsNext r)
 next_read {a = a} {b = b} r {next = next} from_last is read =
@@ -232,20 +229,20 @@ next_read {a = a} {b = b} r {next = next} from_last is read =
 
 pub step_replayed : {a b e : Books} {r : NewerReplay} {k : Kept} {played : Option NewerReplay} {next : NewerReplay} → ReadsFrom a b (Ok (Some k)) (IsNext r)
     → ReadsFrom b e (Ok played) (PlaysWith r k) → played ≡ Some next → StepsOnWith (newer_rows r) k played
-    → HasRoom (newer_rows r) → ReadsFrom a e (Ok (step.Replayed next)) (IsStepWith r)
+    → (newer_rows r).last_stamp < (newer_rows r).limits.requests → ReadsFrom a e (Ok (step.Replayed next)) (IsStepWith r)
 step_replayed {r = r} {k = k} {next = next} at played is goes room =
     both_ok (both_and at (both_as is played))
     (λ p q both g. newer_next p q r next k g both.0 (both.1 (knows_newer p q r k g both.0)) (subst (StepsOnWith (newer_rows r) k) is goes) room)
 
 pub step_differs : {a b e : Books} {r : NewerReplay} {k : Kept} {played : Option NewerReplay} {m : ℕ} → ReadsFrom a b (Ok (Some k)) (IsNext r)
-    → ReadsFrom b e (Ok played) (PlaysWith r k) → played ≡ None → m ≡ (newer_rows r).last_stamp + 1 → ReadsFrom a e (Ok (step.Ended (Differs m))) (StepOf r)
+    → ReadsFrom b e (Ok played) (PlaysWith r k) → played ≡ None → m ≡ (newer_rows r).last_stamp + 1 → ReadsFrom a e (Ok (step.Ended (Differs m))) (IsStepWith r)
 step_differs {r = r} {k = k} at played is_played is =
     both_ok (both_and at (both_as is_played played))
     (λ p q both g. subst (IsDifferenceWith p q) (sym is) (newer_unlike p q r k g both.0 (both.1 (knows_newer p q r k g both.0))))
 
 pub step_last : {a b e : Books} {r : NewerReplay} {s : Rows} {whole : Bool} {last : ArchiveAudit} → s ≡ newer_rows r → ReadsFrom a b (Ok None) (IsNext r)
     → ReadsFrom b e (Ok whole) (OfCurrent (λ (c : Content) (w : Bool). Decides w (IsEnd c s))) → last ≡ answer_at_end r whole
-    → ReadsFrom a e (Ok (step.Ended last)) (StepOf r)
+    → ReadsFrom a e (Ok (step.Ended last)) (IsStepWith r)
 step_last {r = r} {whole = whole} same none ended is =
     both_ok (both_and none ended)
     (λ p q both g.
@@ -313,11 +310,11 @@ pub newer_begun : {a : Books} {first : Replay} → ReadsFrom a a (Ok tt) (SeenWi
 newer_begun {first = first} = both_known (λ p q begins. newer_start p q first begins)
 
 pub newer_more : {a b e : Books} {first : Replay} {r next : NewerReplay} {taken : NewerStep} → taken ≡ step.Replayed next
-    → ReadsFrom a b (Ok tt) (SeenWith first r) → ReadsFrom b e (Ok taken) (StepOf r) → ReadsFrom a e (Ok tt) (SeenWith first next)
+    → ReadsFrom a b (Ok tt) (SeenWith first r) → ReadsFrom b e (Ok taken) (IsStepWith r) → ReadsFrom a e (Ok tt) (SeenWith first next)
 newer_more is seen read = both_ok (both_and seen (both_as is read)) (λ p q both begins. both.1 (both.0 begins))
 
 pub newer_ended : {a b e : Books} {first : Replay} {r : NewerReplay} {taken : NewerStep} {found : ArchiveAudit} → taken ≡ step.Ended found
-    → ReadsFrom a b (Ok tt) (SeenWith first r) → ReadsFrom b e (Ok taken) (StepOf r) → ReadsFrom a e (Ok found) (AuditsFrom first)
+    → ReadsFrom a b (Ok tt) (SeenWith first r) → ReadsFrom b e (Ok taken) (IsStepWith r) → ReadsFrom a e (Ok found) (AuditsFrom first)
 newer_ended is seen read = both_ok (both_and seen (both_as is read)) (λ p q both begins. both.1 (both.0 begins))
 
 -- the limit of executed requests is reached
