@@ -1,11 +1,14 @@
 -- For private clauses: a conversation over a call.
-use Rattle.std.specs.Prelude.{◌≡◌, ℕ, List, [], Option, Result}
+use Rattle.std.specs.Prelude.{◌≡◌, ℕ, List, [], Option}
+use Rattle.std.specs.Borrow.{MutBor}
+use Rattle.std.specs.declared.io.Read as read
+use Rattle.std.specs.declared.io.Write as write
 use Rattle.acd_desk.specs.declared.desk.Desk.{Desk}
 use Rattle.acd_lines.specs.declared.conversation.Replies.{Replies}
 use Rattle.acd_lines.specs.declared.conversation.Conversation.{Conversation}
-use Rattle.acd_lines.specs.declared.fault.LinesFault.{LinesFault}
-use Rattle.acd_lines.specs.Lines.{Manner, Streams, streams, LinesDoneBy}
-use Rattle.acd_lines.specs.WaitingBytes.{OverCall, outgoing}
+use Rattle.acd_lines.specs.Lines.{Streams, streams}
+use Rattle.acd_lines.specs.WaitingBytes.{OverCall, Talk}
+use denote.Triple.Both.{Both}
 
 -- it is had with the same desk, and its answers go to the same writer
 abbrev pub KeepsEnds : {B A W : Type 0} → Replies B A W → Replies B A W → Type 0
@@ -16,17 +19,33 @@ abbrev pub step : {B A W : Type 0} → (W → Option (List ℕ)) → Replies B A
 step contents first last = record {
   old = first.desk.now;
   new = last.desk.now;
-  out = outgoing contents first.writer.now last.writer.now first.outbox.now last.outbox.now;
+  out = record {
+    old_output = contents first.writer.now;
+    new_output = contents last.writer.now;
+    waited = first.outbox.now.waiting.items;
+    waits = last.outbox.now.waiting.items;
+  };
 }
 
--- the same, with what was kept of a line that had not ended, and what is kept
+-- by what answers its lines, and by what is kept
+abbrev pub talk_with : {B A W : Type 0} → (W → Option (List ℕ)) → Replies B A W → List ℕ → Talk (Desk B)
+talk_with contents replies kept = record {
+  desk = replies.desk.now;
+  kept = kept;
+  waiting = replies.outbox.now.waiting.items;
+  output = contents replies.writer.now;
+}
+
+abbrev pub talk : {B A W : Type 0} → (W → Option (List ℕ)) → Conversation B A W → Talk (Desk B)
+talk contents now = talk_with contents now.replies now.partial.now
+
+-- as it was before a call, and as it is after
 pub record Turn (S : Type 0) : Type 0 where
-  pub kept : List ℕ
-  pub keeps : List ℕ
-  pub over : OverCall S
+  pub old : Talk S
+  pub new : Talk S
 
 abbrev pub turn : {B A W : Type 0} → (W → Option (List ℕ)) → Conversation B A W → Conversation B A W → Turn (Desk B)
-turn contents first last = record { kept = first.partial.now; keeps = last.partial.now; over = step contents first.replies last.replies }
+turn contents first last = record { old = talk contents first; new = talk contents last }
 
 -- nothing is kept, and nothing waits
 abbrev pub IsBegun : {B A W : Type 0} → Conversation B A W → Type 0
@@ -38,14 +57,10 @@ pub record Hearing (S : Type 0) : Type 1 where
   pub old : S
   pub new : S
 
--- by each of the two as it was before the call, and as it is after
-abbrev pub heard : {B A R W : Type 0} → (R → Option (List ℕ)) → (W → Option (List ℕ)) → R × R → Conversation B A W × Conversation B A W → Hearing (Desk B)
-heard remaining contents reader talk = record {
-  io = streams remaining contents reader (talk.0.replies.writer.now, talk.1.replies.writer.now);
-  old = talk.0.replies.desk.now;
-  new = talk.1.replies.desk.now;
+-- by the names of their parameters, which have both values
+abbrev pub heard : {B A R W : Type 0} → read.Ghosts R → write.Ghosts W → Both (MutBor R) (MutBor R) → Both (MutBor (Conversation B A W)) (MutBor (Conversation B A W)) → Hearing (Desk B)
+heard holds says reader self = record {
+  io = streams holds.remaining says.contents (reader.entry.now, reader.exit.now) (self.entry.now.replies.writer.now, self.exit.now.replies.writer.now);
+  old = self.entry.now.replies.desk.now;
+  new = self.exit.now.replies.desk.now;
 }
-
--- so its lines were answered
-abbrev pub Conversed : {D : Type 0} → Manner D → Hearing D → Result (Unit {0}) LinesFault → Type 0
-Conversed manner over result = LinesDoneBy manner over.io over.old over.new result

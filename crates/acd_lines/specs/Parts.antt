@@ -9,7 +9,7 @@ use Rattle.acd_desk.specs.DeskCalls.{DeskState, Ran}
 use Rattle.acd_lines.specs.Input.{has_none, text_of_line, cut}
 use Rattle.acd_io.specs.declared.sending.Stopped.{Stopped}
 use Rattle.acd_io.specs.SentBytes.{Passes, Breaks}
-use Rattle.acd_lines.specs.WaitingBytes.{OverCall, Pushed}
+use Rattle.acd_lines.specs.WaitingBytes.{OverCall, Pushed, Talk}
 use Rattle.acd_lines.specs.Lines.{LinesAnswered, AllRequests, FirstRequests, RequestsAnswered}
 
 module _ {S L : Type 0} (Answers : S → L → List ℕ → S → Type 0) where
@@ -58,33 +58,35 @@ module _ {S L : Type 0} (asks : List ℕ → L) (Answers : S → L → List ℕ 
     pub whole : answers ≡ concat outs
 
   -- So far: earlier answers, and those after them. What waited before, and these, were written but for what waits. At most n bytes of a line are kept.
-  pub record AnsweredSoFar (n : ℕ) (s : S) (seen kept earlier before waiting : List ℕ) (t : S) (old new : Option (List ℕ)) : Type 0 where
+  pub record AnsweredSoFar (n : ℕ) (s : S) (seen earlier before : List ℕ) (old : Option (List ℕ)) (now : Talk S) : Type 0 where
     pub part : List ℕ
     pub answers : List ℕ
-    pub keeps : kept ≡ take n part
-    pub reached : Reached s seen part (earlier ++ answers) t
-    pub passes : Passes old new waiting (before ++ answers)
+    pub keeps : now.kept ≡ take n part
+    pub reached : Reached s seen part (earlier ++ answers) now.desk
+    pub passes : Passes old now.output now.waiting (before ++ answers)
 
   -- more bytes lead on from what was reached
-  abbrev pub Feeds : S → S → List ℕ → List ℕ → List ℕ → Option (List ℕ) → Option (List ℕ) → List ℕ → List ℕ → Type 0
-  Feeds mid t kept kept' bytes old new before waiting = (s : S) (seen part answers : List ℕ) → kept ≡ take 4109 part → Reached s seen part answers mid
-      → AnsweredSoFar 4109 s (seen ++ bytes) kept' answers before waiting t old new
+  abbrev pub Feeds : Talk S → Talk S → List ℕ → Type 0
+  Feeds old new bytes = (s : S) (seen part answers : List ℕ) → old.kept ≡ take 4109 part → Reached s seen part answers old.desk
+      → AnsweredSoFar 4109 s (seen ++ bytes) answers old.waiting old.output new
 
   -- the writer stopped, and some lines were answered of each input that begins with these bytes
-  abbrev pub Stops : S → List ℕ → List ℕ → S → Option (List ℕ) → Option (List ℕ) → List ℕ → Type 0
-  Stops s seen answers t old new before = (out : List ℕ) × ((more : List ℕ) → FirstAnswered s (seen ++ more) (answers ++ out) t) × Breaks old new (before ++ out)
+  abbrev pub Stops : S → List ℕ → List ℕ → List ℕ → Option (List ℕ) → Talk S → Type 0
+  Stops s seen answers before old new =
+      (out : List ℕ) × ((more : List ℕ) → FirstAnswered s (seen ++ more) (answers ++ out) new.desk) × Breaks old new.output (before ++ out)
 
-  abbrev pub FeedStops : S → S → List ℕ → List ℕ → Option (List ℕ) → Option (List ℕ) → List ℕ → Type 0
-  FeedStops mid t kept bytes old new before = (s : S) (seen part answers : List ℕ) → kept ≡ take 4109 part → Reached s seen part answers mid → Stops s (seen ++ bytes) answers t old new before
+  abbrev pub FeedStops : Talk S → Talk S → List ℕ → Type 0
+  FeedStops old new bytes = (s : S) (seen part answers : List ℕ) → old.kept ≡ take 4109 part → Reached s seen part answers old.desk
+      → Stops s (seen ++ bytes) answers old.waiting old.output new
 
   -- the input is at its end
-  abbrev pub Finishes : S → S → List ℕ → Option (List ℕ) → Option (List ℕ) → List ℕ → Type 0
-  Finishes mid t kept old new before = (s : S) (seen part answers : List ℕ) → kept ≡ take 4109 part → Reached s seen part answers mid
-      → (out : List ℕ) × AnsweredAs s (cut seen) (answers ++ out) t × Passes old new [] (before ++ out)
+  abbrev pub Finishes : Talk S → Talk S → Type 0
+  Finishes old new = (s : S) (seen part answers : List ℕ) → old.kept ≡ take 4109 part → Reached s seen part answers old.desk
+      → (out : List ℕ) × AnsweredAs s (cut seen) (answers ++ out) new.desk × Passes old.output new.output [] (old.waiting ++ out)
 
-  abbrev pub FinishStops : S → S → List ℕ → Option (List ℕ) → Option (List ℕ) → List ℕ → Type 0
-  FinishStops mid t kept old new before = (s : S) (seen part answers : List ℕ) → kept ≡ take 4109 part → Reached s seen part answers mid
-      → (out : List ℕ) × AnsweredAs s (cut seen) (answers ++ out) t × Breaks old new (before ++ out)
+  abbrev pub FinishStops : Talk S → Talk S → Type 0
+  FinishStops old new = (s : S) (seen part answers : List ℕ) → old.kept ≡ take 4109 part → Reached s seen part answers old.desk
+      → (out : List ℕ) × AnsweredAs s (cut seen) (answers ++ out) new.desk × Breaks old.output new.output (old.waiting ++ out)
 
 module _ {D : Type 0} (stands : D → DeskState) where
   -- a desk has run over the requests of a plan

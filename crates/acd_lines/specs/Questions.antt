@@ -6,9 +6,10 @@ use Rattle.acd_desk.specs.DeskCalls.{state_of}
 use Rattle.acd_io.specs.declared.sending.Stopped.{Stopped}
 use Rattle.acd_lines.specs.declared.answering.Answering.{Ghosts}
 use Rattle.acd_lines.specs.Input.{asked}
-use Rattle.acd_lines.specs.Lines.{Manner}
-use Rattle.acd_lines.specs.WaitingBytes.{OverCall}
-use Rattle.acd_lines.specs.Conversing.{Turn}
+use Rattle.acd_lines.specs.declared.fault.LinesFault.{LinesFault}
+use Rattle.acd_lines.specs.Lines.{Manner, LinesDone}
+use Rattle.acd_lines.specs.WaitingBytes.{OverCall, between}
+use Rattle.acd_lines.specs.Conversing.{Turn, Hearing}
 use Rattle.acd_lines.specs.Parts.{AnswerPushed, InTurn, Feeds, FeedStops, Finishes, FinishStops, text_kept}
 
 module _ {A B : Type 0} (lines : Ghosts A B) where
@@ -30,19 +31,19 @@ module _ {A B : Type 0} (lines : Ghosts A B) where
 
   -- a line that ended in these bytes was, of which a part was kept
   abbrev pub LineEnded : List ℕ → Turn (Desk B) → Result (Unit {0}) Stopped → Type 0
-  LineEnded end turn result = LineAnswered (text_kept turn.kept end) turn.over result
+  LineEnded end turn result = LineAnswered (text_kept turn.old.kept end) (between turn.old turn.new) result
 
   -- Of a line a part was kept before these bytes, and a part is kept after them: they were used,
   abbrev pub FedTo : List ℕ → Turn (Desk B) → Type 0
-  FedTo bytes turn = let over = turn.over in Feeds question lines.answers over.old over.new turn.kept turn.keeps bytes over.out.old_output over.out.new_output over.out.waited over.out.waits
+  FedTo bytes turn = Feeds question lines.answers turn.old turn.new bytes
 
   -- and nothing waits
   abbrev pub FedWhole : List ℕ → Turn (Desk B) → Type 0
-  FedWhole bytes turn = (turn.over.out.waits ≡ []) × FedTo bytes turn
+  FedWhole bytes turn = (turn.new.waiting ≡ []) × FedTo bytes turn
 
   -- the writer stopped in them
   abbrev pub FedPart : List ℕ → Turn (Desk B) → Type 0
-  FedPart bytes turn = let over = turn.over in FeedStops question lines.answers over.old over.new turn.kept bytes over.out.old_output over.out.new_output over.out.waited
+  FedPart bytes turn = FeedStops question lines.answers turn.old turn.new bytes
 
   -- the one or the other
   abbrev pub Fed : List ℕ → Turn (Desk B) → Result (Unit {0}) Stopped → Type 0
@@ -50,12 +51,16 @@ module _ {A B : Type 0} (lines : Ghosts A B) where
 
   -- the input is at its end, and was answered to it
   abbrev pub FinishedWhole : Turn (Desk B) → Type 0
-  FinishedWhole turn = let over = turn.over in Finishes question lines.answers over.old over.new turn.kept over.out.old_output over.out.new_output over.out.waited
+  FinishedWhole turn = Finishes question lines.answers turn.old turn.new
 
   -- the writer stopped there
   abbrev pub FinishedPart : Turn (Desk B) → Type 0
-  FinishedPart turn = let over = turn.over in FinishStops question lines.answers over.old over.new turn.kept over.out.old_output over.out.new_output over.out.waited
+  FinishedPart turn = FinishStops question lines.answers turn.old turn.new
 
   -- the one or the other
   abbrev pub Finished : Turn (Desk B) → Result (Unit {0}) Stopped → Type 0
   Finished turn result = MatchResult result (λ _. FinishedWhole turn) (λ _. FinishedPart turn)
+
+  -- so the lines that were heard were answered
+  abbrev pub Conversed : Books B → Bool → Hearing (Desk B) → Result (Unit {0}) LinesFault → Type 0
+  Conversed book ends hearing result = LinesDone (state_of book) TakesTurns ends hearing.io hearing.old hearing.new result

@@ -4,9 +4,9 @@ ghost use Rattle.std.specs.Prelude.{◌≡◌, ◌<◌, [], length, OnOk};
 ghost use Rattle.std.specs.Io.BufRead.{strip_last};
 ghost use Rattle.acd_desk.specs.DeskCalls.{state_of};
 ghost use Rattle.acd_lines.specs.Answers.{answered_text};
-ghost use Rattle.acd_lines.specs.Conversing.{step, turn, KeepsEnds, IsBegun, heard, Conversed};
+ghost use Rattle.acd_lines.specs.Conversing.{step, turn, KeepsEnds, IsBegun, heard};
 ghost use Rattle.acd_lines.specs.WaitingBytes.{outgoing, Pushed, Flushed};
-ghost use Rattle.acd_lines.specs.Questions.{LineAnswered, LineEnded, Fed, Finished, by_questions};
+ghost use Rattle.acd_lines.specs.Questions.{LineAnswered, LineEnded, Fed, Finished, Conversed};
 
 use crate::answering::{Answering, answer_line};
 use crate::fault::LinesFault;
@@ -43,8 +43,7 @@ pub(crate) fn push_answer<W: Write>(
     writer: &mut W,
     answered: &AnswerText,
 ) -> Result<(), Stopped>
-    ensures { Pushed result (outgoing W.contents writer.old writer.new outbox.old outbox.new)
-        (answered_text answered.now) }
+    ensures { Pushed result (outgoing W.Write writer outbox) (answered_text answered.now) }
 {
     let mut buffer = Buffer::new();
     outbox.push(writer, buffer.format(answered.status()).as_bytes())?;
@@ -168,8 +167,7 @@ impl<B: Book, A: Answering<B>, W: Write> Conversation<'_, '_, B, A, W> {
         requires room { 0 < length chunk.old }
         requires begins { IsBegun self.old }
         ensures same { KeepsEnds self.old.replies self.new.replies }
-        ensures done { Conversed (by_questions A.Answering B.Book ends)
-            (heard R.remaining W.contents (reader.old, reader.new) (self.old, self.new)) result }
+        ensures done { Conversed A.Answering B.Book ends (heard R.Read W.Write reader self) result }
     {
         for _ in 0..most_calls() {
             if ends && self.replies.has_failed() {

@@ -39,8 +39,7 @@ impl Outbox {
 
     /// Adds the text after what waits. A text that is longer than the room is written at once.
     pub(crate) fn push<W: Write>(&mut self, writer: &mut W, text: &[u8]) -> Result<(), Stopped>
-        ensures { Pushed result (outgoing W.contents writer.old writer.new self.old self.new)
-            text.now }
+        ensures { Pushed result (outgoing W.Write writer self) text.now }
     {
         if text.len() > self.waiting.capacity() - self.waiting.len() {
             self.flush(writer)?;
@@ -56,7 +55,7 @@ impl Outbox {
 
     /// All that waits is written.
     pub(crate) fn flush<W: Write>(&mut self, writer: &mut W) -> Result<(), Stopped>
-        ensures { Flushed result (outgoing W.contents writer.old writer.new self.old self.new) }
+        ensures { Flushed result (outgoing W.Write writer self) }
     {
         send(writer, &mut self.calls, self.waiting.as_slice())?;
         self.waiting.clear();
