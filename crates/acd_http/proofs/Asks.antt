@@ -1,5 +1,5 @@
 -- The question of an input, by the bytes read so far.
-use Rattle.std.proofs.Common.{◌≡◌, ℕ, ◌+◌, ◌-◌, ◌<◌, ◌≤◌, Bool, true, false, nat_le, List, [], ◌++◌, inl, inr, length, take, drop, Option, Some, None, Result, Ok, Err, MatchResult, refl, sym, ap, ◌∙◌, subst, arith, length-append, length-drop}
+use Rattle.std.proofs.Common.{◌≡◌, ℕ, ◌+◌, ◌-◌, ◌<◌, ◌≤◌, Bool, true, false, nat_le, List, [], ◌++◌, inl, inr, length, take, drop, Option, Some, None, Result, Ok, Err, refl, sym, ap, ◌∙◌, subst, arith, length-append, length-drop}
 use Rattle.std.specs.Io.KnownBytes.{Consumes, IsAtEnd}
 use Rattle.std.proofs.KnownBytes.{Consumes-trans, Consumes-whole}
 use Rattle.std.proofs.lemmas.List.{take-append-le, drop-append-le}
@@ -14,7 +14,7 @@ use Rattle.acd_http.specs.declared.web_request.WebRequest.{WebRequest}
 use Rattle.acd_http.specs.declared.web_request.WebRequest.TheVariants.{Truncated, Refused}
 use Rattle.acd_http.specs.declared.refused.Refused.TheVariants as refused
 use Rattle.acd_http.specs.HeadRequests.{IsSmallBody}
-use Rattle.acd_http.specs.WebRequests.{HeadAsks, AsksBy, Asks, IsAsked, IsHeadOf, IsWanted, IsHeadAsked, IsUnasked, IsUnknown, IsSeen, parse, headless, is_bodiless, body_in, body_asks}
+use Rattle.acd_http.specs.WebRequests.{HeadAsks, AsksBy, Asks, IsAsked, IsBodyAsked, IsHeadOf, IsWanted, IsHeadAsked, IsUnasked, IsUnknown, IsSeen, parse, headless, is_bodiless, body_in, body_asks}
 use Rattle.acd_http.specs.declared.web_request.ParseFault.{ParseFault}
 use Rattle.acd_http.specs.declared.web_request.ParseFault.TheVariants as unknown
 use Rattle.acd_http.specs.declared.head_request.HeadRequest.{HeadRequest}
@@ -67,29 +67,6 @@ body_of now rest n len whole =
     let enough : nat_le len (length (drop n (now ++ rest))) ≡ true = grind (arith, nat_tests) in
     rw enough (ap (λ (l : List ℕ). body_asks (reads_as l)) front)
 
--- a body that has come whole
-pub body_finds : (first left : Option (List ℕ)) (seen : List ℕ) (n len : ℕ) (body : List ℕ) (asked : WebRequest) → Consumes first left seen → head_len (take 8192 seen) ≡ Some n → n + len ≤ length seen
-    → ((rest : List ℕ) → HeadAsks (take n seen) rest (body_in len rest)) → body ≡ take len (drop n seen) → asked ≡ body_asks (reads_as body) → IsAsked first asked
-body_finds first left seen n len body asked read e whole h is asks =
-    let more = input_begun first left seen read in
-    let front = head_is 8192 n seen more.0 e in
-    let all = seen ++ more.0 in
-    let here : HeadAsks (take n all) (drop n all) (body_in len (drop n all)) = subst (λ (l : List ℕ). HeadAsks l (drop n all) (body_in len (drop n all))) front.1 (h (drop n all)) in
-    let same : body_in len (drop n all) ≡ asked = body_of seen more.0 n len whole ∙ sym (asks ∙ ap (λ (l : List ℕ). body_asks (reads_as l)) is) in
-    (all, more.1, by_head all (Some n) asked front.0 (subst (λ (a : WebRequest). HeadAsks (take n all) (drop n all) a) same here))
-
-short_asks : (seen : List ℕ) (n len : ℕ) → head_len (take 8192 seen) ≡ Some n → n ≤ length seen → length seen < n + len → ((rest : List ℕ) → HeadAsks (take n seen) rest (body_in len rest)) → Asks seen Truncated
-short_asks seen n len e fits short h =
-    let size : length (drop n seen) < len = omega (arith, length-drop n seen) in
-    let less : nat_le len (length (drop n seen)) ≡ false = grind (arith, nat_tests) in
-    let same : body_in len (drop n seen) ≡ Truncated = rw less refl in
-    by_head seen (Some n) Truncated e (subst (λ (a : WebRequest). HeadAsks (take n seen) (drop n seen) a) same (h (drop n seen)))
-
--- a body that is too short
-pub body_short : (first left : Option (List ℕ)) (seen : List ℕ) (n len : ℕ) → Consumes first left seen → head_len (take 8192 seen) ≡ Some n → n ≤ length seen → length seen < n + len → IsAtEnd left
-    → ((rest : List ℕ) → HeadAsks (take n seen) rest (body_in len rest)) → IsAsked first Truncated
-body_short first left seen n len read e fits short last h = (seen, consumed_all first left seen read last, short_asks seen n len e fits short h)
-
 -- the head stays that of what was read, with more after it
 pub head_stays : (was more now : List ℕ) (n : ℕ) → now ≡ was ++ more → IsHeadOf n was → (head_len (take 8192 now) ≡ Some n) × (take n was ≡ take n now) × (n ≤ length now)
 head_stays was more now n e h =
@@ -118,11 +95,35 @@ no_head_finds first left seen s found a none same h is =
 wants_so : (head : List ℕ) (bodiless : Bool) (r : Result HeadRequest AllocError) (v w : HeadRequest) → IsHeadAsked head bodiless r → r ≡ Ok v → v ≡ w → IsSmallBody w × IsWanted head bodiless w
 wants_so head bodiless r v w h is same = subst (λ (x : Result HeadRequest AllocError). IsHeadAsked head bodiless x) (is ∙ ap Ok same) h
 
-pub known_finds : (first left : Option (List ℕ)) (seen s : List ℕ) (n : ℕ) (bodiless : Bool) (r : Result HeadRequest AllocError) (v w : HeadRequest) (a : WebRequest) → s ≡ seen → IsHeadOf n seen → IsHeadAsked (take n s) bodiless r → r ≡ Ok v → v ≡ w
-    → ((rest : List ℕ) → parse w bodiless rest ≡ a) → Consumes first left seen → IsAsked first a
-known_finds first left seen s n bodiless r v w a same h wanted is e asks read =
-    let wants = (wants_so (take n s) bodiless r v w wanted is e).1 in
-    head_finds first left seen n a read h.0 (λ rest. subst (λ (l : List ℕ). HeadAsks (take n l) rest a) same (subst (λ (x : WebRequest). HeadAsks (take n s) rest x) (asks rest) (wants rest)))
+-- A head was read, and wants this: facts that travel together.
+pub record HeadWants (first left : Option (List ℕ)) (seen : List ℕ) (n : ℕ) (bodiless : Bool) (w : HeadRequest) : Type 0 where
+  pub read : Consumes first left seen
+  pub head : IsHeadOf n seen
+  pub wants : IsWanted (take n seen) bodiless w
+
+pub head_wants : (first left : Option (List ℕ)) (seen s : List ℕ) (n : ℕ) (asked : Bool × Result HeadRequest AllocError) (v w : HeadRequest) → s ≡ seen → IsHeadOf n seen
+    → IsHeadAsked (take n s) asked.0 asked.1 → asked.1 ≡ Ok v → v ≡ w → Consumes first left seen → HeadWants first left seen n asked.0 w
+head_wants first left seen s n asked v w same h wanted is e read = record {
+  read = read;
+  head = h;
+  wants = λ rest. subst (λ (l : List ℕ). HeadAsks (take n l) rest (parse w asked.0 rest)) same ((wants_so (take n s) asked.0 asked.1 v w wanted is e).1 rest);
+}
+
+-- it does with more after it
+wants_still : (first left later : Option (List ℕ)) (was more now : List ℕ) (n : ℕ) (bodiless : Bool) (w : HeadRequest) → HeadWants first left was n bodiless w → now ≡ was ++ more → Consumes left later more
+    → HeadWants first later now n bodiless w
+wants_still first left later was more now n bodiless w k e read =
+    let stays = head_stays was more now n e k.head in
+    record {
+      read = subst (λ (l : List ℕ). Consumes first later l) (sym e) (Consumes-trans first left later was more k.read read);
+      head = (stays.0, k.head.1, stays.2);
+      wants = λ rest. subst (λ (l : List ℕ). HeadAsks l rest (parse w bodiless rest)) stays.1 (k.wants rest);
+    }
+
+pub known_finds : (first left : Option (List ℕ)) (seen : List ℕ) (n : ℕ) (bodiless : Bool) (w : HeadRequest) (a : WebRequest) → HeadWants first left seen n bodiless w
+    → ((rest : List ℕ) → parse w bodiless rest ≡ a) → IsAsked first a
+known_finds first left seen n bodiless w a k asks =
+    head_finds first left seen n a k.read k.head.0 (λ rest. subst (λ (x : WebRequest). HeadAsks (take n seen) rest x) (asks rest) (k.wants rest))
 
 pub unknown_finds : (first left : Option (List ℕ)) (seen s : List ℕ) (n : ℕ) (bodiless : Bool) (r : Result HeadRequest AllocError) (f : AllocError) → s ≡ seen → IsHeadOf n seen → IsHeadAsked (take n s) bodiless r → r ≡ Err f → Consumes first left seen
     → IsUnknown first left (unknown.NoMemory bodiless)
@@ -135,6 +136,31 @@ unknown_finds first left seen s n bodiless r f same h wanted is read =
       head_finds first left seen n a read h.0 (λ rest. subst (λ (l : List ℕ). HeadAsks (take n l) rest a) same (subst (λ (x : WebRequest). HeadAsks (take n s) rest x) (sym (any_rest unseen.0 bodiless rest unseen.1)) (unseen.2 rest))),
     )
 
+-- ---- a head that wants a body of so many bytes
+
+-- a body that has come whole
+body_finds : (first left : Option (List ℕ)) (seen : List ℕ) (n len : ℕ) (bodiless : Bool) (body : List ℕ) (asked : WebRequest) → HeadWants first left seen n bodiless (want.Body len) → n + len ≤ length seen
+    → body ≡ take len (drop n seen) → asked ≡ body_asks (reads_as body) → IsAsked first asked
+body_finds first left seen n len bodiless body asked k whole is asks =
+    let more = input_begun first left seen k.read in
+    let front = head_is 8192 n seen more.0 k.head.0 in
+    let all = seen ++ more.0 in
+    let rest = drop n all in
+    let here : HeadAsks (take n all) rest (body_in len rest) = subst (λ (l : List ℕ). HeadAsks l rest (body_in len rest)) front.1 (k.wants rest) in
+    let same : body_in len rest ≡ asked = body_of seen more.0 n len whole ∙ sym (asks ∙ ap (λ (l : List ℕ). body_asks (reads_as l)) is) in
+    (all, more.1, by_head all (Some n) asked front.0 (subst (λ (a : WebRequest). HeadAsks (take n all) rest a) same here))
+
+short_asks : (first left : Option (List ℕ)) (seen : List ℕ) (n len : ℕ) (bodiless : Bool) → HeadWants first left seen n bodiless (want.Body len) → length seen < n + len → Asks seen Truncated
+short_asks first left seen n len bodiless k short =
+    let size : length (drop n seen) < len = omega (arith, length-drop n seen, k.head.2) in
+    let less : nat_le len (length (drop n seen)) ≡ false = grind (arith, nat_tests) in
+    let same : body_in len (drop n seen) ≡ Truncated = rw less refl in
+    by_head seen (Some n) Truncated k.head.0 (subst (λ (a : WebRequest). HeadAsks (take n seen) (drop n seen) a) same (k.wants (drop n seen)))
+
+-- a body that is too short
+body_short : (first left : Option (List ℕ)) (seen : List ℕ) (n len : ℕ) (bodiless : Bool) → HeadWants first left seen n bodiless (want.Body len) → length seen < n + len → IsAtEnd left → IsAsked first Truncated
+body_short first left seen n len bodiless k short last = (seen, consumed_all first left seen k.read last, short_asks first left seen n len bodiless k short)
+
 body_whole : (r : Result Request Member) → (body_asks r ≡ Truncated → ⊥)
 body_whole (Ok request) h = cc
 body_whole (Err member) h = cc
@@ -144,45 +170,42 @@ not_bodiless (Ok request) = refl
 not_bodiless (Err member) = refl
 
 -- a body that has come whole, and what its reading gave
-no_memory : (first left : Option (List ℕ)) (seen : List ℕ) (n len : ℕ) (body : List ℕ) → Consumes first left seen → head_len (take 8192 seen) ≡ Some n → n + len ≤ length seen
-    → ((rest : List ℕ) → HeadAsks (take n seen) rest (body_in len rest)) → body ≡ take len (drop n seen) → IsUnknown first left (unknown.NoMemory false)
-no_memory first left seen n len body read e whole h is =
+no_memory : (first left : Option (List ℕ)) (seen : List ℕ) (n len : ℕ) (bodiless : Bool) (body : List ℕ) → HeadWants first left seen n bodiless (want.Body len) → n + len ≤ length seen → body ≡ take len (drop n seen)
+    → IsUnknown first left (unknown.NoMemory false)
+no_memory first left seen n len bodiless body k whole is =
     let a = body_asks (reads_as body) in
-    (a, body_whole (reads_as body), not_bodiless (reads_as body), body_finds first left seen n len body a read e whole h is refl)
+    (a, body_whole (reads_as body), not_bodiless (reads_as body), body_finds first left seen n len bodiless body a k whole is refl)
 
-pub read_finds : (first left : Option (List ℕ)) (seen : List ℕ) (n len : ℕ) (body : List ℕ) (r : Result WebRequest ParseFault) → Consumes first left seen → head_len (take 8192 seen) ≡ Some n → n + len ≤ length seen
-    → ((rest : List ℕ) → HeadAsks (take n seen) rest (body_in len rest)) → body ≡ take len (drop n seen)
-    → MatchResult r (λ (a : WebRequest). a ≡ body_asks (reads_as body)) (λ (u : ParseFault). u ≡ unknown.NoMemory false) → IsSeen first left r
-read_finds first left seen n len body (Ok a) read e whole h is answer = body_finds first left seen n len body a read e whole h is answer
-read_finds first left seen n len body (Err u) read e whole h is answer = subst (λ (v : ParseFault). IsUnknown first left v) (sym answer) (no_memory first left seen n len body read e whole h is)
+read_finds : (first left : Option (List ℕ)) (seen : List ℕ) (n len : ℕ) (bodiless : Bool) (body : List ℕ) (r : Result WebRequest ParseFault) → HeadWants first left seen n bodiless (want.Body len)
+    → n + len ≤ length seen → body ≡ take len (drop n seen) → IsBodyAsked body r → IsSeen first left r
+read_finds first left seen n len bodiless body (Ok a) k whole is answer = body_finds first left seen n len bodiless body a k whole is answer
+read_finds first left seen n len bodiless body (Err u) k whole is answer =
+    subst (λ (v : ParseFault). IsUnknown first left v) (sym answer) (no_memory first left seen n len bodiless body k whole is)
 
-pub whole_finds : (first left later : Option (List ℕ)) (was s now s' : List ℕ) (n len : ℕ) (bodiless whole : Bool) (head : Result HeadRequest AllocError) (v : HeadRequest) (r : Result WebRequest ParseFault) → s ≡ was → IsHeadOf n was → IsHeadAsked (take n s) bodiless head → head ≡ Ok v → v ≡ want.Body len → Consumes first left was
-    → whole ≡ true → BodyFound whole (n + len) was now left later → s' ≡ now
-    → MatchResult r (λ (a : WebRequest). a ≡ body_asks (reads_as (take (n + len - n) (drop n s')))) (λ (u : ParseFault). u ≡ unknown.NoMemory false) → IsSeen first later r
-whole_finds first left later was s now s' n len bodiless whole head v r same h asked so body read here found same' answer =
-    let is = (wants_so (take n s) bodiless head v (want.Body len) asked so body).1 in
-    let stays = head_stays was found.more now n found.grown h in
+-- it came whole; s is the slice that was read
+pub whole_finds : (first left later : Option (List ℕ)) (seen : List ℕ × List ℕ) (s : List ℕ) (n len : ℕ) (bodiless whole : Bool) (r : Result WebRequest ParseFault)
+    → HeadWants first left seen.0 n bodiless (want.Body len) → whole ≡ true → BodyFound whole (n + len) seen (left, later) → s ≡ seen.1
+    → IsBodyAsked (take (n + len - n) (drop n s)) r → IsSeen first later r
+whole_finds first left later seen s n len bodiless whole r k here found same answer =
+    let now = seen.1 in
+    let still = wants_still first left later seen.0 found.more now n bodiless (want.Body len) k found.grown found.read in
     let ends : IsRead true (n + len) now later = subst (λ (b : Bool). IsRead b (n + len) now later) here found.end in
-    let all = subst (λ (l : List ℕ). Consumes first later l) (sym found.grown) (Consumes-trans first left later was found.more read found.read) in
-    let slice : take (n + len - n) (drop n s') ≡ take len (drop n now) = ap (λ (k : ℕ). take k (drop n s')) (omega arith) ∙ ap (λ (l : List ℕ). take len (drop n l)) same' in
-    read_finds first later now n len (take (n + len - n) (drop n s')) r all stays.0 ends
-    (λ rest. subst (λ (l : List ℕ). HeadAsks l rest (body_in len rest)) (ap (take n) same ∙ stays.1) (is rest)) slice answer
+    let slice : take (n + len - n) (drop n s) ≡ take len (drop n now) =
+    ap (λ (k : ℕ). take k (drop n s)) (omega arith) ∙ ap (λ (l : List ℕ). take len (drop n l)) same in
+    read_finds first later now n len bodiless (take (n + len - n) (drop n s)) r still ends slice answer
 
-pub part_finds : (first left later : Option (List ℕ)) (was s now : List ℕ) (n len : ℕ) (bodiless whole : Bool) (head : Result HeadRequest AllocError) (v : HeadRequest) → s ≡ was → IsHeadOf n was → IsHeadAsked (take n s) bodiless head → head ≡ Ok v → v ≡ want.Body len → Consumes first left was
-    → whole ≡ false → BodyFound whole (n + len) was now left later → IsAsked first Truncated
-part_finds first left later was s now n len bodiless whole head v same h asked so body read here found =
-    let is = (wants_so (take n s) bodiless head v (want.Body len) asked so body).1 in
-    let stays = head_stays was found.more now n found.grown h in
+-- the input ended before
+pub part_finds : (first left later : Option (List ℕ)) (seen : List ℕ × List ℕ) (n len : ℕ) (bodiless whole : Bool) → HeadWants first left seen.0 n bodiless (want.Body len) → whole ≡ false
+    → BodyFound whole (n + len) seen (left, later) → IsAsked first Truncated
+part_finds first left later seen n len bodiless whole k here found =
+    let now = seen.1 in
+    let still = wants_still first left later seen.0 found.more now n bodiless (want.Body len) k found.grown found.read in
     let ends : IsRead false (n + len) now later = subst (λ (b : Bool). IsRead b (n + len) now later) here found.end in
-    let all = subst (λ (l : List ℕ). Consumes first later l) (sym found.grown) (Consumes-trans first left later was found.more read found.read) in
-    body_short first later now n len all stays.0 stays.2 ends.0 ends.1
-    (λ rest. subst (λ (l : List ℕ). HeadAsks l rest (body_in len rest)) (ap (take n) same ∙ stays.1) (is rest))
+    body_short first later now n len bodiless still ends.0 ends.1
 
--- reading stopped within a body
-pub body_unasked : (first left later : Option (List ℕ)) (was s now : List ℕ) (n len : ℕ) (bodiless : Bool) (head : Result HeadRequest AllocError) (v : HeadRequest) → s ≡ was → IsHeadOf n was → IsHeadAsked (take n s) bodiless head → head ≡ Ok v → v ≡ want.Body len → Consumes first left was
-    → StopsInBody (n + len) was now left later → IsUnasked first later
-body_unasked first left later was s now n len bodiless head v same h asked so body read stops =
-    let is = (wants_so (take n s) bodiless head v (want.Body len) asked so body).1 in
-    let stays = head_stays was stops.more now n stops.grown h in
-    let all = subst (λ (l : List ℕ). Consumes first later l) (sym stops.grown) (Consumes-trans first left later was stops.more read stops.read) in
-    (now, all, short_asks now n len stays.0 stays.2 stops.short (λ rest. subst (λ (l : List ℕ). HeadAsks l rest (body_in len rest)) (ap (take n) same ∙ stays.1) (is rest)))
+-- reading stopped before
+pub body_unasked : (first left later : Option (List ℕ)) (seen : List ℕ × List ℕ) (n len : ℕ) (bodiless : Bool) → HeadWants first left seen.0 n bodiless (want.Body len)
+    → StopsInBody (n + len) seen (left, later) → IsUnasked first later
+body_unasked first left later seen n len bodiless k stops =
+    let still = wants_still first left later seen.0 stops.more seen.1 n bodiless (want.Body len) k stops.grown stops.read in
+    (seen.1, still.read, short_asks first later seen.1 n len bodiless still stops.short)

@@ -96,7 +96,7 @@ stops_in_head a b c seen now read none short still = record {
 }
 
 -- reading stopped within a body
-pub stops_in_body : (a b c : Option (List ℕ)) (len : ℕ) (was more seen now : List ℕ) → Consumes a b more → seen ≡ was ++ more → length seen < len → (now ≡ seen) × Keeps b c → StopsInBody len was now a c
+pub stops_in_body : (a b c : Option (List ℕ)) (len : ℕ) (was more seen now : List ℕ) → Consumes a b more → seen ≡ was ++ more → length seen < len → (now ≡ seen) × Keeps b c → StopsInBody len (was, now) (a, c)
 stops_in_body a b c len was more seen now read grown short still = record {
   more = more;
   read = Consumes-kept a b c more read still.1;

@@ -38,19 +38,19 @@ pub record StopsInHead (now : List ℕ) (old new : Option (List ℕ)) : Type 0 w
 abbrev pub HeadRead : List ℕ → Option (List ℕ) × Option (List ℕ) → Result (Option ℕ) Stopped → Type 0
 HeadRead now left result = MatchResult result (λ found. Found found now left.0 left.1) (λ _. StopsInHead now left.0 left.1)
 
-pub record BodyFound (whole : Bool) (len : ℕ) (was now : List ℕ) (old new : Option (List ℕ)) : Type 0 where
+pub record BodyFound (whole : Bool) (len : ℕ) (seen : List ℕ × List ℕ) (left : Option (List ℕ) × Option (List ℕ)) : Type 0 where
   pub more : List ℕ
-  pub read : Consumes old new more
-  pub grown : now ≡ was ++ more
-  pub end : IsRead whole len now new
+  pub read : Consumes left.0 left.1 more
+  pub grown : seen.1 ≡ seen.0 ++ more
+  pub end : IsRead whole len seen.1 left.1
 
 -- reading stopped before so many bytes came
-pub record StopsInBody (len : ℕ) (was now : List ℕ) (old new : Option (List ℕ)) : Type 0 where
+pub record StopsInBody (len : ℕ) (seen : List ℕ × List ℕ) (left : Option (List ℕ) × Option (List ℕ)) : Type 0 where
   pub more : List ℕ
-  pub read : Consumes old new more
-  pub grown : now ≡ was ++ more
-  pub short : length now < len
+  pub read : Consumes left.0 left.1 more
+  pub grown : seen.1 ≡ seen.0 ++ more
+  pub short : length seen.1 < len
 
 -- the result of reading a body
 abbrev pub BodyRead : ℕ → List ℕ × List ℕ → Option (List ℕ) × Option (List ℕ) → Result Bool Stopped → Type 0
-BodyRead len seen left result = MatchResult result (λ whole. BodyFound whole len seen.0 seen.1 left.0 left.1) (λ _. StopsInBody len seen.0 seen.1 left.0 left.1)
+BodyRead len seen left result = MatchResult result (λ whole. BodyFound whole len seen left) (λ _. StopsInBody len seen left)
