@@ -1,5 +1,5 @@
 -- The text written for a line that reads; and lines lead to the run of the requests among them.
-use Rattle.std.proofs.Common.{◌≡◌, ◌⊎◌, inl, inr, ℕ, List, [], ◌∷◌, ◌++◌, map, Bool, Option, Result, Ok, Err, String, IfOk, OnErr, refl, sym, ap, subst, ◌∙◌, append_assoc, append-nil}
+use Rattle.std.proofs.Common.{◌≡◌, inl, inr, ℕ, List, [], ◌∷◌, ◌++◌, map, Bool, Option, Result, Ok, Err, String, IfOk, refl, sym, ap, subst, ◌∙◌, append_assoc, append-nil}
 use Rattle.std.proofs.lemmas.List.{map-append}
 use Rattle.acd_terms.specs.declared.command.Arrival.{Arrival}
 use Rattle.acd_book.specs.Content.{Content}
@@ -13,26 +13,31 @@ use Rattle.acd_desk.specs.DeskReads.{ReadDone}
 use Rattle.acd_desk.specs.ReadAnswers.{text_read, question_read, is_plain}
 use Rattle.acd_desk.specs.declared.question.Question.{Question}
 use Rattle.acd_desk.specs.AnswerTexts.{seen_text}
+use Rattle.acd_desk.specs.declared.answer_text.AnswerText.{AnswerText}
 use Rattle.acd_desk.specs.declared.fault.DeskFault.{DeskFault}
 use Rattle.acd_desk.specs.declared.fault.DeskFault.TheVariants as fault
 use Rattle.acd_desk.proofs.Pages.ReadsDone.{read_seen, read_no_memory}
-use Rattle.acd_codec.specs.declared.fault.FixedAnswer.TheVariants as fixed
-use Rattle.acd_lines.specs.Answers.{fixed_line}
+use Rattle.acd_lines.specs.Answers.{answered_text}
 use Rattle.acd_lines.specs.Input.{no_moment, too_long, faulty, arrival, text_of_line}
-use Rattle.acd_http.specs.LinesWithReads.{ReadingLine, plain, get, reading_line_of, found_line, AnswersRead, IsReadAnswer, ReadingAnswers, asked_by, all_asked, AnswersReads, ReadAfterLines, accepted_before, led_before, IsReadFrom, IfOpen, LinesLeadToTheRun, ReadsAnswerByTheContent, ReadsAnswerByTheRun}
+use Rattle.acd_http.specs.LinesWithReads.{ReadingLine, plain, get, reading_line_of, found_line, SaysFound, AnswersRead, IsReadAnswer, ReadingAnswers, asked_by, all_asked, AnswersReads, ReadAfterLines, accepted_before, led_before, IsReadFrom, IfOpen, LinesLeadToTheRun, ReadsAnswerByTheContent, ReadsAnswerByTheRun}
 
--- the desk's answer, or noMemory in its place
-pub answers_look : {D Z : Type 0} (stands : D → DeskState) (d e : D) (moment : ℕ) (question : Question) (as_text : Bool) (found : Result (Option (String Z)) DeskFault) (out : List ℕ) → as_text ≡ is_plain question
-    → (out ≡ found_line as_text (seen_text found)) ⊎ (OnErr found ⊥ × (out ≡ fixed_line fixed.NoMemory))
-    → ReadDone (stands d) (stands e) found (λ (c : Content) (text : Option (String Z)). text_read text ≡ question_read c moment question) → AnswersRead stands d moment (Ok question) out e
-answers_look {D} {Z} stands d e moment question as_text found out same (inl is) h =
-    inr (seen_text found, is ∙ ap (λ (b : Bool). found_line b (seen_text found)) same, read_seen (stands d) (stands e) found (λ (c : Content). question_read c moment question) h)
-answers_look {D} {Z} stands d e moment question as_text (Ok text) out same (inr lost) h = inr (
-  Err fault.NoMemory,
-  lost.1,
-  read_no_memory (stands d) (stands e) text (λ (c : Content) (x : Option (String Z)). text_read x ≡ question_read c moment question) (λ (c : Content) (x : Option (List ℕ)). x ≡ question_read c moment question) h,
-)
-answers_look {D} {Z} stands d e moment question as_text (Err why) out same (inr lost) h = absurd lost.0
+module _ {D Z : Type 0} (stands : D → DeskState) where
+  -- the desk's answer, or noMemory in its place
+  pub answers_look : (d e : D) (moment : ℕ) (question : Question) (as_text : Bool) (found : Result (Option (String Z)) DeskFault) (answer : AnswerText) → as_text ≡ is_plain question
+      → SaysFound answer as_text (seen_text found) → ReadDone (stands d) (stands e) found (λ (c : Content) (text : Option (String Z)). text_read text ≡ question_read c moment question)
+      → AnswersRead stands d moment (Ok question) (answered_text answer) e
+  answers_look d e moment question as_text found answer same (inl is) h = inr (
+    seen_text found,
+    is ∙ ap (λ (b : Bool). found_line b (seen_text found)) same,
+    read_seen (stands d) (stands e) found (λ (c : Content). question_read c moment question) h,
+  )
+  answers_look d e moment question as_text (Ok text) answer same (inr lost) h = inr (
+    Err fault.NoMemory,
+    lost.1,
+    read_no_memory (stands d) (stands e) text (λ (c : Content) (x : Option (String Z)). text_read x ≡ question_read c moment question)
+        (λ (c : Content) (x : Option (List ℕ)). x ≡ question_read c moment question) h,
+  )
+  answers_look d e moment question as_text (Err why) answer same (inr lost) h = absurd lost.0
 
 -- ---- lines lead to the run
 

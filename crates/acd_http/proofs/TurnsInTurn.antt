@@ -1,13 +1,13 @@
 -- One turn after another.
-use Rattle.std.proofs.Common.{◌≡◌, true, false, true≢false, ℕ, ◌+◌, ◌≤◌, suc, Bool, List, [], ◌∷◌, ◌++◌, cond, length, Option, Some, None, Result, Ok, Err, refl, sym, ap, ◌∙◌, subst, arith, append_assoc, append-nil, inl, inr}
+use Rattle.std.proofs.Common.{◌≡◌, true, false, true≢false, ℕ, ◌+◌, ◌≤◌, suc, Bool, List, [], ◌∷◌, ◌++◌, length, Option, Some, None, Result, Ok, refl, sym, ap, ◌∙◌, subst, arith, append_assoc, append-nil, inl, inr}
 use Rattle.std.proofs.KnownBytes.{Appends-nil}
 use Rattle.std.specs.Prelude.{unwrap_or, is_some}
 use Rattle.acd_desk.specs.declared.taken.Taken.{Taken}
 use Rattle.acd_desk.specs.DeskCalls.{DeskState}
 use Rattle.acd_io.specs.declared.sending.Stopped.{Stopped}
 use Rattle.acd_io.specs.SentBytes.{WasSent}
-use Rattle.acd_desk.specs.Clock.{Looked}
-use Rattle.acd_http.specs.ConnectionsInTurn.{Outcome, PrintsText, outcome_line, outcome_lines, AnsweredOne, AnsweredEach, AnsweredAll, EachWell, AnsweredWell, AnsweredUntilFailed}
+use Rattle.acd_lines.specs.Lines.{Output}
+use Rattle.acd_http.specs.ConnectionsInTurn.{Outcome, PrintsText, outcome_line, outcome_lines, AnsweredEach, AnsweredAll, EachWell, AnsweredUntilFailed}
 use Rattle.acd_http.specs.Turns.{Turn, answered, looked, turn_line, turn_lines, connections_of_turn, connection_count, Turned, LookedAt, TurnedEach, TurnedWell, TurnsTaken, AddsLooks, EndsAt, TurnsUntil}
 
 count_more : (xs : List Turn) (x : Turn) → connection_count (xs ++ x ∷ []) ≡ connection_count xs + connections_of_turn x
@@ -38,10 +38,10 @@ module _ {D : Type 0} (stands : D → DeskState) (looks : Bool) where
     unfolding turn_lines
     turns_none d a = record { turns = []; count = refl; turned = refl; well = λ is. tt; out = Appends-nil a }
 
-    pub turns_more : (many more : ℕ) (d e f : D) (printed result : Result (Unit {0}) Stopped) (a b c : Option (List ℕ)) (x : Turn) → more ≡ many + connections_of_turn x
-        → TurnsTaken stands looks endless many d e (WasSent printed a b) → (endless ≡ true → (stands e).failed ≡ false) → Turned stands looks e x f
-        → PrintsText (turn_line (many + 1) x) printed (b, c) result → TurnsTaken stands looks endless more d f (WasSent result a c)
-    turns_more many more d e f printed result a b c x is h working one wrote =
+    pub turns_more : (many more : ℕ) (d e f : D) (printed : Result (Unit {0}) Stopped × Result (Unit {0}) Stopped) (a : Option (List ℕ)) (output : Output) (x : Turn) → more ≡ many + connections_of_turn x
+        → TurnsTaken stands looks endless many d e (WasSent printed.0 a output.before) → (endless ≡ true → (stands e).failed ≡ false) → Turned stands looks e x f
+        → PrintsText (turn_line (many + 1) x) printed.0 output printed.1 → TurnsTaken stands looks endless more d f (WasSent printed.1 a output.after)
+    turns_more many more d e f printed a output x is h working one wrote =
         let number : 1 + connection_count h.turns ≡ many + 1 = let is = h.count in omega arith in
         let lines : turn_lines 1 (h.turns ++ x ∷ []) ≡ turn_lines 1 h.turns ++ turn_line (many + 1) x
         = lines_more 1 h.turns x ∙ ap (λ (k : ℕ). turn_lines 1 h.turns ++ turn_line k x) number in
@@ -50,14 +50,14 @@ module _ {D : Type 0} (stands : D → DeskState) (looks : Bool) where
           count = count_more h.turns x ∙ ap (λ (k : ℕ). k + connections_of_turn x) h.count ∙ sym is;
           turned = each_more d e f h.turns x h.turned one;
           well = λ is. well_more d e f h.turns x h.turned one (h.well is) (working is);
-          out = subst (WasSent result a c) (sym lines) (wrote a (turn_lines 1 h.turns) h.out);
+          out = subst (WasSent printed.1 a output.after) (sym lines) (wrote a (turn_lines 1 h.turns) h.out);
         }
 
     -- one look more
-    pub look_more : (d e : D) (before after : Result (Unit {0}) Stopped) (b c : Option (List ℕ)) (taken : Option Taken) (told : Bool) → looks ≡ true → LookedAt stands taken d e
-        → PrintsText (turn_line 0 (looked taken told)) before (b, c) after → AddsLooks stands (looks, endless) (d, e) (before, after) (b, c)
-    look_more d e before after b c taken told is at wrote first start many h =
-        turns_more many many first d e before after start b c (looked taken told) (omega arith) h (λ is. at.working) (is, at) wrote
+    pub look_more : (d e : D) (printed : Result (Unit {0}) Stopped × Result (Unit {0}) Stopped) (output : Output) (taken : Option Taken) (told : Bool) → looks ≡ true → LookedAt stands taken d e
+        → PrintsText (turn_line 0 (looked taken told)) printed.0 output printed.1 → AddsLooks stands (looks, endless) (d, e) printed output
+    look_more d e printed output taken told is at wrote first start many h =
+        turns_more many many first d e printed start output (looked taken told) (omega arith) h (λ is. at.working) (is, at) wrote
 
 -- ---- where no look is made
 

@@ -1,15 +1,18 @@
 -- The state after connections were answered, one after another.
 use Rattle.std.specs.Prelude.{◌≡◌, ◌⊎◌, ℕ, suc, length, true, false, List, [], ◌∷◌, ◌++◌, Option, Result, Ok, Err, codes, decimal}
+use Rattle.std.specs.Borrow.{MutBor}
 use Rattle.acd_book.specs.declared.book.Book.{Ghosts}
 use Rattle.acd_desk.specs.declared.desk.Desk.{Desk}
 use Rattle.acd_desk.specs.DeskCalls.{DeskState, state_of}
 use Rattle.acd_io.specs.declared.sending.Stopped.{Stopped}
 use Rattle.acd_io.specs.SentBytes.{WasSent}
+use Rattle.acd_lines.specs.Lines.{Output}
 use Rattle.acd_http.specs.declared.web_request.WebRequest.{WebRequest}
 use Rattle.acd_http.specs.declared.exchanging.ExchangeFault.{ExchangeFault}
 use Rattle.acd_http.specs.declared.exchanging.ExchangeFault.TheVariants.{Truncated, Read, Write, NoMemory}
 use Rattle.acd_http.specs.WebRequests.{Asks}
 use Rattle.acd_http.specs.Exchange.{AnswersAsked}
+use denote.Triple.Both.{Both}
 
 -- how a connection ended
 abbrev pub Outcome : Type 0
@@ -32,8 +35,9 @@ outcome_lines number [] = []
 outcome_lines number (x ∷ xs) = outcome_line number x ++ outcome_lines (suc number) xs
 
 -- for private clauses: after lines that were sent as `before` says, this text was sent, as `result` says
-abbrev pub PrintsText : List ℕ → Result (Unit {0}) Stopped → Option (List ℕ) × Option (List ℕ) → Result (Unit {0}) Stopped → Type 0
-PrintsText more before output result = (first : Option (List ℕ)) (text : List ℕ) → WasSent before first output.0 text → WasSent result first output.1 (text ++ more)
+abbrev pub PrintsText : List ℕ → Result (Unit {0}) Stopped → Output → Result (Unit {0}) Stopped → Type 0
+PrintsText more before output result =
+    (first : Option (List ℕ)) (text : List ℕ) → WasSent before first output.before text → WasSent result first output.after (text ++ more)
 
 module _ {D : Type 0} (stands : D → DeskState) where
   -- something was asked at some moment, and answered
@@ -82,6 +86,12 @@ module _ {D : Type 0} (stands : D → DeskState) where
   abbrev pub AnsweredUntilFailed : D → D → (List ℕ → Type 0) → Type 0
   AnsweredUntilFailed d e WentOut = (many : ℕ) × AnsweredWell many d e WentOut × (((stands e).failed ≡ true) ⊎ (many ≡ 18446744073709551615))
 
--- connections were answered until the desk of a book failed
-abbrev pub UntilFailed : {B : Type 0} → Ghosts B → Desk B → Desk B → (List ℕ → Type 0) → Type 0
-UntilFailed book d e WentOut = AnsweredUntilFailed (state_of book) d e WentOut
+-- ---- of a desk over a book, by the words of that book
+
+-- so many connections were answered
+abbrev pub SoMany : {B : Type 0} → Ghosts B → ℕ → Both (MutBor (Desk B)) (MutBor (Desk B)) → (List ℕ → Type 0) → Type 0
+SoMany book many desk WentOut = AnsweredAll (state_of book) many desk.entry.now desk.exit.now WentOut
+
+-- connections were answered until it failed
+abbrev pub UntilFailed : {B : Type 0} → Ghosts B → Both (MutBor (Desk B)) (MutBor (Desk B)) → (List ℕ → Type 0) → Type 0
+UntilFailed book desk WentOut = AnsweredUntilFailed (state_of book) desk.entry.now desk.exit.now WentOut

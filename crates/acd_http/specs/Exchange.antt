@@ -1,5 +1,6 @@
 -- The text written in answer to a question, and the desk after it.
 use Rattle.std.specs.Prelude.{◌≡◌, ◌≢◌, ◌⊎◌, ℕ, List, [], ◌∷◌, Bool, false, if◌then◌else◌, Option, Some, None, Result, Ok, Err, IfErr, OnOk}
+use Rattle.std.specs.Borrow.{MutBor}
 use Rattle.acd_terms.specs.declared.command.Request.{Request}
 use Rattle.acd_codec.specs.declared.fault.FixedAnswer.{FixedAnswer}
 use Rattle.acd_codec.specs.declared.fault.FixedAnswer.TheVariants as fixed
@@ -29,6 +30,7 @@ use Rattle.acd_http.specs.declared.exchanging.ExchangeFault.TheVariants as fault
 use Rattle.acd_http.specs.RefusalReplies.{refused_said, refused_allow}
 use Rattle.acd_http.specs.ReplyBytes.{reply_bytes}
 use Rattle.acd_http.specs.WebRequests.{Asks, IsAsked, IsUnasked, is_bodiless}
+use denote.Triple.Both.{Both}
 
 -- an answer in JSON
 abbrev pub json_reply : Bool → Said → List ℕ
@@ -63,6 +65,10 @@ found_reply bodiless kind found = reply_bytes bodiless (found_said found).status
 -- the bytes of a reply
 abbrev pub reply_out : Bool → Reply → List ℕ
 reply_out bodiless r = reply_bytes bodiless (said r.answer).status r.kind r.allow (said r.answer).body
+
+-- for private clauses: a reply has these bytes, without its body and with it
+abbrev pub RepliesAs : Reply → (Bool → List ℕ) → Type 0
+RepliesAs reply bytes = (bodiless : Bool) → reply_out bodiless reply ≡ bytes bodiless
 
 module _ {D : Type 0} (stands : D → DeskState) (moment : ℕ) where
   -- the desk was read for the answer to a question, and gave this
@@ -111,8 +117,8 @@ module _ {D : Type 0} (stands : D → DeskState) (moment : ℕ) where
 -- ---- of a desk over a book, by the words of that book
 
 -- how an exchange at a moment ended, over the desk before it and after it
-abbrev pub ExchangeDoneAt : {B : Type 0} → Ghosts B → ℕ → Streams → Desk B × Desk B → Result (Unit {0}) ExchangeFault → Type 0
-ExchangeDoneAt book moment io desks result = ExchangeDone (state_of book) moment io desks.0 desks.1 result
+abbrev pub ExchangeDoneAt : {B : Type 0} → Ghosts B → ℕ → Streams → Both (MutBor (Desk B)) (MutBor (Desk B)) → Result (Unit {0}) ExchangeFault → Type 0
+ExchangeDoneAt book moment io desk result = ExchangeDone (state_of book) moment io desk.entry.now desk.exit.now result
 
 -- for private clauses: at a moment this was asked, and this is the reply to it
 abbrev pub RepliesWith : {B : Type 0} → Ghosts B → ℕ × WebRequest → Desk B → Reply → Desk B → Type 0

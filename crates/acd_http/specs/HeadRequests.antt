@@ -1,5 +1,5 @@
 -- The request of a head that has come whole.
-use Rattle.std.specs.Prelude.{◌≡◌, ℕ, ◌≤◌, List, [], length, map, Bool, true, false, if◌then◌else◌, codes, Option, Some, None, Result, Ok, Err, OnErr, MatchResult}
+use Rattle.std.specs.Prelude.{◌≡◌, ℕ, ◌≤◌, List, [], length, map, Bool, true, false, if◌then◌else◌, codes, Option, Some, None, Result, Ok, Err, MatchResult}
 use Rattle.std.specs.Str.{bytes_eq}
 use Rattle.httparse.specs.Grammar.{RequestHead, ReadsRequest}
 use Rattle.httparse.specs.Spans.{name_and_value}
@@ -88,9 +88,9 @@ is_body (want.Refused why) = false
 is_body (want.Look lookup) = false
 is_body (want.Body n) = true
 
--- for private clauses: where there was no memory to read a request, it is one that asks for no body
-abbrev pub AsksNoBody : Result HeadRequest AllocError → HeadRequest → Type 0
-AsksNoBody result wanted = OnErr result (is_body wanted ≡ false)
+-- for private clauses: a request was read as this one, which asks for no body where there was no memory to read it
+abbrev pub IsReadAs : Result HeadRequest AllocError → HeadRequest → Type 0
+IsReadAs result wanted = MatchResult result (λ w. w ≡ wanted) (λ e. is_body wanted ≡ false)
 
 -- a body that is asked for has at most 4096 bytes
 abbrev pub IsSmallBody : HeadRequest → Type 0
@@ -101,4 +101,4 @@ IsSmallBody (want.Look question) = Unit {0}
 -- for private clauses: a head as it was read; it asks for no body where there was no memory to read it
 abbrev pub IsHeadRead : List ℕ → Option (Bool × Result HeadRequest AllocError) → Type 0
 IsHeadRead head None = IsUnread head
-IsHeadRead head (Some read) = (h : RequestHead) × IsWhole head h × (read.0 ≡ has_no_body h) × MatchResult read.1 (λ w. w ≡ wanted_of h) (λ e. is_body (wanted_of h) ≡ false)
+IsHeadRead head (Some read) = (h : RequestHead) × IsWhole head h × (read.0 ≡ has_no_body h) × IsReadAs read.1 (wanted_of h)

@@ -1,5 +1,5 @@
 -- Lines that ask what a GET asks, beside those that ask for a service.
-use Rattle.std.specs.Prelude.{◌≡◌, ◌⊎◌, ℕ, List, [], ◌∷◌, ◌++◌, length, map, take, drop, Bool, ◌&&◌, nat_le, if◌then◌else◌, codes, Option, Some, None, Result, Ok, Err}
+use Rattle.std.specs.Prelude.{◌≡◌, ◌⊎◌, ℕ, List, [], ◌∷◌, ◌++◌, length, map, take, drop, Bool, ◌&&◌, nat_le, if◌then◌else◌, codes, Option, Some, None, Result, Ok, Err, OnErr}
 use Rattle.std.specs.Str.{bytes_eq}
 use Rattle.acd_terms.specs.declared.command.Arrival.{Arrival}
 use Rattle.acd_codec.specs.declared.fault.FixedAnswer.TheVariants as fixed
@@ -62,12 +62,9 @@ json_found as_text (Err why) = Err why
 abbrev pub found_line : Bool → Result (Option (List ℕ)) DeskFault → List ℕ
 found_line as_text found = line_text (found_said (json_found as_text found))
 
--- for private clauses: an answer is this line, or says that there was no memory
-abbrev pub Says : AnswerText → List ℕ → Type 0
-Says answer line = answered_text answer ≡ line
-
-abbrev pub SaysNoMemory : AnswerText → Type 0
-SaysNoMemory answer = answered_text answer ≡ fixed_line fixed.NoMemory
+-- for private clauses: an answer is the line to what was found or, where this takes memory, that there was none
+abbrev pub SaysFound : AnswerText → Bool → Result (Option (List ℕ)) DeskFault → Type 0
+SaysFound answer as_text found = (answered_text answer ≡ found_line as_text found) ⊎ (OnErr found ⊥ × (answered_text answer ≡ fixed_line fixed.NoMemory))
 
 -- the answer of a content to a read, or that it can't be given
 abbrev pub IsReadAnswer : Content → ℕ → Question → List ℕ → Type 0

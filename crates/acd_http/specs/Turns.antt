@@ -1,6 +1,7 @@
 -- Connections and looks at the clock, one after another: the state after them, and the lines of their faults.
 use Rattle.std.specs.Prelude.{◌≡◌, ◌⊎◌, ℕ, ◌+◌, Bool, true, false, cond, List, [], ◌∷◌, ◌++◌, Option, Some, None, is_some, Result, codes}
 use Rattle.std.specs.Option.{is_none}
+use Rattle.std.specs.Borrow.{MutBor}
 use Rattle.acd_book.specs.declared.book.Book.{Ghosts}
 use Rattle.acd_desk.specs.declared.desk.Desk.{Desk}
 use Rattle.acd_desk.specs.declared.taken.Taken.{Taken}
@@ -8,9 +9,12 @@ use Rattle.acd_desk.specs.declared.taken.Taken.TheVariants.{Reply, InvokeReused,
 use Rattle.acd_desk.specs.DeskCalls.{DeskState, state_of}
 use Rattle.acd_io.specs.declared.sending.Stopped.{Stopped}
 use Rattle.acd_io.specs.SentBytes.{WasSent}
+use Rattle.acd_lines.specs.Lines.{Output}
 use Rattle.acd_desk.specs.Clock.{Looked, DeskLooked}
 use Rattle.acd_http.specs.declared.serving.Span.{Span}
+use Rattle.acd_http.specs.declared.watch.Watch.{Watch}
 use Rattle.acd_http.specs.ConnectionsInTurn.{Outcome, PrintsText, outcome_line, AnsweredOne}
+use denote.Triple.Both.{Both}
 
 -- a connection, by how it ended; or a look at the clock, by the answer to its tick, where one was handed in, and by whether a line was written of that
 pub data Turn : Type 0 where
@@ -77,10 +81,10 @@ module _ {D : Type 0} (stands : D → DeskState) where
     pub out : WentOut (turn_lines 1 turns)
 
   -- for private clauses: after turns whose lines were sent as `before` says come looks, whose lines were sent as `after` says
-  abbrev pub AddsLooks : Bool × Bool → D × D → Result (Unit {0}) Stopped × Result (Unit {0}) Stopped → Option (List ℕ) × Option (List ℕ) → Type 0
+  abbrev pub AddsLooks : Bool × Bool → D × D → Result (Unit {0}) Stopped × Result (Unit {0}) Stopped → Output → Type 0
   AddsLooks kind desks printed output =
-      (first : D) (start : Option (List ℕ)) (many : ℕ) → TurnsTaken kind.0 kind.1 many first desks.0 (WasSent printed.0 start output.0)
-      → TurnsTaken kind.0 kind.1 many first desks.1 (WasSent printed.1 start output.1)
+      (first : D) (start : Option (List ℕ)) (many : ℕ) → TurnsTaken kind.0 kind.1 many first desks.0 (WasSent printed.0 start output.before)
+      → TurnsTaken kind.0 kind.1 many first desks.1 (WasSent printed.1 start output.after)
 
   -- so many connections end a service; where there is no number, it ends with the desk, or with as many as 64 bits count
   abbrev pub EndsAt : Option ℕ → ℕ → D → Type 0
@@ -94,18 +98,31 @@ module _ {D : Type 0} (stands : D → DeskState) where
 -- ---- of a desk over a book, by the words of that book
 
 -- it took turns, and its service has this span
-abbrev pub Serves : {B : Type 0} → Ghosts B → Span → Desk B → Desk B → (List ℕ → Type 0) → Type 0
-Serves book span d e WentOut = TurnsUntil (state_of book) (is_some span.step) span.connections d e WentOut
+abbrev pub Serves : {B : Type 0} → Ghosts B → Span → Both (MutBor (Desk B)) (MutBor (Desk B)) → (List ℕ → Type 0) → Type 0
+Serves book span desk WentOut = TurnsUntil (state_of book) (is_some span.step) span.connections desk.entry.now desk.exit.now WentOut
+
+-- for private clauses: a service of this span ends with its desk, and that has failed
+abbrev pub EndsWithDesk : {B : Type 0} → Ghosts B → Span → Desk B → Type 0
+EndsWithDesk book span d = (span.connections ≡ None) × ((state_of book d).failed ≡ true)
+
+-- for private clauses: one that would end with it goes on, since it hasn't
+abbrev pub GoesOn : {B : Type 0} → Ghosts B → Span → Desk B → Type 0
+GoesOn book span d = is_none span.connections ≡ true → (state_of book d).failed ≡ false
 
 -- for private clauses: the line of a look was written, or none
-abbrev pub TellsLook : Option Taken → Result (Unit {0}) Stopped × Result (Unit {0}) Stopped → Option (List ℕ) × Option (List ℕ) → Type 0
+abbrev pub TellsLook : Option Taken → Result (Unit {0}) Stopped × Result (Unit {0}) Stopped → Output → Type 0
 TellsLook taken printed output = (told : Bool) × PrintsText (turn_line 0 (looked taken told)) printed.0 output printed.1
 
+-- for private clauses: how lines were sent before a call and after it, by what a service knows of them
+abbrev pub printed_in : Both (MutBor Watch) (MutBor Watch) → Result (Unit {0}) Stopped × Result (Unit {0}) Stopped
+printed_in watch = (watch.entry.now.printed, watch.exit.now.printed)
+
 -- for private clauses: it was looked at once
-abbrev pub LookedOnce : {B : Type 0} → Ghosts B → Desk B × Desk B → Result (Unit {0}) Stopped × Result (Unit {0}) Stopped → Option (List ℕ) × Option (List ℕ) → Type 0
-LookedOnce book desks printed output =
-    (moment : ℕ) × (taken : Option Taken) × DeskLooked book moment desks.0 taken desks.1 × TellsLook taken printed output
+abbrev pub LookedOnce : {B : Type 0} → Ghosts B → Both (MutBor (Desk B)) (MutBor (Desk B)) → Both (MutBor Watch) (MutBor Watch) → Output → Type 0
+LookedOnce book desk watch output =
+    (moment : ℕ) × (taken : Option Taken) × DeskLooked book moment desk.entry.now taken desk.exit.now × TellsLook taken (printed_in watch) output
 
 -- for private clauses: it was looked at, in its turns
-abbrev pub LooksAtClock : {B : Type 0} → Ghosts B → Span → Desk B × Desk B → Result (Unit {0}) Stopped × Result (Unit {0}) Stopped → Option (List ℕ) × Option (List ℕ) → Type 0
-LooksAtClock book span desks printed output = AddsLooks (state_of book) (is_some span.step, is_none span.connections) desks printed output
+abbrev pub LooksAtClock : {B : Type 0} → Ghosts B → Span → Both (MutBor (Desk B)) (MutBor (Desk B)) → Both (MutBor Watch) (MutBor Watch) → Output → Type 0
+LooksAtClock book span desk watch output =
+    AddsLooks (state_of book) (is_some span.step, is_none span.connections) (desk.entry.now, desk.exit.now) (printed_in watch) output

@@ -1,9 +1,8 @@
 //! The reply to what was asked.
 
-ghost use Rattle.std.specs.Prelude.{◌≡◌, Bool};
 ghost use Rattle.acd_desk.specs.AnswerTexts.{said};
 ghost use Rattle.acd_http.specs.declared.web_request.WebRequest.{WebRequest};
-ghost use Rattle.acd_http.specs.Exchange.{reply_out, json_reply, fixed_reply, refused_reply, RepliesWith, Answered};
+ghost use Rattle.acd_http.specs.Exchange.{json_reply, fixed_reply, refused_reply, RepliesAs, RepliesWith, Answered};
 
 use crate::reads::found_reply;
 use crate::refused::{Allow, Refused};
@@ -24,7 +23,7 @@ pub(crate) struct Reply {
 
 /// It takes no memory.
 fn in_json(answer: AnswerText) -> Reply
-    ensures { (bodiless : Bool) → reply_out bodiless result ≡ json_reply bodiless (said answer) }
+    ensures { RepliesAs result (λ bodiless. json_reply bodiless (said answer)) }
 {
     Reply {
         answer,
@@ -35,14 +34,14 @@ fn in_json(answer: AnswerText) -> Reply
 
 /// It takes no memory.
 pub(crate) fn fixed(answer: FixedAnswer) -> Reply
-    ensures { (bodiless : Bool) → reply_out bodiless result ≡ fixed_reply bodiless answer }
+    ensures { RepliesAs result (λ bodiless. fixed_reply bodiless answer) }
 {
     in_json(AnswerText::fixed(answer))
 }
 
 /// It takes no memory.
 fn refused(why: Refused) -> Reply
-    ensures { (bodiless : Bool) → reply_out bodiless result ≡ refused_reply bodiless why }
+    ensures { RepliesAs result (λ bodiless. refused_reply bodiless why) }
 {
     Reply {
         answer: why.answer(),

@@ -2,7 +2,7 @@
 
 ghost use Rattle.std.specs.Prelude.{◌≡◌, IfErr, ◌++◌, cond, []};
 ghost use Rattle.acd_io.specs.SentBytes.{Sends};
-ghost use Rattle.acd_lines.specs.Lines.{streams};
+ghost use Rattle.acd_lines.specs.Lines.{streamed};
 ghost use Rattle.acd_http.specs.Exchange.{reply_out, ExchangeDoneAt};
 
 use crate::answer::{Reply, answered, fixed};
@@ -85,9 +85,7 @@ pub fn exchange<B: Book, R: Read, W: Write>(
     reader: &mut R,
     writer: &mut W,
 ) -> Result<(), ExchangeFault>
-    ensures { ExchangeDoneAt B.Book moment
-        (streams R.remaining W.contents (reader.old, reader.new) (writer.old, writer.new))
-        (desk.old, desk.new) result }
+    ensures { ExchangeDoneAt B.Book moment (streamed R.Read W.Write reader writer) desk result }
 {
     let mut input = match Input::new(alloc) {
         Ok(input) => input,

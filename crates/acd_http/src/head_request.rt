@@ -1,10 +1,10 @@
 //! The request of a head.
 
-ghost use Rattle.std.specs.Prelude.{◌≡◌, ℕ, ◌≤◌, length, All, IfOk};
+ghost use Rattle.std.specs.Prelude.{◌≡◌, ℕ, ◌≤◌, length, All};
 ghost use Rattle.httparse.specs.Grammar.{RequestHead};
 ghost use Rattle.httparse.specs.Spans.{IsHeaderWithin};
 ghost use Rattle.acd_http.specs.Fields.{fields_in, fields_refused, length_in};
-ghost use Rattle.acd_http.specs.HeadRequests.{is_head, looked, by_length, posted, by_method, from_head, AsksNoBody, IsHeadRead};
+ghost use Rattle.acd_http.specs.HeadRequests.{is_head, looked, by_length, posted, by_method, from_head, IsReadAs, IsHeadRead};
 ghost use Rattle.acd_http.specs.WebRequests.{IsHeadAsked};
 
 use crate::fields::{Length, fields_refused, length_in};
@@ -70,8 +70,7 @@ fn by_method(
     target: &[u8],
     length: Length,
 ) -> Result<HeadRequest, AllocError>
-    ensures ok { IfOk result (λ w. w ≡ by_method method target.now length) }
-    ensures err { AsksNoBody result (by_method method target.now length) }
+    ensures { IsReadAs result (by_method method target.now length) }
 {
     match method {
         None => Ok(HeadRequest::Refused(Refused::NotImplemented)),
@@ -98,9 +97,7 @@ fn from_head(
     headers: &[HeaderSpan],
 ) -> Result<HeadRequest, AllocError>
     requires { All (IsHeaderWithin (length buf.now)) headers.now }
-    ensures ok { IfOk result
-        (λ w. w ≡ from_head minor method target.now (fields_in buf.now headers.now)) }
-    ensures err { AsksNoBody result
+    ensures { IsReadAs result
         (from_head minor method target.now (fields_in buf.now headers.now)) }
 {
     match fields_refused(minor, buf, headers) {

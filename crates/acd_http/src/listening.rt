@@ -1,9 +1,8 @@
 //! Connections of a listener that only blocks, answered one after the other.
 
-ghost use Rattle.acd_io.specs.SentBytes.{Sends};
-ghost use Rattle.acd_desk.specs.DeskCalls.{state_of};
-ghost use Rattle.acd_http.specs.ConnectionsInTurn.{AnsweredAll, UntilFailed};
-ghost use Rattle.acd_http.specs.RouteMemory.{IfRouted, IfUnrouted};
+ghost use Rattle.acd_lines.specs.Lines.{written};
+ghost use Rattle.acd_http.specs.ConnectionsInTurn.{SoMany, UntilFailed};
+ghost use Rattle.acd_http.specs.RouteMemory.{IfServed, IfUnrouted};
 ghost use Rattle.std.specs.Prelude.{◌≡◌};
 
 use crate::serving::{ServeFault, Span, serve};
@@ -26,9 +25,7 @@ pub fn serve_on<B: Book, C: Clock, E: Write>(
     errors: &mut E,
 ) -> Result<(), ServeFault>
     // the lines were written or, where one of them could not be, a beginning of them and not all
-    ensures answered { IfRouted result
-        (AnsweredAll (state_of B.Book) connections desk.old desk.new
-        (Sends E.contents errors.old errors.new result)) }
+    ensures answered { IfServed result (written E.Write errors) (SoMany B.Book connections desk) }
     ensures memory { IfUnrouted result ((desk.new ≡ desk.old) × (errors.new ≡ errors.old)) }
 {
     let mut door = listener;
@@ -46,8 +43,7 @@ pub fn serve_until_failed<B: Book, C: Clock, E: Write>(
     errors: &mut E,
 ) -> Result<(), ServeFault>
     // the lines were written or, where one of them could not be, a beginning of them and not all
-    ensures answered { IfRouted result
-        (UntilFailed B.Book desk.old desk.new (Sends E.contents errors.old errors.new result)) }
+    ensures answered { IfServed result (written E.Write errors) (UntilFailed B.Book desk) }
     ensures memory { IfUnrouted result ((desk.new ≡ desk.old) × (errors.new ≡ errors.old)) }
 {
     let mut door = listener;

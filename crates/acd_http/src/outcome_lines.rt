@@ -1,8 +1,8 @@
 //! The lines that report the faults of connections.
 
 ghost use Rattle.std.specs.Prelude.{◌≡◌, ◌≤◌, length, Err};
-ghost use Rattle.acd_io.specs.Streams.{across};
 ghost use Rattle.acd_io.specs.SentBytes.{Sends};
+ghost use Rattle.acd_lines.specs.Lines.{written};
 ghost use Rattle.acd_http.specs.ConnectionsInTurn.{PrintsText, fault_text, outcome_line};
 
 use crate::exchanging::ExchangeFault;
@@ -63,8 +63,7 @@ pub(crate) fn print_next<E: Write>(
     number: u64,
     outcome: Result<(), ExchangeFault>,
 ) -> Result<(), Stopped>
-    ensures { PrintsText (outcome_line number outcome) printed
-        (across E.contents errors.old errors.new) result }
+    ensures { PrintsText (outcome_line number outcome) printed (written E.Write errors) result }
 {
     printed?;
     print_outcome(errors, number, outcome)

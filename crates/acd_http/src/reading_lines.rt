@@ -1,10 +1,10 @@
 //! Lines that ask what a GET asks, beside those that ask for a service.
 
-ghost use Rattle.std.specs.Prelude.{◌≡◌, ◌⊎◌, IfOk, OnErr, Ok, Some, string_bytes};
+ghost use Rattle.std.specs.Prelude.{◌≡◌, IfOk, Ok, Some, string_bytes};
 ghost use Rattle.acd_desk.specs.AnswerTexts.{seen_text};
-ghost use Rattle.acd_lines.specs.Lines.{LinesDoneBy, streams};
+ghost use Rattle.acd_lines.specs.Lines.{DoneBy, streamed};
 ghost use Rattle.acd_http.specs.Lookups.{target_looked};
-ghost use Rattle.acd_http.specs.LinesWithReads.{is_read, as_json, found_line, Says, SaysNoMemory, AnswersReadWith, by_reads};
+ghost use Rattle.acd_http.specs.LinesWithReads.{is_read, as_json, SaysFound, AnswersReadWith, by_reads};
 
 use crate::routes::Routes;
 use acd_book::Book;
@@ -27,8 +27,7 @@ fn as_json(alloc: Global, is_plain: bool, text: String) -> Result<String, AllocE
 
 // The text of a report as JSON takes memory, and where there is none the answer is noMemory.
 fn text_line(alloc: Global, is_plain: bool, text: String) -> AnswerText
-    ensures { Says result (found_line is_plain (Ok (Some (string_bytes text))))
-        ⊎ SaysNoMemory result }
+    ensures { SaysFound result is_plain (Ok (Some (string_bytes text))) }
 {
     match as_json(alloc, is_plain, text) {
         Ok(body) => AnswerText::found(Ok(Some(body))),
@@ -37,8 +36,7 @@ fn text_line(alloc: Global, is_plain: bool, text: String) -> AnswerText
 }
 
 fn found_line(alloc: Global, is_plain: bool, found: Result<Option<String>, DeskFault>) -> AnswerText
-    ensures { Says result (found_line is_plain (seen_text found))
-        ⊎ (OnErr found ⊥ × SaysNoMemory result) }
+    ensures { SaysFound result is_plain (seen_text found) }
 {
     match found {
         Ok(Some(text)) => text_line(alloc, is_plain, text),
@@ -152,9 +150,7 @@ pub fn lines_with_reads<B: Book, R: Read, W: Write>(
     reader: &mut R,
     writer: &mut W,
 ) -> Result<(), LinesFault>
-    ensures { LinesDoneBy (by_reads B.Book ends)
-        (streams R.remaining W.contents (reader.old, reader.new) (writer.old, writer.new))
-        desk.old desk.new result }
+    ensures { DoneBy (by_reads B.Book ends) (streamed R.Read W.Write reader writer) desk result }
 {
     let mut lines = RequestsAndReads::new(alloc)?;
     answer_lines(alloc, &mut lines, desk, ends, reader, writer)

@@ -1,8 +1,8 @@
 //! The reply to a read.
 
-ghost use Rattle.std.specs.Prelude.{◌≡◌, Bool};
+ghost use Rattle.std.specs.Prelude.{◌≡◌};
 ghost use Rattle.acd_desk.specs.AnswerTexts.{seen_text};
-ghost use Rattle.acd_http.specs.Exchange.{reply_out, kind_found, found_reply, RepliesToRead};
+ghost use Rattle.acd_http.specs.Exchange.{kind_found, found_reply, RepliesAs, RepliesToRead};
 
 use crate::answer::Reply;
 use crate::reply::Kind;
@@ -20,8 +20,7 @@ fn kind_found(kind: Kind, found: &Result<Option<String>, DeskFault>) -> Kind
 }
 
 fn reply_to(kind: Kind, found: Result<Option<String>, DeskFault>) -> Reply
-    ensures { (bodiless : Bool)
-        → reply_out bodiless result ≡ found_reply bodiless kind (seen_text found) }
+    ensures { RepliesAs result (λ bodiless. found_reply bodiless kind (seen_text found)) }
 {
     let kind = kind_found(kind, &found);
     Reply {

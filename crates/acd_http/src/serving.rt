@@ -1,13 +1,12 @@
 //! The turns of a service: connections that are answered one after the other, and looks at the desk between them.
 
-ghost use Rattle.std.specs.Prelude.{◌≡◌, true, false, None, IfSome, IfNone, is_some};
-ghost use Rattle.std.specs.Option.{is_none};
-ghost use Rattle.acd_io.specs.Streams.{across};
+ghost use Rattle.std.specs.Prelude.{◌≡◌, true, false, None, IfSome, IfNone};
 ghost use Rattle.acd_io.specs.SentBytes.{Sends};
 ghost use Rattle.acd_desk.specs.DeskCalls.{state_of};
+ghost use Rattle.acd_lines.specs.Lines.{written};
 ghost use Rattle.acd_http.specs.ConnectionsInTurn.{AnsweredOne};
-ghost use Rattle.acd_http.specs.RouteMemory.{IfRouted, IfUnrouted};
-ghost use Rattle.acd_http.specs.Turns.{LooksAtClock, Serves};
+ghost use Rattle.acd_http.specs.RouteMemory.{IfServed, IfUnrouted};
+ghost use Rattle.acd_http.specs.Turns.{LooksAtClock, Serves, EndsWithDesk, GoesOn};
 
 use crate::answering::answer_peer;
 use crate::door::Door;
@@ -63,10 +62,8 @@ impl Span {
 
 // Whether the service has come to its end with the desk.
 fn has_ended<B: Book>(span: Span, desk: &Desk<B>) -> bool
-    ensures ended { result ≡ true → (span.connections ≡ None)
-        × ((state_of B.Book desk.now).failed ≡ true) }
-    ensures goes_on { result ≡ false → is_none span.connections ≡ true
-        → (state_of B.Book desk.now).failed ≡ false }
+    ensures ended { result ≡ true → EndsWithDesk B.Book span desk.now }
+    ensures goes_on { result ≡ false → GoesOn B.Book span desk.now }
 {
     span.connections.is_none() && desk.has_failed()
 }
@@ -81,12 +78,9 @@ fn next_peer<B: Book, C: Clock, D: Door, E: Write>(
     watch: &mut Watch,
     errors: &mut E,
 ) -> Option<io::Result<D::Peer>>
-    ensures looks { LooksAtClock B.Book span (desk.old, desk.new)
-        (watch.old.printed, watch.new.printed) (across E.contents errors.old errors.new) }
-    ensures ended { IfNone result ((span.connections ≡ None)
-        × ((state_of B.Book desk.new).failed ≡ true)) }
-    ensures goes_on { IfSome result (λ peer. is_none span.connections ≡ true
-        → (state_of B.Book desk.new).failed ≡ false) }
+    ensures looks { LooksAtClock B.Book span desk watch (written E.Write errors) }
+    ensures ended { IfNone result (EndsWithDesk B.Book span desk.new) }
+    ensures goes_on { IfSome result (λ peer. GoesOn B.Book span desk.new) }
 {
     for _ in 0..u64::MAX {
         watch.look_in_time(clock, span, desk, errors);
@@ -132,8 +126,7 @@ fn take_turns<B: Book, C: Clock, D: Door, E: Write>(
     desk: &mut Desk<B>,
     errors: &mut E,
 ) -> Result<(), Stopped>
-    ensures { Serves B.Book span desk.old desk.new
-        (Sends E.contents errors.old errors.new result) }
+    ensures { Serves B.Book span desk (Sends E.contents errors.old errors.new result) }
 {
     let mut watch = Watch::new();
     for before in 0..span.connections.unwrap_or(u64::MAX) {
@@ -163,8 +156,7 @@ pub fn serve<B: Book, C: Clock, D: Door, E: Write>(
     errors: &mut E,
 ) -> Result<(), ServeFault>
     // the lines were written or, where one of them could not be, a beginning of them and not all
-    ensures answered { IfRouted result (Serves B.Book span desk.old desk.new
-        (Sends E.contents errors.old errors.new result)) }
+    ensures answered { IfServed result (written E.Write errors) (Serves B.Book span desk) }
     ensures memory { IfUnrouted result ((desk.new ≡ desk.old) × (errors.new ≡ errors.old)) }
 {
     let Ok(routes) = Routes::new(alloc) else {

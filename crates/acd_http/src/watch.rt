@@ -2,8 +2,7 @@
 
 ghost use Rattle.std.specs.Prelude.{◌≡◌, false, [], cond, is_some, Ok};
 ghost use Rattle.std.specs.Option.{is_none};
-ghost use Rattle.acd_io.specs.Streams.{across};
-ghost use Rattle.acd_desk.specs.DeskCalls.{state_of};
+ghost use Rattle.acd_lines.specs.Lines.{written};
 ghost use Rattle.acd_http.specs.ConnectionsInTurn.{PrintsText};
 ghost use Rattle.acd_http.specs.Turns.{LookedOnce, LooksAtClock, tick_line};
 
@@ -82,7 +81,7 @@ fn print_line<E: Write>(
     errors: &mut E,
     line: &[u8],
 ) -> Result<(), Stopped>
-    ensures { PrintsText line.now printed (across E.contents errors.old errors.new) result }
+    ensures { PrintsText line.now printed (written E.Write errors) result }
 {
     printed?;
     let mut calls = most_calls();
@@ -134,8 +133,7 @@ impl Watch {
 
     // Looks at the desk, by the clock's moment, and has it tick where something is overdue.
     fn look<B: Book, C: Clock, E: Write>(&mut self, clock: &C, desk: &mut Desk<B>, errors: &mut E)
-        ensures { LookedOnce B.Book (desk.old, desk.new) (self.old.printed, self.new.printed)
-            (across E.contents errors.old errors.new) }
+        ensures { LookedOnce B.Book desk self (written E.Write errors) }
     {
         self.last = Instant::now(clock).ok();
         let taken = desk.tick_if_due(moment_now(clock));
@@ -151,8 +149,7 @@ impl Watch {
         desk: &mut Desk<B>,
         errors: &mut E,
     )
-        ensures { LooksAtClock B.Book span (desk.old, desk.new) (self.old.printed, self.new.printed)
-            (across E.contents errors.old errors.new) }
+        ensures { LooksAtClock B.Book span desk self (written E.Write errors) }
     {
         let Some(step) = span.step else {
             return;

@@ -1,7 +1,10 @@
 -- The answers: how many of the questions were answered, one answer line for each of these, and how much of these lines was written; and how that ended.
 use Rattle.std.specs.Prelude.{◌≡◌, ℕ, Bool, true, false, List, map, take, Option, Result, IfErr, OnOk, OnErr, MatchResult}
+use Rattle.std.specs.Borrow.{MutBor}
 use Rattle.std.specs.List.{concat}
 use Rattle.std.specs.Io.KnownBytes.{Appends, Consumes}
+use Rattle.std.specs.declared.io.Read as read
+use Rattle.std.specs.declared.io.Write as write
 use Rattle.acd_terms.specs.declared.command.Request.{Request}
 use Rattle.acd_terms.specs.declared.command.Arrival.{Arrival}
 use Rattle.acd_book.specs.declared.book.Book.{Ghosts}
@@ -15,6 +18,64 @@ use Rattle.acd_lines.specs.Input.{cut, lines_of, arrivals_in}
 use Rattle.acd_io.specs.Streams.{IsInput}
 use Rattle.acd_io.specs.SentBytes.{Begins, Breaks}
 use Rattle.acd_lines.specs.Output.{whole_lines, AnswerLines, imported}
+use denote.Triple.Both.{Both}
+
+-- ---- streams over a call
+
+-- a reader and a writer over a call: what the reader held and has left, what the writer had before and has after, each where that is known; that the reader wasn't touched, and that the writer wasn't
+pub record Streams : Type 1 where
+  pub old_input : Option (List ℕ)
+  pub left : Option (List ℕ)
+  pub old_output : Option (List ℕ)
+  pub new_output : Option (List ℕ)
+  pub unread : Type 0
+  pub unwritten : Type 0
+
+-- neither of the two was touched
+abbrev pub Untouched : Streams → Type 0
+Untouched io = io.unread × io.unwritten
+
+-- by each of the two as it was before the call, and as it is after
+abbrev pub streams : {R W : Type 0} → (R → Option (List ℕ)) → (W → Option (List ℕ)) → R × R → W × W → Streams
+streams remaining contents reader writer = record {
+  old_input = remaining reader.0;
+  left = remaining reader.1;
+  old_output = contents writer.0;
+  new_output = contents writer.1;
+  unread = reader.1 ≡ reader.0;
+  unwritten = writer.1 ≡ writer.0;
+}
+
+-- by the names of their parameters, which have both values
+abbrev pub streamed : {R W : Type 0} → read.Ghosts R → write.Ghosts W → Both (MutBor R) (MutBor R) → Both (MutBor W) (MutBor W) → Streams
+streamed holds says reader writer = record {
+  old_input = holds.remaining reader.entry.now;
+  left = holds.remaining reader.exit.now;
+  old_output = says.contents writer.entry.now;
+  new_output = says.contents writer.exit.now;
+  unread = reader.exit.now ≡ reader.entry.now;
+  unwritten = writer.exit.now ≡ writer.entry.now;
+}
+
+-- what a writer had before the call and has after it, each where that is known; and that it wasn't touched
+pub record Output : Type 1 where
+  pub before : Option (List ℕ)
+  pub after : Option (List ℕ)
+  pub unwritten : Type 0
+
+-- by the writer as it was before the call, and as it is after
+abbrev pub output : {W : Type 0} → (W → Option (List ℕ)) → W → W → Output
+output contents old new = record { before = contents old; after = contents new; unwritten = new ≡ old }
+
+-- by the name of a parameter
+abbrev pub written : {W : Type 0} → write.Ghosts W → Both (MutBor W) (MutBor W) → Output
+written says writer = record { before = says.contents writer.entry.now; after = says.contents writer.exit.now; unwritten = writer.exit.now ≡ writer.entry.now }
+
+-- the writer of these two
+abbrev pub output_of : Streams → Output
+output_of io = record { before = io.old_output; after = io.new_output; unwritten = io.unwritten }
+
+-- ---- what was answered
 
 -- the questions answered, and their answer lines: how many these are, how they were answered, and how the lines were
 -- written
@@ -65,43 +126,21 @@ HasRun book old new arrivals answers = DeskRan book old arrivals answers new
 abbrev pub RunInTurn : {B : Type 0} → Ghosts B → Desk B → Desk B → List (List ℕ) → List (List ℕ) → Type 0
 RunInTurn book old new = ArrivalsAnswered (HasRun book old new)
 
--- all requests of a plan were executed, and all of their answers were written
-abbrev pub PlanDone : (List Arrival → List Taken → Type 0) → List Request → Option (List ℕ) × Option (List ℕ) → Type 0
-PlanDone Said plan output = LinesAnswered (AllRequests plan) (RequestsAnswered Said) (Appends output.0 output.1)
+-- over the desk before it and after it, all requests of a plan were executed, and all of their answers were written
+abbrev pub PlanDone : {B : Type 0} → Ghosts B → Both (MutBor (Desk B)) (MutBor (Desk B)) → List Request → Output → Type 0
+PlanDone book desk plan output =
+    LinesAnswered (AllRequests plan) (RequestsAnswered (HasRun book desk.entry.now desk.exit.now)) (Appends output.before output.after)
 
 -- the first ones were, and not all of their answers were written
-abbrev pub PlanBegun : (List Arrival → List Taken → Type 0) → List Request → Option (List ℕ) × Option (List ℕ) → Type 0
-PlanBegun Said plan output = LinesAnswered (FirstRequests plan) (RequestsAnswered Said) (Breaks output.0 output.1)
+abbrev pub PlanBegun : {B : Type 0} → Ghosts B → Both (MutBor (Desk B)) (MutBor (Desk B)) → List Request → Output → Type 0
+PlanBegun book desk plan output =
+    LinesAnswered (FirstRequests plan) (RequestsAnswered (HasRun book desk.entry.now desk.exit.now)) (Breaks output.before output.after)
 
 -- the one or, where the writer stopped, the other
-abbrev pub PlanAnswered : {E : Type 0} → (List Arrival → List Taken → Type 0) → List Request → Option (List ℕ) × Option (List ℕ) → Result (Unit {0}) E → Type 0
-PlanAnswered Said plan output result = MatchResult result (λ _. PlanDone Said plan output) (λ _. PlanBegun Said plan output)
+abbrev pub PlanAnswered : {B E : Type 0} → Ghosts B → Both (MutBor (Desk B)) (MutBor (Desk B)) → List Request → Output → Result (Unit {0}) E → Type 0
+PlanAnswered book desk plan output result = MatchResult result (λ _. PlanDone book desk plan output) (λ _. PlanBegun book desk plan output)
 
 -- ---- how it ended
-
--- a reader and a writer over a call: what the reader held and has left, what the writer had before and has after, each where that is known; that the reader wasn't touched, and that the writer wasn't
-pub record Streams : Type 1 where
-  pub old_input : Option (List ℕ)
-  pub left : Option (List ℕ)
-  pub old_output : Option (List ℕ)
-  pub new_output : Option (List ℕ)
-  pub unread : Type 0
-  pub unwritten : Type 0
-
--- neither of the two was touched
-abbrev pub Untouched : Streams → Type 0
-Untouched io = io.unread × io.unwritten
-
--- by each of the two as it was before the call, and as it is after
-abbrev pub streams : {R W : Type 0} → (R → Option (List ℕ)) → (W → Option (List ℕ)) → R × R → W × W → Streams
-streams remaining contents reader writer = record {
-  old_input = remaining reader.0;
-  left = remaining reader.1;
-  old_output = contents writer.0;
-  new_output = contents writer.1;
-  unread = reader.1 ≡ reader.0;
-  unwritten = writer.1 ≡ writer.0;
-}
 
 -- `InTurn d e` says how lines were answered from the desk d to the desk e
 module _ {D : Type 0} (InTurn : D → D → List (List ℕ) → List (List ℕ) → Type 0) (io : Streams) (d e : D) where
@@ -140,6 +179,6 @@ pub record Manner (D : Type 0) : Type 1 where
 abbrev pub by_requests : {B : Type 0} → Ghosts B → Bool → Manner (Desk B)
 by_requests book ends = record { stands = state_of book; Answered = RunInTurn book; ends = ends }
 
--- so lines were answered, from one desk to another
-abbrev pub LinesDoneBy : {D : Type 0} → Manner D → Streams → D → D → Result (Unit {0}) LinesFault → Type 0
-LinesDoneBy manner io d e result = LinesDone manner.stands manner.Answered manner.ends io d e result
+-- so lines were answered, over the desk before it and after it
+abbrev pub DoneBy : {D : Type 0} → Manner D → Streams → Both (MutBor D) (MutBor D) → Result (Unit {0}) LinesFault → Type 0
+DoneBy manner io desk result = LinesDone manner.stands manner.Answered manner.ends io desk.entry.now desk.exit.now result

@@ -1,8 +1,7 @@
 //! The requests of a plan, and their answer lines.
 
 ghost use Rattle.std.specs.Prelude.{◌≡◌, [], IfErr};
-ghost use Rattle.acd_io.specs.Streams.{across};
-ghost use Rattle.acd_lines.specs.Lines.{PlanAnswered, HasRun};
+ghost use Rattle.acd_lines.specs.Lines.{PlanAnswered, written};
 
 use crate::answer::execute;
 use crate::conversation::push_answer;
@@ -35,8 +34,7 @@ pub fn import<B: Book, W: Write>(
 ) -> Result<(), LinesFault>
     // one answer line for each request, and the desk has run over them; where the writer failed, over a beginning of
     // them, and not all of what was answered was written
-    ensures answered { PlanAnswered (HasRun B.Book desk.old desk.new) requests.now
-        (across W.contents writer.old writer.new) result }
+    ensures answered { PlanAnswered B.Book desk requests.now (written W.Write writer) result }
     ensures fault { IfErr result (λ fault. fault ≡ LinesFault.Write) }
 {
     let mut outbox = new_outbox(alloc);

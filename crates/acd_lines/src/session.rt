@@ -1,7 +1,7 @@
 //! Lines in, answer lines out.
 
 ghost use Rattle.std.specs.Prelude.{true, false};
-ghost use Rattle.acd_lines.specs.Lines.{LinesDoneBy, by_requests, streams};
+ghost use Rattle.acd_lines.specs.Lines.{DoneBy, by_requests, streamed};
 ghost use Rattle.acd_lines.specs.Questions.{by_questions};
 
 use crate::answering::{Answering, Requests};
@@ -27,9 +27,8 @@ pub fn answer_lines<B: Book, A: Answering<B>, R: Read, W: Write>(
     reader: &mut R,
     writer: &mut W,
 ) -> Result<(), LinesFault>
-    ensures { LinesDoneBy (by_questions A.Answering B.Book ends)
-        (streams R.remaining W.contents (reader.old, reader.new) (writer.old, writer.new))
-        desk.old desk.new result }
+    ensures { DoneBy (by_questions A.Answering B.Book ends)
+        (streamed R.Read W.Write reader writer) desk result }
 {
     let mut chunk = vec![in alloc; 0u8; CHUNK]?;
     let mut partial = Partial::new(alloc)?;
@@ -51,9 +50,8 @@ pub fn lines<B: Book, R: Read, W: Write>(
     reader: &mut R,
     writer: &mut W,
 ) -> Result<(), LinesFault>
-    ensures { LinesDoneBy (by_requests B.Book false)
-        (streams R.remaining W.contents (reader.old, reader.new) (writer.old, writer.new))
-        desk.old desk.new result }
+    ensures { DoneBy (by_requests B.Book false)
+        (streamed R.Read W.Write reader writer) desk result }
 {
     answer_lines(
         alloc,
@@ -73,9 +71,7 @@ pub fn lines_until_failed<B: Book, R: Read, W: Write>(
     reader: &mut R,
     writer: &mut W,
 ) -> Result<(), LinesFault>
-    ensures { LinesDoneBy (by_requests B.Book true)
-        (streams R.remaining W.contents (reader.old, reader.new) (writer.old, writer.new))
-        desk.old desk.new result }
+    ensures { DoneBy (by_requests B.Book true) (streamed R.Read W.Write reader writer) desk result }
 {
     answer_lines(alloc, &mut Requests::new(alloc), desk, true, reader, writer)
 }

@@ -8,10 +8,9 @@ use Rattle.sqlite_std_file.specs.declared.host.Host.{Host}
 use Rattle.clap.specs.Words.{Text}
 use Rattle.clap.specs.declared.error.kind.ErrorKind.{ErrorKind}
 use Rattle.clap.specs.declared.error.kind.ErrorKind.TheVariants.{OutOfMemory}
-use Rattle.acd_lines.specs.Lines.{Streams}
+use Rattle.acd_lines.specs.Lines.{Streams, Output}
 use Rattle.acd_command.specs.CommandLine.{IsTaskOf, IsUntaken, IsRefused, IsRefusedBy, IsHelp}
 use Rattle.acd_program.specs.FileTasks.{IsNoTask, ExitsTask, DoneOrHelp, FaultEnded}
-use Rattle.acd_sessions.specs.Output.{Output}
 use Rattle.acd_program.specs.Statuses.{IsDone, ExitsWithoutTask, IfDone, exit_number, fault_exit, look_exit, opening_exit, PrintsAtMostFaults, PrintsOnSuccess}
 use Rattle.acd_command.specs.declared.asked.Task.{Task}
 use Rattle.acd_files.specs.declared.fault.LookFault.{LookFault}

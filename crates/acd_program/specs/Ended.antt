@@ -10,11 +10,10 @@ use Rattle.acd_terms.specs.declared.command.Request.{Request}
 use Rattle.acd_book.specs.declared.book.Book as book
 use Rattle.acd_book.specs.State.{BookState}
 use Rattle.acd_io.specs.SentBytes.{Begins, Breaks}
-use Rattle.acd_lines.specs.Lines.{LinesAnswered, FirstRequests, RequestsAnswered}
+use Rattle.acd_lines.specs.Lines.{LinesAnswered, FirstRequests, RequestsAnswered, Output}
 use Rattle.acd_reports.specs.Plan.{plan_requests}
 use Rattle.acd_program.specs.AuditFindings.{IsFindingOf}
 use Rattle.acd_program.specs.InFiles.{WorkedOver}
-use Rattle.acd_sessions.specs.Output.{Output}
 use Rattle.acd_sessions.specs.Over.{IsSession, Database, OverCall, OverConnection, Unserved, OnlyAsked}
 use Rattle.acd_sessions.specs.ToDo.{ToDo}
 use Rattle.acd_program.specs.Work.{ImportsOver, IsFindingIfOrdered, WorkDone, text_left}

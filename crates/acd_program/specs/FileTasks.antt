@@ -13,10 +13,9 @@ use Rattle.acd_book.specs.declared.book.Book as book
 use Rattle.acd_desk.specs.Pairs.{BookCall}
 use Rattle.acd_desk.specs.declared.desk.Desk.{Desk}
 use Rattle.acd_desk.specs.DeskState.{state_of}
-use Rattle.acd_lines.specs.Lines.{Streams}
+use Rattle.acd_lines.specs.Lines.{Streams, Output}
 use Rattle.acd_log.specs.declared.ending.Ending.{Ending}
 use Rattle.acd_command.specs.CommandLine.{IsTaskOf, IsUntaken}
-use Rattle.acd_sessions.specs.Output.{Output}
 use Rattle.acd_sessions.specs.Over.{OverConnection}
 use Rattle.acd_program.specs.Pruning.{IsPruningInOrder, BookPruned, LeavesPruned}
 use Rattle.acd_program.specs.Statuses.{IsDone, status_number, exit_number, fault_exit}

@@ -21,7 +21,7 @@ use Rattle.acd_program.specs.declared.status.Status.{Status}
 use Rattle.acd_program.specs.declared.status.Status.TheVariants.{Success, Differs, EndsEarly, SentAgain}
 use Rattle.acd_program.specs.declared.status.Exit.{Exit}
 use Rattle.acd_program.specs.declared.status.Exit.TheVariants as exit
-use Rattle.acd_sessions.specs.Output.{Output}
+use Rattle.acd_lines.specs.Lines.{Output}
 use Rattle.acd_command.specs.CommandLine.{IsHelp}
 use Rattle.acd_sessions.specs.Serving.{PrintsServiceFaults}
 

@@ -4,7 +4,7 @@ use Rattle.std.specs.Io.KnownBytes.{Appends}
 use Rattle.sqlite_disk.specs.declared.Disk.{Ghosts}
 use Rattle.sqlite.specs.Files.{over_files, file_state}
 use Rattle.sqlite.specs.State.{State}
-use Rattle.acd_lines.specs.Lines.{Streams, Untouched}
+use Rattle.acd_lines.specs.Lines.{Streams, Untouched, Output, output_of}
 use Rattle.acd_lines.specs.declared.fault.LinesFault.{LinesFault}
 use Rattle.acd_log.specs.declared.ending.Ending.{Ending}
 use Rattle.acd_io.specs.SentBytes.{Begins}
@@ -15,7 +15,6 @@ use Rattle.acd_program.specs.ArchiveExport.{MakesTable, LeavesArchives}
 use Rattle.acd_sessions.specs.Faults.{lines_fault}
 use Rattle.acd_program.specs.AuditFindings.{HasCount, finding_line, pruning_line}
 use Rattle.acd_program.specs.InFiles.{InFile}
-use Rattle.acd_sessions.specs.Output.{Output, output_of}
 use Rattle.acd_sessions.specs.Over.{OverConnection, Unserved}
 use Rattle.acd_sessions.specs.ToDo.{ToDo}
 use Rattle.acd_http.specs.declared.serving.Span.{Span}

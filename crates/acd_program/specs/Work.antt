@@ -12,10 +12,9 @@ use Rattle.acd_desk.specs.SoundContent.{IsSound}
 use Rattle.acd_desk.specs.CarriedContent.{Archive, together}
 use Rattle.acd_desk.specs.ReadAnswers.{text_read}
 use Rattle.acd_io.specs.SentBytes.{Begins, Breaks}
-use Rattle.acd_lines.specs.Lines.{LinesAnswered, AllRequests, RequestsAnswered}
+use Rattle.acd_lines.specs.Lines.{LinesAnswered, AllRequests, RequestsAnswered, Output}
 use Rattle.acd_program.specs.AuditFindings.{IsFindingOf, HasCount, finding_line, pruning_line}
 use Rattle.acd_program.specs.Statuses.{finding_status, pruning_status}
-use Rattle.acd_sessions.specs.Output.{Output}
 use Rattle.acd_sessions.specs.Over.{IsSession}
 use Rattle.acd_sessions.specs.ToDo.{ToDo}
 use Rattle.acd_log.specs.declared.ending.Ending.{Ending}

@@ -6,7 +6,7 @@ ghost use Rattle.acd_desk.specs.DeskReads.{DeskRead};
 ghost use Rattle.acd_desk.specs.ReadAnswers.{text_read};
 ghost use Rattle.acd_sessions.specs.Over.{OnlyAsked};
 ghost use Rattle.acd_program.specs.Ended.{OnlyReads, plan_over, work_over, work_in};
-ghost use Rattle.acd_sessions.specs.Output.{written};
+ghost use Rattle.acd_lines.specs.Lines.{written};
 ghost use Rattle.acd_sessions.specs.Over.{database, Unserved};
 ghost use Rattle.acd_sessions.specs.ToDo.{EndedWith};
 ghost use Rattle.acd_program.specs.Work.{text_left, status_left, IsPrintoutOf, PrintsOver, AuditsBook};

@@ -3,7 +3,7 @@
 ghost use Rattle.std.specs.Prelude.{◌≡◌, OnOk, OnErr, IfOk};
 ghost use Rattle.acd_io.specs.SentBytes.{Sends};
 ghost use Rattle.acd_program.specs.AuditFindings.{sound_line, counted_line, again_line, again_counted_line, finding_line, cut_line, nothing_line, pruning_line};
-ghost use Rattle.acd_sessions.specs.Output.{output};
+ghost use Rattle.acd_lines.specs.Lines.{output};
 ghost use Rattle.acd_program.specs.Statuses.{sound_status, again_status, finding_status, pruning_status};
 ghost use Rattle.acd_program.specs.Work.{text_left, status_left, PrintsAll, PrintsPart};
 

@@ -6,7 +6,7 @@ ghost use Rattle.clap.specs.Words.{kind_of};
 ghost use Rattle.acd_command.specs.CommandLine.{IsRefused};
 ghost use Rattle.acd_program.specs.Ended.{then_closed, work_on};
 ghost use Rattle.acd_program.specs.FileTasks.{ExitsTask, DoneOrHelp, FaultEnded};
-ghost use Rattle.acd_sessions.specs.Output.{written, streamed};
+ghost use Rattle.acd_lines.specs.Lines.{written, streamed};
 ghost use Rattle.acd_sessions.specs.Sessions.{memory_lines};
 ghost use Rattle.acd_program.specs.Statuses.{ExitsWithoutTask, IfDone, fault_exit, PrintsAtMostFaults, PrintsOnSuccess, UntouchedElsewhere};
 ghost use Rattle.acd_program.specs.Tasks.{IsReadEnding};

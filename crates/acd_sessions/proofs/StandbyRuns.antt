@@ -14,7 +14,7 @@ use Rattle.acd_desk.specs.ArrivalsAndReads.{Attended}
 use Rattle.acd_desk.specs.Clock.{clock_tick, Looked}
 use Rattle.acd_desk.specs.DeskState.{DeskState, state_of}
 use Rattle.acd_desk.proofs.Desks.CallsInTurn.{Settles, attended_more, attended_read}
-use Rattle.acd_lines.specs.Lines.{Streams, streams, LinesDone, EndedBy}
+use Rattle.acd_lines.specs.Lines.{Streams, streams, LinesDone, EndedBy, output}
 use Rattle.acd_lines.specs.declared.fault.LinesFault.{LinesFault}
 use Rattle.acd_lines.specs.declared.fault.LinesFault.TheVariants as lines
 use Rattle.acd_http.specs.declared.serving.Span.{Span}
@@ -30,7 +30,6 @@ use Rattle.acd_io.proofs.StopsAtOrder.{told_by}
 use Rattle.acd_sessions.specs.Desks.{in_database}
 use Rattle.acd_sessions.specs.Faults.{open_fault}
 use Rattle.acd_sessions.specs.LinesOver.{in_turn}
-use Rattle.acd_sessions.specs.Output.{output}
 use Rattle.acd_sessions.specs.Over.{Unserved}
 use Rattle.acd_sessions.specs.DeskAsLeft.{Seen, seen, InDatabase, left_of, SeenIn}
 use Rattle.acd_sessions.specs.Serving.{ServiceLeaves}

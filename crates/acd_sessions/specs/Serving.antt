@@ -16,7 +16,8 @@ use Rattle.acd_io.specs.SentBytes.{Begins}
 use Rattle.acd_http.specs.declared.serving.Span.{Span}
 use Rattle.acd_http.specs.Turns.{TurnsUntil, Turn, turn_lines}
 use Rattle.acd_sessions.specs.Desks.{OverDesk}
-use Rattle.acd_sessions.specs.Output.{number_line, text_line, Output, written}
+use Rattle.acd_lines.specs.Lines.{Output, written}
+use Rattle.acd_sessions.specs.Output.{number_line, text_line}
 use Rattle.acd_command.specs.declared.asked.Address.{Address}
 use Rattle.acd_command.specs.declared.asked.Address.TheVariants.{Port, Socket}
 use Rattle.acd_sessions.specs.Faults.{open_fault, command_result}

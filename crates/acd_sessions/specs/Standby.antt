@@ -14,7 +14,7 @@ use Rattle.acd_desk.specs.declared.desk.Desk.{Desk}
 use Rattle.acd_desk.specs.declared.taken.Taken.{Taken}
 use Rattle.acd_desk.specs.ArrivalsAndReads.{Attended}
 use Rattle.acd_desk.specs.DeskState.{DeskState, state_of}
-use Rattle.acd_lines.specs.Lines.{LinesAnswered, EndedLines, Streams, streams, LinesDone}
+use Rattle.acd_lines.specs.Lines.{LinesAnswered, EndedLines, Streams, streams, LinesDone, Output}
 use Rattle.acd_lines.specs.Output.{whole_lines}
 use Rattle.acd_lines.specs.declared.fault.LinesFault.{LinesFault}
 use Rattle.acd_http.specs.declared.serving.Span.{Span}
@@ -27,7 +27,6 @@ use Rattle.acd_io.specs.Order.{before_order, has_order, mark, marked}
 use Rattle.acd_sessions.specs.Desks.{OverDesk}
 use Rattle.acd_sessions.specs.Faults.{lines_fault}
 use Rattle.acd_sessions.specs.LinesOver.{in_turn}
-use Rattle.acd_sessions.specs.Output.{Output}
 use Rattle.acd_sessions.specs.Over.{Database}
 use Rattle.acd_sessions.specs.ToDo.{ToDo}
 use Rattle.acd_sessions.specs.DeskAsLeft.{Seen, InDatabase, SeenIn}

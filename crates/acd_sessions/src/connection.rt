@@ -9,7 +9,7 @@ ghost use Rattle.acd_sqlbook.specs.View.{book_of};
 ghost use Rattle.acd_lines.specs.Questions.{TakesTurns};
 ghost use Rattle.acd_sessions.specs.Faults.{unmade_fault};
 ghost use Rattle.acd_sessions.specs.LinesOver.{LinesLeaveEach};
-ghost use Rattle.acd_sessions.specs.Output.{streamed};
+ghost use Rattle.acd_lines.specs.Lines.{streamed};
 ghost use Rattle.acd_sessions.specs.Over.{database, Unserved, unmade};
 ghost use Rattle.acd_sessions.specs.Sessions.{LinesLeaveIn};
 ghost use Rattle.acd_sessions.specs.ConnectionBook.{IsHeldBook, IsTaken, MayMakeIn};

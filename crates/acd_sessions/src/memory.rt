@@ -5,7 +5,7 @@ ghost use Rattle.acd_desk.specs.DeskCalls.{state_of};
 ghost use Rattle.acd_sessions.specs.MemoryAnswers.{in_memory, IsNewDesk};
 ghost use Rattle.acd_lines.specs.Questions.{TakesTurns};
 ghost use Rattle.acd_sessions.specs.LinesOver.{LinesInMemory};
-ghost use Rattle.acd_sessions.specs.Output.{streamed};
+ghost use Rattle.acd_lines.specs.Lines.{streamed};
 
 use acd_book::MemoryBook;
 use acd_desk::{Desk, OpenFault};

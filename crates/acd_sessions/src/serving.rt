@@ -4,7 +4,7 @@ ghost use Rattle.std.specs.Prelude.{◌≡◌, false, Ok};
 ghost use Rattle.acd_io.specs.SentBytes.{Sends};
 ghost use Rattle.acd_desk.specs.DeskState.{state_of};
 ghost use Rattle.acd_sessions.specs.Faults.{command_result};
-ghost use Rattle.acd_sessions.specs.Output.{written};
+ghost use Rattle.acd_lines.specs.Lines.{written};
 ghost use Rattle.acd_sessions.specs.Over.{database};
 ghost use Rattle.acd_sessions.specs.Serving.{ends_failed, listening_line, service, ListensBy, ServesBy, ServesOver, ServesIn};
 

@@ -5,7 +5,7 @@ ghost use Rattle.acd_desk.specs.DeskState.{state_of};
 ghost use Rattle.acd_lines.specs.Questions.{by_questions};
 ghost use Rattle.acd_sessions.specs.Faults.{command_result};
 ghost use Rattle.acd_sessions.specs.LinesOver.{LinesLeaveDesk, LinesLeaveBook};
-ghost use Rattle.acd_sessions.specs.Output.{streamed};
+ghost use Rattle.acd_lines.specs.Lines.{streamed};
 
 use crate::fault::WorkFault;
 use acd_book::Book;

@@ -1,7 +1,7 @@
 //! A standby: lines over the desk of a database and, once they say so, connections over the same desk.
 
 ghost use Rattle.std.specs.Prelude.{false};
-ghost use Rattle.acd_sessions.specs.Output.{written};
+ghost use Rattle.acd_lines.specs.Lines.{written};
 ghost use Rattle.acd_sessions.specs.Over.{database};
 ghost use Rattle.acd_sessions.specs.Standby.{upon, fed, lines_to_order, StandsBy, StandsByOver, StandsByIn};
 ghost use Rattle.acd_sessions.specs.ToDo.{Ended};

@@ -1,4 +1,3 @@
-use Rattle.std.specs.Prelude.{List, ℕ}
 use Rattle.acd_desk.specs.DeskCalls.{state_of}
 use Rattle.acd_http.proofs.TurnsInTurn.{serves_all}
 use Rattle.acd_http.proofs.listening.serve_on.Goals as goal

@@ -1,7 +1,7 @@
 use Rattle.std.proofs.Common.{refl, sym, subst, ◌∙◌}
 use Rattle.acd_desk.specs.DeskCalls.{state_of}
-use Rattle.acd_lines.specs.Lines.{LinesDoneBy, streams}
-use Rattle.acd_lines.specs.Questions.{question, TakesTurns, by_questions}
+use Rattle.acd_lines.specs.Lines.{LinesDone, streams}
+use Rattle.acd_lines.specs.Questions.{question, TakesTurns}
 use Rattle.acd_lines.proofs.BoundedLines.{front_decides}
 use Rattle.acd_lines.proofs.Endings.{done_by}
 use Rattle.acd_lines.proofs.Turns.{nothing_read}
@@ -10,31 +10,36 @@ use Rattle.acd_lines.proofs.session.answer_lines.Goals as goal
 
 pub returns-in_err-chunk : goal.returns-in_err-chunk
 returns-in_err-chunk g c =
-    done_by (state_of g.B.Book) (TakesTurns g.A.Answering) c.args.ends (streams g.R.Read.remaining g.W.Write.contents (c.args.reader.now, c.args.reader.now) (c.args.writer.now, c.args.writer.now)) c.args.desk.now c.args.desk.now
+    let io = streams g.R.Read.remaining g.W.Write.contents (c.args.reader.now, c.args.reader.now) (c.args.writer.now, c.args.writer.now) in
+    done_by (state_of g.B.Book) (TakesTurns g.A.Answering) c.args.ends io c.args.desk.now c.args.desk.now
     c.from_residual.result NoMemory NoMemory c.from_residual.ensures.1 refl
-    (nothing_read (question g.A.Answering) (front_decides g.A.Answering) g.A.Answering.answers c.args.desk.now (g.R.Read.remaining c.args.reader.now) (g.W.Write.contents c.args.writer.now)) ((refl, refl), refl)
+    (nothing_read (question g.A.Answering) (front_decides g.A.Answering) g.A.Answering.answers c.args.desk.now io.old_input io.old_output) ((refl, refl), refl)
 
 pub returns-in_err-partial : goal.returns-in_err-partial
 returns-in_err-partial g c =
-    done_by (state_of g.B.Book) (TakesTurns g.A.Answering) c.args.ends (streams g.R.Read.remaining g.W.Write.contents (c.args.reader.now, c.args.reader.now) (c.args.writer.now, c.args.writer.now)) c.args.desk.now c.args.desk.now
+    let io = streams g.R.Read.remaining g.W.Write.contents (c.args.reader.now, c.args.reader.now) (c.args.writer.now, c.args.writer.now) in
+    done_by (state_of g.B.Book) (TakesTurns g.A.Answering) c.args.ends io c.args.desk.now c.args.desk.now
     c.from_residual-in_err-partial.result NoMemory NoMemory c.from_residual-in_err-partial.ensures.1 refl
-    (nothing_read (question g.A.Answering) (front_decides g.A.Answering) g.A.Answering.answers c.args.desk.now (g.R.Read.remaining c.args.reader.now) (g.W.Write.contents c.args.writer.now)) ((refl, refl), refl)
+    (nothing_read (question g.A.Answering) (front_decides g.A.Answering) g.A.Answering.answers c.args.desk.now io.old_input io.old_output) ((refl, refl), refl)
 
 pub returns-in_err-outbox : goal.returns-in_err-outbox
 returns-in_err-outbox g c =
-    done_by (state_of g.B.Book) (TakesTurns g.A.Answering) c.args.ends (streams g.R.Read.remaining g.W.Write.contents (c.args.reader.now, c.args.reader.now) (c.args.writer.now, c.args.writer.now)) c.args.desk.now c.args.desk.now
+    let io = streams g.R.Read.remaining g.W.Write.contents (c.args.reader.now, c.args.reader.now) (c.args.writer.now, c.args.writer.now) in
+    done_by (state_of g.B.Book) (TakesTurns g.A.Answering) c.args.ends io c.args.desk.now c.args.desk.now
     c.from_residual-in_err-outbox.result NoMemory NoMemory c.from_residual-in_err-outbox.ensures.1 refl
-    (nothing_read (question g.A.Answering) (front_decides g.A.Answering) g.A.Answering.answers c.args.desk.now (g.R.Read.remaining c.args.reader.now) (g.W.Write.contents c.args.writer.now)) ((refl, refl), refl)
+    (nothing_read (question g.A.Answering) (front_decides g.A.Answering) g.A.Answering.answers c.args.desk.now io.old_input io.old_output) ((refl, refl), refl)
 
 pub returns : goal.returns
 returns g c =
-    let manner = by_questions g.A.Answering g.B.Book c.args.ends in
     let first = c.new-replies.result in
     let last = c.answer_all.new.self.replies in
     let same = c.answer_all.ensures.same in
-    let writer = c.writer-1.given.1 (sym (same.1 ∙ c.new-replies.ensures.same_writer)) in
-    let desk = c.desk-1.given.1 (sym (same.0 ∙ c.new-replies.ensures.same_desk)) in
+    let made = c.new-replies.ensures in
+    let writer = c.writer-1.given.1 (sym (same.1 ∙ made.same_writer)) in
+    let desk = c.desk-1.given.1 (sym (same.0 ∙ made.same_desk)) in
     rw writer (rw desk
-    (subst (λ w. LinesDoneBy manner (streams g.R.Read.remaining g.W.Write.contents (c.args.reader.now, c.answer_all.new.reader) (w, last.writer.now)) c.args.desk.now last.desk.now c.answer_all.result) c.new-replies.ensures.writer
-    (subst (λ d. LinesDoneBy manner (streams g.R.Read.remaining g.W.Write.contents (c.args.reader.now, c.answer_all.new.reader) (first.writer.now, last.writer.now)) d last.desk.now c.answer_all.result) c.new-replies.ensures.desk
+    (subst (λ w. LinesDone (state_of g.B.Book) (TakesTurns g.A.Answering) c.args.ends
+    (streams g.R.Read.remaining g.W.Write.contents (c.args.reader.now, c.answer_all.new.reader) (w, last.writer.now)) c.args.desk.now last.desk.now c.answer_all.result) made.writer
+    (subst (λ d. LinesDone (state_of g.B.Book) (TakesTurns g.A.Answering) c.args.ends
+    (streams g.R.Read.remaining g.W.Write.contents (c.args.reader.now, c.answer_all.new.reader) (first.writer.now, last.writer.now)) d last.desk.now c.answer_all.result) made.desk
     c.answer_all.ensures.done)))

@@ -1,7 +1,6 @@
 use Rattle.std.proofs.Common.{inl, refl}
 use Rattle.sqlite.specs.Held.{state}
-use Rattle.acd_sessions.specs.Output.{output}
-use Rattle.acd_lines.specs.Lines.{streams}
+use Rattle.acd_lines.specs.Lines.{streams, output}
 use Rattle.acd_io.specs.RestOfInput.{input_left}
 use Rattle.acd_sessions.specs.Standby.{upon}
 use Rattle.acd_sessions.proofs.StandbyRuns.{standby_in}
