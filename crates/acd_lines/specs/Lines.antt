@@ -57,6 +57,10 @@ streamed holds says reader writer = record {
   unwritten = writer.exit.now ≡ writer.entry.now;
 }
 
+-- neither of the two was touched
+abbrev pub AreUntouched : {R W : Type 0} → Both (MutBor R) (MutBor R) → Both (MutBor W) (MutBor W) → Type 0
+AreUntouched reader writer = (reader.exit.now ≡ reader.entry.now) × (writer.exit.now ≡ writer.entry.now)
+
 -- what a writer had before the call and has after it, each where that is known; and that it wasn't touched
 pub record Output : Type 1 where
   pub before : Option (List ℕ)
@@ -70,6 +74,10 @@ output contents old new = record { before = contents old; after = contents new; 
 -- by the name of a parameter
 abbrev pub written : {W : Type 0} → write.Ghosts W → Both (MutBor W) (MutBor W) → Output
 written says writer = record { before = says.contents writer.entry.now; after = says.contents writer.exit.now; unwritten = writer.exit.now ≡ writer.entry.now }
+
+-- where it is known what it had: it wasn't touched if it has that still
+abbrev pub output_between : Option (List ℕ) → Option (List ℕ) → Output
+output_between before after = record { before = before; after = after; unwritten = after ≡ before }
 
 -- the writer of these two
 abbrev pub output_of : Streams → Output

@@ -141,8 +141,13 @@ asked_over found d e s t mid cache failures taken finds desk read =
     record {
       desk = desk;
       archive = over_connection (λ (old now : BookState). ReadsIfOpen old now (Ok found) Anything × IsFoundWithArchive old now d e (Ok found)) (λ (old now : BookState). WasRead old now × FindsWithArchive old now d e found) false
-          s t mid cache failures (λ old of h. both_of old mid new d e found h.0 h.1 of)
-          (λ old h. (asked_called (LeavesBooks t) new (leaves_books t cache failures) old (tt {0}) Anything h.0, h.1)) (λ h. h.0.step.clean) taken (read, finds);
+          s t mid cache failures
+          (record {
+            carries = λ old of h. both_of old mid new d e found h.0 h.1 of;
+            leaves = λ old h. (asked_called (LeavesBooks t) new (leaves_books t cache failures) old (tt {0}) Anything h.0, h.1);
+            clean = λ h. h.0.step.clean;
+          })
+          taken (read, finds);
     }
 
 -- and closed
@@ -227,8 +232,13 @@ module _ {D : Type 0} (disk : Ghosts D) (IsFresh : Bool → D → Type 0) where
   audited_over counts ending s t mid cache failures (left.Audited found end) taken h = (
     h.0,
     over_connection (λ (old new : BookState). BookAskedWithArchive disk IsFresh IsFindingInOrder old new found) (λ (old new : BookState). BookAskedWithArchive disk IsFresh IsFindingIn old new found) false
-        s t mid cache failures (λ old of asked. book_asked_since old mid (followed cache (book_state t failures)) found of asked)
-        (λ old asked. book_asked_left (LeavesBooks t) (followed cache (book_state t failures)) (leaves_books t cache failures) old found asked) (asked_clean IsFindingInOrder mid (followed cache (book_state t failures)) found) taken h.1,
+        s t mid cache failures
+        (record {
+          carries = λ old of asked. book_asked_since old mid (followed cache (book_state t failures)) found of asked;
+          leaves = λ old asked. book_asked_left (LeavesBooks t) (followed cache (book_state t failures)) (leaves_books t cache failures) old found asked;
+          clean = asked_clean IsFindingInOrder mid (followed cache (book_state t failures)) found;
+        })
+        taken h.1,
     h.2,
   )
 
@@ -239,37 +249,38 @@ module _ {D : Type 0} (disk : Ghosts D) (IsFresh : Bool → D → Type 0) where
 
   -- ---- printed ----
 
-  pub audit_printed : {F : Type 0} (status : Status) (counts whole : Bool) (ending : Ending) (conn last : Held (FileStore D disk)) (left : Done) (closed : Result (Unit {0}) F) (old_output new_output : Option (List ℕ))
-      → IsOpenedFrom disk IsFresh conn → IsReadEnding whole ending → AuditedWithArchive disk IsFresh counts ending (file_state conn) (file_state last) left → OnOk closed (IsLaidIn last)
-      → IsPrinted left closed old_output new_output status → AuditedWith disk IsFresh counts whole old_output new_output status
-  audit_printed status counts whole ending conn last left.Nothing closed old_output new_output opened is h laid p = absurd h
-  audit_printed status counts whole ending conn last (left.Text text) closed old_output new_output opened is h laid p = absurd h
-  audit_printed status counts whole ending conn last (left.Pruned pruning quiet) closed old_output new_output opened is h laid p = absurd h
-  audit_printed {F = F} status counts whole ending conn last (left.Audited found end) closed old_output new_output opened is h laid p = record {
-    found = found;
-    ending = ending;
-    counted = h.0;
-    read = is;
-    done = record { conn = conn; last = last; opened = opened; done = h.1; closed = subst (λ (x : Result (Unit {0}) F). OnOk x (IsLaidIn last)) p.shut laid };
-    printed = subst (λ (y : Ending). Appends old_output new_output (finding_line y found)) h.2 p.printed;
-    outcome = p.outcome ∙ ap (λ (y : Ending). finding_status y found) h.2;
-  }
+  -- how the log of the file ended is what was read of it
+  module _ (counts whole : Bool) (ending : Ending) (conn last : Held (FileStore D disk)) (old_output new_output : Option (List ℕ)) (is : IsReadEnding whole ending) where
+    pub audit_printed : {F : Type 0} (status : Status) (left : Done) (closed : Result (Unit {0}) F) → IsOpenedFrom disk IsFresh conn
+        → AuditedWithArchive disk IsFresh counts ending (file_state conn) (file_state last) left → OnOk closed (IsLaidIn last) → IsPrinted left closed old_output new_output status
+        → AuditedWith disk IsFresh counts whole old_output new_output status
+    audit_printed status left.Nothing closed opened h laid p = absurd h
+    audit_printed status (left.Text text) closed opened h laid p = absurd h
+    audit_printed status (left.Pruned pruning quiet) closed opened h laid p = absurd h
+    audit_printed {F = F} status (left.Audited found end) closed opened h laid p = record {
+      found = found;
+      ending = ending;
+      counted = h.0;
+      read = is;
+      done = record { conn = conn; last = last; opened = opened; done = h.1; closed = subst (λ (x : Result (Unit {0}) F). OnOk x (IsLaidIn last)) p.shut laid };
+      printed = subst (λ (y : Ending). Appends old_output new_output (finding_line y found)) h.2 p.printed;
+      outcome = p.outcome ∙ ap (λ (y : Ending). finding_status y found) h.2;
+    }
 
-  -- ---- where a fault ended it ----
-
-  pub audit_cut : (counts whole : Bool) (ending : Ending) (conn last : Held (FileStore D disk)) (old_output new_output : Option (List ℕ)) (left : Done)
-      → IsReadEnding whole ending → AuditedWithArchive disk IsFresh counts ending (file_state conn) (file_state last) left → Begins old_output new_output (text_left left) → AuditCut disk IsFresh counts whole old_output new_output conn last
-  audit_cut counts whole ending conn last old_output new_output left.Nothing is h text = absurd h
-  audit_cut counts whole ending conn last old_output new_output (left.Text read) is h text = absurd h
-  audit_cut counts whole ending conn last old_output new_output (left.Pruned pruning quiet) is h text = absurd h
-  audit_cut counts whole ending conn last old_output new_output (left.Audited found end) is h text = record {
-    found = found;
-    ending = ending;
-    counted = h.0;
-    read = is;
-    done = h.1;
-    printed = subst (λ (y : Ending). Begins old_output new_output (finding_line y found)) h.2 text;
-  }
+    -- a fault ended the printing
+    pub audit_cut : (left : Done) → AuditedWithArchive disk IsFresh counts ending (file_state conn) (file_state last) left → Begins old_output new_output (text_left left)
+        → AuditCut disk IsFresh counts whole old_output new_output conn last
+    audit_cut left.Nothing h text = absurd h
+    audit_cut (left.Text read) h text = absurd h
+    audit_cut (left.Pruned pruning quiet) h text = absurd h
+    audit_cut (left.Audited found end) h text = record {
+      found = found;
+      ending = ending;
+      counted = h.0;
+      read = is;
+      done = h.1;
+      printed = subst (λ (y : Ending). Begins old_output new_output (finding_line y found)) h.2 text;
+    }
 
   -- before anything was printed
   pub audit_stopped : (fault : Fault) (counts whole : Bool) (conn last : Held (FileStore D disk)) (old_output new_output : Option (List ℕ)) (Unwritten : Type 0) → IsOpenedFrom disk IsFresh conn → IsShut last

@@ -22,6 +22,10 @@ use Rattle.acd_program.specs.Work.{WasAsked, IsFindingIfOrdered}
 use Rattle.acd_sessions.specs.ConnectionBook.{IsHeldBook}
 use Rattle.acd_terms.proofs.Results.{ok_err}
 
+-- what an answer may say of a content
+abbrev pub Says : Type 0 → Type 1
+Says A = Content → A → Type 0
+
 -- a desk that was opened was asked; of a content that is sound, by itself or with an archive, the answer is that of the read
 pub asked_by : {A : Type 0} (old : BookState) (d e : DeskState) (x : A) (P : Content → A → Type 0) → Opened old d → ReadDone d e (Ok x) P → WasAsked old (λ (c : Content) (y : A). (p : Archive) → IsSound (together p c) → P c y) x e.book
 asked_by old d e x P o t =
@@ -39,13 +43,13 @@ asked_by old d e x P o t =
     }
 
 -- a fault ended a read after another one
-pub read_fault : {A B C : Type 0} (old mid new : DeskState) (x : A) (f : DeskFault) (r : Result C DeskFault) (P : Content → A → Type 0) (Q : Content → B → Type 0) (R : Content → C → Type 0)
+pub read_fault : {A B C : Type 0} (old mid new : DeskState) (x : A) (f : DeskFault) (r : Result C DeskFault) (P : Says A) (Q : Says B) (R : Says C)
     → ReadDone old mid (Ok x) P → ReadDone mid new (Err f) Q → r ≡ Err f → ReadDone old new r R
 read_fault {C = C} old mid new x f r P Q R first second is =
     subst (λ (y : Result C DeskFault). ReadDone old new y R) (sym is) (read_twice old mid new x (Err f) P R R (λ c y before after. after) first (read_nothing mid new f Q R second))
 
 -- whatever follows from an answer is an answer
-pub asked_so : {A B : Type 0} (old new : BookState) (x : A) (y : B) (P : Content → A → Type 0) (Q : Content → B → Type 0) → ((c : Content) → P c x → Q c y) → WasAsked old P x new → WasAsked old Q y new
+pub asked_so : {A B : Type 0} (old new : BookState) (x : A) (y : B) (P : Says A) (Q : Says B) → ((c : Content) → P c x → Q c y) → WasAsked old P x new → WasAsked old Q y new
 asked_so old new x y P Q follows a = record {
   step = a.step;
   opened = a.opened;

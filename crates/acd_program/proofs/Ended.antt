@@ -76,9 +76,13 @@ pub stopped_in : (work : Work) (makes : Bool) (s t : State) (mid : BookState) (c
 stopped_in work makes s t mid cache failures old_output new_output settles taken (inl none) = inl (unserved_asked makes s t mid cache failures settles taken none.0, none.1)
 stopped_in work makes s t mid cache failures old_output new_output settles taken (inr begun) =
     let new : BookState = followed cache (book_state t failures) in
-    inr (over_connection (IsBegun work old_output new_output) (IsBegun work old_output new_output) makes s t mid cache failures (λ old of is. begun_of work old mid new old_output new_output of is)
-    (λ old is. begun_left (LeavesBooks t) new (leaves_books t cache failures) work old old_output new_output is)
-    (begun_clean work mid new old_output new_output) taken begun)
+    inr (over_connection (IsBegun work old_output new_output) (IsBegun work old_output new_output) makes s t mid cache failures
+    (record {
+      carries = λ old of is. begun_of work old mid new old_output new_output of is;
+      leaves = λ old is. begun_left (LeavesBooks t) new (leaves_books t cache failures) work old old_output new_output is;
+      clean = begun_clean work mid new old_output new_output;
+    })
+    taken begun)
 
 module _ {D : Type 0} {g : Ghosts D} where
   -- where it was known whether the file was new

@@ -11,7 +11,7 @@ use Rattle.clap.specs.declared.error.kind.ErrorKind.TheVariants.{OutOfMemory}
 use Rattle.acd_lines.specs.Lines.{Streams, Output}
 use Rattle.acd_command.specs.CommandLine.{IsTaskOf, IsUntaken, IsRefused, IsRefusedBy, IsHelp}
 use Rattle.acd_program.specs.FileTasks.{IsNoTask, ExitsTask, DoneOrHelp, FaultEnded}
-use Rattle.acd_program.specs.Statuses.{IsDone, ExitsWithoutTask, IfDone, exit_number, fault_exit, look_exit, opening_exit, PrintsAtMostFaults, PrintsOnSuccess}
+use Rattle.acd_program.specs.Statuses.{IsDone, EndsUnasked, IfDone, exit_number, fault_exit, look_exit, opening_exit, PrintsAtMostFaults, PrintsOnSuccess}
 use Rattle.acd_command.specs.declared.asked.Task.{Task}
 use Rattle.acd_files.specs.declared.fault.LookFault.{LookFault}
 use Rattle.acd_files.specs.declared.fault.LookFault.TheVariants as look
@@ -197,7 +197,7 @@ module _ (words : List Text) (kind : ErrorKind) (refused : IsRefusedBy words kin
   helped : IsHelp kind → IsUntaken words
   helped help = elim refused [ inl memory ↦ absurd (memory_is_no_help memory help) | inr (inl untaken) ↦ untaken | inr (inr none) ↦ absurd (none.0 help) ]
 
-  pub none_success : (e : Exit) → n ≡ exit_number e → ExitsWithoutTask kind out errors e → n ≡ 0 → PrintsAtMostFaults errors
+  pub none_success : (e : Exit) → n ≡ exit_number e → EndsUnasked kind out errors e → n ≡ 0 → PrintsAtMostFaults errors
   none_success (Done status) is h none = inl h.2
   none_success Failed is h none = absurd (omega (arith, is, none))
   none_success Refused is h none = absurd (omega (arith, is, none))
@@ -207,7 +207,7 @@ module _ (words : List Text) (kind : ErrorKind) (refused : IsRefusedBy words kin
   done_number : (status : Status) → status ≡ Success → n ≡ exit_number (Done status) → n ≡ 0
   done_number status success is = is ∙ ap (λ (s : Status). exit_number (Done s)) success
 
-  pub none_odd : (P : Type 0) (e : Exit) → n ≡ exit_number e → ExitsWithoutTask kind out errors e → (n ≡ 3) ⊎ ((n ≡ 5) ⊎ (n ≡ 6)) → P
+  pub none_odd : (P : Type 0) (e : Exit) → n ≡ exit_number e → EndsUnasked kind out errors e → (n ≡ 3) ⊎ ((n ≡ 5) ⊎ (n ≡ 6)) → P
   none_odd P (Done status) is h (inl three) = let none = done_number status h.0 is in absurd (omega (arith, none, three))
   none_odd P (Done status) is h (inr (inl five)) = let none = done_number status h.0 is in absurd (omega (arith, none, five))
   none_odd P (Done status) is h (inr (inr six)) = let none = done_number status h.0 is in absurd (omega (arith, none, six))
@@ -219,19 +219,19 @@ module _ (words : List Text) (kind : ErrorKind) (refused : IsRefusedBy words kin
   none_odd P Refused is h (inr (inr six)) = absurd (omega (arith, is, six))
   none_odd P OpenElsewhere is h odd = absurd h
 
-  pub none_refused : (e : Exit) → n ≡ exit_number e → ExitsWithoutTask kind out errors e → n ≡ 2 → io.unread × out.unwritten
+  pub none_refused : (e : Exit) → n ≡ exit_number e → EndsUnasked kind out errors e → n ≡ 2 → io.unread × out.unwritten
   none_refused Refused is h two = (unread, h.2)
   none_refused (Done status) is h two = let none = done_number status h.0 is in absurd (omega (arith, none, two))
   none_refused Failed is h two = absurd (omega (arith, is, two))
   none_refused OpenElsewhere is h two = absurd h
 
-  pub none_untaken : (e : Exit) → n ≡ exit_number e → ExitsWithoutTask kind out errors e → n ≡ 2 → IsRefused words
+  pub none_untaken : (e : Exit) → n ≡ exit_number e → EndsUnasked kind out errors e → n ≡ 2 → IsRefused words
   none_untaken Refused is h two = elim refused [ inl memory ↦ absurd (h.0 memory) | inr (inl untaken) ↦ inl untaken | inr (inr none) ↦ inr none.1 ]
   none_untaken (Done status) is h two = let none = done_number status h.0 is in absurd (omega (arith, none, two))
   none_untaken Failed is h two = absurd (omega (arith, is, two))
   none_untaken OpenElsewhere is h two = absurd h
 
-  pub none_done : {S : Type 0} {host : calls.Ghosts Host} {known : start.Ghosts S} (disk : Ghosts (Modelled Host S host known)) (e : Exit) → n ≡ exit_number e → ExitsWithoutTask kind out errors e → DoneOrHelp disk words io errors n
+  pub none_done : {S : Type 0} {host : calls.Ghosts Host} {known : start.Ghosts S} (disk : Ghosts (Modelled Host S host known)) (e : Exit) → n ≡ exit_number e → EndsUnasked kind out errors e → DoneOrHelp disk words io errors n
   none_done disk (Done status) is h = λ done. inl (done_number status h.0 is, helped h.1, unread, h.2)
   none_done disk Failed is h = λ done. absurd (by done)
     where
@@ -249,14 +249,14 @@ module _ (words : List Text) (kind : ErrorKind) (refused : IsRefusedBy words kin
       by (inr (inr (inr six))) = omega (arith, is, six)
   none_done disk OpenElsewhere is h = absurd h
 
-  pub none_ended : {S : Type 0} {host : calls.Ghosts Host} {known : start.Ghosts S} (disk : Ghosts (Modelled Host S host known)) (e : Exit) → n ≡ exit_number e → ExitsWithoutTask kind out errors e → FaultEnded disk words io errors.before n
+  pub none_ended : {S : Type 0} {host : calls.Ghosts Host} {known : start.Ghosts S} (disk : Ghosts (Modelled Host S host known)) (e : Exit) → n ≡ exit_number e → EndsUnasked kind out errors e → FaultEnded disk words io errors.before n
   none_ended disk (Done status) is h = let none = done_number status h.0 is in (λ four. absurd (omega (arith, none, four)), λ one. absurd (omega (arith, none, one)))
   none_ended disk Failed is (inl unwritten) = (λ four. absurd (omega (arith, is, four)), λ one. inl (unread, inl (same unwritten)))
   none_ended disk Failed is (inr help) = (λ four. absurd (omega (arith, is, four)), λ one. inl (unread, inr (helped help)))
   none_ended disk Refused is h = (λ four. absurd (omega (arith, is, four)), λ one. absurd (omega (arith, is, one)))
   none_ended disk OpenElsewhere is h = absurd h
 
-  pub none_elsewhere : (P : Type 0) (e : Exit) → n ≡ exit_number e → ExitsWithoutTask kind out errors e → n ≡ 4 → P
+  pub none_elsewhere : (P : Type 0) (e : Exit) → n ≡ exit_number e → EndsUnasked kind out errors e → n ≡ 4 → P
   none_elsewhere P (Done status) is h four = let none = done_number status h.0 is in absurd (omega (arith, none, four))
   none_elsewhere P Failed is h four = absurd (omega (arith, is, four))
   none_elsewhere P Refused is h four = absurd (omega (arith, is, four))

@@ -33,6 +33,7 @@ use Rattle.acd_program.specs.declared.fault.Fault.{Fault}
 use Rattle.acd_program.specs.declared.fault.Fault.TheVariants as ended_by
 use Rattle.acd_program.specs.declared.status.Status.{Status}
 use Rattle.acd_program.proofs.AuditsWithArchive.{archive_read}
+use Rattle.acd_program.proofs.BookReads.{Says}
 use Rattle.acd_sessions.proofs.Called.{leaves_books}
 use Rattle.acd_program.proofs.SoundElsewhere.{asked_called}
 use Rattle.acd_sessions.proofs.Over.{over_connection}
@@ -43,7 +44,7 @@ use Rattle.acd_sessions.proofs.Over.{over_connection}
 pub ends_read : {A C : Type 0} {P : Content → A → Type 0} (Q : Content → C → Type 0) (a b : BookState) (f : BookFault) (r : Result C BookFault) → Reads {A = A} a b (Err f) P → r ≡ Err f → ReadsIfOpen a b r Q
 ends_read {A = A} {P = P} Q a b f r read is = read_nothing {A = A} {P = P} Q a b f r (by_read {A = A} P a b (Err f) read (λ c x h. h)) is
 
-pub ends_after : {A B C : Type 0} {P : Content → A → Type 0} {S : Content → B → Type 0} (Q : Content → C → Type 0) (a b d : BookState) (x : A) (f : BookFault) (r : Result C BookFault)
+pub ends_after : {A B C : Type 0} {P : Says A} {S : Says B} (Q : Says C) (a b d : BookState) (x : A) (f : BookFault) (r : Result C BookFault)
     → ReadsIfOpen a b (Ok x) P → ReadsIfOpen {A = B} b d (Err f) S → r ≡ Err f → ReadsIfOpen a d r Q
 ends_after {B = B} {S = S} Q a b d x f r one two is = read_nothing {A = B} {P = S} Q a d f r (read_twice {Q = S} S a b d x (Err f) one two (λ c h y k. k)) is
 
@@ -100,8 +101,13 @@ pub added_over : (t u : EventTable) (s now : State) (mid : BookState) (cache : C
     → OverConnection (IsAdded t u) false s now
 added_over t u s now mid cache failures taken read =
     let new : BookState = followed cache (book_state now failures) in
-    over_connection (λ (old after : BookState). ReadsIfOpen {A = Unit {0}} old after (Ok tt) (IfOrdered (AddsEvents t u))) (IsAdded t u) false s now mid cache failures (λ old of h. was_added t u old mid new of h)
-    (λ old h. asked_called (LeavesBooks now) new (leaves_books now cache failures) old (tt {0}) (AddsEvents t u) h) (λ h. h.step.clean) taken read
+    over_connection (λ (old after : BookState). ReadsIfOpen {A = Unit {0}} old after (Ok tt) (IfOrdered (AddsEvents t u))) (IsAdded t u) false s now mid cache failures
+    (record {
+      carries = λ old of h. was_added t u old mid new of h;
+      leaves = λ old h. asked_called (LeavesBooks now) new (leaves_books now cache failures) old (tt {0}) (AddsEvents t u) h;
+      clean = λ h. h.step.clean;
+    })
+    taken read
 
 -- whatever was read, a reopening finds nothing new
 pub table_read : {A : Type 0} {P : Content → A → Type 0} (mid new : BookState) (r : Result A BookFault) → ReadsIfOpen mid new r P → OnlyAsked mid new

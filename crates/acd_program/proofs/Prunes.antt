@@ -19,6 +19,7 @@ use Rattle.acd_book.specs.BookReads.{Anything, ReadsIfOpen}
 use Rattle.acd_desk.specs.CarriedContent.{Archive, together}
 use Rattle.acd_desk.specs.Opening.{Opened}
 use Rattle.acd_desk.specs.Overlap.{IsCleanCut}
+use Rattle.acd_desk.specs.Pairs.{BookCall}
 use Rattle.acd_desk.specs.Pruning.{IsPlace}
 use Rattle.acd_desk.specs.DeskReads.{ReadDone}
 use Rattle.acd_desk.specs.DeskState.{DeskState}
@@ -45,7 +46,7 @@ use Rattle.acd_program.specs.declared.status.Status.{Status}
 use Rattle.acd_files.specs.Connections.{IsShut, IsLaidIn, IsOpenedFrom}
 use Rattle.acd_sessions.specs.Over.{OnlyAsked, LeavesBooks, OverConnection, Unserved}
 use Rattle.acd_program.specs.AuditFindings.{pruning_line}
-use Rattle.acd_program.specs.Pruning.{is_well, goes_on, MayGoOn, IsPruningOf, IsPruningInOrder, DecidesPlace, IsPrunedTo, IsPruningDone, WasLeft, AskedBoth, IsDecision, WasDecided, CarriesOut, OnlyPruned, WasPruned, BookPruned, BookLeft, LeavesPruned, LeftOver}
+use Rattle.acd_program.specs.Pruning.{is_well, goes_on, MayGoOn, IsPruningOf, IsPruningInOrder, DecidesPlace, IsPrunedTo, IsPruningDone, WasLeft, AskedBoth, IsDecision, WasDecided, CarriesOut, OnlyPruned, WasPruned, ArePlanned, BookPruned, BookLeft, LeavesPruned, LeftOver}
 use Rattle.acd_sessions.specs.ConnectionBook.{IsHeldBook, IsTaken}
 use Rattle.acd_files.specs.Logs.{IsSomeEnding}
 use Rattle.acd_program.specs.Tasks.{PrunedWith}
@@ -70,15 +71,15 @@ module _ (ending : Ending) (found : Finding) where
       → WasDecided ending found a m b d prune.Nothing
   decided_nothing {A = A} {B = B} a m b d x y goes one two = record { archive = left_by {A = A} a m x one; current = left_if {A = B} b d y two; decision = λ clean sound opened stands. goes }
 
-  pub decided_cut : {A B : Type 0} {P : Content → A → Type 0} (a m n b d : BookState) (x : A) (y : B) (cut : Cut) (holds : Bool) → goes_on ending found ≡ true → Reads a m (Ok x) P → ReadsIfOpen {A = B} b d (Ok y) Anything
-      → Reads m n (Ok holds) (DecidesPlace cut.stamp cut.number) → holds ≡ true → WasDecided ending found a n b d (prune.UpTo cut)
-  decided_cut {A = A} {B = B} a m n b d x y cut holds goes one two three is = record {
-    archive = left_twice a m n (left_by {A = A} a m x one) (left_by {A = Bool} m n holds three);
-    current = left_if {A = B} b d y two;
+  pub decided_cut : (a m n b d : BookState) (cut : Cut) (holds : Bool) → goes_on ending found ≡ true → WasLeft a m → WasLeft b d → Reads m n (Ok holds) (DecidesPlace cut.stamp cut.number) → holds ≡ true
+      → WasDecided ending found a n b d (prune.UpTo cut)
+  decided_cut a m n b d cut holds goes one two three is = record {
+    archive = left_twice a m n one (left_by {A = Bool} m n holds three);
+    current = two;
     decision = λ clean sound opened stands.
         let before = three.step.clean clean in
         let held = one.step.sound before sound in
-        let same : m.content ≡ a.content = (one.unchanged.same before sound (one.stays before sound)).1 in
+        let same : m.content ≡ a.content = (one.unchanged.same before sound (one.stays before sound opened)).1 in
         let place : IsPlace m.content cut.stamp cut.number = ((three.value clean held).1 (subst StandsInTime (sym same) stands)).0 is in
         (goes, subst (λ (c : Content). IsPlace c cut.stamp cut.number) same place);
   }
@@ -152,21 +153,25 @@ were_of IsAnswer old_archive mid_archive new_archive old new x of h = record {
       subst (λ (a : Content). IsAnswer a old.content x) (of.content before sound) (h.answer clean (of.step.sound before sound) current_clean current_sound (of.live before sound));
 }
 
-pub were_over : {A : Type 0} (IsAnswer : Content → Content → A → Type 0) (old new : BookState) (x : A) (s t : State) (mid : BookState) (cache : Cache) (failures : ℕ) → IsTaken false s mid
-    → AskedBoth IsAnswer mid (followed cache (book_state t failures)) old new x → OverConnection (λ (a b : BookState). WereAsked IsAnswer a b old new x) false s t
-were_over IsAnswer old new x s t mid cache failures taken h =
+were_over : (ending : Ending) (current : BookCall) (p : Pruning) (s t : State) (mid : BookState) (cache : Cache) (failures : ℕ) → IsTaken false s mid
+    → AskedBoth (IsPruningInOrder ending) mid (followed cache (book_state t failures)) current.old current.new p → OverConnection (ArePlanned ending current p) false s t
+were_over ending current p s t mid cache failures taken h =
     let now : BookState = followed cache (book_state t failures) in
-    over_connection (λ (a b : BookState). AskedBoth IsAnswer a b old new x) (λ (a b : BookState). WereAsked IsAnswer a b old new x) false s t mid cache failures
-    (λ a of both. were_of IsAnswer a mid now old new x of both)
-    (λ a were. record { archive = asked_called (LeavesBooks t) now (leaves_books t cache failures) a (tt {0}) Anything were.archive; current = were.current; answer = were.answer })
-    (λ both. both.archive.step.clean) taken h
+    over_connection (λ (a b : BookState). AskedBoth (IsPruningInOrder ending) a b current.old current.new p) (ArePlanned ending current p) false s t mid cache failures
+    (record {
+      carries = λ a of both. were_of (IsPruningInOrder ending) a mid now current.old current.new p of both;
+      leaves = λ a were. record { archive = asked_called (LeavesBooks t) now (leaves_books t cache failures) a (tt {0}) Anything were.archive; current = were.current; answer = were.answer };
+      clean = λ both. both.archive.step.clean;
+    })
+    taken h
 
 -- what was planned, and what is left where a fault ended it
-pub plans_over : {F : Type 0} (ending : Ending) (r : Result Pruning F) (old new : BookState) (s t : State) (mid : BookState) (cache : Cache) (failures : ℕ) → IsTaken false s mid
-    → MatchResult r (AskedBoth (IsPruningInOrder ending) mid (followed cache (book_state t failures)) old new) (λ (e : F). OnlyAsked mid (followed cache (book_state t failures)) × OnlyAsked old new)
-    → IfOk r (λ (p : Pruning). OverConnection (λ (a b : BookState). WereAsked (IsPruningInOrder ending) a b old new p) false s t)
-plans_over ending (Ok p) old new s t mid cache failures taken h = were_over (IsPruningInOrder ending) old new p s t mid cache failures taken h
-plans_over ending (Err e) old new s t mid cache failures taken h = tt
+pub plans_over : {F : Type 0} (ending : Ending) (current : BookCall) (r : Result Pruning F) (s t : State) (mid : BookState) (cache : Cache) (failures : ℕ) → IsTaken false s mid
+    → MatchResult r (AskedBoth (IsPruningInOrder ending) mid (followed cache (book_state t failures)) current.old current.new)
+    (λ (e : F). OnlyAsked mid (followed cache (book_state t failures)) × OnlyAsked current.old current.new)
+    → IfOk r (λ (p : Pruning). OverConnection (ArePlanned ending current p) false s t)
+plans_over ending current (Ok p) s t mid cache failures taken h = were_over ending current p s t mid cache failures taken h
+plans_over ending current (Err e) s t mid cache failures taken h = tt
 
 pub only_ended : {A F : Type 0} (IsAnswer : Content → Content → A → Type 0) (r : Result A F) (a n old new : BookState)
     → MatchResult r (AskedBoth IsAnswer a n old new) (λ (e : F). OnlyAsked a n × OnlyAsked old new) → OnlyAsked a n × OnlyAsked old new
@@ -174,11 +179,12 @@ only_ended IsAnswer (Ok x) a n old new h = only_both IsAnswer a n old new x h
 only_ended IsAnswer (Err e) a n old new h = h
 
 -- and closed
-pub were_in : {A D F G : Type 0} {g : Ghosts D} (P : A → BookState → BookState → Type 0) (x : A) (r : Result A F) (closed : Result (Unit {0}) G) (conn last : Held (FileStore D g))
-    → IfOk r (λ (y : A). OverConnection (P y) false (file_state conn) (file_state last)) → Unserved false (file_state conn) (file_state last) → OnOk closed (IsLaidIn last) → (r ≡ Ok x) × (closed ≡ Ok tt) → OverArchive (P x) conn
-were_in {A = A} {F = F} {G = G} P x r closed conn last over kept laid both = record {
+pub were_in : {D F G : Type 0} {g : Ghosts D} (ending : Ending) (current : BookCall) (p : Pruning) (r : Result Pruning F) (closed : Result (Unit {0}) G) (conn last : Held (FileStore D g))
+    → IfOk r (λ (x : Pruning). OverConnection (ArePlanned ending current x) false (file_state conn) (file_state last)) → Unserved false (file_state conn) (file_state last)
+    → OnOk closed (IsLaidIn last) → (r ≡ Ok p) × (closed ≡ Ok tt) → OverArchive (ArePlanned ending current p) conn
+were_in {F = F} {G = G} ending current p r closed conn last over kept laid both = record {
   last = last;
-  done = subst (λ (y : Result A F). IfOk y (λ (z : A). OverConnection (P z) false (file_state conn) (file_state last))) both.0 over;
+  done = subst (λ (y : Result Pruning F). IfOk y (λ (z : Pruning). OverConnection (ArePlanned ending current z) false (file_state conn) (file_state last))) both.0 over;
   closed = subst (λ (y : Result (Unit {0}) G). OnOk y (IsLaidIn last)) both.1 laid;
   kept = kept;
 }
@@ -313,10 +319,14 @@ module _ {D : Type 0} (disk : Ghosts D) (IsFresh : Bool → D → Type 0) where
       let now : BookState = followed cache (book_state t failures) in
       over_connection (λ (old new : BookState). BookAskedWithArchive disk IsFresh (IsPruningInOrder ending) old m p × CarriesOut m new (Ok tt) p) (λ (old new : BookState). BookPruned disk IsFresh ending old new p) false
       s t mid cache failures
-      (λ old of both. in_archive_so disk IsFresh (λ (a b : BookState). WereAsked (IsPruningInOrder ending) a b mid m p) (λ (a b : BookState). WasPruned ending a b old now p) (λ a b were. was_pruned ending a b old mid m now of p were both.1) both.0)
-      (λ old h. in_archive_so disk IsFresh (λ (a b : BookState). WasPruned ending a b old now p) (λ (a b : BookState). WasPruned ending a b old (called now (LeavesBooks t)) p)
-      (λ a b h. was_called (LeavesBooks t) ending p a b old now (leaves_books t cache failures) h) h)
-      (λ both clean. asked_clean disk IsFresh (IsPruningInOrder ending) mid m p both.0 (carried_clean m now (Ok tt) p both.1 clean)) taken (asked, done)
+      (record {
+        carries = λ old of both. in_archive_so disk IsFresh (λ (a b : BookState). WereAsked (IsPruningInOrder ending) a b mid m p) (λ (a b : BookState). WasPruned ending a b old now p)
+            (λ a b were. was_pruned ending a b old mid m now of p were both.1) both.0;
+        leaves = λ old h. in_archive_so disk IsFresh (λ (a b : BookState). WasPruned ending a b old now p) (λ (a b : BookState). WasPruned ending a b old (called now (LeavesBooks t)) p)
+            (λ a b h. was_called (LeavesBooks t) ending p a b old now (leaves_books t cache failures) h) h;
+        clean = λ both clean. asked_clean disk IsFresh (IsPruningInOrder ending) mid m p both.0 (carried_clean m now (Ok tt) p both.1 clean);
+      })
+      taken (asked, done)
 
   -- whatever came of it
   left_over : (ending : Ending) (p : Pruning) (r : Result (Unit {0}) BookFault) (s t : State) (mid m : BookState) (cache : Cache) (failures : ℕ) → IsTaken false s mid
@@ -326,9 +336,13 @@ module _ {D : Type 0} (disk : Ghosts D) (IsFresh : Bool → D → Type 0) where
       let Left : BookState → BookState → BookState → BookState → Type 0 = λ old new a b. WasRead a b × OnlyPruned a b old new in
       over_connection (λ (old new : BookState). BookAskedWithArchive disk IsFresh (IsPruningInOrder ending) old m p × CarriesOut m new r p) (BookLeft disk IsFresh) false
       s t mid cache failures
-      (λ old of both. in_archive_so disk IsFresh (λ (a b : BookState). WereAsked (IsPruningInOrder ending) a b mid m p) (Left old now) (λ a b were. book_left ending a b old mid m now r of p were both.1) both.0)
-      (λ old h. in_archive_so disk IsFresh (Left old now) (Left old (called now (LeavesBooks t))) (λ a b h. (h.0, only_called (LeavesBooks t) a b old now (leaves_books t cache failures) h.1)) h)
-      (λ both clean. asked_clean disk IsFresh (IsPruningInOrder ending) mid m p both.0 (carried_clean m now r p both.1 clean)) taken (asked, done)
+      (record {
+        carries = λ old of both. in_archive_so disk IsFresh (λ (a b : BookState). WereAsked (IsPruningInOrder ending) a b mid m p) (Left old now)
+            (λ a b were. book_left ending a b old mid m now r of p were both.1) both.0;
+        leaves = λ old h. in_archive_so disk IsFresh (Left old now) (Left old (called now (LeavesBooks t))) (λ a b h. (h.0, only_called (LeavesBooks t) a b old now (leaves_books t cache failures) h.1)) h;
+        clean = λ both clean. asked_clean disk IsFresh (IsPruningInOrder ending) mid m p both.0 (carried_clean m now r p both.1 clean);
+      })
+      taken (asked, done)
 
   -- nothing was to be pruned, since a fault ended what comes before
   leaves_unpruned : (why : Fault) (s t : State) → Unserved false s t → LeavesBeside disk IsFresh why → LeavesPruned disk IsFresh s t why

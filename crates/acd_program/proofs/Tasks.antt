@@ -1,5 +1,5 @@
 -- A task was done, by the work over a connection to files.
-use Rattle.std.proofs.Common.{◌≡◌, ℕ, Bool, true, false, List, [], Option, Result, OnOk, ap, subst, ◌∙◌}
+use Rattle.std.proofs.Common.{◌≡◌, ℕ, Bool, true, false, List, [], Option, ap, subst, ◌∙◌}
 use Rattle.std.specs.Io.KnownBytes.{Appends}
 use Rattle.sqlite_disk.specs.declared.Disk.{Ghosts}
 use Rattle.sqlite_store.specs.declared.store.FileStore.{FileStore}
@@ -21,8 +21,7 @@ use Rattle.acd_program.specs.AuditFindings.{IsFindingOf, HasCount, finding_line}
 use Rattle.acd_lines.specs.Lines.{AllRequests, RequestsAnswered, Streams}
 use Rattle.acd_lines.proofs.WeakerAnswers.{out_so}
 use Rattle.acd_sessions.specs.Over.{IsSession, OverConnection}
-use Rattle.acd_program.specs.Work.{WasAsked, IsTextOf, ImportsOver, AuditsOver, WorkDone, IsPrinted, text_left, status_left}
-use Rattle.acd_files.specs.Connections.{IsLaidIn}
+use Rattle.acd_program.specs.Work.{WasAsked, IsTextOf, ImportsOver, AuditsOver, WorkDone, text_left, status_left}
 use Rattle.acd_program.specs.InFiles.{WorkedOver, InFile}
 use Rattle.acd_program.specs.Tasks.{WorkedIn, AuditedIn, WholeAudit}
 use Rattle.acd_program.specs.TasksEnded.{TaskDone}
@@ -122,20 +121,6 @@ worked_in is_new makes work conn old_output new_output status may w = record {
   closed = w.closed;
   printed = w.printed;
   outcome = w.outcome;
-}
-
--- the work was done, its file closed, and what was left printed
-pub worked_over : {D : Type 0} {g : Ghosts D} {F : Type 0} (status : Status) (work : Work) (makes : Bool) (conn last : Held (FileStore D g)) (left : Done) (closed : Result (Unit {0}) F) (old_output between new_output : Option (List ℕ))
-    → OverConnection (λ (old new : BookState). WorkDone IsFindingOf work old old_output between left new) makes (file_state conn) (file_state last) → OnOk closed (IsLaidIn last)
-    → IsPrinted left closed between new_output status → WorkedOver makes work conn old_output new_output status
-worked_over {F = F} status work makes conn last left closed old_output between new_output d k p = record {
-  last = last;
-  left = left;
-  between = between;
-  done = d;
-  closed = subst (λ (x : Result (Unit {0}) F). OnOk x (IsLaidIn last)) p.shut k;
-  printed = p.printed;
-  outcome = p.outcome;
 }
 
 -- ---- by what the command line asks for

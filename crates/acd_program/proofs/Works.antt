@@ -91,6 +91,12 @@ pub database_done : (work : Work) (makes : Bool) (s t : State) (mid : BookState)
     → WorkDone IsFindingIfOrdered work mid old_output new_output d (followed cache (book_state t failures))
     → OverConnection (λ (old new : BookState). WorkDone IsFindingOf work old old_output new_output d new) makes s t
 database_done work makes s t mid cache failures old_output new_output d taken h =
-    over_connection (λ (old new : BookState). WorkDone IsFindingIfOrdered work old old_output new_output d new) (λ (old new : BookState). WorkDone IsFindingOf work old old_output new_output d new) makes s t mid cache failures
-    (λ old of done. work_of work old mid (followed cache (book_state t failures)) old_output new_output d of done)
-    (λ old done. work_left (LeavesBooks t) (followed cache (book_state t failures)) (leaves_books t cache failures) work old old_output new_output d done) (done_clean work mid (followed cache (book_state t failures)) old_output new_output d) taken h
+    let new : BookState = followed cache (book_state t failures) in
+    over_connection (λ (old new : BookState). WorkDone IsFindingIfOrdered work old old_output new_output d new) (λ (old new : BookState). WorkDone IsFindingOf work old old_output new_output d new)
+    makes s t mid cache failures
+    (record {
+      carries = λ old of done. work_of work old mid new old_output new_output d of done;
+      leaves = λ old done. work_left (LeavesBooks t) new (leaves_books t cache failures) work old old_output new_output d done;
+      clean = done_clean work mid new old_output new_output d;
+    })
+    taken h

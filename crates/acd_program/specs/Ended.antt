@@ -4,6 +4,7 @@ use Rattle.std.specs.Prelude.{◌≡◌, ◌⊎◌, ℕ, Bool, List, Option, Res
 use Rattle.sqlite_disk.specs.declared.Disk.{Ghosts}
 use Rattle.sqlite_store.specs.declared.store.FileStore.{FileStore}
 use Rattle.sqlite.specs.Held.{Held, state}
+use Rattle.sqlite_trees.specs.declared.store.Store.{Ghosts as Stores}
 use Rattle.sqlite.specs.State.{State}
 use Rattle.sqlite.specs.Files.{file_state}
 use Rattle.acd_terms.specs.declared.command.Request.{Request}
@@ -14,7 +15,7 @@ use Rattle.acd_lines.specs.Lines.{LinesAnswered, FirstRequests, RequestsAnswered
 use Rattle.acd_reports.specs.Plan.{plan_requests}
 use Rattle.acd_program.specs.AuditFindings.{IsFindingOf}
 use Rattle.acd_program.specs.InFiles.{WorkedOver}
-use Rattle.acd_sessions.specs.Over.{IsSession, Database, OverCall, OverConnection, Unserved, OnlyAsked}
+use Rattle.acd_sessions.specs.Over.{IsSession, OverConnection, Unserved, OnlyAsked}
 use Rattle.acd_sessions.specs.ToDo.{ToDo}
 use Rattle.acd_program.specs.Work.{ImportsOver, IsFindingIfOrdered, WorkDone, text_left}
 use Rattle.acd_program.specs.declared.status.Status.{Status}
@@ -92,10 +93,10 @@ abbrev pub WorkStopped : Work → Bool → State → State → Option (List ℕ)
 WorkStopped work makes old new old_output new_output = (Unserved makes old new × (new_output ≡ old_output)) ⊎ OverConnection (IsBegun work old_output new_output) makes old new
 
 -- over a database that was handed in, with the connection that came back
-abbrev pub work_in : {S F : Type 0} → Database S → Work → Output → Held S → ToDo Done F
-work_in db work out last = record {
-  Done = λ done. OverCall db (λ (old new : BookState). WorkDone IsFindingOf work old out.before out.after done new) last;
-  Left = λ fault. WorkStopped work db.makes (state db.store db.conn) (state db.store last) out.before out.after;
+abbrev pub work_in : {S F : Type 0} → Stores S → Bool → Held S → Work → Output → Held S → ToDo Done F
+work_in store makes given work out last = record {
+  Done = λ done. OverConnection (λ old new. WorkDone IsFindingOf work old out.before out.after done new) makes (state store given) (state store last);
+  Left = λ fault. WorkStopped work makes (state store given) (state store last) out.before out.after;
 }
 
 module _ {D : Type 0} {g : Ghosts D} where

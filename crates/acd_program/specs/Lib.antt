@@ -10,5 +10,6 @@ pub mod Tasks
 pub mod Ended
 pub mod TasksEnded
 pub mod FileTasks
+pub mod HostTasks
 pub mod Reasons
 pub mod EachOnce

@@ -10,6 +10,7 @@ use Rattle.acd_book.specs.Content.{Content}
 use Rattle.acd_book.specs.Order.{IsOrdered}
 use Rattle.acd_book.specs.PrunedContent.{pruned}
 use Rattle.acd_book.specs.State.{BookState, Commits, IfHonest}
+use Rattle.acd_book.specs.declared.book.Book as book
 use Rattle.acd_book.specs.declared.fault.BookFault.{BookFault}
 use Rattle.acd_desk.specs.AuditWith.{StandsInTime}
 use Rattle.acd_book.specs.BookReads.{Anything, ReadsIfOpen}
@@ -24,7 +25,7 @@ use Rattle.acd_program.specs.declared.fault.Fault.{Fault}
 use Rattle.acd_program.specs.declared.fault.Fault.TheVariants as fault
 use Rattle.acd_program.specs.declared.outcome.Pruning.{Pruning}
 use Rattle.acd_program.specs.declared.outcome.Pruning.TheVariants as prune
-use Rattle.acd_sessions.specs.Over.{OnlyAsked, OverConnection, Unserved}
+use Rattle.acd_sessions.specs.Over.{Database, OnlyAsked, OverCall, OverConnection, Unserved}
 use Rattle.acd_sessions.specs.ToDo.{ToDo}
 use Rattle.acd_program.specs.WithArchive.{IsFindingWith, WasRead, WereAsked, OverArchive, InArchive, LeavesArchive}
 use Rattle.acd_program.specs.Work.{WasAsked}
@@ -98,15 +99,15 @@ pub record AskedBoth {A : Type 0} (IsAnswer : Content → Content → A → Type
 abbrev pub OnlyAskedBoth : BookCall → BookCall → Type 0
 OnlyAskedBoth archive current = OnlyAsked archive.old archive.new × OnlyAsked current.old current.new
 
--- a book by the name of a parameter, which has both values
-abbrev pub book_across : {B : Type 0} → (B → BookState) → Both (MutBor B) (MutBor B) → BookCall
-book_across state book = across state book.entry.now book.exit.now
+-- a book that a call was lent, by the name of its parameter
+abbrev pub lent : {B : Type 0} → book.Ghosts B → Both (MutBor B) (MutBor B) → BookCall
+lent books given = across books.state given.entry.now given.exit.now
 
 -- the asking of an archive's book, and of another one with that which came back
-abbrev pub asking : {A B F : Type 0} → (Content → Content → A → Type 0) → BookCall → (B → BookState) → B → B → ToDo A F
-asking IsAnswer archive state old new = record {
-  Done = AskedBoth IsAnswer archive.old archive.new (state old) (state new);
-  Left = λ fault. OnlyAskedBoth archive (across state old new);
+abbrev pub asking : {A B F : Type 0} → (Content → Content → A → Type 0) → BookCall → book.Ghosts B → B → B → ToDo A F
+asking IsAnswer archive books old new = record {
+  Done = AskedBoth IsAnswer archive.old archive.new (books.state old) (books.state new);
+  Left = λ fault. OnlyAskedBoth archive (across books.state old new);
 }
 
 -- by the archive's content and a finding this is to go
@@ -153,9 +154,11 @@ pub record WasPruned (ending : Ending) (old_archive new_archive old new : BookSt
 abbrev pub ArePlanned : Ending → BookCall → Pruning → BookState → BookState → Type 0
 ArePlanned ending current pruning old new = WereAsked (IsPruningInOrder ending) old new current.old current.new pruning
 
-abbrev pub PlansOver : {F : Type 0} → Ending → State → State → BookCall → Result Pruning F → Type 0
-PlansOver ending s t current result = IfOk result (λ (pruning : Pruning). OverConnection (ArePlanned ending current pruning) false s t)
+-- so they were, the archive in a database that was handed in, with the other book and the connection that came back
+abbrev pub PlansOver : {S B F : Type 0} → Database S → Ending → book.Ghosts B → B → (Result Pruning F × B) × Held S → Type 0
+PlansOver db ending books given result = IfOk result.0.0 (λ (pruning : Pruning). OverCall db (ArePlanned ending (across books.state given result.0.1) pruning) result.1)
 
+-- and in files
 abbrev pub PlansIn : {D F : Type 0} {g : Ghosts D} → Ending → Held (FileStore D g) → BookCall → Result Pruning F → Type 0
 PlansIn ending conn current result = IfOk result (λ (pruning : Pruning). OverArchive (ArePlanned ending current pruning) conn)
 

@@ -105,11 +105,11 @@ IfDone exit.Refused Fact = Unit {0}
 IfDone exit.OpenElsewhere Fact = Unit {0}
 
 -- A command line that names no task: help was asked for, and written; or it was refused, and nothing was written on the output; or there was no memory to say so, or help wasn't written whole.
-abbrev pub ExitsWithoutTask : ErrorKind → Output → Output → Exit → Type 0
-ExitsWithoutTask kind out errors (exit.Done status) = (status ≡ Success) × IsHelp kind × errors.unwritten
-ExitsWithoutTask kind out errors exit.Refused = (kind ≢ OutOfMemory) × (¬ IsHelp kind) × out.unwritten
-ExitsWithoutTask kind out errors exit.Failed = out.unwritten ⊎ IsHelp kind
-ExitsWithoutTask kind out errors exit.OpenElsewhere = ⊥
+abbrev pub EndsUnasked : ErrorKind → Output → Output → Exit → Type 0
+EndsUnasked kind out errors (exit.Done status) = (status ≡ Success) × IsHelp kind × errors.unwritten
+EndsUnasked kind out errors exit.Refused = (kind ≢ OutOfMemory) × (¬ IsHelp kind) × out.unwritten
+EndsUnasked kind out errors exit.Failed = out.unwritten ⊎ IsHelp kind
+EndsUnasked kind out errors exit.OpenElsewhere = ⊥
 
 -- where another program has the file, the reader and the writer weren't touched
 abbrev pub UntouchedElsewhere : {R W : Type 0} → R → R → W → W → Fault → Type 0

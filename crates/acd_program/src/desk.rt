@@ -7,7 +7,7 @@ ghost use Rattle.acd_desk.specs.ReadAnswers.{text_read};
 ghost use Rattle.acd_sessions.specs.Over.{OnlyAsked};
 ghost use Rattle.acd_program.specs.Ended.{OnlyReads, plan_over, work_over, work_in};
 ghost use Rattle.acd_lines.specs.Lines.{written};
-ghost use Rattle.acd_sessions.specs.Over.{database, Unserved};
+ghost use Rattle.acd_sessions.specs.Over.{Unserved};
 ghost use Rattle.acd_sessions.specs.ToDo.{EndedWith};
 ghost use Rattle.acd_program.specs.Work.{text_left, status_left, IsPrintoutOf, PrintsOver, AuditsBook};
 
@@ -155,8 +155,8 @@ pub(crate) fn over_database<S: Alter, W: Write>(
     writer: &mut W,
 ) -> (Result<Done, WorkFault>, Connection<S>)
     requires { conn.in_transaction ≡ false }
-    ensures result { EndedWith (work_in (database S.Store makes conn) work.entry
-        (written W.Write writer)) result }
+    ensures result { EndedWith (work_in S.Store makes conn work.entry (written W.Write writer))
+        result }
     ensures kept { OnlyReads work.entry
         → Unserved makes (state S.Store conn) (state S.Store result.1) }
     ensures silent { OnlyReads work.entry → writer.new ≡ writer.old }

@@ -5,7 +5,8 @@ ghost use Rattle.sqlite.specs.Held.{state};
 ghost use Rattle.sqlite_std_file.specs.File.{IsFresh};
 ghost use Rattle.acd_book.specs.BookReads.{MayRead, IfOrdered};
 ghost use Rattle.acd_desk.specs.ReadAnswers.{WritesPage};
-ghost use Rattle.acd_program.specs.ArchiveExport.{WritesRows, AddsEvents, AddsOver, AddsIn, AddsArchive, AddsArchives, IsNewTable, MakesTable, LeavesArchives, LeavesExport};
+ghost use Rattle.acd_program.specs.ArchiveExport.{WritesRows, AddsEvents, AddsOver, AddsIn, IsNewTable, LeavesArchives, LeavesExport};
+ghost use Rattle.acd_program.specs.HostTasks.{AddsHostArchive, AddsHostArchives, IsExport};
 ghost use Rattle.acd_sessions.specs.Over.{database, Unserved};
 ghost use Rattle.acd_program.specs.WithArchive.{IsShutWith, LeavesArchive};
 
@@ -174,8 +175,7 @@ fn add_archive<'a, S: Start>(
     archive: &'a str,
     table: &mut EventTable,
 ) -> Result<(), ArchiveFault<'a>>
-    ensures added { IfOk result
-        (λ done. AddsArchive ⟦<FileFrom<S> as Disk>⟧ IsFresh table.old table.new) }
+    ensures added { IfOk result (λ done. AddsHostArchive S.Start table) }
     ensures left { IfErr result (LeavesArchive ⟦<FileFrom<S> as Disk>⟧ IsFresh) }
 {
     let conn = connect_archive(rt, archive, start)?;
@@ -192,8 +192,7 @@ fn add_archives<'a, S: Start, O: Starts<S>>(
     archives: &[&'a str],
     table: &mut EventTable,
 ) -> Result<(), ArchiveFault<'a>>
-    ensures added { IfOk result (λ done. AddsArchives ⟦<FileFrom<S> as Disk>⟧ IsFresh
-        (length archives.now) table.old table.new) }
+    ensures added { IfOk result (λ done. AddsHostArchives S.Start (length archives.now) table) }
     ensures left { IfErr result (LeavesArchives ⟦<FileFrom<S> as Disk>⟧ IsFresh) }
 {
     for archive in archives {
@@ -213,8 +212,8 @@ pub(crate) fn table_over<'a, C: Alter, S: Start, O: Starts<S>>(
     archives: &[&'a str],
 ) -> (Result<EventTable, Fault<'a>>, Connection<C>)
     requires { conn.in_transaction ≡ false }
-    ensures made { IfOk result.0 (MakesTable ⟦<FileFrom<S> as Disk>⟧ IsFresh
-        (length archives.now) (state C.Store conn) (state C.Store result.1)) }
+    ensures made { IfOk result.0 (IsExport S.Start (length archives.now) C.Store
+        (conn, result.1)) }
     // where a fault ended it, so the archives are left
     ensures left { IfErr result.0 (LeavesExport ⟦<FileFrom<S> as Disk>⟧ IsFresh) }
     // whatever comes of it, a reopening finds in the desk's database what it could find before

@@ -7,8 +7,8 @@ ghost use Rattle.acd_sqlbook.specs.View.{book_of};
 ghost use Rattle.acd_desk.specs.Pairs.{across};
 ghost use Rattle.acd_sessions.specs.Over.{OnlyAsked};
 ghost use Rattle.acd_program.specs.FileTasks.{AsksToPrune, prune_over};
-ghost use Rattle.acd_sessions.specs.Over.{Unserved};
-ghost use Rattle.acd_program.specs.Pruning.{is_well, goes_on, asking, book_across, deciding, CarriesOut, IsPruningInOrder, PlansOver, PlansIn};
+ghost use Rattle.acd_sessions.specs.Over.{database, Unserved};
+ghost use Rattle.acd_program.specs.Pruning.{is_well, goes_on, asking, lent, deciding, CarriesOut, IsPruningInOrder, PlansOver, PlansIn};
 ghost use Rattle.acd_sessions.specs.ToDo.{Ended, EndedWith};
 ghost use Rattle.acd_program.specs.WithArchive.{IsFindingInOrder, IsShutWith, LeavesBeside};
 
@@ -62,8 +62,7 @@ fn decide<A: Book, B: Book>(
     ending: Ending,
     retention: Retention,
 ) -> Result<Pruning, WorkFault>
-    ensures { Ended (deciding ending found (book_across A.state archive)
-        (book_across B.state book)) result }
+    ensures { Ended (deciding ending found (lent A.Book archive) (lent B.Book book)) result }
 {
     if !goes_on(ending, found) {
         return Ok(Pruning::Refused(found, ending));
@@ -88,8 +87,8 @@ fn audited_beside<A: Book, B: Book>(
     book: ShownBook<'_, B>,
     archive: &mut A,
 ) -> (Result<Finding, WorkFault>, B)
-    ensures { EndedWith (asking IsFindingInOrder (book_across A.state archive)
-        B.state book.entry.inner) result }
+    ensures { EndedWith (asking IsFindingInOrder (lent A.Book archive) B.Book
+        book.entry.inner) result }
 {
     let mut desk = match Desk::open(alloc, book) {
         Ok(desk) => desk,
@@ -109,8 +108,8 @@ fn planned<A: Book, B: Book>(
     ending: Ending,
     retention: Retention,
 ) -> (Result<Pruning, WorkFault>, B)
-    ensures { EndedWith (asking (IsPruningInOrder ending) (book_across A.state archive)
-        B.state book) result }
+    ensures { EndedWith (asking (IsPruningInOrder ending) (lent A.Book archive) B.Book
+        book) result }
 {
     let watched = ShownBook::new(book, Progress::new(rt));
     let (asked, mut book) = audited_beside(rt.alloc(), watched, archive);
@@ -134,8 +133,7 @@ fn planned_over<S: Alter, B: Book>(
     retention: Retention,
 ) -> ((Result<Pruning, WorkFault>, B), Connection<S>)
     requires { conn.in_transaction ≡ false }
-    ensures asked { PlansOver ending (state S.Store conn) (state S.Store result.1)
-        (across B.state book result.0.1) result.0.0 }
+    ensures asked { PlansOver (database S.Store false conn) ending B.Book book result }
     // whatever comes of it, a reopening finds in the archive what it could find before
     ensures spared { Unserved false (state S.Store conn) (state S.Store result.1) }
     ensures kept { OnlyAsked (B.state book) (B.state result.0.1) }

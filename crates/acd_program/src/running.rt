@@ -1,16 +1,16 @@
 //! The program over three streams.
 
-ghost use Rattle.std.specs.Prelude.{◌≡◌, ◌≤◌, ◌⊎◌, false, length, map, IfOk, IfErr};
-ghost use Rattle.sqlite_std_file.specs.File.{IsFresh};
+ghost use Rattle.std.specs.Prelude.{◌≡◌, ◌≤◌, false, length, map, IfOk, IfErr};
 ghost use Rattle.clap.specs.Words.{kind_of};
 ghost use Rattle.acd_command.specs.CommandLine.{IsRefused};
 ghost use Rattle.acd_program.specs.Ended.{then_closed, work_on};
 ghost use Rattle.acd_program.specs.FileTasks.{ExitsTask, DoneOrHelp, FaultEnded};
-ghost use Rattle.acd_lines.specs.Lines.{written, streamed};
+ghost use Rattle.acd_lines.specs.Lines.{written, streamed, AreUntouched};
+ghost use Rattle.acd_sessions.specs.Serving.{service};
 ghost use Rattle.acd_sessions.specs.Sessions.{memory_lines};
-ghost use Rattle.acd_program.specs.Statuses.{ExitsWithoutTask, IfDone, fault_exit, PrintsAtMostFaults, PrintsOnSuccess, UntouchedElsewhere};
+ghost use Rattle.acd_program.specs.Statuses.{EndsUnasked, IfDone, fault_exit, PrintsAtMostFaults, PrintsOnSuccess, UntouchedElsewhere};
 ghost use Rattle.acd_program.specs.Tasks.{IsReadEnding};
-ghost use Rattle.acd_program.specs.TasksEnded.{audit_with_archive, export_with_archives, file_import, file_lines, file_service, file_standby, file_work, input, prune, to_do, whole_audit};
+ghost use Rattle.acd_program.specs.HostTasks.{host_audit, host_export, host_import, host_lines, host_prune, host_service, host_standby, host_task, host_whole_audit, host_work, intake};
 ghost use Rattle.acd_sessions.specs.ToDo.{Ended};
 ghost use Rattle.acd_program.specs.Work.{printing};
 
@@ -93,8 +93,7 @@ fn work_in<'a, S: Start, W: Write>(
     work: Work<'_>,
     writer: &mut W,
 ) -> Result<Status, Fault<'a>>
-    ensures { Ended (file_work ⟦<FileFrom<S> as Disk>⟧ IsFresh makes work.entry
-        (written W.Write writer)) result }
+    ensures { Ended (host_work S.Start makes work.entry (written W.Write writer)) result }
 {
     let (conn, is_new) = connect(rt, file, makes, start)?;
     match work_over(rt, conn, is_new, work, writer) {
@@ -113,7 +112,7 @@ fn lines_in<'a, S: Start, R: Read, W: Write>(
     reader: &mut R,
     writer: &mut W,
 ) -> Result<(), Fault<'a>>
-    ensures { Ended (file_lines ⟦<FileFrom<S> as Disk>⟧ IsFresh reads ends
+    ensures { Ended (host_lines S.Start reads ends
         (streamed R.Read W.Write reader writer)) result }
 {
     let (conn, is_new) = connect(rt, file, true, start)?;
@@ -151,7 +150,7 @@ fn answer_lines<'a, S: Start, R: Read, W: Write>(
     reader: &mut R,
     writer: &mut W,
 ) -> Result<Status, Fault<'a>>
-    ensures { Ended (input ⟦<FileFrom<S> as Disk>⟧ IsFresh file.entry (reads, ends)
+    ensures { Ended (intake S.Start file (reads, ends)
         (streamed R.Read W.Write reader writer)) result }
 {
     match file {
@@ -176,7 +175,7 @@ fn import_plan<'a, S: Start, W: Write>(
     plan: &'a str,
     writer: &mut W,
 ) -> Result<Status, Fault<'a>>
-    ensures { Ended (file_import ⟦<FileFrom<S> as Disk>⟧ IsFresh (written W.Write writer)) result }
+    ensures { Ended (host_import S.Start (written W.Write writer)) result }
 {
     let requests = read_plan(rt, plan)?;
     work_in(rt, start, file, true, Work::Import(&requests), writer)
@@ -190,8 +189,7 @@ fn audit_whole<'a, S: Start, W: Write>(
     counts: bool,
     writer: &mut W,
 ) -> Result<Status, Fault<'a>>
-    ensures { Ended (whole_audit ⟦<FileFrom<S> as Disk>⟧ IsFresh counts
-        (written W.Write writer)) result }
+    ensures { Ended (host_whole_audit S.Start counts (written W.Write writer)) result }
 {
     let ending = log_ending(Looks::new(rt), file)?;
     work_in(
@@ -230,8 +228,7 @@ fn audit_with_archive<'a, S: Start, W: Write>(
     whole: bool,
     writer: &mut W,
 ) -> Result<Status, Fault<'a>>
-    ensures { Ended (audit_with_archive ⟦<FileFrom<S> as Disk>⟧ IsFresh counts whole
-        (written W.Write writer)) result }
+    ensures { Ended (host_audit S.Start counts whole (written W.Write writer)) result }
 {
     let Files {
         start,
@@ -258,7 +255,7 @@ fn prune_file<'a, S: Start, W: Write>(
     quiet: bool,
     writer: &mut W,
 ) -> Result<Status, Fault<'a>>
-    ensures { Ended (prune ⟦<FileFrom<S> as Disk>⟧ IsFresh quiet (written W.Write writer)) result }
+    ensures { Ended (host_prune S.Start quiet (written W.Write writer)) result }
 {
     let Files {
         start,
@@ -288,8 +285,7 @@ fn export_with_archives<'a, S: Start, O: Starts<S>, W: Write>(
     archives: &[&'a str],
     writer: &mut W,
 ) -> Result<Status, Fault<'a>>
-    ensures { Ended (export_with_archives ⟦<FileFrom<S> as Disk>⟧ IsFresh (length archives.now)
-        (written W.Write writer)) result }
+    ensures { Ended (host_export S.Start (length archives.now) (written W.Write writer)) result }
 {
     let (conn, _) = connect(rt, file, false, start)?;
     let (made, conn) = table_over(rt, conn, beside, archives);
@@ -310,8 +306,8 @@ fn serve_file<'a, S: Start, W: Write, E: Write>(
     writer: &mut W,
     errors: &mut E,
 ) -> Result<(), Fault<'a>>
-    ensures { Ended (file_service ⟦<FileFrom<S> as Disk>⟧ IsFresh serving.entry
-        (written W.Write writer) (written E.Write errors)) result }
+    ensures { Ended (host_service S.Start
+        (service serving W.Write E.Write writer errors)) result }
 {
     let (conn, is_new) = connect(rt, file, true, start)?;
     let (done, conn) = serve(rt, conn, is_new, serving, writer, errors);
@@ -331,7 +327,7 @@ fn stand_by_file<'a, S: Start, R: Read, W: Write, E: Write>(
     writer: &mut W,
     errors: &mut E,
 ) -> Result<(), Fault<'a>>
-    ensures { Ended (file_standby ⟦<FileFrom<S> as Disk>⟧ IsFresh serving.entry
+    ensures { Ended (host_standby S.Start serving.entry
         (streamed R.Read W.Write reader writer) (written E.Write errors)) result }
 {
     let Ok(pending) = Pending::new(rt.alloc()) else {
@@ -356,7 +352,7 @@ fn execute<'a, S: Start, O: Starts<S>, R: Read, W: Write, E: Write>(
     writer: &mut W,
     errors: &mut E,
 ) -> Result<Status, Fault<'a>>
-    ensures result { Ended (to_do ⟦<FileFrom<S> as Disk>⟧ IsFresh task.entry
+    ensures result { Ended (host_task S.Start task.entry
         (streamed R.Read W.Write reader writer) (written E.Write errors)) result }
     ensures printed { IfOk result (PrintsOnSuccess (written E.Write errors)) }
     // before anything is read or written the program finds that another one has the file
@@ -476,8 +472,7 @@ fn run<S: Start, O: Starts<S>, R: Read, W: Write, E: Write>(
     ensures exits { ExitsTask ⟦<FileFrom<S> as Disk>⟧ task.entry
         (streamed R.Read W.Write reader writer) (written E.Write errors) result }
     ensures printed { IfDone result (PrintsOnSuccess (written E.Write errors)) }
-    ensures elsewhere { result ≡ Exit.OpenElsewhere
-        → (reader.new ≡ reader.old) × (writer.new ≡ writer.old) }
+    ensures elsewhere { result ≡ Exit.OpenElsewhere → AreUntouched reader writer }
 {
     match execute(rt, start, beside, task, reader, writer, errors) {
         Ok(status) => Exit::Done(status),
@@ -496,8 +491,8 @@ fn print_error<W: Write, E: Write>(
     writer: &mut W,
     errors: &mut E,
 ) -> Exit
-    ensures { ExitsWithoutTask (kind_of error.now) (written W.Write writer)
-        (written E.Write errors) result }
+    ensures { EndsUnasked (kind_of error.now) (written W.Write writer) (written E.Write errors)
+        result }
 {
     if error.kind() == ErrorKind::OutOfMemory {
         return fail(Fault::Work(WorkFault::NoMemory), errors);
@@ -535,7 +530,7 @@ pub fn program<S: AsStr, R: Read, W: Write, E: Write>(
     // nor do requests that were sent again
     ensures again { result ≡ 6 → errors.new ≡ errors.old }
     // for a command line that is refused nothing is read, and nothing is written but why
-    ensures refused { result ≡ 2 → (reader.new ≡ reader.old) × (writer.new ≡ writer.old) }
+    ensures refused { result ≡ 2 → AreUntouched reader writer }
     // and it is one that the library of command lines doesn't take, or that names no task
     ensures untaken { result ≡ 2 → IsRefused (map S.text words.now) }
     ensures known { result ≤ 6 }
@@ -546,8 +541,7 @@ pub fn program<S: AsStr, R: Read, W: Write, E: Write>(
     ensures ended { FaultEnded ⟦<File as Disk>⟧ (map S.text words.now)
         (streamed R.Read W.Write reader writer) (E.contents errors.old) result }
     // nothing was read or written where another program has the file
-    ensures elsewhere { result ≡ 4
-        → (reader.new ≡ reader.old) × (writer.new ≡ writer.old) }
+    ensures elsewhere { result ≡ 4 → AreUntouched reader writer }
 {
     let mut matched = None;
     match parse(rt.alloc(), words, &mut matched) {

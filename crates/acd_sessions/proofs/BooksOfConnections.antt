@@ -48,9 +48,20 @@ of_unmade s t cache failures is_new none counted clean = record {
   ordered = λ here _. subst IsOrdered (sym (is_new here).content) (record { kept = tt; events = tt });
 }
 
-pub adopted_taken : {S E : Type 0} (store : Ghosts S) (makes : Bool) (s : State) (r : Result (BookView S) E) → IfOk r (λ (b : BookView S). HasCleanDisk (state store b.conn) → IsAdopted s.now (book_state s 0) (book_state (state store b.conn) b.failures))
-    → IfOk r (λ (b : BookView S). IsBlank b.cache) → IfOk r (λ (b : BookView S). b.failures ≡ 0) → IfOk r (λ (b : BookView S). HasCleanDisk (state store b.conn) → HasCleanDisk s) → IfOk r (λ (b : BookView S). IsTaken makes s (book_of store b))
-adopted_taken store makes s (Ok b) adopted none counted clean = inl (record { tables = λ here. let book = (adopted here).of_book in (book.0, book.1.schema_is); of_held = of_held s (state store b.conn) b.cache b.failures adopted none counted clean })
+-- what the opening of a book in a database says of it
+module _ {S : Type 0} (store : Ghosts S) (s : State) where
+  abbrev pub Adopts : BookView S → Type 0
+  Adopts b = HasCleanDisk (state store b.conn) → IsAdopted s.now (book_state s 0) (book_state (state store b.conn) b.failures)
+
+  abbrev pub CleanBefore : BookView S → Type 0
+  CleanBefore b = HasCleanDisk (state store b.conn) → HasCleanDisk s
+
+pub adopted_taken : {S E : Type 0} (store : Ghosts S) (makes : Bool) (s : State) (r : Result (BookView S) E) → IfOk r (Adopts store s) → IfOk r (λ (b : BookView S). IsBlank b.cache)
+    → IfOk r (λ (b : BookView S). b.failures ≡ 0) → IfOk r (CleanBefore store s) → IfOk r (λ (b : BookView S). IsTaken makes s (book_of store b))
+adopted_taken store makes s (Ok b) adopted none counted clean = inl (record {
+  tables = λ here. let book = (adopted here).of_book in (book.0, book.1.schema_is);
+  of_held = of_held s (state store b.conn) b.cache b.failures adopted none counted clean;
+})
 adopted_taken store makes s (Err e) adopted none counted clean = tt
 
 pub made_taken : {A E : Type 0} (r : Result A E) (stand : A → BookState) (makes : Bool) (s : State) → makes ≡ true → s.now.schema ≡ no_schema → IfOk r (λ (b : A). IsHeldBook (unmade s) (stand b))

@@ -25,7 +25,7 @@ use Rattle.acd_sessions.specs.Desks.{OverDesk, in_database}
 use Rattle.acd_sessions.specs.LinesOver.{in_turn, Whole, LinesLeave, LinesOver, LinesIn, DatabaseAnswered}
 use Rattle.acd_sessions.specs.Over.{IsSession, IsSessionTo, IsFailedSession, AnswersOver, LeavesBooks, OverConnection, Unserved}
 use Rattle.acd_sessions.specs.DeskAsLeft.{Seen, seen, InDatabase, left_of}
-use Rattle.acd_sessions.specs.Sessions.{SessionLeaves, DatabaseLeaves, LinesAreSessions}
+use Rattle.acd_sessions.specs.Sessions.{AreASession, SessionLeaves, DatabaseLeaves, LinesAreSessions}
 use Rattle.acd_sessions.specs.ConnectionBook.{IsHeldBook, IsTaken}
 use Rattle.acd_sessions.specs.declared.fault.WorkFault.{WorkFault}
 use Rattle.acd_sessions.proofs.Over.{lines_over, lines_well, lines_failed, lines_since, well_lines_since, failed_lines_since, over_connection, over_makes}
@@ -160,16 +160,20 @@ lines_are_sessions {S} store remaining contents runs makes ends reader writer r 
     let io : Streams = streams remaining contents reader writer in
     let new : BookState = book_of store h.last in
     subst (λ (x : Held S). OverConnection (SessionLeaves ends io r) makes s (state store x)) (sym h.back)
-    (over_connection (SessionLeaves ends io r) (SessionLeaves ends io r) makes s (state store h.last.conn) (book_of store h.taken) h.last.cache h.last.failures (λ old of ended. ended_since ends io r old (book_of store h.taken) new of ended)
-    (λ old ended. ended_left (LeavesBooks (state store h.last.conn)) new (leaves_books (state store h.last.conn) h.last.cache h.last.failures) ends io r old ended) (ended_clean ends io r (book_of store h.taken) new) h.of_old
+    (over_connection (SessionLeaves ends io r) (SessionLeaves ends io r) makes s (state store h.last.conn) (book_of store h.taken) h.last.cache h.last.failures
+    (record {
+      carries = λ old of ended. ended_since ends io r old (book_of store h.taken) new of ended;
+      leaves = λ old ended. ended_left (LeavesBooks (state store h.last.conn)) new (leaves_books (state store h.last.conn) h.last.cache h.last.failures) ends io r old ended;
+      clean = ended_clean ends io r (book_of store h.taken) new;
+    })
+    h.of_old
     (session_of_desk (in_database store) runs ends io r (book_of store h.taken) h.last h.over))
 
 -- whole, or its beginning
-pub ended_in : {S R W : Type 0} (store : Ghosts S) (remaining : R → Option (List ℕ)) (contents : W → Option (List ℕ)) → LinesAreSessions store remaining contents → (makes ends : Bool) (reader : R × R) (writer : W × W) (given : Held S) (r : Result (Unit {0}) WorkFault) (conn : Held S)
-    → LinesIn store (in_turn false (state_of (in_database store))) makes ends (streams remaining contents reader writer) (state store given) r conn
-    → DatabaseLeaves store makes false ends (streams remaining contents reader writer) (state store given) r conn
-ended_in store remaining contents law makes ends reader writer given r conn (inl none) = inl none
-ended_in store remaining contents law makes ends reader writer given r conn (inr some) = inr (law makes ends reader writer r given conn some)
+pub ended_in : {S : Type 0} (store : Ghosts S) (makes ends : Bool) (io : Streams) → AreASession store makes ends io → (given : Held S) (r : Result (Unit {0}) WorkFault) (conn : Held S)
+    → LinesIn store (in_turn false (state_of (in_database store))) makes ends io (state store given) r conn → DatabaseLeaves store makes false ends io (state store given) r conn
+ended_in store makes ends io law given r conn (inl none) = inl none
+ended_in store makes ends io law given r conn (inr some) = inr (law r given conn some)
 
 -- without a fault the whole input was answered
 pub answered_in : {S : Type 0} (store : Ghosts S) (makes reads ends : Bool) (io : Streams) (s : State) (u : Unit {0}) (conn : Held S) → DatabaseLeaves store makes reads ends io s (Ok u) conn → DatabaseAnswered store makes reads ends io s conn

@@ -81,15 +81,20 @@ well_lines_since P W ends old mid new of h = arrivals_so P (IsSessionTo ends mid
 pub failed_lines_since : (P : List (List ℕ) → Type 0) (W : List ℕ → Type 0) (old mid new : BookState) → IsHeldBook old mid → LinesAnswered P (ArrivalsAnswered (IsFailedSession mid new)) W → LinesAnswered P (ArrivalsAnswered (IsFailedSession old new)) W
 failed_lines_since P W old mid new of h = arrivals_so P (IsFailedSession mid new) (IsFailedSession old new) W (λ l ts s. (session_of IsFault old mid new l ts of s.0, s.1)) h
 
--- whatever carries over to what a book came of is said of the database
+-- What is so of a book that was opened is so of what it came of, and of what is left in the database. Its disk was clean if it is then.
+pub record CarriesOver (P Q : BookState → BookState → Type 0) (mid : BookState) (t : State) (cache : Cache) (failures : ℕ) : Type 1 where
+  pub carries : (old : BookState) → IsHeldBook old mid → P mid (followed cache (book_state t failures)) → Q old (followed cache (book_state t failures))
+  pub leaves : (old : BookState) → Q old (followed cache (book_state t failures)) → Q old (left t failures)
+  pub clean : P mid (followed cache (book_state t failures)) → (followed cache (book_state t failures)).is_clean → mid.is_clean
+
+-- then it is said of the database
 pub over_connection : (P Q : BookState → BookState → Type 0) (makes : Bool) (s t : State) (mid : BookState) (cache : Cache) (failures : ℕ)
-    → ((old : BookState) → IsHeldBook old mid → P mid (followed cache (book_state t failures)) → Q old (followed cache (book_state t failures)))
-    → ((old : BookState) → Q old (followed cache (book_state t failures)) → Q old (left t failures)) → (P mid (followed cache (book_state t failures)) → (followed cache (book_state t failures)).is_clean → mid.is_clean) → IsTaken makes s mid → P mid (followed cache (book_state t failures)) → OverConnection Q makes s t
-over_connection P Q makes s t mid cache failures carries leaves clean taken h = (
+    → CarriesOver P Q mid t cache failures → IsTaken makes s mid → P mid (followed cache (book_state t failures)) → OverConnection Q makes s t
+over_connection P Q makes s t mid cache failures so taken h = (
   failures,
   elim taken [
-    | inl found ↦ inl ((λ here. found.tables (clean h here)), leaves _ (carries _ found.of_held h))
-    | inr made ↦ inr (made.0, made.1, leaves _ (carries _ made.2 h))
+    | inl found ↦ inl ((λ here. found.tables (so.clean h here)), so.leaves _ (so.carries _ found.of_held h))
+    | inr made ↦ inr (made.0, made.1, so.leaves _ (so.carries _ made.2 h))
   ],
 )
 

@@ -14,10 +14,9 @@ use Rattle.acd_desk.specs.ArrivalsAndReads.{Attended}
 use Rattle.acd_desk.specs.Clock.{clock_tick, Looked}
 use Rattle.acd_desk.specs.DeskState.{DeskState, state_of}
 use Rattle.acd_desk.proofs.Desks.CallsInTurn.{Settles, attended_more, attended_read}
-use Rattle.acd_lines.specs.Lines.{Streams, streams, LinesDone, EndedBy, output}
+use Rattle.acd_lines.specs.Lines.{Streams, streams, LinesDone, EndedBy, output, Output}
 use Rattle.acd_lines.specs.declared.fault.LinesFault.{LinesFault}
 use Rattle.acd_lines.specs.declared.fault.LinesFault.TheVariants as lines
-use Rattle.acd_http.specs.declared.serving.Span.{Span}
 use Rattle.acd_http.specs.LinesWithReads.{arrivals_of_reads, answers_of, LinesLeadToTheRun}
 use Rattle.acd_http.specs.Turns.{Turn, Turned, TurnedEach}
 use Rattle.acd_http.specs.Turns as turn
@@ -33,75 +32,101 @@ use Rattle.acd_sessions.specs.LinesOver.{in_turn}
 use Rattle.acd_sessions.specs.Over.{Unserved}
 use Rattle.acd_sessions.specs.DeskAsLeft.{Seen, seen, InDatabase, left_of, SeenIn}
 use Rattle.acd_sessions.specs.Serving.{ServiceLeaves}
-use Rattle.acd_sessions.specs.Standby.{UpToOrder, LinesToOrder, until_order, upon, upon_order, OrderedService, StandbyLeaves, StandbyDone, StandbyOver, StandbyIn, StandbyLeadsToTheRun}
+use Rattle.acd_sessions.specs.Standby.{UpToOrder, LinesToOrder, until_order, upon_lines, OrderedService, StandbyLeaves, StandbyDone, StandbyOver, StandbyIn, StandbyLeadsToTheRun}
 use Rattle.acd_sessions.specs.ConnectionBook.{IsTaken}
-use Rattle.acd_command.specs.declared.asked.Address.{Address}
 use Rattle.acd_sessions.specs.declared.fault.WorkFault.{WorkFault}
+use Rattle.acd_sessions.specs.declared.serving.Serving.{Serving}
 use Rattle.acd_sessions.proofs.LeftDesks.{view, views, IsKept, standby_seen, seen_in, seen_made, seen_so}
 use Rattle.acd_sessions.proofs.ServeDone.{serve_done}
 use Rattle.acd_sessions.proofs.BooksOfConnections.{unserved_refused, unserved_makes}
 
 -- ---- the streams of a standby's reader, as those of its input
 
-module _ (known given left a b : Option (List ℕ)) (U V : Type 0) where
-  abbrev pub of_reader : Streams
-  of_reader = record { old_input = given; left = left; old_output = a; new_output = b; unread = U; unwritten = V }
-
+module _ (known : Option (List ℕ)) (mine : Streams) where
   abbrev pub of_input : Streams
-  of_input = record { old_input = until_order known; left = left; old_output = a; new_output = b; unread = left ≡ until_order known; unwritten = b ≡ a }
+  of_input = record {
+    old_input = until_order known;
+    left = mine.left;
+    old_output = mine.old_output;
+    new_output = mine.new_output;
+    unread = mine.left ≡ until_order known;
+    unwritten = mine.new_output ≡ mine.old_output;
+  }
 
   abbrev between_both : Option (List ℕ) → Streams
-  between_both k = record { old_input = k; left = left; old_output = a; new_output = b; unread = left ≡ k; unwritten = b ≡ a }
+  between_both k =
+      record { old_input = k; left = mine.left; old_output = mine.old_output; new_output = mine.new_output; unread = mine.left ≡ k; unwritten = mine.new_output ≡ mine.old_output }
 
-  module _ (unread : U → left ≡ given) (unwritten : V → b ≡ a) where
-    cause_up : {D : Type 0} (T : D → D → List (List ℕ) → List (List ℕ) → Type 0) (d e : D) (why : LinesFault) → EndedBy T of_reader d e why → EndedBy T (between_both given) d e why
+  -- the reader has the input up to the order; what isn't read is left, and what isn't written to stays
+  pub record IsFed : Type 0 where
+    pub given : mine.old_input ≡ until_order known
+    pub unread : mine.unread → mine.left ≡ mine.old_input
+    pub unwritten : mine.unwritten → mine.new_output ≡ mine.old_output
+
+  module _ (fed : IsFed) where
+    cause_up : {D : Type 0} (T : D → D → List (List ℕ) → List (List ℕ) → Type 0) (d e : D) (why : LinesFault) → EndedBy T mine d e why → EndedBy T (between_both mine.old_input) d e why
     cause_up T d e lines.Read h = h
     cause_up T d e lines.Write h = h
-    cause_up T d e lines.NoMemory h = ((unread h.0.0, unwritten h.0.1), h.1)
+    cause_up T d e lines.NoMemory h = ((fed.unread h.0.0, fed.unwritten h.0.1), h.1)
 
-    lines_between : {D : Type 0} (stands : D → DeskState) (T : D → D → List (List ℕ) → List (List ℕ) → Type 0) (d e : D) (r : Result (Unit {0}) LinesFault) → LinesDone stands T false of_reader d e r → LinesDone stands T false (between_both given) d e r
+    lines_between : {D : Type 0} (stands : D → DeskState) (T : D → D → List (List ℕ) → List (List ℕ) → Type 0) (d e : D) (r : Result (Unit {0}) LinesFault)
+        → LinesDone stands T false mine d e r → LinesDone stands T false (between_both mine.old_input) d e r
     lines_between stands T d e (Ok u) h = record { all = h.all; first = h.first; begun = tt; cause = tt }
     lines_between stands T d e (Err why) h = record { all = tt; first = tt; begun = h.begun; cause = cause_up T d e why h.cause }
 
-    lines_up : {D : Type 0} (stands : D → DeskState) (T : D → D → List (List ℕ) → List (List ℕ) → Type 0) (d e : D) (r : Result (Unit {0}) LinesFault) → given ≡ until_order known → LinesDone stands T false of_reader d e r → LinesDone stands T false of_input d e r
-    lines_up stands T d e r is h = subst (λ (k : Option (List ℕ)). LinesDone stands T false (between_both k) d e r) is (lines_between stands T d e r h)
+    lines_up : {D : Type 0} (stands : D → DeskState) (T : D → D → List (List ℕ) → List (List ℕ) → Type 0) (d e : D) (r : Result (Unit {0}) LinesFault)
+        → LinesDone stands T false mine d e r → LinesDone stands T false of_input d e r
+    lines_up stands T d e r h = subst (λ (k : Option (List ℕ)). LinesDone stands T false (between_both k) d e r) fed.given (lines_between stands T d e r h)
 
-  -- the reader came to the order, and so did the input
-  came_to : (bytes : List ℕ) → given ≡ until_order known → Consumes given left bytes → IfSome left (λ xs. xs ≡ mark) → IfSome known (λ input. (has_order true input ≡ true) × (bytes ≡ before_order true input))
-  came_to bytes is read order = by known left (subst (λ (k : Option (List ℕ)). Consumes k left bytes) is read) order
-    where
-      by : (known left : Option (List ℕ)) → Consumes (until_order known) left bytes → IfSome left (λ xs. xs ≡ mark) → IfSome known (λ input. (has_order true input ≡ true) × (bytes ≡ before_order true input))
-      by None left read order = tt
-      by (Some input) None read order = absurd read
-      by (Some input) (Some ys) read order = told_by input bytes (read ∙ ap (λ (l : List ℕ). bytes ++ l) order)
+    -- the reader came to the order, and so did the input
+    came_to : (bytes : List ℕ) → Consumes mine.old_input mine.left bytes → IfSome mine.left (λ xs. xs ≡ mark)
+        → IfSome known (λ input. (has_order true input ≡ true) × (bytes ≡ before_order true input))
+    came_to bytes read order = by known mine.left (subst (λ (k : Option (List ℕ)). Consumes k mine.left bytes) fed.given read) order
+      where
+        by : (known left : Option (List ℕ)) → Consumes (until_order known) left bytes → IfSome left (λ xs. xs ≡ mark)
+            → IfSome known (λ input. (has_order true input ≡ true) × (bytes ≡ before_order true input))
+        by None left read order = tt
+        by (Some input) None read order = absurd read
+        by (Some input) (Some ys) read order = told_by input bytes (read ∙ ap (λ (l : List ℕ). bytes ++ l) order)
 
-  ordered_up : (ls : List (List ℕ)) → given ≡ until_order known → UpToOrder of_reader ls → LinesToOrder known ls
-  ordered_up ls is h = (h.0.0, h.0.2, came_to h.0.0 is h.0.1 h.1)
+    ordered_up : (ls : List (List ℕ)) → UpToOrder mine ls → LinesToOrder known ls
+    ordered_up ls h = (h.0.0, h.0.2, came_to h.0.0 h.0.1 h.1)
 
-module _ (span : Span) (address : Address) (known given left a b old_errors new_errors : Option (List ℕ)) (U V : Type 0) where
-  abbrev pub by_reader : OrderedService
-  by_reader = record { span = span; address = address; io = of_reader known given left a b U V; IsOrdered = UpToOrder (of_reader known given left a b U V); old_errors = old_errors; new_errors = new_errors }
+-- so does the reader that hands on another one's input up to the order
+pub fed_by : {R W : Type 0} (remaining : R → Option (List ℕ)) (contents : W → Option (List ℕ)) (known : Option (List ℕ)) (l : UntilOrder R × UntilOrder R) (w : W × W)
+    → order.input_left remaining l.0 ≡ until_order known → IsFed known (streams (order.input_left remaining) contents l w)
+fed_by remaining contents known l w given = record { given = given; unread = λ same. ap (order.input_left remaining) same; unwritten = λ same. ap contents same }
 
+module _ (serving : Serving) (known : Option (List ℕ)) (mine : Streams) (errors : Output) where
   abbrev pub by_input : OrderedService
-  by_input = record { span = span; address = address; io = of_input known given left a b U V; IsOrdered = LinesToOrder known; old_errors = old_errors; new_errors = new_errors }
+  by_input = record {
+    span = serving.span;
+    address = serving.address;
+    io = of_input known mine;
+    IsOrdered = LinesToOrder known;
+    old_errors = errors.before;
+    new_errors = errors.after;
+  }
 
-  module _ (unread : U → left ≡ given) (unwritten : V → b ≡ a) (is : given ≡ until_order known) where
-    ended_up : {D : Type 0} (stands : D → DeskState) (r : Result (Unit {0}) WorkFault) (d e : D) → StandbyLeaves stands by_reader r d e → StandbyLeaves stands by_input r d e
+  module _ (fed : IsFed known mine) where
+    ended_up : {D : Type 0} (stands : D → DeskState) (r : Result (Unit {0}) WorkFault) (d e : D)
+        → StandbyLeaves stands (upon_lines serving mine errors) r d e → StandbyLeaves stands by_input r d e
     ended_up stands r d e (inl h) = inl (record { why = h.why; ended = h.ended; same = h.same; quiet = h.quiet; unsaid = h.unsaid })
     ended_up stands r d e (inr (inl h)) =
-        inr (inl (record { ended = h.ended; lines = lines_up known given left a b U V unread unwritten stands (in_turn true stands) d e h.ended is h.lines; outcome = h.outcome; quiet = h.quiet }))
+        inr (inl (record { ended = h.ended; lines = lines_up known mine fed stands (in_turn true stands) d e h.ended h.lines; outcome = h.outcome; quiet = h.quiet }))
     ended_up stands r d e (inr (inr h)) = inr (inr (record {
       between = h.between;
       answered = h.answered;
-      lines = record { taken = h.lines.taken; answers = h.lines.answers; picked = ordered_up known given left a b U V h.lines.taken is h.lines.picked; answered = h.lines.answered; out = h.lines.out };
+      lines = record { taken = h.lines.taken; answers = h.lines.answers; picked = ordered_up known mine fed h.lines.taken h.lines.picked; answered = h.lines.answered; out = h.lines.out };
       served = h.served;
     }))
 
-    pub standby_up : {S : Type 0} (store : Ghosts S) (makes : Bool) (s : State) (r : Result (Unit {0}) WorkFault) (conn : Held S) → StandbyIn store makes s by_reader r conn → StandbyIn store makes s by_input r conn
+    standby_up : {S : Type 0} (store : Ghosts S) (makes : Bool) (s : State) (r : Result (Unit {0}) WorkFault) (conn : Held S)
+        → StandbyIn store makes s (upon_lines serving mine errors) r conn → StandbyIn store makes s by_input r conn
     standby_up store makes s r conn (inl none) = inl none
     standby_up {S} store makes s r conn (inr some) =
-        inr (seen_so store (λ (stands : Seen (InDatabase S) → DeskState). StandbyLeaves stands by_reader r) (λ (stands : Seen (InDatabase S) → DeskState). StandbyLeaves stands by_input r)
-        (λ stands d e h. ended_up stands r d e h) makes s conn some)
+        inr (seen_so store (λ (stands : Seen (InDatabase S) → DeskState). StandbyLeaves stands (upon_lines serving mine errors) r)
+        (λ (stands : Seen (InDatabase S) → DeskState). StandbyLeaves stands by_input r) (λ stands d e h. ended_up stands r d e h) makes s conn some)
 
 -- ---- over a database
 
@@ -153,13 +178,11 @@ module _ (to_do : OrderedService) where
       (λ stands d e h. standby_done stands u d e h) makes s conn some
 
 -- by the reader that the standby's reader reads
-pub standby_of_reader : {Q R W E : Type 0} (rest : Q → Option (List ℕ)) (remaining : R → Option (List ℕ)) (contents : W → Option (List ℕ)) (errors : E → Option (List ℕ)) (q : Q × Q) (l : UntilOrder R × UntilOrder R) (w : W × W) (e : E × E) (span : Span) (address : Address)
-    → order.input_left remaining l.0 ≡ until_order (rest q.0) → {S : Type 0} (store : Ghosts S) (is_new : Bool) → (is_new ≡ true → true ≡ true) → (s : State) (r : Result (Unit {0}) WorkFault) (conn : Held S)
-    → StandbyIn store is_new s (upon (record { span = span; address = address }) (streams (order.input_left remaining) contents l w) (output errors e.0 e.1)) r conn → StandbyIn store true s (upon_order span address (streams rest contents q w) (order.input_left remaining l.1) (errors e.0, errors e.1)) r conn
-standby_of_reader rest remaining contents errors q l w e span address is store is_new may s r conn h =
-    standby_made (upon_order span address (streams rest contents q w) (order.input_left remaining l.1) (errors e.0, errors e.1)) store s r conn is_new true may
-    (standby_up span address (rest q.0) (order.input_left remaining l.0) (order.input_left remaining l.1) (contents w.0) (contents w.1) (errors e.0) (errors e.1) (l.1 ≡ l.0) (w.1 ≡ w.0)
-    (λ same. ap (order.input_left remaining) same) (λ same. ap contents same) is store is_new s r conn h)
+pub standby_of_reader : (serving : Serving) (known : Option (List ℕ)) (mine : Streams) (errors : Output) → IsFed known mine → {S : Type 0} (store : Ghosts S) (is_new : Bool)
+    → (is_new ≡ true → true ≡ true) → (s : State) (r : Result (Unit {0}) WorkFault) (conn : Held S) → StandbyIn store is_new s (upon_lines serving mine errors) r conn
+    → StandbyIn store true s (by_input serving known mine errors) r conn
+standby_of_reader serving known mine errors fed store is_new may s r conn h =
+    standby_made (by_input serving known mine errors) store s r conn is_new true may (standby_up serving known mine errors fed store is_new s r conn h)
 
 -- ---- one run
 

@@ -59,3 +59,7 @@ abbrev pub command_result : Result (Unit {0}) LinesFault → Bool → Result (Un
 command_result (Err why) failed = Err (lines_fault why)
 command_result (Ok done) true = Err Store
 command_result (Ok done) false = Ok done
+
+-- of a desk that has failed, or hasn't
+abbrev pub desk_result : Bool → Result (Unit {0}) WorkFault
+desk_result failed = command_result (Ok tt) failed

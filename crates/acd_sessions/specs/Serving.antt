@@ -21,7 +21,7 @@ use Rattle.acd_sessions.specs.Output.{number_line, text_line}
 use Rattle.acd_command.specs.declared.asked.Address.{Address}
 use Rattle.acd_command.specs.declared.asked.Address.TheVariants.{Port, Socket}
 use Rattle.acd_sessions.specs.Faults.{open_fault, command_result}
-use Rattle.acd_sessions.specs.Over.{Database, Unserved}
+use Rattle.acd_sessions.specs.Over.{Unserved}
 use Rattle.acd_sessions.specs.DeskAsLeft.{Seen, InDatabase, SeenIn}
 use Rattle.acd_sessions.specs.declared.fault.WorkFault.{WorkFault}
 use Rattle.acd_sessions.specs.declared.serving.Serving.{Serving}
@@ -110,8 +110,9 @@ pub record Service : Type 1 where
   pub errors : Output
 
 -- with two writers by the names of their parameters, which have both values
-abbrev pub service : {W E : Type 0} → Serving → write.Ghosts W → write.Ghosts E → Both (MutBor W) (MutBor W) → Both (MutBor E) (MutBor E) → Service
-service serving says faults writer errors = record { span = serving.span; address = serving.address; said = written says writer; errors = written faults errors }
+abbrev pub service : {W E : Type 0} → Both Serving Serving → write.Ghosts W → write.Ghosts E → Both (MutBor W) (MutBor W) → Both (MutBor E) (MutBor E) → Service
+service serving says faults writer errors =
+    record { span = serving.entry.span; address = serving.entry.address; said = written says writer; errors = written faults errors }
 
 -- a desk answered connections, from what it was to what it is then
 abbrev pub ListensBy : {B : Type 0} → Ghosts B → Both (MutBor (Desk B)) (MutBor (Desk B)) → Result (Unit {0}) WorkFault → Span → Output → Type 0
@@ -128,9 +129,9 @@ ServesOver books given result to_do =
     ServeOver to_do.span to_do.errors.before to_do.errors.after to_do.address to_do.said.before to_do.said.after books (books.state given) result.0 result.1
 
 -- a desk over a database that was handed in did, with the connection that came back
-abbrev pub ServesIn : {S : Type 0} → Database S → Result (Unit {0}) WorkFault × Held S → Service → Type 0
-ServesIn db result to_do =
-    ServeIn to_do.span to_do.errors.before to_do.errors.after to_do.address to_do.said.before to_do.said.after db.store db.makes (state db.store db.conn) result.0 result.1
+abbrev pub ServesIn : {S : Type 0} → Stores S → Bool → Held S → Result (Unit {0}) WorkFault × Held S → Service → Type 0
+ServesIn store makes given result to_do =
+    ServeIn to_do.span to_do.errors.before to_do.errors.after to_do.address to_do.said.before to_do.said.after store makes (state store given) result.0 result.1
 
 -- the lines of the faults of connections and ticks were written, or a beginning of them
 abbrev pub PrintsServiceFaults : Option (List ℕ) → Option (List ℕ) → Type 0

@@ -14,7 +14,7 @@ use Rattle.acd_desk.specs.declared.desk.Desk.{Desk}
 use Rattle.acd_desk.specs.declared.taken.Taken.{Taken}
 use Rattle.acd_desk.specs.ArrivalsAndReads.{Attended}
 use Rattle.acd_desk.specs.DeskState.{DeskState, state_of}
-use Rattle.acd_lines.specs.Lines.{LinesAnswered, EndedLines, Streams, streams, LinesDone, Output}
+use Rattle.acd_lines.specs.Lines.{LinesAnswered, EndedLines, Streams, streams, LinesDone, Output, written}
 use Rattle.acd_lines.specs.Output.{whole_lines}
 use Rattle.acd_lines.specs.declared.fault.LinesFault.{LinesFault}
 use Rattle.acd_http.specs.declared.serving.Span.{Span}
@@ -125,8 +125,16 @@ abbrev pub fed : {R W : Type 0} → read.Ghosts R → write.Ghosts W → Both (M
 fed holds says reader writer = streams (input_left holds.remaining) says.contents (reader.entry.now, reader.exit.now) (writer.entry.now, writer.exit.now)
 
 -- a service upon its order, by these streams
-abbrev pub upon : Serving → Streams → Output → OrderedService
-upon serving io errors = record { span = serving.span; address = serving.address; io = io; IsOrdered = UpToOrder io; old_errors = errors.before; new_errors = errors.after }
+abbrev pub upon_lines : Serving → Streams → Output → OrderedService
+upon_lines serving io errors = record { span = serving.span; address = serving.address; io = io; IsOrdered = UpToOrder io; old_errors = errors.before; new_errors = errors.after }
+
+-- a standby's reader, its writer and the stream of errors, over a call
+abbrev pub Fed : Type 0 → Type 0 → Type 0 → Type 0
+Fed R W E = Both (MutBor (UntilOrder R)) (MutBor (UntilOrder R)) × Both (MutBor W) (MutBor W) × Both (MutBor E) (MutBor E)
+
+-- a service upon its order, by these
+abbrev pub upon : {R W E : Type 0} → Both Serving Serving → read.Ghosts R → write.Ghosts W → write.Ghosts E → Fed R W E → OrderedService
+upon serving holds says faults given = upon_lines serving.entry (fed holds says given.0 given.1) (written faults given.2)
 
 -- the streams of lines up to the order, of which so much is left
 abbrev pub up_to_order : Streams → Option (List ℕ) → Streams

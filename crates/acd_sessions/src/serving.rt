@@ -1,11 +1,10 @@
 //! The desk of a database, over HTTP.
 
-ghost use Rattle.std.specs.Prelude.{◌≡◌, false, Ok};
+ghost use Rattle.std.specs.Prelude.{◌≡◌, false};
 ghost use Rattle.acd_io.specs.SentBytes.{Sends};
 ghost use Rattle.acd_desk.specs.DeskState.{state_of};
-ghost use Rattle.acd_sessions.specs.Faults.{command_result};
+ghost use Rattle.acd_sessions.specs.Faults.{desk_result};
 ghost use Rattle.acd_lines.specs.Lines.{written};
-ghost use Rattle.acd_sessions.specs.Over.{database};
 ghost use Rattle.acd_sessions.specs.Serving.{ends_failed, listening_line, service, ListensBy, ServesBy, ServesOver, ServesIn};
 
 use crate::connection::book_over;
@@ -49,8 +48,7 @@ fn say<W: Write>(address: Address<'_>, writer: &mut W) -> Result<(), WorkFault>
 // A store that has failed is a fault of a service that has no other end, so that whoever started the command may start
 // it again.
 fn unless_endless<B: Book>(desk: &Desk<B>, connections: Option<u64>) -> Result<(), WorkFault>
-    ensures { result ≡ command_result (Ok tt)
-        (ends_failed connections (state_of B.Book desk.now).failed) }
+    ensures { result ≡ desk_result (ends_failed connections (state_of B.Book desk.now).failed) }
 {
     match connections {
         Some(_) => Ok(()),
@@ -85,7 +83,7 @@ pub(crate) fn say_and_answer<D: Door, B: Book, W: Write, E: Write>(
     errors: &mut E,
 ) -> Result<(), WorkFault>
     ensures { ServesBy B.Book desk result
-        (service serving.entry W.Write E.Write writer errors) }
+        (service serving W.Write E.Write writer errors) }
 {
     say(serving.address, writer)?;
     answer(rt, door, desk, serving.span, errors)
@@ -101,7 +99,7 @@ fn serve_at<D: Door + Drop, B: Book, W: Write, E: Write>(
     errors: &mut E,
 ) -> Result<(), WorkFault>
     ensures { ServesBy B.Book desk result
-        (service serving.entry W.Write E.Write writer errors) }
+        (service serving W.Write E.Write writer errors) }
 {
     let mut door = listening(door)?;
     say_and_answer(rt, &mut door, desk, serving, writer, errors)
@@ -115,7 +113,7 @@ fn serve_desk<B: Book, W: Write, E: Write>(
     errors: &mut E,
 ) -> Result<(), WorkFault>
     ensures { ServesBy B.Book desk result
-        (service serving.entry W.Write E.Write writer errors) }
+        (service serving W.Write E.Write writer errors) }
 {
     let alloc = rt.alloc();
     match serving.address {
@@ -138,7 +136,7 @@ fn serve_book<B: Book, W: Write, E: Write>(
     errors: &mut E,
 ) -> (Result<(), WorkFault>, B)
     ensures { ServesOver B.Book book result
-        (service serving.entry W.Write E.Write writer errors) }
+        (service serving W.Write E.Write writer errors) }
 {
     let mut desk = match Desk::open(rt.alloc(), book) {
         Ok(desk) => desk,
@@ -161,8 +159,8 @@ pub fn serve<S: Alter, W: Write, E: Write>(
 ) -> (Result<(), WorkFault>, Connection<S>)
     requires { conn.in_transaction ≡ false }
     ensures idle { result.1.in_transaction ≡ false }
-    ensures ended { ServesIn (database S.Store makes conn) result
-        (service serving.entry W.Write E.Write writer errors) }
+    ensures ended { ServesIn S.Store makes conn result
+        (service serving W.Write E.Write writer errors) }
 {
     let book = match book_over(rt.alloc(), conn, makes) {
         Ok(book) => book,

@@ -1,9 +1,9 @@
 //! Lines over a book, from the opening of its desk to the end.
 
-ghost use Rattle.std.specs.Prelude.{◌≡◌, ◌&&◌, false, Ok, OnOk};
+ghost use Rattle.std.specs.Prelude.{◌≡◌, ◌&&◌, false, OnOk};
 ghost use Rattle.acd_desk.specs.DeskState.{state_of};
 ghost use Rattle.acd_lines.specs.Questions.{by_questions};
-ghost use Rattle.acd_sessions.specs.Faults.{command_result};
+ghost use Rattle.acd_sessions.specs.Faults.{desk_result};
 ghost use Rattle.acd_sessions.specs.LinesOver.{LinesLeaveDesk, LinesLeaveBook};
 ghost use Rattle.acd_lines.specs.Lines.{streamed};
 
@@ -16,7 +16,7 @@ use std::io::{Read, Write};
 
 /// A failure of the store is a fault of the command.
 pub(crate) fn unless_failed<B: Book>(desk: &Desk<B>) -> Result<(), WorkFault>
-    ensures ended { result ≡ command_result (Ok tt) (state_of B.Book desk.now).failed }
+    ensures ended { result ≡ desk_result (state_of B.Book desk.now).failed }
     ensures well { OnOk result ((state_of B.Book desk.now).failed ≡ false) }
 {
     if desk.has_failed() {
@@ -27,7 +27,7 @@ pub(crate) fn unless_failed<B: Book>(desk: &Desk<B>) -> Result<(), WorkFault>
 
 // It is where that was to end the lines.
 fn ended<B: Book>(desk: &Desk<B>, ends: bool) -> Result<(), WorkFault>
-    ensures { result ≡ command_result (Ok tt) (ends && (state_of B.Book desk.now).failed) }
+    ensures { result ≡ desk_result (ends && (state_of B.Book desk.now).failed) }
 {
     if ends {
         return unless_failed(desk);

@@ -1,7 +1,6 @@
 //! A standby: lines over the desk of a database and, once they say so, connections over the same desk.
 
 ghost use Rattle.std.specs.Prelude.{false};
-ghost use Rattle.acd_lines.specs.Lines.{written};
 ghost use Rattle.acd_sessions.specs.Over.{database};
 ghost use Rattle.acd_sessions.specs.Standby.{upon, fed, lines_to_order, StandsBy, StandsByOver, StandsByIn};
 ghost use Rattle.acd_sessions.specs.ToDo.{Ended};
@@ -46,8 +45,8 @@ fn stand_by_at<D: Door + Drop, B: Book, R: Read, W: Write, E: Write>(
     writer: &mut W,
     errors: &mut E,
 ) -> Result<(), WorkFault>
-    ensures { StandsBy B.Book desk result (upon serving.entry
-        (fed R.Read W.Write feed writer) (written E.Write errors)) }
+    ensures { StandsBy B.Book desk result (upon serving R.Read W.Write E.Write
+        (feed, writer, errors)) }
 {
     let mut door = listening(door)?;
     follow(rt.alloc(), desk, feed, writer)?;
@@ -62,8 +61,8 @@ fn stand_by_desk<B: Book, R: Read, W: Write, E: Write>(
     writer: &mut W,
     errors: &mut E,
 ) -> Result<(), WorkFault>
-    ensures { StandsBy B.Book desk result (upon serving.entry
-        (fed R.Read W.Write feed writer) (written E.Write errors)) }
+    ensures { StandsBy B.Book desk result (upon serving R.Read W.Write E.Write
+        (feed, writer, errors)) }
 {
     let alloc = rt.alloc();
     match serving.address {
@@ -86,8 +85,8 @@ fn stand_by_book<B: Book, R: Read, W: Write, E: Write>(
     writer: &mut W,
     errors: &mut E,
 ) -> (Result<(), WorkFault>, B)
-    ensures { StandsByOver B.Book book result (upon serving.entry
-        (fed R.Read W.Write feed writer) (written E.Write errors)) }
+    ensures { StandsByOver B.Book book result (upon serving R.Read W.Write E.Write
+        (feed, writer, errors)) }
 {
     let mut desk = match Desk::open(rt.alloc(), book) {
         Ok(desk) => desk,
@@ -111,8 +110,8 @@ pub fn stand_by<S: Alter, R: Read, W: Write, E: Write>(
 ) -> (Result<(), WorkFault>, Connection<S>)
     requires { conn.in_transaction ≡ false }
     ensures idle { result.1.in_transaction ≡ false }
-    ensures ended { StandsByIn (database S.Store makes conn) result (upon serving.entry
-        (fed R.Read W.Write feed writer) (written E.Write errors)) }
+    ensures ended { StandsByIn (database S.Store makes conn) result
+        (upon serving R.Read W.Write E.Write (feed, writer, errors)) }
 {
     let book = match book_over(rt.alloc(), conn, makes) {
         Ok(book) => book,

@@ -2,7 +2,7 @@ use Rattle.std.proofs.Common.{sym, ◌∙◌}
 use Rattle.acd_sessions.proofs.Asking.{only_left}
 use Rattle.acd_files.proofs.Ends.{match_from}
 use Rattle.acd_program.proofs.Prunes.{decided_refused, decided_nothing, decided_cut}
-use Rattle.acd_program.proofs.ReadsOn.{only_by, only_if, only_then}
+use Rattle.acd_program.proofs.ReadsOn.{left_by, left_if, only_by, only_if, only_then}
 use Rattle.acd_program.proofs.pruning.decide.Goals as goal
 
 pub returns-then-not-goes_on : goal.returns-then-not-goes_on
@@ -33,9 +33,12 @@ returns-in_err-holds g c =
 
 pub returns-then-holds : goal.returns-then-holds
 returns-then-holds g c =
-    decided_cut c.args.ending c.args.found (g.A.Book.state c.args.archive.now) (g.A.Book.state c.rows.new.self) (g.A.Book.state c.is_place.new.archive)
-    (g.B.Book.state c.args.book.now) (g.B.Book.state c.find_cut.new.book) c.in_ok-rows.rows c.in_ok-cut.field-0 c.in-Some.cut c.in_ok-holds.holds (sym c.goes_on.ensures ∙ c.if-not-goes_on.false)
-    c.in_ok-rows.ensures c.in_ok-cut.ensures c.in_ok-holds.ensures c.if-holds.true
+    let a : _ = g.A.Book.state c.args.archive.now in
+    let m : _ = g.A.Book.state c.rows.new.self in
+    let b : _ = g.B.Book.state c.args.book.now in
+    let d : _ = g.B.Book.state c.find_cut.new.book in
+    decided_cut c.args.ending c.args.found a m (g.A.Book.state c.is_place.new.archive) b d c.in-Some.cut c.in_ok-holds.holds (sym c.goes_on.ensures ∙ c.if-not-goes_on.false)
+    (left_by a m c.in_ok-rows.rows c.in_ok-rows.ensures) (left_if b d c.in_ok-cut.field-0 c.in_ok-cut.ensures) c.in_ok-holds.ensures c.if-holds.true
 
 pub returns : goal.returns
 returns g c =

@@ -19,8 +19,8 @@ returns-in_err-left g c =
 pub returns-in-Ok : goal.returns-in-Ok
 returns-in-Ok g c =
     let audited = if_is_ok c.over_archive-done.result.0 c.in_ok-left.left _ c.in_ok-left.was c.over_archive-done.ensures.over in
-    audit_printed _ IsFresh c.in-Ok.status c.args.counts c.args.whole c.in_ok-ending.ending c.in_ok-conn.conn c.over_archive-done.result.1 c.in_ok-left.left c.close_connection-closed.result
-    (g.W.Write.contents c.args.writer.now) (g.W.Write.contents c.print_done.new.writer) c.in_ok-conn.ensures.opened c.in_ok-ending.ensures audited c.close_connection-closed.ensures.laid c.in-Ok.ensures
+    audit_printed _ IsFresh c.args.counts c.args.whole c.in_ok-ending.ending c.in_ok-conn.conn c.over_archive-done.result.1 (g.W.Write.contents c.args.writer.now) (g.W.Write.contents c.print_done.new.writer)
+    c.in_ok-ending.ensures c.in-Ok.status c.in_ok-left.left c.close_connection-closed.result c.in_ok-conn.ensures.opened audited c.close_connection-closed.ensures.laid c.in-Ok.ensures
 
 pub returns : goal.returns
 returns g c =
@@ -29,7 +29,7 @@ returns g c =
       c.in_ok-conn.ensures.opened,
       (
         record { last = c.over_archive-done.result.1; shut = c.close_connection-closed.ensures.shut; kept = c.over_archive-done.ensures.kept },
-        inr (audit_cut _ IsFresh c.args.counts c.args.whole c.in_ok-ending.ending c.in_ok-conn.conn c.over_archive-done.result.1 (g.W.Write.contents c.args.writer.now) (g.W.Write.contents c.print_done.new.writer) c.in_ok-left.left
-            c.in_ok-ending.ensures audited c.in-Err.ensures),
+        inr (audit_cut _ IsFresh c.args.counts c.args.whole c.in_ok-ending.ending c.in_ok-conn.conn c.over_archive-done.result.1 (g.W.Write.contents c.args.writer.now)
+            (g.W.Write.contents c.print_done.new.writer) c.in_ok-ending.ensures c.in_ok-left.left audited c.in-Err.ensures),
       ),
     )
