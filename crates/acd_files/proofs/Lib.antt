@@ -3,3 +3,4 @@ pub mod LoneLogs
 pub mod Plans
 pub mod Ends
 pub mod LineOf
+pub mod ShownLines

@@ -1,9 +1,17 @@
 -- What the bytes of a log say, before anything is opened.
-use Rattle.std.specs.Prelude.{◌⊎◌, ◌≤◌, ℕ, List, Option}
+use Rattle.std.specs.Prelude.{◌≡◌, ◌⊎◌, ◌≤◌, ℕ, List, ◌++◌, codes, Option, String, string_bytes}
 use Rattle.acd_io.specs.Streams.{IsInput}
 use Rattle.acd_log.specs.declared.ending.Ending.{Ending}
 use Rattle.acd_log.specs.Ending.{IsDamaged, IsHeadless, IsEndingOf}
 use Rattle.acd_files.specs.Files.{new_page, HoldsCommit}
+
+-- this is the path of the log beside a file
+abbrev pub IsLogOf : {Z : Type 0} → List ℕ → String Z → Type 0
+IsLogOf file log = string_bytes log ≡ file ++ codes "-wal"
+
+-- beside some file
+abbrev pub IsSomeLog : {Z : Type 0} → String Z → Type 0
+IsSomeLog log = (file : List ℕ) × IsLogOf file log
 
 -- the log that the reader holds ends so
 abbrev pub IsEndingFrom : Option (List ℕ) → Ending → Type 0

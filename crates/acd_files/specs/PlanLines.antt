@@ -1,5 +1,5 @@
 -- The lines of a plan, as whoever wrote it sees them.
-use Rattle.std.specs.Prelude.{ℕ, [], ◌∷◌, Option, Some, None, ◌+◌, Bool, true, false, not, ◌&&◌, ◌||◌, nat_eq, nat_le, List, codes, if◌then◌else◌}
+use Rattle.std.specs.Prelude.{ℕ, [], ◌∷◌, ◌++◌, length, Option, Some, None, ◌+◌, ◌/◌, ◌%◌, Bool, true, false, not, ◌&&◌, ◌||◌, nat_eq, nat_le, nat_lt, List, codes, if◌then◌else◌}
 use Rattle.acd_files.specs.declared.plan_lines.Place.{Place}
 use Rattle.acd_reports.specs.declared.fault.PlanMember.{PlanMember}
 use Rattle.acd_reports.specs.declared.fault.PlanMember.TheVariants as member
@@ -36,6 +36,18 @@ is_printable byte = nat_le 32 byte && nat_le byte 126
 abbrev pub shown_width : ℕ → ℕ
 shown_width byte = if is_printable byte then 1 else 4
 
+-- a digit of a number to the base of 16
+abbrev pub hex_digit : ℕ → ℕ
+hex_digit value = if nat_lt value 10 then 48 + value else 55 + value
+
+-- a byte as it is shown: as it is where that can be printed, and else as its number
+abbrev pub shown_byte : ℕ → List ℕ
+shown_byte byte = if is_printable byte then byte ∷ [] else codes "\\x" ++ (hex_digit (byte / 16) ∷ hex_digit (byte % 16) ∷ [])
+
+-- so much is shown of a line, which ends before this byte, or there is no room for it
+abbrev pub is_shown_to : List ℕ → ℕ → Bool
+is_shown_to text byte = nat_eq byte 10 || (nat_eq byte 13 || nat_lt 60 (length text + shown_width byte))
+
 -- the form of a member of a row
 abbrev pub form_text : PlanMember → List ℕ
 form_text member.Fields = codes "a row has five fields, parted by commas, in UTF-8"
@@ -56,3 +68,12 @@ first_place = record { line = 1; records = 0; is_begun = false; is_quoted = fals
 
 abbrev pub line_of : List ℕ → ℕ → Option ℕ
 line_of plan wanted = line_from first_place wanted plan
+
+-- what is shown of a line, from a byte on: so much before
+unfoldable pub shown_from : List ℕ → List ℕ → List ℕ
+shown_from text [] = text
+shown_from text (byte ∷ rest) = if is_shown_to text byte then text else shown_from (text ++ shown_byte byte) rest
+
+-- the first line of a plan
+abbrev pub first_line : List ℕ → List ℕ
+first_line plan = shown_from [] plan

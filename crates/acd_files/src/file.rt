@@ -6,7 +6,7 @@ ghost use Rattle.sqlite_std_file.specs.File.{file_is_usable, IsFresh};
 ghost use Rattle.acd_files.specs.Connections.{IsShut};
 ghost use Rattle.acd_files.specs.Faults.{by_memory};
 ghost use Rattle.acd_files.specs.Files.{AreUnopened, IsOpenedIn};
-ghost use Rattle.acd_files.specs.Logs.{IsSomeEnding};
+ghost use Rattle.acd_files.specs.Logs.{IsLogOf, IsSomeLog, IsSomeEnding};
 ghost use Rattle.acd_files.specs.Connections.{IsLaidIn, IsOpenedFrom, LeavesUnopened};
 
 use crate::fault::{LookFault, OpeningFault, PathFault};
@@ -21,7 +21,7 @@ use acd_log::{Ending, ending_of};
 use sqlite::{Connection, Error, ErrorCode, FileStore};
 use sqlite_disk::{Disk, Files, Start};
 use sqlite_std_file::{FileFrom, OpenError};
-use std::alloc::Global;
+use std::alloc::{AllocError, Global};
 use std::hash::{BuildHasher, RandomState};
 use std::io;
 use std::io::IsTerminal;
@@ -48,12 +48,21 @@ fn look<'a>(looks: Looks<'_>, path: &'a str) -> Result<Found, LookFault<'a>> {
     }
 }
 
-/// The path of the log: a link's log is beside the file that it leads to.
-pub fn log_path<'a>(looks: Looks<'_>, path: &'a str) -> Result<String, LookFault<'a>> {
+// The path of the log beside a file.
+fn log_beside(alloc: Global, file: &str) -> Result<String, AllocError>
+    ensures { IfOk result (IsLogOf file.now) }
+{
+    format!(in alloc; "{file}-wal")
+}
+
+/// The path of the log: a link's log is beside the file that it leads to. It looks for links alone.
+pub fn log_path<'a>(looks: Looks<'_>, path: &'a str) -> Result<String, LookFault<'a>>
+    ensures { IfOk result IsSomeLog }
+{
     match looks.real_path(path) {
-        Ok(real) => Ok(format!(in looks.alloc(); "{}-wal", real.as_str())?),
+        Ok(real) => Ok(log_beside(looks.alloc(), real.as_str())?),
         Err(error) if error.kind() == io::ErrorKind::NotFound => {
-            Ok(format!(in looks.alloc(); "{path}-wal")?)
+            Ok(log_beside(looks.alloc(), path)?)
         }
         Err(error) => Err(LookFault::Path(disk_fault(error, path))),
     }
@@ -87,7 +96,8 @@ fn log_bytes<'a>(looks: Looks<'_>, path: &'a str) -> Result<Vec<u8>, LookFault<'
     }
 }
 
-/// Whether the log at a path holds a commit: it is left alone, where its file is missing or has no bytes.
+/// Whether the log at a path holds a commit: it is left alone, where its file is missing or has no bytes. It reads the
+/// log.
 pub fn holds_log<'a>(looks: Looks<'_>, path: &'a str) -> Result<bool, LookFault<'a>> {
     match hold_commit(looks.alloc(), &log_bytes(looks, path)?) {
         Ok(holds) => Ok(holds),

@@ -12,10 +12,12 @@ pub struct Looks<'r> {
 }
 
 impl<'r> Looks<'r> {
+    /// Whoever has the program's runtime can hand these on in its place.
     pub fn new(rt: &'r HostRuntime) -> Looks<'r> {
         Looks { rt }
     }
 
+    /// The memory of the program. It looks at nothing.
     pub fn alloc(self) -> Global {
         self.rt.alloc()
     }

@@ -1,15 +1,13 @@
 //! The lines of a plan as whoever wrote it sees them.
 
-ghost use Rattle.std.specs.Prelude.{◌≡◌};
-ghost use Rattle.acd_files.specs.PlanLines.{place_after, begun_at, is_printable, shown_width, form_text, line_of};
+ghost use Rattle.std.specs.Prelude.{◌≡◌, ◌<◌, ◌++◌, string_bytes, IfOk, OnOk};
+ghost use Rattle.acd_files.specs.PlanLines.{place_after, begun_at, is_printable, shown_width, hex_digit, shown_byte, is_shown_to, form_text, line_of, first_line};
 
 use acd_reports::PlanMember;
 use std::alloc::{AllocError, Global};
 
 // How many characters of a line are shown.
 const SHOWN: usize = 60;
-
-const DIGITS: &[u8; 16] = b"0123456789ABCDEF";
 
 // A place in a plan's text.
 #[derive(Clone, Copy)]
@@ -94,25 +92,47 @@ fn width(byte: u8) -> usize
     if is_plain(byte) { 1 } else { 4 }
 }
 
+// A digit of a number to the base of 16.
+fn digit(value: u8) -> char
+    requires { value < 16 }
+    ensures { result ≡ hex_digit value }
+{
+    if value < 10 {
+        char::from(b'0' + value)
+    } else {
+        char::from(b'A' + (value - 10))
+    }
+}
+
 // The text with one byte more: as it is where that can be printed, and else as its number.
-fn shown(text: &mut String, byte: u8) -> Result<(), AllocError> {
+fn push_shown(text: &mut String, byte: u8) -> Result<(), AllocError>
+    ensures { OnOk result (string_bytes text.new ≡ string_bytes text.old ++ shown_byte byte) }
+{
     if is_plain(byte) {
         return text.push(char::from(byte));
     }
     text.push_str("\\x")?;
-    text.push(char::from(DIGITS[usize::from(byte / 16)]))?;
-    text.push(char::from(DIGITS[usize::from(byte % 16)]))
+    text.push(digit(byte / 16))?;
+    text.push(digit(byte % 16))
+}
+
+// Whether what is shown ends before this byte: its line does, or there is no room for it.
+fn ends_before(text: &String, byte: u8) -> bool
+    ensures { result ≡ is_shown_to (string_bytes text.now) byte }
+{
+    byte == b'\n' || byte == b'\r' || text.len().saturating_add(width(byte)) > SHOWN
 }
 
 /// The first line of a plan, in ASCII, up to 60 characters.
-pub fn first_line(alloc: Global, plan: &[u8]) -> Result<String, AllocError> {
+pub fn first_line(alloc: Global, plan: &[u8]) -> Result<String, AllocError>
+    ensures { IfOk result (λ text. string_bytes text ≡ first_line plan.now) }
+{
     let mut text = String::new(alloc);
     for byte in plan {
-        let ends = *byte == b'\n' || *byte == b'\r';
-        if ends || text.len().saturating_add(width(*byte)) > SHOWN {
+        if ends_before(&text, *byte) {
             return Ok(text);
         }
-        shown(&mut text, *byte)?;
+        push_shown(&mut text, *byte)?;
     }
     Ok(text)
 }

@@ -39,7 +39,8 @@ fn bits_of(is_owner: bool, is_of_group: bool) -> u32
     }
 }
 
-/// Whether the user of this process surely has no permission to write what was found. The user root always has.
+/// Whether the user of this process surely has no permission to write what was found. The user root always has. It looks
+/// at whose process this is.
 pub fn is_forbidden(looks: Looks<'_>, found: &Metadata) -> bool {
     let Ok(process) = looks.metadata(PROCESS) else {
         return false;
@@ -87,7 +88,7 @@ fn is_plain(path: &str) -> bool
         .all(|byte| *byte > b' ' && *byte != b'\\')
 }
 
-/// Whether a path surely is on a disk that can't be written.
+/// Whether a path surely is on a disk that can't be written. It looks for links, and reads what is mounted.
 pub fn is_read_only(looks: Looks<'_>, path: &str) -> bool {
     let (Ok(real), Ok(file)) = (looks.real_path(path), looks.open(MOUNTS)) else {
         return false;
