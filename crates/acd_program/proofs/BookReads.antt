@@ -46,7 +46,7 @@ asked_by old d e x P o t =
 pub read_fault : {A B C : Type 0} (old mid new : DeskState) (x : A) (f : DeskFault) (r : Result C DeskFault) (P : Says A) (Q : Says B) (R : Says C)
     → ReadDone old mid (Ok x) P → ReadDone mid new (Err f) Q → r ≡ Err f → ReadDone old new r R
 read_fault {C = C} old mid new x f r P Q R first second is =
-    subst (λ (y : Result C DeskFault). ReadDone old new y R) (sym is) (read_twice old mid new x (Err f) P R R (λ c y before after. after) first (read_nothing mid new f Q R second))
+    subst (λ (y : Result C DeskFault). ReadDone old new y R) (sym is) (read_twice old mid new x (Err f) P R R first (read_nothing mid new f Q R second) (λ c before y after. after))
 
 -- whatever follows from an answer is an answer
 pub asked_so : {A B : Type 0} (old new : BookState) (x : A) (y : B) (P : Says A) (Q : Says B) → ((c : Content) → P c x → Q c y) → WasAsked old P x new → WasAsked old Q y new

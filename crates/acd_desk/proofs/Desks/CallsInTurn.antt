@@ -1,5 +1,5 @@
 -- Many calls of a desk, one after the other.
-use Rattle.std.proofs.Common.{◌≡◌, ℕ, ◌+◌, List, [], ◌∷◌, ◌++◌, length, true, false, cond, refl, sym, ap, subst, ◌∙◌, arith, inl, inr, ◌⊎◌, Bool, length-append, true≢false, Result}
+use Rattle.std.proofs.Common.{◌≡◌, ℕ, ◌+◌, List, [], ◌∷◌, ◌++◌, true, false, cond, refl, sym, ap, subst, ◌∙◌, arith, inl, inr, ◌⊎◌, Bool, length-append, true≢false, Result}
 use Rattle.std.proofs.lemmas.List.Elements.{Contains-push_cases, Contains-push, Contains-append_left, Contains-append_right}
 use Rattle.std.specs.List.{Contains}
 use Rattle.acd_terms.specs.Lists.{Every}
@@ -36,7 +36,13 @@ ran_nothing s settles =
     record {
       even = refl;
       step = no_step s.book;
-      desk = record { in_step = λ clean sound step. step; shuts = λ h. absurd (omega (arith, h.1)); answers = λ h. inl h; lasts = λ h. h; cause = λ h. inl (inl h) };
+      desk = record {
+        in_step = λ clean sound step. step;
+        shuts = λ h. absurd (omega (arith, h.1));
+        answers = λ h. inl h;
+        lasts = λ h. h;
+        cause = λ h. inl (inl h);
+      };
       leads = λ clean sound opened step. record { replies = refl; content = λ up. refl; stops = λ c at. inl (settles c clean sound opened at) };
       replies = λ clean start. refl;
       holds = λ clean start opened. record {
@@ -148,10 +154,15 @@ attended_ran old new l ts ran = record {
 }
 
 -- one more call of a desk that is in step
-leads_more : (start : Content) (m n : DeskState) (l : List Arrival) (ts : List Taken) (a : Arrival) (t : Taken) → Settles n → length l ≡ length ts → (Contains ts StoreFault → m.failed ≡ true)
-    → n.book.is_clean → m.book.is_sound → InStep m → Leads start l ts m.book → Took m a t n → Leads start (l ++ a ∷ []) (ts ++ t ∷ []) n.book
-leads_more start m n l ts a t settles even shuts clean sound step before took =
-    let yes : accepted (l ++ a ∷ []) (ts ++ t ∷ []) ≡ accepted l ts ++ cond (is_fault t) [] (a ∷ []) = accepted-push l ts a t even in
+leads_more : (s m n : DeskState) (l : List Arrival) (ts : List Taken) (a : Arrival) (t : Taken) → Settles n → Attended s l ts m → Took m a t n
+    → n.book.is_clean → s.book.is_sound → s.book.is_open → InStep s → Leads s.book.content (l ++ a ∷ []) (ts ++ t ∷ []) n.book
+leads_more s m n l ts a t settles ran took clean started opened started_in_step =
+    let start : Content = s.book.content in
+    let earlier_clean : m.book.is_clean = took.step.clean clean in
+    let sound : m.book.is_sound = ran.sound earlier_clean started in
+    let step : InStep m = ran.in_step earlier_clean started started_in_step in
+    let before : Leads start l ts m.book = ran.leads earlier_clean started opened started_in_step in
+    let yes : accepted (l ++ a ∷ []) (ts ++ t ∷ []) ≡ accepted l ts ++ cond (is_fault t) [] (a ∷ []) = accepted-push l ts a t ran.even in
     let maybe : List Arrival = maybe_last (l ++ a ∷ []) (ts ++ t ∷ []) in
     record {
       replies =
@@ -161,7 +172,9 @@ leads_more start m n l ts a t settles even shuts clean sound step before took =
       content = λ opened.
           one_content start (accepted l ts) a t n.book.content
           (λ (fine : is_fault t ≡ false). (took.sent fine clean sound step).1 ∙ ap (λ (x : Content). after x a) (before.content (took.up fine clean sound).0))
-          (λ (bad : is_fault t ≡ true). (took.unmoved (fault_no_reply t bad) clean sound opened).1 ∙ before.content (took.unmoved (fault_no_reply t bad) clean sound opened).0)
+          (λ (bad : is_fault t ≡ true).
+          let same = took.unmoved (fault_no_reply t bad) clean sound opened in
+          same.1 ∙ before.content same.0)
           ∙ ap (led start) (sym yes);
       stops = λ c stop.
           subst (λ (y : List Arrival). StopsFrom start y maybe c) (sym yes)
@@ -172,21 +185,20 @@ leads_more start m n l ts a t settles even shuts clean sound step before took =
           (λ (bad : is_fault t ≡ true). elim (took.stops clean sound step c stop) [
             | inl old ↦ inl (before.stops c old)
             | inr made ↦ inr (
-              maybe_this l ts a t even (λ found. true≢false (sym (shuts found) ∙ made.0)) bad,
+              maybe_this l ts a t ran.even (λ found. true≢false (sym (ran.shuts found) ∙ made.0)) bad,
               made.2 ∙ ap (λ (x : Content). after x a) (before.content made.1),
             )
           ]));
     }
 
 -- one more call
-pub attended_more : (s m n : DeskState) (l : List Arrival) (ts : List Taken) (a : Arrival) (t : Taken) → Settles n → Attended s l ts m → Took m a t n → Attended s (l ++ a ∷ []) (ts ++ t ∷ []) n
+pub attended_more : (s m n : DeskState) (l : List Arrival) (ts : List Taken) (a : Arrival) (t : Taken) → Settles n → Attended s l ts m → Took m a t n
+    → Attended s (l ++ a ∷ []) (ts ++ t ∷ []) n
 attended_more s m n l ts a t settles ran took =
     let start : Content = s.book.content in
     let yes : List Arrival = accepted (l ++ a ∷ []) (ts ++ t ∷ []) in
     let leads : n.book.is_clean → s.book.is_sound → s.book.is_open → InStep s → Leads start (l ++ a ∷ []) (ts ++ t ∷ []) n.book
-    = λ clean sound opened step.
-    let before = took.step.clean clean in
-    leads_more start m n l ts a t settles ran.even ran.shuts clean (ran.sound before sound) (ran.in_step before sound step) (ran.leads before sound opened step) took in
+    = leads_more s m n l ts a t settles ran took in
     record {
       even = length-append l (a ∷ []) ∙ ap (λ (k : ℕ). k + 1) ran.even ∙ sym (length-append ts (t ∷ []));
       clean = λ clean. ran.clean (took.step.clean clean);
@@ -203,7 +215,8 @@ attended_more s m n l ts a t settles ran took =
       ];
     }
 
-pub ran_more : (s m n : DeskState) (l : List Arrival) (ts : List Taken) (a : Arrival) (t : Taken) → Settles n → Ran s l ts m → Took m a t n → Ran s (l ++ a ∷ []) (ts ++ t ∷ []) n
+pub ran_more : (s m n : DeskState) (l : List Arrival) (ts : List Taken) (a : Arrival) (t : Taken) → Settles n → Ran s l ts m → Took m a t n
+    → Ran s (l ++ a ∷ []) (ts ++ t ∷ []) n
 ran_more s m n l ts a t settles ran took =
     let start : Content = s.book.content in
     let yes : List Arrival = accepted (l ++ a ∷ []) (ts ++ t ∷ []) in
@@ -211,8 +224,9 @@ ran_more s m n l ts a t settles ran took =
     record {
       even = more.even;
       step = step_then ran.step took.step (Contains-append_left ts (t ∷ []) StoreFault) (at_end ts t StoreFault);
-      desk = desk_then s m n ran.step took.step ran.desk took.desk (Contains-append_left ts (t ∷ []) StoreFault) (at_end ts t StoreFault) (Contains-push_cases ts t StoreFault)
-          (earlier s ts t) (λ working gone. earlier s ts t (ran.unloads working gone));
+      desk =
+          desk_then s m n ran.step took.step ran.desk took.desk (Contains-append_left ts (t ∷ []) StoreFault) (at_end ts t StoreFault)
+          (Contains-push_cases ts t StoreFault) (earlier s ts t) (λ working gone. earlier s ts t (ran.unloads working gone));
       leads = more.leads;
       replies = more.replies;
       holds = λ clean starts opened.
@@ -225,7 +239,9 @@ ran_more s m n l ts a t settles ran took =
             alone = λ c stop. settles c clean (more.sound clean starts.0) opened stop;
           };
       up = λ clean sound ended. (took.up (last_accepted s ts t ended) clean (ran.step.sound (took.step.clean clean) sound)).1;
-      opened = λ clean sound opened. ran.opened (took.step.clean clean) sound (was_open m n a t took clean (ran.step.sound (took.step.clean clean) sound) opened);
+      opened = λ clean sound opened.
+          let before = took.step.clean clean in
+          ran.opened before sound (was_open m n a t took clean (ran.step.sound before sound) opened);
       stops = more.stops;
       sound_stops = λ clean starts c stop. stop_sound start yes (maybe_last (l ++ a ∷ []) (ts ++ t ∷ [])) c starts.3 (more.stops clean starts c stop);
       still = idle s m n l ts a t ran took;
@@ -238,7 +254,8 @@ ran_more s m n l ts a t settles ran took =
     }
 
 -- a read between two calls
-pub attended_read : {A : Type 0} (s m n : DeskState) (l : List Arrival) (ts : List Taken) (r : Result A DeskFault) (P : Content → A → Type 0) → Attended s l ts m → ReadDone m n r P → Attended s l ts n
+pub attended_read : {A : Type 0} (s m n : DeskState) (l : List Arrival) (ts : List Taken) (r : Result A DeskFault) (P : Content → A → Type 0)
+    → Attended s l ts m → ReadDone m n r P → Attended s l ts n
 attended_read s m n l ts r P ran read = record {
   even = ran.even;
   clean = λ clean. ran.clean (read.step.clean clean);
@@ -257,7 +274,9 @@ attended_read s m n l ts r P ran read = record {
       let before = read.step.clean clean in
       let same = read.unchanged.same clean (ran.sound before starts.0) opened in
       same.1 ∙ ran.content before starts same.0;
-  stops = λ clean starts c stop. let before = read.step.clean clean in ran.stops before starts c (read.unchanged.stops clean (ran.sound before starts.0) c stop);
+  stops = λ clean starts c stop.
+      let before = read.step.clean clean in
+      ran.stops before starts c (read.unchanged.stops clean (ran.sound before starts.0) c stop);
   shuts = λ found. read.desk.lasts (ran.shuts found);
 }
 
@@ -294,7 +313,8 @@ forgets m n a t rejected took =
     }
 
 -- the text of an answer, or noMemory in its place
-pub says_of : (s n : DeskState) (a : Arrival) (t : Taken) (out : Said) → Settles s → Settles n → Took s a t n → Ran s (a ∷ []) (t ∷ []) n → IsSaid a.request t out → SaysOf s a out n
+pub says_of : (s n : DeskState) (a : Arrival) (t : Taken) (out : Said) → Settles s → Settles n → Took s a t n → Ran s (a ∷ []) (t ∷ []) n
+    → IsSaid a.request t out → SaysOf s a out n
 says_of s n a t out settles settled took ran (inl is) = record { answer = t; says = is; took = took; ran = ran }
 says_of s n a t out settles settled took ran (inr lost) =
     let forgot = forgets s n a t lost.0 took in

@@ -30,7 +30,8 @@ above_is m e h = grind (arith, nat_tests)
 rise-above : (m : ℕ) (es : List Event) → Rise m es → above es m ≡ es
 rise-above m [] h = refl
 rise-above m (e ∷ es) h =
-    ap (λ b. cond b (e ∷ above es m) (above es m)) (is_above m e h.0) ∙ ap (λ l. e ∷ l) (rise-above m es (rise_lower m e.number es (let here = h.0 in omega (arith, here)) h.1))
+    ap (λ b. cond b (e ∷ above es m) (above es m)) (is_above m e h.0)
+    ∙ ap (λ l. e ∷ l) (rise-above m es (rise_lower m e.number es (let here = h.0 in omega (arith, here)) h.1))
 
 rise-filter : (m n : ℕ) (es : List Event) → Rise m es → Rise m (above es n)
 rise-filter m n [] h = tt
@@ -61,7 +62,8 @@ last-up m (e ∷ es) more h = let up = last-up e.number es more h.1 in let here 
 after_last : (m : ℕ) (es more : List Event) → Rise m (es ++ more) → above (es ++ more) (last_of m es) ≡ more
 after_last m [] more h = rise-above m more h
 after_last m (e ∷ es) more h =
-    ap (λ b. cond b (e ∷ above (es ++ more) (last_of e.number es)) (above (es ++ more) (last_of e.number es))) (not_above (last_of e.number es) e (last-up e.number es more h.1))
+    ap (λ b. cond b (e ∷ above (es ++ more) (last_of e.number es)) (above (es ++ more) (last_of e.number es)))
+    (not_above (last_of e.number es) e (last-up e.number es more h.1))
     ∙ after_last e.number es more h.1
 
 -- those above a lower place have all of those above a place
@@ -72,7 +74,8 @@ above_again {T = T} f m n (x ∷ xs) le = by (nat_lt m (f x)) refl (nat_lt n (f 
     lower : (k : ℕ) → nat_lt m k ≡ false → nat_lt n k ≡ true → ⊥
     lower k p q = grind (arith, nat_tests, le, p, q)
 
-    by : (a : Bool) → nat_lt m (f x) ≡ a → (b : Bool) → nat_lt n (f x) ≡ b → all_above f n (all_above f m xs) ≡ all_above f n xs → all_above f n (cond a (x ∷ all_above f m xs) (all_above f m xs)) ≡ cond b (x ∷ all_above f n xs) (all_above f n xs)
+    by : (a : Bool) → nat_lt m (f x) ≡ a → (b : Bool) → nat_lt n (f x) ≡ b → all_above f n (all_above f m xs) ≡ all_above f n xs
+        → all_above f n (cond a (x ∷ all_above f m xs) (all_above f m xs)) ≡ cond b (x ∷ all_above f n xs) (all_above f n xs)
     by true p b q more = ap (λ v. cond v (x ∷ all_above f n (all_above f m xs)) (all_above f n (all_above f m xs))) q ∙ ap (λ l. cond b (x ∷ l) l) more
     by false p true q more = absurd (lower (f x) p q)
     by false p false q more = more
@@ -103,7 +106,8 @@ no-last (x ∷ es) h =
     absurd (last-there x es (subst (λ n. slice_get (x ∷ es) n ≡ None) size h))
 
 -- a page, and the events above its last one, are those above the number
-pub page-then : (n limit : ℕ) (events : List Event) (e : Event) → Rise 0 events → slice_get (events_after events n limit) (length (events_after events n limit) - 1) ≡ Some e
+pub page-then : (n limit : ℕ) (events : List Event) (e : Event) → Rise 0 events
+    → slice_get (events_after events n limit) (length (events_after events n limit) - 1) ≡ Some e
     → above events n ≡ events_after events n limit ++ above events e.number
 page-then n limit events e rise last =
     let all : List Event = above events n in
@@ -131,14 +135,16 @@ pub above-nothing : (events : List Event) → Rise 0 events → above events 0 �
 above-nothing events h = rise-above 0 events h
 
 -- an export whose next page has no event is done
-pub export_ends : (text : List ℕ) (events page shown : List Event) (after limit : ℕ) → 1 ≤ limit → shown ≡ page → slice_get shown (length shown - 1) ≡ None → page ≡ events_after events after limit
+pub export_ends : (text : List ℕ) (events page shown : List Event) (after limit : ℕ) → 1 ≤ limit → shown ≡ page
+    → slice_get shown (length shown - 1) ≡ None → page ≡ events_after events after limit
     → text ++ [] ≡ text ++ records_text (above events after)
 unfolding records_text
 export_ends text events page shown after limit some same none is =
     ap (λ l. text ++ records_text l) (sym (page-none after limit events some (sym is ∙ sym same ∙ no-last shown none)))
 
 -- else it continues with the records of the page
-pub export_goes_on : (old more new : List ℕ) (events page shown : List Event) (after limit : ℕ) (e : Event) → shown ≡ page → slice_get shown (length shown - 1) ≡ Some e → page ≡ events_after events after limit
+pub export_goes_on : (old more new : List ℕ) (events page shown : List Event) (after limit : ℕ) (e : Event) → shown ≡ page
+    → slice_get shown (length shown - 1) ≡ Some e → page ≡ events_after events after limit
     → more ≡ records_text shown → new ≡ old ++ more → Rise 0 events → new ++ records_text (above events e.number) ≡ old ++ records_text (above events after)
 export_goes_on old more new events page shown after limit e same last is records pushed rise =
     let here : shown ≡ events_after events after limit = same ∙ is in
@@ -158,4 +164,5 @@ pub export_step : (old mid new : DeskState) (last : Option ℕ) (before after : 
     → ReadDone {A = Unit {0}} old mid (Ok tt) (λ (c : Content) done. Rise 0 c.events → before ++ records_text (above c.events n) ≡ events_csv c.events)
     → ReadDone mid new (Ok last) (λ (c : Content) next. Rise 0 c.events → after ++ records_left c.events next ≡ before ++ records_text (above c.events n))
     → ReadDone old new (Ok last) (λ (c : Content) next. Rise 0 c.events → after ++ records_left c.events next ≡ events_csv c.events)
-export_step old mid new last before after n first second = read_twice old mid new tt (Ok last) _ _ _ (λ c next left more rise. more rise ∙ left rise) first second
+export_step old mid new last before after n first second =
+    read_twice old mid new tt (Ok last) _ _ _ first second (λ c left next more rise. more rise ∙ left rise)

@@ -14,11 +14,13 @@ loop-init g c =
 pub returns-in-Err : goal.returns-in-Err
 returns-in-Err g c =
     read_twice (state_of g.B.Book c.args.self.now) (state_of g.B.Book c.loop.self) (state_of g.B.Book c.export_page.new.self) tt (Err c.in-Err.fault) _ _ _
-    (λ content text before after. after) c.loop.invariant (read_nothing (state_of g.B.Book c.loop.self) (state_of g.B.Book c.export_page.new.self) c.in-Err.fault _ _ c.in-Err.ensures)
+    c.loop.invariant (read_nothing (state_of g.B.Book c.loop.self) (state_of g.B.Book c.export_page.new.self) c.in-Err.fault _ _ c.in-Err.ensures)
+    (λ content before text after. after)
 
 pub returns-in-None : goal.returns-in-None
 returns-in-None g c =
     read_so (state_of g.B.Book c.args.self.now) (state_of g.B.Book c.export_page.new.self) c.in-Ok.next (Some c.export_page.new.export) _ _
     (λ content is rise. ap Some (sym (append-nil (string_bytes c.export_page.new.export))
     ∙ ap (λ next. string_bytes c.export_page.new.export ++ records_left content.events next) (sym c.in-None.is) ∙ is rise))
-    (export_step (state_of g.B.Book c.args.self.now) (state_of g.B.Book c.loop.self) (state_of g.B.Book c.export_page.new.self) c.in-Ok.next (string_bytes c.loop.export) (string_bytes c.export_page.new.export) c.loop.after c.loop.invariant c.in-Ok.ensures)
+    (export_step (state_of g.B.Book c.args.self.now) (state_of g.B.Book c.loop.self) (state_of g.B.Book c.export_page.new.self) c.in-Ok.next
+    (string_bytes c.loop.export) (string_bytes c.export_page.new.export) c.loop.after c.loop.invariant c.in-Ok.ensures)
