@@ -11,6 +11,7 @@ use crate::desk::Desk;
 use crate::fault::DeskFault;
 use crate::open_fault::OpenFault;
 use crate::pair::{Pair, PairFault};
+use crate::progress::Progress;
 use crate::replay::audited;
 use crate::working::Working;
 use acd_book::Book;
@@ -55,7 +56,7 @@ pub enum AuditFault {
 impl<B: Book> Desk<B> {
     /// Runs the kept requests again, each at the moment that its record holds, and compares what they give
     /// with what the book holds. It changes nothing, and its memory doesn't grow with the number of requests.
-    pub fn audit(&mut self) -> Result<Audit, DeskFault>
+    pub fn audit<P: Progress>(&mut self, progress: &mut P) -> Result<Audit, DeskFault>
         ensures read { DeskRead B.Book self.old self.new result Anything }
         ensures audited { IsAudited (B.state (book_of self.old))
             (B.state (book_of self.new)) result }
@@ -65,7 +66,7 @@ impl<B: Book> Desk<B> {
         if let Working::Failed = self.working {
             return Err(DeskFault::StoreFault);
         }
-        match audited(self.alloc, &mut self.book) {
+        match audited(self.alloc, &mut self.book, progress) {
             Ok(audit) => Ok(audit),
             Err(fault) => Err(self.failed(fault)),
         }
@@ -74,7 +75,11 @@ impl<B: Book> Desk<B> {
     /// The same for a desk that was carried over, with the archive that it goes on from: up to the archive's last stamp
     /// its records have to be those of the archive, and the newer ones are run again from the archive's state on. It
     /// changes nothing in either.
-    pub fn audit_with<A: Book>(&mut self, archive: &mut A) -> Result<ArchiveAudit, AuditFault>
+    pub fn audit_with<A: Book, P: Progress>(
+        &mut self,
+        archive: &mut A,
+        progress: &mut P,
+    ) -> Result<ArchiveAudit, AuditFault>
         ensures read { DeskRead B.Book self.old self.new (desk_part result) Anything }
         ensures archive { MayRead A.state archive.old archive.new (archive_part result) Anything }
         ensures audited { IsAuditedWith (A.state archive.old) (A.state archive.new)
@@ -87,7 +92,7 @@ impl<B: Book> Desk<B> {
             archive,
             book: &mut self.book,
         };
-        match pair.audited(self.alloc) {
+        match pair.audited(self.alloc, progress) {
             Ok(audit) => Ok(audit),
             Err(fault) => Err(self.pair_failed(fault)),
         }

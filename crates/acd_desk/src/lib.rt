@@ -5,13 +5,13 @@
 //! text, and [`OpenFault`] says why a book makes no desk. `specs/ReadAnswers` says what it answers to a [`Question`], or it
 //! answers a [`DeskFault`]. An [`Audit`] says whether all that its book holds is what the kept requests give, run
 //! again, or where it first differs (`specs/Audit`); an [`ArchiveAudit`] says so of a book beside the archive that it
-//! continues (`specs/AuditWith`).
+//! continues (`specs/AuditWith`). A [`Progress`] is told how far an audit has come.
 //!
 //! ```ignore
 //! let mut desk = Desk::open(alloc, MemoryBook::new(alloc, Limits::GREATEST))?;
 //! let answer = desk.take(moment, &request);
 //! let queue = desk.queue(group)?;
-//! let audit = desk.audit()?;
+//! let audit = desk.audit(&mut ())?;
 //! let book = desk.close();
 //! ```
 #![tactic(auto)]
@@ -30,6 +30,7 @@ mod overlap;
 mod page;
 mod pair;
 mod placed;
+mod progress;
 mod question;
 mod reads;
 mod replay;
@@ -48,6 +49,7 @@ pub use clock::clock_tick;
 pub use desk::Desk;
 pub use fault::DeskFault;
 pub use open_fault::OpenFault;
+pub use progress::Progress;
 pub use question::Question;
 pub use requests::is_same;
 pub use session::SessionFault;

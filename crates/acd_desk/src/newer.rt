@@ -11,6 +11,7 @@ use crate::audit::ArchiveAudit;
 use crate::open_fault::OpenFault;
 use crate::overlap::Cut;
 use crate::pair::{Pair, PairFault, of_archive, of_current, of_opening};
+use crate::progress::Progress;
 use crate::replay::{Replay, is_all, is_whole};
 use crate::working::LoadedSwitch;
 use acd_book::{Book, BookFault, Kept};
@@ -141,7 +142,12 @@ impl<A: Book, B: Book> Pair<'_, A, B> {
     }
 
     // Replays the next record, where one is left.
-    fn next_newer(&mut self, alloc: Global, newer: NewerReplay) -> Result<NewerStep, PairFault>
+    fn next_newer<P: Progress>(
+        &mut self,
+        alloc: Global,
+        newer: NewerReplay,
+        progress: &mut P,
+    ) -> Result<NewerStep, PairFault>
         requires { HasRoom newer.replay.loaded.switch.value }
         ensures same { BorrowsSame self.old self.new }
         ensures read { BothRead A.state B.state (self.old, self.new) result
@@ -154,6 +160,7 @@ impl<A: Book, B: Book> Pair<'_, A, B> {
             let whole = of_current(is_whole(&mut *self.book, &newer.replay.loaded.switch))?;
             return Ok(NewerStep::Ended(answer_at_end(&newer, whole)));
         };
+        progress.reached(kept.stamp);
         match self.replayed(alloc, newer, &kept)? {
             Some(newer) => Ok(NewerStep::Replayed(newer)),
             None => Ok(NewerStep::Ended(ArchiveAudit::Differs(next))),
@@ -161,7 +168,12 @@ impl<A: Book, B: Book> Pair<'_, A, B> {
     }
 
     // Replays all that is newer than the archive, from its state on.
-    fn audited_newer(&mut self, alloc: Global, first: Replay) -> Result<ArchiveAudit, PairFault>
+    fn audited_newer<P: Progress>(
+        &mut self,
+        alloc: Global,
+        first: Replay,
+        progress: &mut P,
+    ) -> Result<ArchiveAudit, PairFault>
         ensures same { BorrowsSame self.old self.new }
         ensures read { BothRead A.state B.state (self.old, self.new) result (AuditsFrom first) }
     {
@@ -172,7 +184,7 @@ impl<A: Book, B: Book> Pair<'_, A, B> {
             sent_again: None,
         };
         for _ in start..most {
-            match self.next_newer(alloc, newer)? {
+            match self.next_newer(alloc, newer, progress)? {
                 NewerStep::Replayed(next) => newer = next,
                 NewerStep::Ended(found) => return Ok(found),
             }
@@ -183,16 +195,20 @@ impl<A: Book, B: Book> Pair<'_, A, B> {
 
     /// Compares the records of the book up to its archive's last stamp with those of the archive, and replays the newer
     /// ones from the archive's state on.
-    pub(crate) fn audited(&mut self, alloc: Global) -> Result<ArchiveAudit, PairFault>
+    pub(crate) fn audited<P: Progress>(
+        &mut self,
+        alloc: Global,
+        progress: &mut P,
+    ) -> Result<ArchiveAudit, PairFault>
         ensures same { BorrowsSame self.old self.new }
         ensures read { BothRead A.state B.state (self.old, self.new) result AuditsInOrder }
     {
         let loaded = of_opening(archive_switch(alloc, &mut *self.archive))?;
-        let other = self.other_place(alloc, last_of(&loaded))?;
+        let other = self.other_place(alloc, last_of(&loaded), progress)?;
         if let Some(place) = other {
             return Ok(ArchiveAudit::Differs(place));
         }
         let first = Replay::from(alloc, loaded)?;
-        self.audited_newer(alloc, first)
+        self.audited_newer(alloc, first, progress)
     }
 }

@@ -13,6 +13,7 @@ ghost use Rattle.acd_desk.specs.Overlap.{IsCutAt, IsCutOf, IsBefore, DecidesClea
 use crate::page::Page;
 use crate::pair::{Pair, PairFault, of_archive, of_current};
 use crate::placed::Placed;
+use crate::progress::Progress;
 use acd_book::{Book, BookFault, Kept};
 use acd_terms::Event;
 use std::alloc::Global;
@@ -191,11 +192,12 @@ fn earlier(first: Option<u64>, second: Option<u64>, last: u64) -> Option<u64>
 
 impl<A: Book, B: Book> Pair<'_, A, B> {
     // The mark of the first of a kind above a place, up to the last one, that only one of them has.
-    fn other<T: Placed>(
+    fn other<T: Placed, P: Progress>(
         &mut self,
         alloc: Global,
         above: u64,
         last: u64,
+        progress: &mut P,
     ) -> Result<Option<u64>, PairFault>
         ensures same { BorrowsSame self.old self.new }
         ensures read { BothRead A.state B.state (self.old, self.new) result
@@ -205,7 +207,10 @@ impl<A: Book, B: Book> Pair<'_, A, B> {
         let mut place = above;
         for _ in above..last {
             match pages.next(self, place, last)? {
-                Next::Same(next) => place = next,
+                Next::Same(next) => {
+                    progress.reached(next);
+                    place = next;
+                }
                 Next::Other(mark) => return Ok(Some(mark)),
                 Next::Over => return Ok(None),
             }
@@ -224,16 +229,22 @@ impl<A: Book, B: Book> Pair<'_, A, B> {
         if !clean {
             return Ok(Some(0));
         }
-        self.other::<Event>(alloc, cut.number, last)
+        self.other::<Event, ()>(alloc, cut.number, last, &mut ())
     }
 
     // The first stamp above the cut at which they differ.
-    fn other_above(&mut self, alloc: Global, cut: Cut, last: Cut) -> Result<Option<u64>, PairFault>
+    fn other_above<P: Progress>(
+        &mut self,
+        alloc: Global,
+        cut: Cut,
+        last: Cut,
+        progress: &mut P,
+    ) -> Result<Option<u64>, PairFault>
         ensures same { BorrowsSame self.old self.new }
         ensures read { BothRead A.state B.state (self.old, self.new) result
             (FindsAbove cut last) }
     {
-        let kept = self.other::<Kept>(alloc, cut.stamp, last.stamp)?;
+        let kept = self.other::<Kept, P>(alloc, cut.stamp, last.stamp, progress)?;
         let moment = self.other_moment(alloc, cut, last.number)?;
         let event = stamp_of_moment(&mut *self.archive, cut.stamp, last.stamp, moment);
         Ok(earlier(kept, of_archive(event)?, last.stamp))
@@ -241,12 +252,17 @@ impl<A: Book, B: Book> Pair<'_, A, B> {
 
     /// The first stamp up to the archive's last one at which the book isn't as the archive: by its record, or by an
     /// event of it, which has its stamp by its moment alone.
-    pub(crate) fn other_place(&mut self, alloc: Global, last: Cut) -> Result<Option<u64>, PairFault>
+    pub(crate) fn other_place<P: Progress>(
+        &mut self,
+        alloc: Global,
+        last: Cut,
+        progress: &mut P,
+    ) -> Result<Option<u64>, PairFault>
         ensures same { BorrowsSame self.old self.new }
         ensures read { BothRead A.state B.state (self.old, self.new) result
             (FindsPlace last) }
     {
         let cut = of_current(cut_of(&mut *self.book, last))?;
-        self.other_above(alloc, cut, last)
+        self.other_above(alloc, cut, last, progress)
     }
 }

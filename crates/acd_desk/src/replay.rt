@@ -18,6 +18,7 @@ use crate::audit::Audit;
 use crate::executing::executed;
 use crate::page::Page;
 use crate::placed::Placed;
+use crate::progress::Progress;
 use crate::same::{are_same_events, are_same_rows};
 use crate::seen_keys::SeenKeys;
 use crate::working::LoadedSwitch;
@@ -252,7 +253,12 @@ impl Replay {
     }
 
     // Replays the next record, where one is left.
-    fn next<B: Book>(self, alloc: Global, book: &mut B) -> Result<Step, BookFault>
+    fn next<B: Book, P: Progress>(
+        self,
+        alloc: Global,
+        book: &mut B,
+        progress: &mut P,
+    ) -> Result<Step, BookFault>
         requires { HasRoom self.loaded.switch.value }
         ensures read { BookReads B.state book.old book.new result (λ c found. IsStep c self found) }
         ensures counts { IfOk result (CountsOne self.loaded.switch.value) }
@@ -260,6 +266,7 @@ impl Replay {
         let Some(kept) = book.kept_after(self.loaded.switch.last_stamp())? else {
             return Ok(last_step(is_whole(book, &self.loaded.switch)?));
         };
+        progress.reached(kept.stamp);
         match self.replayed(alloc, book, &kept)? {
             Some(next) => Ok(Step::Replayed(next)),
             None => Ok(Step::Differs),
@@ -270,7 +277,11 @@ impl Replay {
 /// Replays the kept requests from an empty switch, record by record, and compares what they give with what is kept.
 /// Beside the tables it has one record and a page of events in memory at a time, and a record of the keys seen that has
 /// the same size however many there are.
-pub(crate) fn audited<B: Book>(alloc: Global, book: &mut B) -> Result<Audit, BookFault>
+pub(crate) fn audited<B: Book, P: Progress>(
+    alloc: Global,
+    book: &mut B,
+    progress: &mut P,
+) -> Result<Audit, BookFault>
     ensures { BookReads B.state book.old book.new result (IfOrdered IsAudit) }
 {
     let Some(first) = Replay::start(alloc, book)? else {
@@ -279,7 +290,7 @@ pub(crate) fn audited<B: Book>(alloc: Global, book: &mut B) -> Result<Audit, Boo
     let most = first.loaded.switch.tables().limits().requests;
     let mut replay = first;
     for count in 0..most {
-        match replay.next(alloc, book)? {
+        match replay.next(alloc, book, progress)? {
             Step::Replayed(next) => replay = next,
             Step::Differs => return Ok(Audit::Differs(count + 1)),
             Step::Ended => return Ok(Audit::Sound),

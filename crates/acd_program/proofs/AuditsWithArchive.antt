@@ -1,5 +1,5 @@
 -- An audit with an archive: what it leaves, by what its desk and the archive's book left.
-use Rattle.std.proofs.Common.{◌≡◌, ◌⊎◌, inl, inr, ℕ, Bool, true, false, List, Option, Result, Ok, Err, IfOk, IfErr, OnOk, OnErr, refl, sym, ap, subst, ◌∙◌}
+use Rattle.std.proofs.Common.{◌≡◌, ◌⊎◌, inl, ℕ, Bool, false, List, Option, Result, Ok, Err, IfOk, OnOk, refl, sym, ap, subst, ◌∙◌}
 use Rattle.std.specs.Io.KnownBytes.{Appends}
 use Rattle.sqlite.specs.Held.{Held}
 use Rattle.sqlite.specs.State.{State, HasCleanDisk}
@@ -10,13 +10,9 @@ use Rattle.acd_book.specs.Content.{Content, IsCounted}
 use Rattle.acd_book.specs.Order.{IsOrdered}
 use Rattle.acd_book.specs.State.{BookState}
 use Rattle.acd_book.proofs.BookSteps.{step_so, step_then}
-use Rattle.acd_desk.specs.declared.audit.ArchiveAudit.{ArchiveAudit}
-use Rattle.acd_desk.specs.declared.audit.ArchiveAudit.TheVariants as audit
-use Rattle.acd_desk.specs.declared.audit.AuditFault.{AuditFault}
 use Rattle.acd_book.specs.declared.fault.BookFault.{BookFault}
-use Rattle.acd_desk.specs.ArchiveAudits.{archive_part, desk_part, IsAuditedWith}
 use Rattle.acd_book.specs.BookReads.{Anything, ReadsIfOpen}
-use Rattle.acd_desk.specs.AuditWith.{StandsInTime, IsAuditWith}
+use Rattle.acd_desk.specs.AuditWith.{StandsInTime}
 use Rattle.acd_desk.specs.Opening.{Opened}
 use Rattle.acd_desk.specs.DeskState.{DeskState, InStep}
 use Rattle.acd_desk.specs.SoundContent.{IsSound}
@@ -33,7 +29,7 @@ use Rattle.acd_program.specs.declared.auditing.Finding.{Finding}
 use Rattle.acd_program.specs.declared.auditing.Finding.TheVariants.{Sound, Counted, SentAgain, SentAgainCounted, Differs}
 use Rattle.acd_program.specs.declared.desk.Done.{Done}
 use Rattle.acd_program.specs.declared.desk.Done.TheVariants as left
-use Rattle.acd_program.specs.WithArchive.{uncounted_with, counted_with, IsFindingWith, IsDeskFindingWith, IsFindingIn, IsFindingInOrder, IsFoundWithArchive, FindsWithArchive, WasRead, WereAsked, AskedOver, AskedIn, InArchive, AskedWithArchive, BookAskedWithArchive, AuditsWithArchive, AuditedWithArchive, LeavesArchive, LeavesBeside}
+use Rattle.acd_program.specs.WithArchive.{IsFindingWith, IsDeskFindingWith, IsFindingIn, IsFindingInOrder, IsFoundWithArchive, FindsWithArchive, WasRead, WereAsked, AskedOver, AskedIn, InArchive, AskedWithArchive, BookAskedWithArchive, AuditsWithArchive, AuditedWithArchive, LeavesArchive, LeavesBeside}
 use Rattle.acd_program.specs.AuditFindings.{HasCount, finding_line}
 use Rattle.acd_io.specs.SentBytes.{Begins}
 use Rattle.acd_files.specs.Connections.{IsShut, IsLaidIn, IsOpenedFrom}
@@ -67,49 +63,6 @@ archive_read old mid new found of read =
       answer = λ clean is. tt;
       stops = λ clean is c at. of.stops (read.step.clean clean) is c (read.unchanged.stops clean (sound clean is) c at);
     }
-
--- the finding of a desk, without a count
-finds_uncounted : (a : Content) (s : DeskState) (x : ArchiveAudit) → IsAuditWith a s.book.content x → IsDeskFindingWith a s (uncounted_with x)
-finds_uncounted a s audit.Sound h = h
-finds_uncounted a s (audit.SentAgain stamp) h = h
-finds_uncounted a s (audit.Differs place) h = h
-
-pub found_uncounted : (old_archive new_archive : BookState) (d e : DeskState) (x : ArchiveAudit) (found : Finding) → found ≡ uncounted_with x → IsAuditedWith old_archive new_archive d.book e.book (Ok x)
-    → IsFoundWithArchive old_archive new_archive d e (Ok found)
-found_uncounted old_archive new_archive d e x found is audited = λ clean sound current_clean current_sound opened current_opened stands ordered.
-    subst (IsDeskFindingWith old_archive.content d) (sym is) (finds_uncounted old_archive.content d x (audited clean sound current_clean current_sound opened current_opened stands ordered))
-
-pub has_no_count : (counts : Bool) (x : ArchiveAudit) (found : Finding) → found ≡ uncounted_with x → counts ≡ false → HasCount counts found
-has_no_count counts x found is none = subst (HasCount counts) (sym is) (without x)
-  where
-    without : (x : ArchiveAudit) → HasCount counts (uncounted_with x)
-    without audit.Sound = none
-    without (audit.SentAgain stamp) = none
-    without (audit.Differs place) = tt
-
--- with one
-finds_counted : (a : Content) (s : DeskState) (x : ArchiveAudit) (count : ℕ) → IsAuditWith a s.book.content x → (InStep s → count ≡ s.book.content.rows.last_stamp) → IsDeskFindingWith a s (counted_with x count)
-finds_counted a s audit.Sound count h is = (h, is)
-finds_counted a s (audit.SentAgain stamp) count h is = (h, is)
-finds_counted a s (audit.Differs place) count h is = h
-
-pub found_counted : (old_archive new_archive : BookState) (d m e : DeskState) (x : ArchiveAudit) (count : ℕ) (found : Finding) → found ≡ counted_with x count → IsAuditedWith old_archive new_archive d.book m.book (Ok x) → ReadDone d m (Ok x) Anything
-    → ReadDone m e (Ok count) (λ (c : Content) (n : ℕ). n ≡ c.rows.last_stamp) → IsFoundWithArchive old_archive new_archive d e (Ok found)
-found_counted old_archive new_archive d m e x count found is audited read counted = λ clean sound current_clean current_sound opened current_opened stands ordered.
-    let before : m.book.is_clean = counted.step.clean current_clean in
-    let up : m.book.is_open = read.stays before current_sound current_opened in
-    let same : m.book.content ≡ d.book.content = (read.unchanged.same before current_sound up).1 in
-    let of_step : InStep d → count ≡ d.book.content.rows.last_stamp
-    = λ step. counted.value current_clean (read.step.sound before current_sound) (read.desk.in_step before current_sound step) up ∙ ap (λ (c : Content). c.rows.last_stamp) same in
-    subst (IsDeskFindingWith old_archive.content d) (sym is) (finds_counted old_archive.content d x count (audited clean sound before current_sound opened current_opened stands ordered) of_step)
-
-pub has_a_count : (counts : Bool) (x : ArchiveAudit) (count : ℕ) (found : Finding) → found ≡ counted_with x count → counts ≡ true → HasCount counts found
-has_a_count counts x count found is some = subst (HasCount counts) (sym is) (with_count x)
-  where
-    with_count : (x : ArchiveAudit) → HasCount counts (counted_with x count)
-    with_count audit.Sound = some
-    with_count (audit.SentAgain stamp) = some
-    with_count (audit.Differs place) = tt
 
 -- what was found after the book that came of another was found after that one
 found_of : (old mid new : BookState) (d e : DeskState) (found : Finding) → IsHeldBook old mid → ReadsIfOpen mid new (Ok found) Anything → IsFoundWithArchive mid new d e (Ok found) → FindsWithArchive old new d e found
@@ -197,10 +150,6 @@ module _ {D : Type 0} (disk : Ghosts D) (IsFresh : Bool → D → Type 0) where
   pub audits_with_archive : (counts : Bool) (ending : Ending) (old now : BookState) (d e : DeskState) (found : Finding) → Opened old d → HasCount counts found → AskedWithArchive disk IsFresh d e found → e.book ≡ now
       → AuditsWithArchive disk IsFresh counts ending old now (left.Audited found ending)
   audits_with_archive counts ending old now d e found o counted asked is = (counted, subst (λ (b : BookState). BookAskedWithArchive disk IsFresh IsFindingInOrder old b found) is (book_asked_with_archive old d e found o asked), refl)
-
-  -- and the desk was opened over it
-  pub audits_from : {E : Type 0} (r : Result Done E) (counts : Bool) (ending : Ending) (old mid now : BookState) → mid ≡ old → IfOk r (AuditsWithArchive disk IsFresh counts ending mid now) → IfOk r (AuditsWithArchive disk IsFresh counts ending old now)
-  audits_from r counts ending old mid now is h = subst (λ (b : BookState). IfOk r (AuditsWithArchive disk IsFresh counts ending b now)) is h
 
   -- ---- over a connection ----
 

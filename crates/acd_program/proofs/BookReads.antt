@@ -1,5 +1,5 @@
 -- What is read of a book, by what its desk read; and over a connection, by what its book read.
-use Rattle.std.proofs.Common.{◌≡◌, ℕ, Result, Ok, Err, sym, subst, ◌∙◌}
+use Rattle.std.proofs.Common.{◌≡◌, ℕ, Ok, subst, ◌∙◌}
 use Rattle.acd_book.specs.Content.{Content}
 use Rattle.acd_book.specs.Order.{IsOrdered}
 use Rattle.acd_book.specs.State.{BookState}
@@ -10,11 +10,9 @@ use Rattle.acd_desk.specs.Audit.{IsFirstDifference}
 use Rattle.acd_desk.specs.CarriedContent.{Archive, no_archive, together}
 use Rattle.acd_desk.specs.DeskState.{DeskState, Starts, StartsWith}
 use Rattle.acd_desk.specs.SoundContent.{IsSound}
-use Rattle.acd_desk.specs.declared.fault.DeskFault.{DeskFault}
 use Rattle.acd_desk.specs.Opening.{Opened}
 use Rattle.acd_desk.specs.DeskReads.{ReadDone}
 use Rattle.acd_desk.proofs.Replays.AuditLaws.{one_audit}
-use Rattle.acd_desk.proofs.Pages.ReadsDone.{read_nothing, read_twice}
 use Rattle.acd_program.specs.declared.auditing.Finding.{Finding}
 use Rattle.acd_program.specs.declared.auditing.Finding.TheVariants.{Sound, Counted, SentAgain, SentAgainCounted, Differs}
 use Rattle.acd_program.specs.AuditFindings.{IsFinding, IsFindingOf}
@@ -41,12 +39,6 @@ asked_by old d e x P o t =
           subst (λ (c : Content). P c x) (same clean sound) (t.value clean starts.0 starts.2 starts.1);
       stops = λ clean sound c at. o.stops (t.step.clean clean) sound c (t.unchanged.stops clean (o.step.sound (t.step.clean clean) sound) c at);
     }
-
--- a fault ended a read after another one
-pub read_fault : {A B C : Type 0} (old mid new : DeskState) (x : A) (f : DeskFault) (r : Result C DeskFault) (P : Says A) (Q : Says B) (R : Says C)
-    → ReadDone old mid (Ok x) P → ReadDone mid new (Err f) Q → r ≡ Err f → ReadDone old new r R
-read_fault {C = C} old mid new x f r P Q R first second is =
-    subst (λ (y : Result C DeskFault). ReadDone old new y R) (sym is) (read_twice old mid new x (Err f) P R R first (read_nothing mid new f Q R second) (λ c before y after. after))
 
 -- whatever follows from an answer is an answer
 pub asked_so : {A B : Type 0} (old new : BookState) (x : A) (y : B) (P : Says A) (Q : Says B) → ((c : Content) → P c x → Q c y) → WasAsked old P x new → WasAsked old Q y new

@@ -4,8 +4,6 @@ use Rattle.acd_book.specs.Content.{Content}
 use Rattle.acd_book.specs.Order.{IsOrdered}
 use Rattle.acd_book.specs.State.{IfHonest}
 use Rattle.acd_book.specs.declared.book.Book.{Ghosts}
-use Rattle.acd_desk.specs.declared.audit.Audit.{Audit}
-use Rattle.acd_desk.specs.declared.audit.Audit.TheVariants as audit
 use Rattle.acd_desk.specs.Audit.{IsFirstDifference}
 use Rattle.acd_desk.specs.declared.desk.Desk.{Desk}
 use Rattle.acd_desk.specs.DeskState.{DeskState, InStep, state_of}
@@ -18,11 +16,6 @@ use Rattle.acd_program.specs.declared.outcome.Cut.{Cut}
 use Rattle.acd_program.specs.declared.outcome.Pruning.{Pruning}
 use Rattle.acd_program.specs.declared.outcome.Pruning.TheVariants as prune
 use Rattle.acd_sessions.specs.Output.{number_between, number_line}
-
--- an audit, without a count
-abbrev pub uncounted : Audit → Finding
-uncounted audit.Sound = Sound
-uncounted (audit.Differs place) = Differs place
 
 -- it is the audit of a content that is in order; a desk that is in step with it counts its kept records. Without an archive it is not known which request was sent again
 abbrev pub IsFinding : DeskState → Finding → Type 0

@@ -1,12 +1,14 @@
-//! The audit of a desk, with the number of executed requests where that is asked for.
+//! The audit of a desk, with the number of executed requests where that is asked for. A terminal shows how far it has
+//! come.
 
 ghost use Rattle.std.specs.Prelude.{◌≡◌, IfOk};
 ghost use Rattle.acd_desk.specs.ArchiveAudits.{desk_part, archive_part};
 ghost use Rattle.acd_book.specs.BookReads.{Anything, MayRead};
 ghost use Rattle.acd_desk.specs.DeskReads.{DeskRead};
 ghost use Rattle.acd_program.specs.WithArchive.{uncounted_with, counted_with, FindsWith};
-ghost use Rattle.acd_program.specs.AuditFindings.{uncounted, AuditsDesk, HasCount};
+ghost use Rattle.acd_program.specs.AuditFindings.{AuditsDesk, HasCount};
 
+use crate::progress::ProgressLine;
 use acd_book::Book;
 use acd_desk::{ArchiveAudit, Audit, AuditFault, Desk, DeskFault};
 
@@ -24,28 +26,27 @@ pub(crate) enum Finding {
     Differs(u64),
 }
 
-fn uncounted(audit: Audit) -> Finding
-    ensures { result ≡ uncounted audit }
-{
-    match audit {
-        Audit::Sound => Finding::Sound,
-        Audit::Differs(place) => Finding::Differs(place),
-    }
-}
-
 /// Audits what the desk's book holds.
-pub(crate) fn audited<B: Book>(desk: &mut Desk<B>, counts: bool) -> Result<Finding, DeskFault>
+pub(crate) fn audited<B: Book>(
+    rt: &HostRuntime,
+    desk: &mut Desk<B>,
+    counts: bool,
+) -> Result<Finding, DeskFault>
     ensures found { AuditsDesk B.Book desk.old desk.new result }
     ensures read { DeskRead B.Book desk.old desk.new result Anything }
     ensures counted { IfOk result (HasCount counts) }
 {
-    let read = desk.audit()?;
-    match read {
-        Audit::Sound if counts => {
-            let count = desk.executed()?;
-            Ok(Finding::Counted(count))
+    let count = desk.executed()?;
+    let mut line = ProgressLine::new(rt, count);
+    let read = desk.audit(&mut line);
+    line.end();
+    match read? {
+        Audit::Sound if counts => Ok(Finding::Counted(count)),
+        Audit::Sound => Ok(Finding::Sound),
+        Audit::Differs(place) => {
+            line.advise();
+            Ok(Finding::Differs(place))
         }
-        read => Ok(uncounted(read)),
     }
 }
 
@@ -71,6 +72,7 @@ fn counted_with(audit: ArchiveAudit, count: u64) -> Finding
 
 /// Audits what the desk's book holds with the archive that it goes on from.
 pub(crate) fn audited_with_archive<A: Book, B: Book>(
+    rt: &HostRuntime,
     desk: &mut Desk<B>,
     archive: &mut A,
     counts: bool,
@@ -80,12 +82,17 @@ pub(crate) fn audited_with_archive<A: Book, B: Book>(
     ensures archive { MayRead A.state archive.old archive.new (archive_part result) Anything }
     ensures counted { IfOk result (HasCount counts) }
 {
-    let read = desk.audit_with(archive)?;
-    if !counts {
-        return Ok(uncounted_with(read));
-    }
-    match desk.executed() {
-        Ok(count) => Ok(counted_with(read, count)),
-        Err(fault) => Err(AuditFault::Desk(fault)),
+    let count = match desk.executed() {
+        Ok(count) => count,
+        Err(fault) => return Err(AuditFault::Desk(fault)),
+    };
+    let mut line = ProgressLine::new(rt, count);
+    let read = desk.audit_with(archive, &mut line);
+    line.end();
+    let read = read?;
+    if counts {
+        Ok(counted_with(read, count))
+    } else {
+        Ok(uncounted_with(read))
     }
 }

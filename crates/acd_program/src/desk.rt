@@ -13,7 +13,6 @@ ghost use Rattle.acd_program.specs.Work.{text_left, status_left, IsPrintoutOf, P
 
 use crate::auditing::{Finding, audited};
 use crate::outcome::Pruning;
-use crate::progress::{Progress, ShownBook};
 use crate::status::Status;
 use acd_book::Book;
 use acd_command::{Printout, Work};
@@ -91,36 +90,22 @@ fn read_text<B: Book>(alloc: Global, book: B, printout: Printout) -> (Result<Don
     }
 }
 
-// Gives the book back. For one that differs, more may be printed on a terminal.
-fn book_of<B: Book>(book: ShownBook<'_, B>, found: Finding) -> B
-    ensures { result ≡ book.entry.inner }
-{
-    match found {
-        Finding::Differs(_) => book.into_unlike(),
-        _ => book.into_inner(),
-    }
-}
-
-// The replay is watched.
 fn audit<B: Book>(
-    alloc: Global,
-    book: ShownBook<'_, B>,
+    rt: &HostRuntime,
+    book: B,
     counts: bool,
     ending: Ending,
 ) -> (Result<Done, WorkFault>, B)
-    ensures over { AuditsBook B.Book book.entry.inner result counts ending }
-    ensures kept { OnlyAsked (B.state book.entry.inner) (B.state result.1) }
+    ensures over { AuditsBook B.Book book result counts ending }
+    ensures kept { OnlyAsked (B.state book) (B.state result.1) }
 {
-    let mut desk = match Desk::open(alloc, book) {
+    let mut desk = match Desk::open(rt.alloc(), book) {
         Ok(desk) => desk,
-        Err((fault, book)) => return (Err(WorkFault::from(fault)), book.into_inner()),
+        Err((fault, book)) => return (Err(WorkFault::from(fault)), book),
     };
-    match audited(&mut desk, counts) {
-        Ok(found) => (
-            Ok(Done::Audited(found, ending)),
-            book_of(desk.close(), found),
-        ),
-        Err(fault) => (Err(WorkFault::from(fault)), desk.close().into_inner()),
+    match audited(rt, &mut desk, counts) {
+        Ok(found) => (Ok(Done::Audited(found, ending)), desk.close()),
+        Err(fault) => (Err(WorkFault::from(fault)), desk.close()),
     }
 }
 
@@ -139,10 +124,7 @@ fn over_book<B: Book, W: Write>(
     match work {
         Work::Import(requests) => imported(rt.alloc(), book, requests, writer),
         Work::Print(printout) => read_text(rt.alloc(), book, printout),
-        Work::Audit { counts, ending } => {
-            let book = ShownBook::new(book, Progress::new(rt));
-            audit(rt.alloc(), book, counts, ending)
-        }
+        Work::Audit { counts, ending } => audit(rt, book, counts, ending),
     }
 }
 

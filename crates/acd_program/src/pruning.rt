@@ -16,7 +16,6 @@ use crate::auditing::{Finding, audited_with_archive};
 use crate::cut::{find_cut, is_place};
 use crate::fault::{ArchiveFault, Fault};
 use crate::outcome::Pruning;
-use crate::progress::{Progress, ShownBook};
 use crate::with_archive::found_and_closed;
 use acd_book::{Book, BookFault};
 use acd_command::Retention;
@@ -27,7 +26,6 @@ use acd_sessions::{WorkFault, archive_over, book_over};
 use acd_sqlbook::SqlBook;
 use sqlite::{Alter, Connection, FileFrom, FileStore};
 use sqlite_disk::{Disk, Start};
-use std::alloc::Global;
 
 // ---- what is to go ----
 
@@ -81,22 +79,21 @@ fn decide<A: Book, B: Book>(
 
 // ---- over a book and its archive ----
 
-// Audits the book with its archive. The replay is watched.
+// Audits the book with its archive.
 fn audited_beside<A: Book, B: Book>(
-    alloc: Global,
-    book: ShownBook<'_, B>,
+    rt: &HostRuntime,
+    book: B,
     archive: &mut A,
 ) -> (Result<Finding, WorkFault>, B)
-    ensures { EndedWith (asking IsFindingInOrder (lent A.Book archive) B.Book
-        book.entry.inner) result }
+    ensures { EndedWith (asking IsFindingInOrder (lent A.Book archive) B.Book book) result }
 {
-    let mut desk = match Desk::open(alloc, book) {
+    let mut desk = match Desk::open(rt.alloc(), book) {
         Ok(desk) => desk,
-        Err((fault, book)) => return (Err(WorkFault::from(fault)), book.into_inner()),
+        Err((fault, book)) => return (Err(WorkFault::from(fault)), book),
     };
-    match audited_with_archive(&mut desk, archive, false) {
-        Ok(found) => (Ok(found), desk.close().into_inner()),
-        Err(fault) => (Err(WorkFault::from(fault)), desk.close().into_inner()),
+    match audited_with_archive(rt, &mut desk, archive, false) {
+        Ok(found) => (Ok(found), desk.close()),
+        Err(fault) => (Err(WorkFault::from(fault)), desk.close()),
     }
 }
 
@@ -111,8 +108,7 @@ fn planned<A: Book, B: Book>(
     ensures { EndedWith (asking (IsPruningInOrder ending) (lent A.Book archive) B.Book
         book) result }
 {
-    let watched = ShownBook::new(book, Progress::new(rt));
-    let (asked, mut book) = audited_beside(rt.alloc(), watched, archive);
+    let (asked, mut book) = audited_beside(rt, book, archive);
     match asked {
         Ok(found) => {
             let decided = decide(archive, &mut book, found, ending, retention);

@@ -13,7 +13,6 @@ ghost use Rattle.acd_sessions.specs.Over.{database, Unserved};
 use crate::auditing::{Finding, audited_with_archive};
 use crate::desk::Done;
 use crate::fault::{ArchiveFault, Fault};
-use crate::progress::{Progress, ShownBook};
 use acd_book::{Book, BookFault};
 use acd_desk::Desk;
 use acd_files::{close_connection, connect_archive};
@@ -21,11 +20,10 @@ use acd_log::Ending;
 use acd_sessions::{WorkFault, archive_over, book_over};
 use sqlite::{Alter, Connection, FileFrom, FileStore};
 use sqlite_disk::{Disk, Start};
-use std::alloc::Global;
 
 // Asks the desk with the archive that a database holds.
 fn asked_over<S: Alter, B: Book>(
-    alloc: Global,
+    rt: &HostRuntime,
     desk: &mut Desk<B>,
     conn: Connection<S>,
     counts: bool,
@@ -37,11 +35,11 @@ fn asked_over<S: Alter, B: Book>(
     ensures spared { Unserved false (state S.Store conn) (state S.Store result.1) }
     ensures kept { OnlyAsked (state_of B.Book desk.old).book (state_of B.Book desk.new).book }
 {
-    let mut book = match archive_over(alloc, conn) {
+    let mut book = match archive_over(rt.alloc(), conn) {
         Ok(book) => book,
         Err((fault, conn)) => return (Err(WorkFault::from(fault)), conn),
     };
-    match audited_with_archive(desk, &mut book, counts) {
+    match audited_with_archive(rt, desk, &mut book, counts) {
         Ok(found) => (Ok(found), book.into_connection()),
         Err(fault) => (Err(WorkFault::from(fault)), book.into_connection()),
     }
@@ -61,7 +59,7 @@ pub(crate) fn found_and_closed<T: Copy>(
 
 // Asks the desk with the archive in files that were opened, and closes them.
 fn found_in<D: Disk + Drop, B: Book>(
-    alloc: Global,
+    rt: &HostRuntime,
     desk: &mut Desk<B>,
     conn: Connection<FileStore<D>>,
     counts: bool,
@@ -72,7 +70,7 @@ fn found_in<D: Disk + Drop, B: Book>(
     ensures spared { IsShutWith (Unserved false) conn }
     ensures kept { OnlyAsked (state_of B.Book desk.old).book (state_of B.Book desk.new).book }
 {
-    let (found, conn) = asked_over(alloc, desk, conn, counts);
+    let (found, conn) = asked_over(rt, desk, conn, counts);
     found_and_closed(found, close_connection(conn))
 }
 
@@ -90,38 +88,14 @@ fn found_with_archive<'a, S: Start, B: Book>(
     ensures kept { OnlyAsked (state_of B.Book desk.old).book (state_of B.Book desk.new).book }
 {
     let conn = connect_archive(rt, archive, start)?;
-    match found_in(rt.alloc(), desk, conn, counts) {
+    match found_in(rt, desk, conn, counts) {
         Ok(found) => Ok(found),
         Err(fault) => Err(ArchiveFault::Work(fault)),
     }
 }
 
-// Over a book whose replay is watched.
-fn audit_with_archive<'a, S: Start, B: Book>(
-    rt: &HostRuntime,
-    book: ShownBook<'_, B>,
-    start: S,
-    archive: &'a str,
-    counts: bool,
-    ending: Ending,
-) -> (Result<Done, Fault<'a>>, B)
-    ensures over { AuditsWith ⟦<FileFrom<S> as Disk>⟧ (counts, ending) B.Book book.entry.inner
-        result }
-    ensures left { IfErr result.0 (LeavesBeside ⟦<FileFrom<S> as Disk>⟧ IsFresh) }
-    ensures kept { OnlyAsked (B.state book.entry.inner) (B.state result.1) }
-{
-    let mut desk = match Desk::open(rt.alloc(), book) {
-        Ok(desk) => desk,
-        Err((fault, book)) => return (Err(Fault::Work(WorkFault::from(fault))), book.into_inner()),
-    };
-    match found_with_archive(rt, &mut desk, start, archive, counts) {
-        Ok(found) => (Ok(Done::Audited(found, ending)), desk.close().into_inner()),
-        Err(fault) => (Err(Fault::Archive(fault)), desk.close().into_inner()),
-    }
-}
-
 // Over a book.
-fn audit_watched<'a, S: Start, B: Book>(
+fn audit_with_archive<'a, S: Start, B: Book>(
     rt: &HostRuntime,
     book: B,
     start: S,
@@ -133,8 +107,14 @@ fn audit_watched<'a, S: Start, B: Book>(
     ensures left { IfErr result.0 (LeavesBeside ⟦<FileFrom<S> as Disk>⟧ IsFresh) }
     ensures kept { OnlyAsked (B.state book) (B.state result.1) }
 {
-    let book = ShownBook::new(book, Progress::new(rt));
-    audit_with_archive(rt, book, start, archive, counts, ending)
+    let mut desk = match Desk::open(rt.alloc(), book) {
+        Ok(desk) => desk,
+        Err((fault, book)) => return (Err(Fault::Work(WorkFault::from(fault))), book),
+    };
+    match found_with_archive(rt, &mut desk, start, archive, counts) {
+        Ok(found) => (Ok(Done::Audited(found, ending)), desk.close()),
+        Err(fault) => (Err(Fault::Archive(fault)), desk.close()),
+    }
 }
 
 /// Audits the desk in a database with the archive at a path, which is opened once the desk is.
@@ -157,6 +137,6 @@ pub(crate) fn over_archive<'a, C: Alter, S: Start>(
         Ok(book) => book,
         Err((fault, conn)) => return (Err(Fault::Work(WorkFault::from(fault))), conn),
     };
-    let (done, book) = audit_watched(rt, book, start, archive, counts, ending);
+    let (done, book) = audit_with_archive(rt, book, start, archive, counts, ending);
     (done, book.into_connection())
 }
