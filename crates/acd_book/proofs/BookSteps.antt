@@ -1,5 +1,5 @@
 -- Steps of a book, one after the other.
-use Rattle.std.proofs.Common.{◌≡◌, ◌≤◌, refl, ◌∙◌, arith}
+use Rattle.std.proofs.Common.{◌≤◌, refl, ◌∙◌, arith}
 use Rattle.acd_book.specs.Content.{Within}
 use Rattle.acd_book.specs.State.{BookState, IfHonest, BookStep, Unchanged}
 

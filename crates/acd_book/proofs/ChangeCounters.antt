@@ -8,7 +8,6 @@ use Rattle.acd_model.specs.Moves.{changed}
 use Rattle.acd_model.specs.Changes.{changed_by, rows_made}
 use Rattle.acd_model.specs.Writes.{with_group, with_station, with_agent, with_call, with_connection, with_monitor, without_call, without_connection, without_monitor, with_last}
 use Rattle.acd_model.proofs.ChangeLemmas.{changed_by_append}
-use Rattle.acd_lemmas.proofs.Changes.{limits-changed}
 
 last_event-changed : (s : Rows) (one : Change) → (changed s one).last_event ≡ s.last_event
 unfolding with_group with_station with_agent with_call with_connection with_monitor without_call without_connection without_monitor

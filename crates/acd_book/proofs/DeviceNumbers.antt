@@ -1,5 +1,5 @@
 -- Lists of the numbers of events, by device.
-use Rattle.std.proofs.Common.{◌≡◌, ℕ, ◌+◌, ◌<◌, ◌≤◌, ◌==◌, Bool, true, false, cond, ◌&&◌, nat_lt, leb, List, [], ◌∷◌, ◌++◌, length, take, drop, map, filter, min, get_or, Option, Some, Result, Ok, Err, OnOk, OnErr, ◌⊎◌, inl, inr, zero, suc, true≢false, refl, ap, sym, subst, ◌∙◌, eqb-true, arith, length-drop, length-take-le, take_all, append-nil}
+use Rattle.std.proofs.Common.{◌≡◌, ℕ, ◌+◌, ◌<◌, ◌≤◌, ◌==◌, Bool, true, false, cond, ◌&&◌, nat_lt, leb, List, [], ◌∷◌, ◌++◌, length, take, drop, map, filter, min, Option, Some, Result, Ok, Err, OnOk, OnErr, ◌⊎◌, inl, inr, zero, suc, true≢false, refl, ap, sym, subst, ◌∙◌, eqb-true, arith, length-drop, length-take-le, append-nil}
 use Rattle.std.specs.Prelude.{IfSome, is_err}
 use Rattle.std.specs.Map.{lookup}
 use Rattle.std.specs.List.{All}

@@ -1,7 +1,6 @@
 -- The events that a running monitor reports, and how a log that is numbered from 1 finds them.
 use Rattle.std.proofs.Common.{arith, ◌≡◌, ℕ, ◌+◌, ◌-◌, ◌<◌, ◌≤◌, ◌==◌, suc, max, Bool, true, cond, List, [], ◌∷◌, length, take, drop, filter, map, slice_get, Option, Some, None, inl, inr, refl, sym, ap, subst, ◌∙◌}
 use Rattle.std.specs.List.{cons_option, filter_map}
-use Rattle.std.proofs.lemmas.Bool.Decides.{nat_tests}
 use Rattle.acd_terms.specs.Lists.{Among, Every}
 use Rattle.acd_terms.proofs.Numbers.{not_zero}
 use Rattle.acd_terms.specs.declared.event.Event.{Event}

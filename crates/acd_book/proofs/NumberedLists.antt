@@ -1,6 +1,6 @@
 -- Lists that are numbered on from a number: the entries above one of the numbers are those after its place.
-use Rattle.std.proofs.Common.{arith, ◌≡◌, ℕ, zero, suc, ◌+◌, ◌≤◌, Bool, true, false, cond, ◌&&◌, ◌==◌, nat_lt, List, [], ◌∷◌, ◌++◌, length, drop, slice_get, refl, ap, ap₂, ◌∙◌, sym, eqb-true, subst, filter}
-use Rattle.std.proofs.Common.{true≢false, Option, Some, None, ◌<◌, inl, inr}
+use Rattle.std.proofs.Common.{arith, ◌≡◌, ℕ, zero, suc, ◌+◌, ◌≤◌, Bool, true, cond, ◌&&◌, ◌==◌, nat_lt, List, [], ◌∷◌, ◌++◌, length, drop, slice_get, refl, ap, ap₂, ◌∙◌, sym, eqb-true, subst, filter}
+use Rattle.std.proofs.Common.{Option, Some, None, ◌<◌, inl, inr}
 use Rattle.acd_terms.specs.Lists.{Every}
 use Rattle.acd_book.specs.declared.kept.Kept.{Kept}
 use Rattle.acd_book.specs.Content.{IsKeptAfter}

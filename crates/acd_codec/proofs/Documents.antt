@@ -11,7 +11,7 @@ use Rattle.json.specs.Value.{value_view, items_view, members_view}
 use Rattle.json.specs.Json as json
 use Rattle.json.specs.Find as found
 use Rattle.serde_json.specs.Data.{Num, Data, item, Members, no_members, number, array, object, put}
-use Rattle.serde_json.specs.Find.{get, get_member, as_number, as_u64}
+use Rattle.serde_json.specs.Find.{get, get_member, as_u64}
 use Rattle.serde_json.specs.Read.{of_json, of_items, of_members, number_of, number_from, is_integer}
 use Rattle.serde_json.proofs.Views.{get_member-put, get_member-put_other}
 

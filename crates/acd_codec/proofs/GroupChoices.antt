@@ -10,7 +10,7 @@ use Rattle.json.specs.declared.value.Value.{Value}
 use Rattle.acd_terms.specs.Lists.{is_less, ascends, put_by}
 use Rattle.acd_terms.proofs.Numbers.{cmp_equal, less_is, eqb_self, eqb_swap, tail_ascends}
 use Rattle.acd_terms.specs.Groups.{most_groups, is_one_of, are_groups, is_choice, with_one_more, with_all, some_of}
-use Rattle.acd_codec.specs.MemberReading.{devices_of, devices_named, are_distinct, ascending, choice_of}
+use Rattle.acd_codec.specs.MemberReading.{devices_named, are_distinct, ascending, choice_of}
 
 -- these groups, with those that the items name
 abbrev pub with_named : {A : Type 0} → List ℕ → List (Value A) → Option (List ℕ)

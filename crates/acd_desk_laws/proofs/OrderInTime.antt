@@ -1,5 +1,5 @@
 -- A sound content keeps to time, also where an archive has its older records.
-use Rattle.std.proofs.Common.{◌≡◌, ℕ, ◌+◌, ◌≤◌, List, [], ◌∷◌, ◌++◌, length, max, Option, Some, None, refl, sym, ap, subst, ◌∙◌, arith}
+use Rattle.std.proofs.Common.{◌≡◌, ℕ, ◌+◌, ◌≤◌, List, [], ◌∷◌, ◌++◌, length, max, Option, Some, None, refl, sym, subst, ◌∙◌, arith}
 use Rattle.std.proofs.Math.Nat.{le_refl}
 use Rattle.std.proofs.lemmas.List.{length-append}
 use Rattle.acd_terms.specs.Lists.{Every}
@@ -17,7 +17,7 @@ use Rattle.acd_switch.proofs.RoomOfRules.{moment_after}
 use Rattle.acd_book.specs.declared.kept.Kept.{Kept}
 use Rattle.acd_book.specs.Content.{Content, empty_content, GoOn}
 use Rattle.acd_book.specs.Memory.{stamp_of, number_of}
-use Rattle.acd_book.specs.Order.{Rises, IsOrdered}
+use Rattle.acd_book.specs.Order.{IsOrdered}
 use Rattle.acd_desk.specs.AbstractDesk.{stepped, record_of, executed, run_from, firsts}
 use Rattle.acd_desk.specs.SoundContent.{IsSound, arrivals_of}
 use Rattle.acd_desk.specs.CarriedContent.{Archive, together}

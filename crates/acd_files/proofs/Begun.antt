@@ -1,5 +1,5 @@
 -- Two files before the store has them, step by step.
-use Rattle.std.proofs.Common.{◌≡◌, ◌↔◌, ℕ, ◌<◌, ◌≤◌, Bool, false, length, Result, IfOk, IfErr, IsTrue, true≢false, refl, sym, ap, subst, subst₂, ◌∙◌, inl, inr, arith, List, Ok, Err}
+use Rattle.std.proofs.Common.{◌≡◌, ◌↔◌, ℕ, ◌<◌, ◌≤◌, Bool, false, length, Result, IfOk, IfErr, IsTrue, true≢false, refl, sym, ap, subst, subst₂, ◌∙◌, arith, List, Ok, Err}
 use Rattle.std.proofs.lemmas.Bool.{and_parts}
 use Rattle.std.proofs.lemmas.Result.{IfErr-weaker}
 use Rattle.sqlite_disk.specs.declared.Disk.{Ghosts}

@@ -1,12 +1,12 @@
 -- Bytes that are given on, one after the other.
-use Rattle.std.proofs.Common.{◌≡◌, ◌==◌, ℕ, ◌+◌, ◌<◌, Bool, true, false, ◌&&◌, if◌then◌else◌, List, [], ◌∷◌, ◌++◌, Option, Some, None, option_map, IfSome, length, take, drop, get_or, refl, sym, ap, ◌∙◌, subst, codes, append_assoc, append-nil, add-one, arith, ◌≤◌}
+use Rattle.std.proofs.Common.{◌≡◌, ◌==◌, ℕ, ◌+◌, ◌<◌, Bool, true, false, ◌&&◌, if◌then◌else◌, List, [], ◌∷◌, ◌++◌, Option, Some, None, option_map, IfSome, length, take, drop, get_or, refl, sym, ap, ◌∙◌, subst, append_assoc, append-nil, add-one, arith, ◌≤◌}
 use Rattle.std.proofs.lemmas.Bool.{true≢false}
-use Rattle.std.proofs.lemmas.List.{append_cancel_right, length-take, nil_from_length}
+use Rattle.std.proofs.lemmas.List.{length-take, nil_from_length}
 use Rattle.std.proofs.Math.Nat.{min-eq_left}
 use Rattle.std.proofs.Math.Seq.{take-suc, drop-cons, drop-nil}
 use Rattle.std.specs.Io.KnownBytes.{Consumes, Keeps, IsAtEnd}
 use lib.Seq.{take-append_seam}
-use Rattle.acd_io.specs.Order.{begins_order, before_order, has_order, is_held, mark, marked, marked_from, PassesOrder}
+use Rattle.acd_io.specs.Order.{begins_order, before_order, has_order, is_held, mark, marked_from, PassesOrder}
 use Rattle.acd_io.proofs.Orders.{order_more, not_stopped}
 
 -- the first byte comes before the order

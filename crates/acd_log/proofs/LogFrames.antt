@@ -2,7 +2,7 @@
 use Rattle.std.proofs.Common.{◌≡◌, ◌≢◌, ◌↔◌, ℕ, suc, ◌+◌, ◌-◌, ◌<◌, ◌≤◌, Bool, true, false, List, length, take, drop, IsTrue, sym, refl, ◌∙◌, ap, ap₂, subst, subst₂, inl, inr, arith}
 use Rattle.std.proofs.lemmas.Bool.{cases_lt, cases_order, false≢true}
 use Rattle.sqlite_wal.specs.Format.{part, be32, stored_sum, IsFrame, commit_size}
-use Rattle.sqlite_wal.specs.Recovery.{frame_at, frames_len, header, frame, sum_before, Passes}
+use Rattle.sqlite_wal.specs.Recovery.{frame_at, header, frame, sum_before, Passes}
 use Rattle.sqlite_wal.proofs.PartLemmas.{part-part, frames_len-zero, frames_len-suc, frames_len-le}
 use Rattle.sqlite_wal.proofs.FormatLemmas.{be32-part}
 use Rattle.acd_log.specs.Ending.{IsSalted, IsFirstBad, IsBeforeCommit}

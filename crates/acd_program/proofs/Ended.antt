@@ -1,6 +1,5 @@
 -- Work, or lines, that a fault ended: what is left, step by step.
-use Rattle.std.proofs.Common.{◌≡◌, inl, inr, ℕ, Bool, true, false, List, Option, Result, Ok, Err, IfOk, OnErr, IsTrue, sym, subst}
-use Rattle.std.proofs.lemmas.Result.{on_err_weaker}
+use Rattle.std.proofs.Common.{◌≡◌, inl, inr, ℕ, Bool, true, false, List, Option, Result, IsTrue}
 use Rattle.sqlite_disk.specs.declared.Disk.{Ghosts}
 use Rattle.sqlite_store.specs.declared.store.FileStore.{FileStore}
 use Rattle.sqlite.specs.Held.{Held, state}
@@ -22,18 +21,16 @@ use Rattle.acd_desk.proofs.Desks.Sessions.{session_ran}
 use Rattle.acd_io.specs.SentBytes.{Breaks}
 use Rattle.acd_lines.specs.Lines.{LinesAnswered, FirstRequests, RequestsAnswered, Streams}
 use Rattle.acd_lines.proofs.WeakerAnswers.{requests_so}
-use Rattle.acd_program.specs.Ended.{OnlyReads, IsBegunPlan, IsBegun, StoppedOver, WorkStopped, WorkLeft}
-use Rattle.acd_files.specs.Connections.{IsShut}
+use Rattle.acd_program.specs.Ended.{IsBegunPlan, IsBegun, StoppedOver, WorkStopped, WorkLeft}
 use Rattle.acd_program.specs.AuditFindings.{IsFindingOf}
 use Rattle.acd_sessions.specs.LinesOver.{NoneMade}
-use Rattle.acd_sessions.specs.Over.{IsSession, LeavesBooks, OverConnection, Unserved}
+use Rattle.acd_sessions.specs.Over.{IsSession, LeavesBooks}
 use Rattle.acd_sessions.specs.Sessions.{SessionLeaves, DatabaseLeaves}
 use Rattle.acd_sessions.specs.ConnectionBook.{IsHeldBook, IsTaken}
 use Rattle.acd_program.specs.Work.{WorkDone}
 use Rattle.acd_sessions.specs.declared.fault.WorkFault.{WorkFault}
 use Rattle.acd_command.specs.declared.asked.Work.{Work}
 use Rattle.acd_command.specs.declared.asked.Work.TheVariants.{Import, Print, Audit}
-use Rattle.acd_program.specs.declared.desk.Done.{Done}
 use Rattle.acd_sessions.proofs.Over.{over_makes, session_of, over_connection}
 use Rattle.acd_sessions.proofs.Called.{called, leaves_books, session_called}
 use Rattle.acd_sessions.proofs.LeftDesks.{seen_made}

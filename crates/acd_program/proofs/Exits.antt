@@ -1,5 +1,5 @@
 -- How a command ends, by its exit status.
-use Rattle.std.proofs.Common.{◌≡◌, ◌≢◌, ◌⊎◌, ◌≤◌, ℕ, List, Option, inl, inr, refl, sym, ap, subst, ◌∙◌, arith}
+use Rattle.std.proofs.Common.{◌≡◌, ◌⊎◌, ◌≤◌, ℕ, List, inl, inr, refl, sym, ap, subst, ◌∙◌, arith}
 use Rattle.sqlite_disk.specs.declared.Disk.{Ghosts}
 use Rattle.sqlite_disk.specs.declared.calls.Calls as calls
 use Rattle.sqlite_disk.specs.declared.start.Start as start
@@ -10,7 +10,7 @@ use Rattle.clap.specs.declared.error.kind.ErrorKind.{ErrorKind}
 use Rattle.clap.specs.declared.error.kind.ErrorKind.TheVariants.{OutOfMemory}
 use Rattle.acd_lines.specs.Lines.{Streams, Output}
 use Rattle.acd_command.specs.CommandLine.{IsTaskOf, IsUntaken, IsRefused, IsRefusedBy, IsHelp}
-use Rattle.acd_program.specs.FileTasks.{IsNoTask, ExitsTask, DoneOrHelp, FaultEnded}
+use Rattle.acd_program.specs.FileTasks.{ExitsTask, DoneOrHelp, FaultEnded}
 use Rattle.acd_program.specs.Statuses.{IsDone, EndsUnasked, IfDone, exit_number, fault_exit, look_exit, opening_exit, PrintsAtMostFaults, PrintsOnSuccess}
 use Rattle.acd_command.specs.declared.asked.Task.{Task}
 use Rattle.acd_files.specs.declared.fault.LookFault.{LookFault}

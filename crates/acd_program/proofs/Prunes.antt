@@ -1,24 +1,21 @@
 -- A prune: what it does and leaves, by what its audit, its search and its book left.
-use Rattle.std.proofs.Common.{◌≡◌, ◌≤◌, ◌⊎◌, inl, inr, ℕ, Bool, true, false, List, Option, Some, None, Result, Ok, Err, IfOk, MatchResult, OnOk, IsTrue, refl, sym, ap, subst, ◌∙◌, true≢false}
-use Rattle.std.specs.Bool.{Decides, ⊤}
-use Rattle.sqlite_trees.specs.Tree.{Trees}
+use Rattle.std.proofs.Common.{◌≡◌, inl, inr, ℕ, Bool, true, false, List, Option, Result, Ok, Err, IfOk, MatchResult, OnOk, refl, sym, ap, subst, ◌∙◌, true≢false}
+use Rattle.std.specs.Bool.{⊤}
 use Rattle.sqlite.specs.Held.{Held}
 use Rattle.sqlite.specs.State.{State}
 use Rattle.sqlite.specs.Files.{file_state}
 use Rattle.sqlite_disk.specs.declared.Disk.{Ghosts}
 use Rattle.sqlite_store.specs.declared.store.FileStore.{FileStore}
-use Rattle.acd_terms.specs.declared.rows.Rows.{Rows}
 use Rattle.acd_book.specs.Content.{Content, IsCounted}
 use Rattle.acd_book.specs.Order.{IsOrdered}
 use Rattle.acd_book.specs.PrunedContent.{pruned}
-use Rattle.acd_book.specs.State.{BookState, Commits, IfHonest, Reads}
+use Rattle.acd_book.specs.State.{BookState, Commits, Reads}
 use Rattle.acd_book.specs.declared.fault.BookFault.{BookFault}
 use Rattle.acd_book.proofs.BookSteps.{step_so, step_then}
 use Rattle.acd_desk.specs.AuditWith.{StandsInTime, HoldsArchive}
 use Rattle.acd_book.specs.BookReads.{Anything, ReadsIfOpen}
 use Rattle.acd_desk.specs.CarriedContent.{Archive, together}
 use Rattle.acd_desk.specs.Opening.{Opened}
-use Rattle.acd_desk.specs.Overlap.{IsCleanCut}
 use Rattle.acd_desk.specs.Pairs.{BookCall}
 use Rattle.acd_desk.specs.Pruning.{IsPlace}
 use Rattle.acd_desk.specs.DeskReads.{ReadDone}
@@ -27,7 +24,6 @@ use Rattle.acd_desk.specs.SoundContent.{IsSound}
 use Rattle.acd_desk.proofs.Archives.CarriedPart.{counted_led, sound_is_led}
 use Rattle.acd_desk.proofs.Archives.NewerRuns.{led_holds}
 use Rattle.acd_desk.proofs.Archives.Pruning.{prune_loses_nothing, prune_stays_sound, prune_stays_sent_again}
-use Rattle.acd_book.proofs.ReadsAhead.{by_read, known, read_nothing, read_ok, read_twice}
 use Rattle.acd_log.specs.declared.ending.Ending.{Ending}
 use Rattle.acd_log.specs.declared.ending.Ending.TheVariants.{Plain, Early, Headless}
 use Rattle.acd_sqlbook.specs.Caches.{followed}
@@ -45,15 +41,13 @@ use Rattle.acd_program.specs.declared.outcome.Pruning.TheVariants as prune
 use Rattle.acd_program.specs.declared.status.Status.{Status}
 use Rattle.acd_files.specs.Connections.{IsShut, IsLaidIn, IsOpenedFrom}
 use Rattle.acd_sessions.specs.Over.{OnlyAsked, LeavesBooks, OverConnection, Unserved}
-use Rattle.acd_program.specs.AuditFindings.{pruning_line}
 use Rattle.acd_program.specs.Pruning.{is_well, goes_on, MayGoOn, IsPruningOf, IsPruningInOrder, DecidesPlace, IsPrunedTo, IsPruningDone, WasLeft, AskedBoth, IsDecision, WasDecided, CarriesOut, OnlyPruned, WasPruned, ArePlanned, BookPruned, BookLeft, LeavesPruned, LeftOver}
 use Rattle.acd_sessions.specs.ConnectionBook.{IsHeldBook, IsTaken}
 use Rattle.acd_files.specs.Logs.{IsSomeEnding}
 use Rattle.acd_program.specs.Tasks.{PrunedWith}
 use Rattle.acd_program.specs.TasksEnded.{PruneCut, LeftWithArchive}
-use Rattle.acd_program.specs.WithArchive.{IsFindingWith, IsFindingInOrder, IsFoundWithArchive, InArchive, BookAskedWithArchive, IsShutWith, LeavesArchive, LeavesBeside, OverArchive, WasRead, WereAsked}
+use Rattle.acd_program.specs.WithArchive.{IsFindingWith, IsFindingInOrder, IsFoundWithArchive, BookAskedWithArchive, LeavesArchive, LeavesBeside, OverArchive, WasRead, WereAsked}
 use Rattle.acd_program.specs.Work.{IsPrinted, WasAsked}
-use Rattle.acd_io.specs.SentBytes.{Begins}
 use Rattle.acd_program.proofs.BookReads.{asked_by, asked_of, asked_so}
 use Rattle.acd_program.proofs.AuditsWithArchive.{archive_read, asked_clean, in_archive_so, plainly}
 use Rattle.acd_sessions.proofs.Called.{called, leaves_books}

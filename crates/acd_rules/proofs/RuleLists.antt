@@ -1,5 +1,5 @@
 -- Lists as the tests of rules go over them.
-use Rattle.std.proofs.Common.{◌≡◌, ◌∙◌, ap, sym, ℕ, ◌+◌, Bool, true, false, cond, List, [], ◌∷◌, length, refl, arith}
+use Rattle.std.proofs.Common.{◌≡◌, ◌∙◌, ap, sym, ℕ, Bool, true, false, cond, List, [], ◌∷◌, length, refl, arith}
 use Rattle.std.specs.declared.cmp.Ordering.{Ordering}
 use Rattle.std.specs.Prelude.{filter, find, slice_get, Option, Some, None, if◌then◌else◌, not, ◌||◌, ◌&&◌, ◌==◌}
 use Rattle.std.specs.Ordering.{nat_cmp, is_eq}

@@ -14,7 +14,7 @@ use Rattle.acd_desk.specs.ArrivalsAndReads.{Attended}
 use Rattle.acd_desk.specs.Clock.{clock_tick, Looked}
 use Rattle.acd_desk.specs.DeskState.{DeskState, state_of}
 use Rattle.acd_desk.proofs.Desks.CallsInTurn.{Settles, attended_more, attended_read}
-use Rattle.acd_lines.specs.Lines.{Streams, streams, LinesDone, EndedBy, output, Output}
+use Rattle.acd_lines.specs.Lines.{Streams, streams, LinesDone, EndedBy, Output}
 use Rattle.acd_lines.specs.declared.fault.LinesFault.{LinesFault}
 use Rattle.acd_lines.specs.declared.fault.LinesFault.TheVariants as lines
 use Rattle.acd_http.specs.LinesWithReads.{arrivals_of_reads, answers_of, LinesLeadToTheRun}

@@ -4,7 +4,7 @@ use Rattle.sqlite.specs.Listing.{understood}
 use Rattle.sqlite_tied.specs.Compute.{everything}
 use Rattle.acd_sql_columns.specs.declared.tables.Table.TheVariants as table
 use Rattle.acd_sql_columns.specs.declared.texts.TheConstants.{SELECT_STANDING_AGENT_GROUPS}
-use Rattle.acd_sql_columns.specs.Schema.{tables_1, added_in_2, names_of, after_first}
+use Rattle.acd_sql_columns.specs.Schema.{tables_1, added_in_2, names_of}
 use Rattle.acd_sql_columns.specs.Schema as schema
 use Rattle.acd_sql_columns.proofs.QueryAnswers.{columns, no_limit}
 use Rattle.acd_sql_columns.proofs.Listings.{Listing}

@@ -1,5 +1,5 @@
 -- Rows that are canonical, and in their ranges, are those of a content.
-use Rattle.std.proofs.Common.{◌≡◌, ◌==◌, ◌&&◌, ◌||◌, ℕ, ℤ, pos, negsuc, zero, suc, length, drop, map, not, slice_get, List, [], ◌∷◌, ◌++◌, inl, inr, Option, Some, None, Bool, true, false, IsTrue, refl, sym, ap, ap₂, subst, subst₂, ◌∙◌, arith, ◌+◌, ◌<◌, ◌≤◌}
+use Rattle.std.proofs.Common.{◌≡◌, ◌==◌, ◌&&◌, ◌||◌, ℕ, ℤ, pos, negsuc, zero, suc, length, drop, map, not, slice_get, List, [], ◌∷◌, ◌++◌, inl, inr, Option, Some, Bool, true, false, IsTrue, refl, sym, ap, ap₂, subst, subst₂, ◌∙◌, arith, ◌+◌, ◌<◌, ◌≤◌}
 use Rattle.std.specs.List.{AllByRecursion}
 use Rattle.std.specs.Option.{is_some}
 use Rattle.std.specs.Ordering.{int_cmp, is_eq, is_ne}

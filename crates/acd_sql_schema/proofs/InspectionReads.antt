@@ -2,7 +2,7 @@
 use Rattle.std.proofs.lemmas.Grind.{common_steps}
 use Rattle.std.proofs.lemmas.Bool.Decides.{nat_tests}
 use Rattle.std.proofs.lemmas.List.Sorted.{length_permutation}
-use Rattle.std.proofs.Common.{◌≡◌, ◌&&◌, ◌==◌, ℕ, ◌+◌, ◌<◌, ◌≤◌, zero, suc, length, map, not, cond, take, get_or, arith, List, [], ◌∷◌, ◌++◌, inl, inr, Result, Ok, Err, Option, Some, None, Bool, true, false, IsTrue, IfOk, refl, sym, ap, subst, subst₂, ◌∙◌}
+use Rattle.std.proofs.Common.{◌≡◌, ◌==◌, ℕ, ◌+◌, ◌<◌, ◌≤◌, zero, suc, length, map, not, cond, take, get_or, arith, List, [], ◌∷◌, ◌++◌, inl, inr, Result, Ok, Err, Option, Some, None, Bool, true, false, IsTrue, IfOk, refl, sym, ap, subst, subst₂, ◌∙◌}
 use Rattle.std.specs.Prelude.{Vec, IsPermutation, ⊤}
 use Rattle.std.specs.List.{AllByRecursion}
 use Rattle.std.specs.declared.alloc.Global.{Global}
@@ -27,7 +27,7 @@ use Rattle.acd_sql_schema.specs.declared.verdict.VersionRead.{VersionRead}
 use Rattle.acd_sql_schema.specs.declared.verdict.VersionRead.TheVariants.{Of, Faulty}
 use Rattle.acd_sql_schema.specs.declared.verdict.Page.{Page}
 use Rattle.acd_sql_schema.specs.declared.verdict.Page.TheVariants.{Bad, Last, More}
-use Rattle.acd_sql_columns.specs.AnyRows.{is_good, is_good_in, are_good, rows_in, table_of_log, has_meta, Numbered, AreNumbered, AreSameFirst, BeginsAsBook, schema_of, Covers, is_beside, is_ranked, IsCanonicalAs, FindsGood, FindsLow, IsPageRows}
+use Rattle.acd_sql_columns.specs.AnyRows.{is_good_in, table_of_log, Numbered, AreNumbered, AreSameFirst, BeginsAsBook, schema_of, Covers, is_beside, is_ranked, IsCanonicalAs, FindsGood, FindsLow, IsPageRows}
 use Rattle.acd_sql_schema.specs.Inspection.{is_good_after, version_read_in, version_read_of, tables_of, FindsGoodAfter, IsBadOf, IsPageOfLog, IsLogPage, IsVersionRead, IsVersionIn, IsRowFound, IsPlaceFound, IsFound, IsUnlike}
 use Rattle.acd_sql_columns.specs.Transactions.{NoStop}
 use Rattle.acd_sql_columns.specs.Values.{whole_at}
@@ -41,7 +41,7 @@ use Rattle.acd_sql_columns.proofs.KeyedRows.{apart}
 use Rattle.acd_sql_columns.proofs.QueryResults.{mapped_all, moved_all}
 use Rattle.acd_sql_columns.proofs.Listings.{version_begins}
 use Rattle.acd_sql_schema.proofs.LogPages.{page_is, log_found}
-use Rattle.acd_sql_columns.proofs.SnapshotReads.{sees_on, sees_fail, sees_then, sees_here}
+use Rattle.acd_sql_columns.proofs.SnapshotReads.{sees_on, sees_fail, sees_then}
 use Rattle.acd_lemmas.proofs.Numbers.{same_number}
 
 -- ---- rows

@@ -1,6 +1,6 @@
 -- The rows beside those of agents and of groups: none in version 1.
-use Rattle.std.proofs.Common.{◌≡◌, ◌==◌, ◌&&◌, ◌≤◌, ℕ, ℤ, suc, Bool, true, false, cond, List, [], ◌∷◌, length, map, filter, drop, nat_le, inl, inr, Option, Some, None, refl, sym, ap, ap₂, subst, ◌∙◌, arith}
-use Rattle.std.specs.List.{AllByRecursion, list_all, list_any}
+use Rattle.std.proofs.Common.{◌≡◌, ◌==◌, ◌≤◌, ℕ, ℤ, suc, Bool, true, false, cond, List, [], ◌∷◌, length, map, filter, drop, nat_le, inl, inr, Option, Some, None, refl, sym, ap, ap₂, subst, ◌∙◌, arith}
+use Rattle.std.specs.List.{list_all, list_any}
 use Rattle.std.specs.Option.{is_some}
 use Rattle.std.specs.Ordering.{match_ordering}
 use Rattle.std.specs.declared.cmp.Ordering.{Ordering}

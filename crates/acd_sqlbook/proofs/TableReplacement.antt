@@ -1,9 +1,9 @@
 -- A commit of tables makes them of the content that they follow.
-use Rattle.std.proofs.Common.{◌≡◌, List, Result, Ok, Err, IsTrue, IfOk, OnOk, OnErr, refl, sym, ap, ap₂, subst, ◌∙◌}
+use Rattle.std.proofs.Common.{◌≡◌, List, Result, Ok, Err, IfOk, refl, sym, ap, ap₂, subst, ◌∙◌}
 use Rattle.std.specs.Prelude.{Vec}
 use Rattle.std.specs.declared.alloc.Global.{Global}
 use Rattle.sqlite.specs.declared.error.Error.{Error}
-use Rattle.sqlite.specs.State.{State, HasCleanDisk}
+use Rattle.sqlite.specs.State.{State}
 use Rattle.acd_terms.specs.declared.event.Event.{Event}
 use Rattle.acd_terms.specs.declared.rows.Rows.{Rows}
 use Rattle.acd_model.specs.Changes.{changed_by}
@@ -17,7 +17,7 @@ use Rattle.acd_sql_columns.specs.declared.tables.Table.TheVariants as table
 use Rattle.acd_sqlbook.specs.Calls.{HasRead, HasReplaced, ChangesLeadTo}
 use Rattle.acd_sqlbook.specs.Commit.{made_by}
 use Rattle.acd_sql_columns.specs.Relations.{meta_of}
-use Rattle.acd_sql_columns.specs.Transactions.{HoldsContent, AddsStop}
+use Rattle.acd_sql_columns.specs.Transactions.{HoldsContent}
 use Rattle.acd_sql_columns.proofs.RowsOfRecords.{groups_rise, agents_rise}
 use Rattle.acd_sql_differences.specs.ChangeOrder.{rows_differences}
 use Rattle.acd_sql_differences.specs.Transition.{HasTables}

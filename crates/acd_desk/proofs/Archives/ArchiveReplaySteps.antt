@@ -229,7 +229,7 @@ next_read {a = a} {b = b} r {next = next} from_last is read =
 
 pub step_replayed : {a b e : Books} {r : NewerReplay} {k : Kept} {played : Option NewerReplay} {next : NewerReplay} → ReadsFrom a b (Ok (Some k)) (IsNext r)
     → ReadsFrom b e (Ok played) (PlaysWith r k) → played ≡ Some next → StepsOnWith (newer_rows r) k played
-    → (newer_rows r).last_stamp < (newer_rows r).limits.requests → ReadsFrom a e (Ok (step.Replayed next)) (IsStepWith r)
+    → HasRoom (newer_rows r) → ReadsFrom a e (Ok (step.Replayed next)) (IsStepWith r)
 step_replayed {r = r} {k = k} {next = next} at played is goes room =
     both_ok (both_and at (both_as is played))
     (λ p q both g. newer_next p q r next k g both.0 (both.1 (knows_newer p q r k g both.0)) (subst (StepsOnWith (newer_rows r) k) is goes) room)

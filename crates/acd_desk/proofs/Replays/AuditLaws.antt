@@ -2,7 +2,6 @@
 use Rattle.std.proofs.Common.{◌≡◌, ℕ, ◌+◌, ◌<◌, ◌≤◌, List, [], ◌∷◌, ◌++◌, length, take, drop, refl, sym, ap, subst, ◌∙◌, arith, append_assoc, append-nil, Bool, true, false, nat_lt, inl, inr, ltb-true, ltb-false, Ok}
 use Rattle.std.proofs.Math.Numerals.{lt-add-one}
 use Rattle.std.proofs.lemmas.List.{take-append-drop, take-map, length-take-le}
-use Rattle.acd_terms.specs.Lists.{Every}
 use Rattle.acd_terms.specs.declared.event.Event.{Event}
 use Rattle.acd_terms.specs.declared.command.Arrival.{Arrival}
 use Rattle.acd_book.specs.declared.kept.Kept.{Kept}

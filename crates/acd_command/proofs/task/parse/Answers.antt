@@ -1,5 +1,3 @@
-use Rattle.std.proofs.Common.{inl, map}
-use Rattle.acd_files.proofs.Ends.{err_follows}
 use Rattle.acd_command.proofs.task.parse.Goals as goal
 
 pub returns-clause-task : goal.returns-clause-task

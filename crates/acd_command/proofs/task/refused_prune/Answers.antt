@@ -1,6 +1,5 @@
 use Rattle.std.proofs.Common.{sym, subst}
 use Rattle.std.proofs.lemmas.Result.{IfOk-weaker}
-use Rattle.clap.specs.Words.{kind_of}
 use Rattle.acd_command.specs.CommandLine.{IsHelp}
 use Rattle.acd_command.proofs.task.refused_prune.Goals as goal
 

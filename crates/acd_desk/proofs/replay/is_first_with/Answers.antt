@@ -1,5 +1,4 @@
-use Rattle.std.proofs.Common.{rules, Bool, false}
-use Rattle.acd_book.specs.Content.{Content}
+use Rattle.std.proofs.Common.{rules, false}
 use Rattle.acd_desk.specs.Replay.{DecidesKnown, IsFirstWith}
 use Rattle.acd_desk.proofs.Replays.RecordComparisons.{other_key, same_events}
 use Rattle.acd_book.proofs.ReadsAhead.{read_ok, read_nothing, read_twice}

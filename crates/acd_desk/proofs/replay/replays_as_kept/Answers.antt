@@ -1,4 +1,4 @@
-use Rattle.std.proofs.Common.{rules, Bool, false, ◌∙◌}
+use Rattle.std.proofs.Common.{rules, false, ◌∙◌}
 use Rattle.acd_book.specs.Content.{Content}
 use Rattle.acd_desk.specs.Replay.{DecidesKnown, Matches}
 use Rattle.acd_desk.proofs.Replays.RecordComparisons.{matches_decided, other_record}

@@ -1,4 +1,3 @@
-use Rattle.acd_files.proofs.Ends.{err_made}
 use Rattle.acd_files.proofs.file.open_connection.Goals as goal
 
 pub returns-in-Ok-clause-opened : goal.returns-in-Ok-clause-opened

@@ -1,4 +1,4 @@
-use Rattle.std.proofs.Common.{◌≡◌, ℕ, List, sym, ap, ◌∙◌, ◌&&◌, drop, arith, length-drop}
+use Rattle.std.proofs.Common.{ℕ, List, sym, ap, ◌∙◌, ◌&&◌, drop, arith, length-drop}
 use Rattle.std.proofs.lemmas.List.{take_all}
 use Rattle.acd_io.specs.Order.{is_held}
 use Rattle.acd_io.proofs.PassedBytes.{passes_more}

@@ -1,4 +1,4 @@
-use Rattle.std.proofs.Common.{◌≡◌, ℕ}
+use Rattle.std.proofs.Common.{◌≡◌}
 use Rattle.acd_io.specs.Order.{PassesOrder}
 use Rattle.acd_io.proofs.passing.passed.Given as goal
 

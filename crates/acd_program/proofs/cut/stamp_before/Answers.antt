@@ -1,5 +1,4 @@
 use Rattle.std.proofs.Common.{ℕ, Option, rules}
-use Rattle.acd_program.specs.declared.outcome.Cut.{Cut}
 use Rattle.acd_program.specs.declared.cut.Mark.{Mark}
 use Rattle.acd_program.proofs.ReadsOn.{fault_first, read_with}
 use Rattle.acd_program.proofs.cut.stamp_before.Goals as goal

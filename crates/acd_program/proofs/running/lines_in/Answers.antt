@@ -1,6 +1,5 @@
 use Rattle.std.proofs.Common.{Result, true, refl, subst}
 use Rattle.sqlite.specs.Files.{over_files, file_state}
-use Rattle.sqlite_std_file.specs.File.{IsFresh}
 use Rattle.acd_lines.specs.Lines.{streams}
 use Rattle.acd_files.specs.Connections.{IsLaidIn}
 use Rattle.acd_sessions.specs.Sessions.{DatabaseLeaves}

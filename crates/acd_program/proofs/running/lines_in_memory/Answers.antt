@@ -1,5 +1,4 @@
-use Rattle.std.proofs.Common.{true, false, MatchResult}
-use Rattle.acd_lines.specs.Lines.{streams}
+use Rattle.std.proofs.Common.{true, false}
 use Rattle.acd_sessions.proofs.Inputs.{memory_ends}
 use Rattle.acd_program.proofs.running.lines_in_memory.Goals as goal
 

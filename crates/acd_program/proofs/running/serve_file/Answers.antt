@@ -1,6 +1,5 @@
-use Rattle.std.proofs.Common.{true, refl, subst}
+use Rattle.std.proofs.Common.{true, refl}
 use Rattle.sqlite.specs.Files.{over_files, file_state}
-use Rattle.sqlite_std_file.specs.File.{IsFresh}
 use Rattle.acd_files.specs.Connections.{IsLaidIn}
 use Rattle.acd_files.proofs.Ends.{match_from, on_ok}
 use Rattle.acd_sessions.proofs.LeftDesks.{seen_made}

@@ -1,6 +1,5 @@
 use Rattle.std.proofs.Common.{MutBor, true, refl}
 use Rattle.sqlite.specs.Files.{over_files, file_state}
-use Rattle.sqlite_std_file.specs.File.{IsFresh}
 use Rattle.acd_lines.specs.Lines.{streams, output}
 use Rattle.acd_io.specs.RestOfInput.{input_left}
 use Rattle.acd_files.specs.Connections.{IsLaidIn}

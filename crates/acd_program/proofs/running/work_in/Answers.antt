@@ -1,5 +1,4 @@
 use Rattle.std.proofs.Common.{refl}
-use Rattle.sqlite_std_file.specs.File.{IsFresh}
 use Rattle.acd_program.proofs.Ended.{work_makes}
 use Rattle.acd_files.proofs.Ends.{match_from}
 use Rattle.acd_program.proofs.Tasks.{worked_in}

@@ -4,8 +4,6 @@ use Rattle.acd_lines.specs.Input.{asked}
 use Rattle.acd_lines.specs.Lines.{streams}
 use Rattle.acd_lines.specs.Parts.{InTurn}
 use Rattle.acd_sessions.proofs.LinesOver.{lines_in}
-use Rattle.acd_sqlbook.specs.View.{book_of}
-use Rattle.acd_sessions.specs.Desks.{in_database}
 use Rattle.acd_sessions.proofs.connection.lines_over_connection.Goals as goal
 
 pub returns-in-Err-clause-done : goal.returns-in-Err-clause-done

@@ -1,4 +1,4 @@
-use Rattle.std.proofs.Common.{◌≡◌, ◌-◌, ◌^◌, false, Ok}
+use Rattle.std.proofs.Common.{◌-◌, ◌^◌, Ok}
 use Rattle.sqlite.specs.Effect.{Database}
 use Rattle.sqlite.specs.Held.{state}
 use Rattle.acd_sql_columns.specs.Transactions.{Fits}

@@ -1,4 +1,4 @@
-use Rattle.std.proofs.Common.{◌++◌, [], rules}
+use Rattle.std.proofs.Common.{◌++◌, []}
 use Rattle.sqlite.specs.Held.{state}
 use Rattle.acd_sql_columns.specs.declared.tables.Table.TheVariants as table
 use Rattle.acd_sql_columns.specs.declared.texts.TheConstants.{SELECT_STANDING_AGENT_GROUPS}

@@ -1,4 +1,4 @@
-use Rattle.std.proofs.Common.{[], rules}
+use Rattle.std.proofs.Common.{[]}
 use Rattle.sqlite.specs.Held.{state}
 use Rattle.acd_sql_columns.proofs.QueryResults.{version_plain, sees_version}
 use Rattle.acd_sql_columns.specs.AnyRows.{BeginsAsBook}

@@ -1,4 +1,3 @@
-use Rattle.std.proofs.Common.{rules}
 use Rattle.sqlite.specs.Held.{state}
 use Rattle.acd_sql_columns.proofs.AgentGroups.{groups_plain, shows_groups}
 use Rattle.acd_sql_columns.proofs.Listings.{finds}

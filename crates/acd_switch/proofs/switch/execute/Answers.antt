@@ -1,4 +1,4 @@
-use Rattle.std.proofs.Common.{◌≡◌, ◌+◌, sym, ap, subst, arith, ◌∙◌, max, ◌<◌, ◌^◌}
+use Rattle.std.proofs.Common.{◌+◌, sym, ap, subst, arith, ◌∙◌, max, ◌<◌, ◌^◌}
 use Rattle.acd_model.specs.Step.{executed_moment, turn_at}
 use Rattle.acd_model.specs.Services.Serve.{serve}
 use Rattle.acd_switch.specs.Room.{CountersFit}

@@ -1,4 +1,4 @@
-use Rattle.std.proofs.Common.{◌≡◌, ◌≤◌, ◌<◌, inl, inr, ℕ, List, ◌++◌, length, take, drop, min, ap, sym, subst, ◌∙◌, arith, length-append, length-drop}
+use Rattle.std.proofs.Common.{◌≡◌, ◌≤◌, ◌<◌, inl, inr, ℕ, List, length, take, drop, ap, subst, ◌∙◌, arith, length-append, length-drop}
 use Rattle.acd_io.specs.Order.{PassesOrder}
 use Rattle.acd_io.proofs.PassedBytes.{read_given, read_nothing}
 use Rattle.acd_io.proofs.until_order.UntilOrderRead.read.Goals as goal

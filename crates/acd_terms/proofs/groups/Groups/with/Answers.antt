@@ -1,4 +1,4 @@
-use Rattle.std.proofs.Common.{sym, ap, ◌∙◌}
+use Rattle.std.proofs.Common.{ap, ◌∙◌}
 use Rattle.std.specs.Ordering.{nat_cmp}
 use Rattle.acd_terms.specs.Lists.{ascends}
 use Rattle.acd_terms.proofs.NumbersInOrder.{put_ascends}
