@@ -15,7 +15,7 @@ use Rattle.acd_terms.specs.Lists.{Every}
 use Rattle.acd_terms.specs.declared.event.Event.{Event}
 use Rattle.acd_model.specs.Scans.{has}
 use Rattle.acd_book.specs.Content.{is_at, is_at_after}
-use Rattle.acd_book.specs.Memory.{number_of}
+use Rattle.acd_book.specs.Memory.{number_of_event}
 use Rattle.acd_book.specs.MonitorIndexes.{IsListed}
 use Rattle.acd_book.specs.declared.numbers.Numbers.{Numbers}
 use Rattle.acd_lemmas.proofs.KeyedLists.{eqb_self}
@@ -73,9 +73,9 @@ map-append f (x ∷ xs) ys = ap (λ (l : List _). f x ∷ l) (map-append f xs ys
 pub listed_elsewhere : (d q : ℕ) (l : Numbers) (e : Event) (events : List Event) → (columns_of e.report).device ≡ Some d → (d == q) ≡ false
     → IsListed events q l → IsListed (events ++ e ∷ []) q l
 listed_elsewhere d q l e events at other listed =
-    listed ∙ sym (ap (map number_of) (filter_elsewhere d q l.above e events at other ∙ append-nil (filter (is_at_after (Some q) l.above) events)))
+    listed ∙ sym (ap (map number_of_event) (filter_elsewhere d q l.above e events at other ∙ append-nil (filter (is_at_after (Some q) l.above) events)))
 
-one_number : (c : Bool) (e : Event) → cond c (e.number ∷ []) [] ≡ map number_of (cond c (e ∷ []) [])
+one_number : (c : Bool) (e : Event) → cond c (e.number ∷ []) [] ≡ map number_of_event (cond c (e ∷ []) [])
 one_number true e = refl
 one_number false e = refl
 
@@ -85,18 +85,18 @@ pub listed_here : (d : ℕ) (old new : Numbers) (e : Event) (events : List Event
 listed_here d old new e events at same added listed =
     let one : filter (is_at_after (Some d) old.above) (e ∷ []) ≡ cond (nat_lt old.above e.number) (e ∷ []) []
     = ap (λ (c : Bool). cond (c && nat_lt old.above e.number) (e ∷ []) []) (ap (λ (o : Option ℕ). has o d) at ∙ eqb_self d) in
-    subst (λ (n : ℕ). new.numbers.items ≡ map number_of (filter (is_at_after (Some d) n) (events ++ e ∷ []))) (sym same)
+    subst (λ (n : ℕ). new.numbers.items ≡ map number_of_event (filter (is_at_after (Some d) n) (events ++ e ∷ []))) (sym same)
     (added
     ∙ ap (λ (l : List ℕ). l ++ cond (nat_lt old.above e.number) (e.number ∷ []) []) listed
-    ∙ ap (λ (l : List ℕ). map number_of (filter (is_at_after (Some d) old.above) events) ++ l) (one_number (nat_lt old.above e.number) e)
-    ∙ sym (map-append number_of (filter (is_at_after (Some d) old.above) events) (cond (nat_lt old.above e.number) (e ∷ []) []))
-    ∙ ap (map number_of) (ap (λ (l : List Event). filter (is_at_after (Some d) old.above) events ++ l) (sym one)
+    ∙ ap (λ (l : List ℕ). map number_of_event (filter (is_at_after (Some d) old.above) events) ++ l) (one_number (nat_lt old.above e.number) e)
+    ∙ sym (map-append number_of_event (filter (is_at_after (Some d) old.above) events) (cond (nat_lt old.above e.number) (e ∷ []) []))
+    ∙ ap (map number_of_event) (ap (λ (l : List Event). filter (is_at_after (Some d) old.above) events ++ l) (sym one)
     ∙ sym (filter-append (is_at_after (Some d) old.above) events (e ∷ []))))
 
 -- an event more before those above a number
 above_more : (low high : ℕ) (e : Event) (events more : List Event) (a b c : Bool) → nat_lt low e.number ≡ b → nat_lt high e.number ≡ c → (c ≡ true → b ≡ true)
-    → filter (nat_lt high) (map number_of events) ≡ map number_of more
-    → filter (nat_lt high) (map number_of (cond (a && b) (e ∷ events) events)) ≡ map number_of (cond (a && c) (e ∷ more) more)
+    → filter (nat_lt high) (map number_of_event events) ≡ map number_of_event more
+    → filter (nat_lt high) (map number_of_event (cond (a && b) (e ∷ events) events)) ≡ map number_of_event (cond (a && c) (e ∷ more) more)
 above_more low high e events more false b c p q h rest = rest
 above_more low high e events more true true true p q h rest = rw q (ap (λ (l : List ℕ). e.number ∷ l) rest)
 above_more low high e events more true true false p q h rest = rw q rest
@@ -105,7 +105,7 @@ above_more low high e events more true false false p q h rest = rest
 
 -- the numbers above a higher one
 numbers_above : (d low high : ℕ) (events : List Event) → low ≤ high
-    → filter (nat_lt high) (map number_of (filter (is_at_after (Some d) low) events)) ≡ map number_of (filter (is_at_after (Some d) high) events)
+    → filter (nat_lt high) (map number_of_event (filter (is_at_after (Some d) low) events)) ≡ map number_of_event (filter (is_at_after (Some d) high) events)
 numbers_above d low high [] h = refl
 numbers_above d low high (e ∷ events) h =
     above_more low high e (filter (is_at_after (Some d) low) events) (filter (is_at_after (Some d) high) events) (is_at (Some d) e) (nat_lt low e.number)
@@ -119,11 +119,11 @@ take-map f (suc n) (x ∷ xs) = ap (λ (l : List _). f x ∷ l) (take-map f n xs
 
 -- a page of a list
 pub page_listed : (d n limit : ℕ) (l : Numbers) (events : List Event) → l.above ≤ n → IsListed events d l
-    → take limit (filter (nat_lt n) l.numbers.items) ≡ map number_of (take limit (filter (is_at_after (Some d) n) events))
+    → take limit (filter (nat_lt n) l.numbers.items) ≡ map number_of_event (take limit (filter (is_at_after (Some d) n) events))
 page_listed d n limit l events within listed =
     ap (λ (xs : List ℕ). take limit (filter (nat_lt n) xs)) listed
     ∙ ap (take limit) (numbers_above d l.above n events within)
-    ∙ take-map number_of limit (filter (is_at_after (Some d) n) events)
+    ∙ take-map number_of_event limit (filter (is_at_after (Some d) n) events)
 
 -- ---- the records after a place of an ordered list
 

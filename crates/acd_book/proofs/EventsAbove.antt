@@ -5,10 +5,10 @@ use Rattle.std.proofs.lemmas.List.Elements.{filter-append}
 use Rattle.acd_terms.specs.Lists.{Every}
 use Rattle.acd_terms.specs.declared.event.Event.{Event}
 use Rattle.acd_book.specs.Content.{events_after}
-use Rattle.acd_book.specs.Memory.{number_of}
+use Rattle.acd_book.specs.Memory.{number_of_event}
 use Rattle.acd_book.specs.Order.{Rises}
 
-above_filter : (last m : ℕ) (events : List Event) → last ≤ m → Rises number_of m events → filter (λ (e : Event). nat_lt last e.number) events ≡ events
+above_filter : (last m : ℕ) (events : List Event) → last ≤ m → Rises number_of_event m events → filter (λ (e : Event). nat_lt last e.number) events ≡ events
 above_filter last m [] low up = refl
 above_filter last m (e ∷ events) low up =
     let here : m < e.number = up.0 in
@@ -26,7 +26,7 @@ past_filter last (e ∷ events) low =
     ∙ past_filter last events low.1
 
 -- a book reads above the last of these events exactly the events that are left
-pub left_after : (last n : ℕ) (past left : List Event) → Every (λ (e : Event). e.number ≤ last) past → Rises number_of last left
+pub left_after : (last n : ℕ) (past left : List Event) → Every (λ (e : Event). e.number ≤ last) past → Rises number_of_event last left
     → events_after (past ++ left) last n ≡ take n left
 left_after last n past left low up =
     let p : Event → Bool = λ (e : Event). nat_lt last e.number in

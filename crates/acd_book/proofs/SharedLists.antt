@@ -7,7 +7,7 @@ use Rattle.std.proofs.lemmas.List.Elements.{filter-append}
 use Rattle.acd_terms.specs.Lists.{Every}
 use Rattle.acd_book.specs.Order.{Rises}
 use Rattle.acd_lemmas.proofs.Lists.{every-append, head_is, tail_is}
-use Rattle.acd_book.specs.ListOverlap.{IsSplitAt, Begins, cut_before}
+use Rattle.acd_book.specs.ListOverlap.{IsSplitAt, BeginsWithin, cut_before}
 
 -- ---- numbers in order ----
 
@@ -167,7 +167,7 @@ shares_next {T = T} f cut n archived current s x left rest is_left is_rest =
 
 -- nothing is left of the other one
 pub shares_all : {T : Type 0} (f : T → ℕ) (cut n last : ℕ) (archived current : List T) (s : Shares f cut n archived current) → s.left ≡ [] → Rises f last s.rest
-    → Begins f cut last archived current
+    → BeginsWithin f cut last archived current
 shares_all {T = T} f cut n last archived current s none newer = record {
   past = s.past;
   carried = s.done;
@@ -179,7 +179,7 @@ shares_all {T = T} f cut n last archived current s none newer = record {
 
 -- where one begins so, what is left of it begins with what is left of the other one
 pub begins_left : {T : Type 0} (f : T → ℕ) (cut n last : ℕ) (archived current : List T) (s : Shares f cut n archived current)
-    (b : Begins f cut last archived current)
+    (b : BeginsWithin f cut last archived current)
     → s.rest ≡ s.left ++ b.rest
 begins_left {T = T} f cut n last archived current s b =
     let once =
@@ -300,7 +300,7 @@ same_next f cut n archived current s x xs ys is_archived is_current =
 
 -- they haven't
 pub other_next : {T : Type 0} (f : T → ℕ) (cut n last : ℕ) (archived current : List T) (s : Shares f cut n archived current) (x : T) (xs : List T)
-    → next_above f n archived ≡ x ∷ xs → ¬ (next_above f n current ≡ next_above f n archived) → ¬ Begins f cut last archived current
+    → next_above f n archived ≡ x ∷ xs → ¬ (next_above f n current ≡ next_above f n archived) → ¬ BeginsWithin f cut last archived current
 other_next {T = T} f cut n last archived current s x xs is_archived other b =
     let left = first_is x s.left xs (sym (archived_left f cut n archived current s) ∙ is_archived) in
     let rest : s.rest ≡ x ∷ (left.0 ++ b.rest) = begins_left f cut n last archived current s b ∙ ap (λ (l : List T). l ++ b.rest) left.1 in
@@ -308,7 +308,7 @@ other_next {T = T} f cut n last archived current s x xs is_archived other b =
 
 -- the last number is reached
 pub reached : {T : Type 0} (f : T → ℕ) (cut n last : ℕ) (archived current : List T) (s : Shares f cut n archived current) → last ≤ n
-    → Every (λ (x : T). f x ≤ last) archived → Begins f cut last archived current
+    → Every (λ (x : T). f x ≤ last) archived → BeginsWithin f cut last archived current
 reached {T = T} f cut n last archived current s le low =
     let left_low : Every (λ (x : T). f x ≤ last) s.left =
     every_back (λ (x : T). f x ≤ last) s.done s.left

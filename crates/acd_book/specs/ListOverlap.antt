@@ -10,7 +10,7 @@ pub record IsSplitAt {T : Type 0} (f : T → ℕ) (n : ℕ) (xs past left : List
   pub above : Rises f n left
 
 -- one list begins with what another one has above a cut; the rest of it is above the other one's last number
-pub record Begins {T : Type 0} (f : T → ℕ) (cut last : ℕ) (archived current : List T) : Type 0 where
+pub record BeginsWithin {T : Type 0} (f : T → ℕ) (cut last : ℕ) (archived current : List T) : Type 0 where
   pub past : List T
   pub carried : List T
   pub rest : List T

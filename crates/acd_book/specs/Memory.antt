@@ -18,8 +18,8 @@ is_numbered number last (x ∷ xs) = (number x == last + 1) && is_numbered numbe
 abbrev pub stamp_of : Kept → ℕ
 stamp_of k = k.stamp
 
-abbrev pub number_of : Event → ℕ
-number_of e = e.number
+abbrev pub number_of_event : Event → ℕ
+number_of_event e = e.number
 
 -- the event of a number, in a list that is numbered from 1
 abbrev pub event_numbered : List Event → ℕ → Option Event

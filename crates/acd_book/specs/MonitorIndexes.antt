@@ -9,13 +9,13 @@ use Rattle.acd_terms.specs.declared.record.MonitorRecord.{MonitorRecord}
 use Rattle.acd_model.specs.declared.moves.Change.{Change}
 use Rattle.acd_model.specs.declared.moves.Change.TheVariants.{PutMonitor, RemoveMonitor}
 use Rattle.acd_book.specs.Content.{is_at_after, device_page}
-use Rattle.acd_book.specs.Memory.{number_of}
+use Rattle.acd_book.specs.Memory.{number_of_event}
 use Rattle.acd_book.specs.declared.numbers.Numbers.{Numbers}
 use Rattle.acd_book.specs.declared.monitor_index.MonitorIndex.{MonitorIndex}
 
 -- all events at the device above the number from which they are listed, and no others
 abbrev pub IsListed : List Event → ℕ → Numbers → Type 0
-IsListed events device l = l.numbers.items ≡ map number_of (filter (is_at_after (Some device) l.above) events)
+IsListed events device l = l.numbers.items ≡ map number_of_event (filter (is_at_after (Some device) l.above) events)
 
 -- a number more is listed, where it is above that one
 abbrev pub AddsIfAbove : Numbers → Numbers → ℕ → Type 0
@@ -44,8 +44,8 @@ abbrev pub WatchesMore : List Event → MonitorIndex → MonitorIndex → Type 0
 WatchesMore more old new = (events : List Event) → ListsEvents events old → ListsEvents (events ++ more) new
 
 -- the numbers of the first events at a device above a number
-abbrev pub IsPage : MonitorIndex → ℕ → ℕ → ℕ → List ℕ → Type 0
-IsPage w device number limit found = (events : List Event) → ListsEvents events w → found ≡ map number_of (device_page device number limit events)
+abbrev pub ArePageNumbers : MonitorIndex → ℕ → ℕ → ℕ → List ℕ → Type 0
+ArePageNumbers w device number limit found = (events : List Event) → ListsEvents events w → found ≡ map number_of_event (device_page device number limit events)
 
 -- ---- nothing is kept of a monitor that was stopped
 

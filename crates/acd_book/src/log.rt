@@ -5,7 +5,7 @@ ghost use Rattle.std.specs.List.{cons_option, filter_map};
 ghost use Rattle.std.proofs.Props.{props};
 ghost use Rattle.acd_book.specs.Content.{is_at, device_page};
 ghost use Rattle.acd_book.specs.CallResults.{GivesList};
-ghost use Rattle.acd_book.specs.Memory.{event_numbered, is_numbered, number_of};
+ghost use Rattle.acd_book.specs.Memory.{event_numbered, is_numbered, number_of_event};
 ghost use Rattle.acd_book.specs.MonitorIndexes.{KeepsWatched, ListsEvents, listed_prop};
 
 use crate::monitor_index::MonitorIndex;
@@ -18,7 +18,7 @@ use std::alloc::{AllocError, Global};
 pub(crate) struct Log {
     pub(crate) events: Vec<Event>,
     pub(crate) watched: MonitorIndex,
-    ghost numbered: { is_numbered number_of 0 events.items ≡ true },
+    ghost numbered: { is_numbered number_of_event 0 events.items ≡ true },
     ghost listed: { ListsEvents events.items watched } by { Prim.hlevel (props, listed_prop) },
     ghost kept: { KeepsWatched watched } by { Prim.hlevel props },
 }
@@ -79,7 +79,7 @@ impl Log {
 
     /// The numbers of these go on.
     pub(crate) fn precedes(&self, events: &[Event]) -> bool
-        ensures { result ≡ is_numbered number_of (length self.now.events.items) events.now }
+        ensures { result ≡ is_numbered number_of_event (length self.now.events.items) events.now }
     {
         let mut last = self.events.len() as u64;
         for event in events {
@@ -119,7 +119,8 @@ impl Log {
     /// Adds events that go on, for which there is room.
     pub(crate) fn append(&mut self, events: &[Event])
         requires room { vec_len self.old.events + length events.now ≤ vec_capacity self.old.events }
-        requires numbered { is_numbered number_of (length self.old.events.items) events.now ≡ true }
+        requires numbered { is_numbered number_of_event (length self.old.events.items) events.now
+            ≡ true }
         ensures { self.new.events.items ≡ self.old.events.items ++ events.now }
     {
         let _ = self.events.extend_from_slice(events);

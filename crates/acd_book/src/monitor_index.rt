@@ -4,7 +4,7 @@
 ghost use Rattle.std.specs.Prelude.{◌≡◌, ◌-◌, ◌==◌, ℕ, ◌∷◌, [], List, None, Some, IfSome, option_map};
 ghost use Rattle.acd_terms.specs.declared.event.Event.{Event};
 ghost use Rattle.acd_model.specs.declared.moves.Change.TheVariants.{PutMonitor, RemoveMonitor};
-ghost use Rattle.acd_book.specs.MonitorIndexes.{IsPage, ListsEvents, StillWatches, WatchesAfter, WatchesFrom, WatchesMore};
+ghost use Rattle.acd_book.specs.MonitorIndexes.{ArePageNumbers, ListsEvents, StillWatches, WatchesAfter, WatchesFrom, WatchesMore};
 ghost use Rattle.acd_book.specs.MonitorIndexes.{CountsAt, IsMore, KeepsWatched, RecordsChanges, RecordsThese, StillKeeps, monitor_count, fewer, is_none_left, recorded_at};
 
 use crate::numbers::Numbers;
@@ -171,7 +171,7 @@ impl MonitorIndex {
 
     /// The numbers of the first `limit` events at a device above a number, where it is known that no other is.
     pub fn numbers(&self, device: DeviceId, number: u64, limit: usize) -> Option<&[u64]>
-        ensures { IfSome result (λ found. IsPage self.now device number limit found.now) }
+        ensures { IfSome result (λ found. ArePageNumbers self.now device number limit found.now) }
     {
         let list = self.lists.get(&device)?;
         if number < list.above {

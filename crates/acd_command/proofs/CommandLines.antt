@@ -23,7 +23,7 @@ use Rattle.clap.specs.declared.parser.matches.Found.{Found}
 use Rattle.clap.proofs.WalkLemmas.{first_value-rows, one_text-rows, raw_values-rows, find_row}
 use Rattle.acd_http.specs.declared.serving.Span.{Span}
 use Rattle.acd_log.specs.declared.ending.Ending.TheVariants.{Plain}
-use Rattle.acd_command.specs.CommandLine.{HasApp, HasNone, HasRule, IsAddress, IsConnections, IsNumber, IsRefusedBy, IsRetention, IsSeconds, IsSpan, AreTexts, IsTaskIn, IsTaskWith, IsText, NamesNoTask, acd, has_option, is_given, required, IsHelp}
+use Rattle.acd_command.specs.CommandLine.{HasApp, IsNotGiven, HasRule, IsAddress, IsConnections, IsNumber, IsRefusedBy, IsRetention, IsOptionSeconds, IsSpan, AreOptionTexts, IsTaskIn, IsTaskWith, IsOptionText, NamesNoTask, acd, has_option, is_given, required, IsHelp}
 use Rattle.acd_command.specs.declared.asked.Address.{Address}
 use Rattle.acd_command.specs.declared.asked.Address.TheVariants.{Port, Socket}
 use Rattle.acd_command.specs.declared.asked.Retention.{Retention}
@@ -128,16 +128,16 @@ option_read f id b read = ap is_some (find_row f.entries.items id) ∙ same_some
 
 -- an audit without an archive
 pub audit_read : (options : List Row) (file : Bor Text) (counts whole : Bool) (asked : Task) → (whole ≡ true → asked ≡ AuditWhole file counts) → (whole ≡ false → asked ≡ Read file (kind.Audit counts Plain))
-    → IsText (codes "file") options file → HasNone (codes "archive") options → counts ≡ is_given (codes "count") options → whole ≡ is_given (codes "whole") options → IsTaskWith (codes "audit") options asked
+    → IsOptionText (codes "file") options file → IsNotGiven (codes "archive") options → counts ≡ is_given (codes "count") options → whole ≡ is_given (codes "whole") options → IsTaskWith (codes "audit") options asked
 audit_read options file counts true asked whole plain text none counted looked = subst (IsTaskWith (codes "audit") options) (sym (whole refl)) ((refl, text, counted, looked), none)
 audit_read options file counts false asked whole plain text none counted looked = subst (IsTaskWith (codes "audit") options) (sym (plain refl)) (text, (refl, none, counted, looked, refl))
 
 -- all texts of an option
-pub texts_read : (f : Found) (id : Text) (texts : Bor (List (Bor Text))) → Some (map (λ (t : Bor Text). t.now) texts.now) ≡ option_map raw_values (matched_of f id) → AreTexts id (rows_of f) texts
+pub texts_read : (f : Found) (id : Text) (texts : Bor (List (Bor Text))) → Some (map (λ (t : Bor Text). t.now) texts.now) ≡ option_map raw_values (matched_of f id) → AreOptionTexts id (rows_of f) texts
 texts_read f id texts read = sym (read ∙ raw_values-rows f id)
 
 -- none of an option that wasn't given
-pub texts_unread : (f : Found) (id : Text) → ◌≡◌ {A = Option (List Text)} None (option_map raw_values (matched_of f id)) → HasNone id (rows_of f)
+pub texts_unread : (f : Found) (id : Text) → ◌≡◌ {A = Option (List Text)} None (option_map raw_values (matched_of f id)) → IsNotGiven id (rows_of f)
 texts_unread f id none = no_first (find (λ (r : Row). bytes_eq r.id id) (rows_of f)) (none ∙ raw_values-rows f id)
   where
     no_first : (o : Option Row) → ◌≡◌ {A = Option (List Text)} None (option_map (λ (r : Row). r.values) o) → option_and_then (λ (r : Row). slice_get r.values 0) o ≡ None
@@ -145,7 +145,7 @@ texts_unread f id none = no_first (find (λ (r : Row). bytes_eq r.id id) (rows_o
     no_first (Some r) e = absurd (cc e)
 
 -- no text was read
-pub text_unread : (f : Found) (id : Text) → ◌≡◌ {A = Option Text} None (first_value f id) → (text : Bor Text) → ¬ IsText id (rows_of f) text
+pub text_unread : (f : Found) (id : Text) → ◌≡◌ {A = Option Text} None (first_value f id) → (text : Bor Text) → ¬ IsOptionText id (rows_of f) text
 text_unread f id none text h = none_is_some (none ∙ first_value-rows f id ∙ h)
   where
     none_is_some : ◌≡◌ {A = Option Text} None (Some text.now) → ⊥
@@ -158,7 +158,7 @@ apart : (a b : Text) → bytes_eq a b ≡ false → a ≢ b
 apart a b differ same = true≢false (sym ((bytes_eq-Decides a b).1 same) ∙ differ)
 
 module _ (options : List Row) where
-  pub no_service : ((file : Bor Text) (address : Address) (span : Span) → IsText (codes "file") options file → IsAddress options address → IsSpan options span → ⊥)
+  pub no_service : ((file : Bor Text) (address : Address) (span : Span) → IsOptionText (codes "file") options file → IsAddress options address → IsSpan options span → ⊥)
       → (task : Task) → ¬ IsTaskWith (codes "serve") options task
   no_service none (Serve file address span) h = none file address span h.1 h.2 h.3
   no_service none (Standby file address step patience) h = apart (codes "serve") (codes "standby") refl h.0
@@ -173,8 +173,8 @@ module _ (options : List Row) where
   no_service none (Read file (kind.Audit counts ending)) h = apart (codes "serve") (codes "audit") refl h.1.0
   no_service none (Read file (kind.Import requests)) h = h.1
 
-  pub no_standby : ((file : Bor Text) (address : Address) (step patience : Option Duration) → IsText (codes "file") options file → IsAddress options address → true ≡ is_given (codes "endless") options
-      → IsSeconds (codes "tick") options step → IsSeconds (codes "patience") options patience → ⊥) → (task : Task) → ¬ IsTaskWith (codes "standby") options task
+  pub no_standby : ((file : Bor Text) (address : Address) (step patience : Option Duration) → IsOptionText (codes "file") options file → IsAddress options address → true ≡ is_given (codes "endless") options
+      → IsOptionSeconds (codes "tick") options step → IsOptionSeconds (codes "patience") options patience → ⊥) → (task : Task) → ¬ IsTaskWith (codes "standby") options task
   no_standby none (Standby file address step patience) h = none file address step patience h.1 h.2 h.3.0 h.3.1 h.3.2
   no_standby none (Lines file reads ends) h = apart (codes "standby") (codes "lines") refl h.0
   no_standby none (Serve file address span) h = apart (codes "standby") (codes "serve") refl h.0
@@ -188,7 +188,7 @@ module _ (options : List Row) where
   no_standby none (Read file (kind.Audit counts ending)) h = apart (codes "standby") (codes "audit") refl h.1.0
   no_standby none (Read file (kind.Import requests)) h = h.1
 
-  pub no_import : ((file plan : Bor Text) → IsText (codes "file") options file → IsText (codes "plan") options plan → ⊥) → (task : Task) → ¬ IsTaskWith (codes "import") options task
+  pub no_import : ((file plan : Bor Text) → IsOptionText (codes "file") options file → IsOptionText (codes "plan") options plan → ⊥) → (task : Task) → ¬ IsTaskWith (codes "import") options task
   no_import none (Import file plan) h = none file plan h.1 h.2
   no_import none (Lines file reads ends) h = apart (codes "import") (codes "lines") refl h.0
   no_import none (Serve file address span) h = apart (codes "import") (codes "serve") refl h.0
@@ -202,7 +202,7 @@ module _ (options : List Row) where
   no_import none (Read file (kind.Audit counts ending)) h = apart (codes "import") (codes "audit") refl h.1.0
   no_import none (Read file (kind.Import requests)) h = h.1
 
-  pub no_prune : ((file archive : Bor Text) (retention : Retention) → IsText (codes "file") options file → IsText (codes "archive") options archive → IsRetention options retention → ⊥)
+  pub no_prune : ((file archive : Bor Text) (retention : Retention) → IsOptionText (codes "file") options file → IsOptionText (codes "archive") options archive → IsRetention options retention → ⊥)
       → (task : Task) → ¬ IsTaskWith (codes "prune") options task
   no_prune none (Prune file archive retention quiet) h = none file archive retention h.1 h.2.0 h.2.1
   no_prune none (Lines file reads ends) h = apart (codes "prune") (codes "lines") refl h.0
@@ -218,7 +218,7 @@ module _ (options : List Row) where
   no_prune none (Read file (kind.Import requests)) h = h.1
 
   -- a printout, or an audit, of no file
-  pub no_file : ((file : Bor Text) → ¬ IsText (codes "file") options file) → (command : Text) → bytes_eq command (codes "lines") ≡ false → (task : Task) → ¬ IsTaskWith command options task
+  pub no_file : ((file : Bor Text) → ¬ IsOptionText (codes "file") options file) → (command : Text) → bytes_eq command (codes "lines") ≡ false → (task : Task) → ¬ IsTaskWith command options task
   no_file none command other (Lines file reads ends) h = apart command (codes "lines") other h.0
   no_file none command other (Serve file address span) h = none file h.1
   no_file none command other (Standby file address step patience) h = none file h.1
@@ -241,15 +241,15 @@ number_given bits id options n h = by (find (λ (r : Row). bytes_eq r.id id) opt
         none_some t e = cc
 
 -- an option that has no text has none
-pub some_text : (options : List Row) (id : Text) (text : Bor Text) → HasNone id options → ¬ IsText id options text
+pub some_text : (options : List Row) (id : Text) (text : Bor Text) → IsNotGiven id options → ¬ IsOptionText id options text
 some_text options id text none some = apart_options (sym none ∙ some)
   where
     apart_options : ◌≡◌ {A = Option Text} None (Some text.now) → ⊥
     apart_options e = cc
 
 -- neither of both is named, or both are
-pub no_address : (options : List Row) → ((n : ℕ) → IsNumber 16 (codes "port") options n → HasNone (codes "socket") options → ⊥)
-    → ((path : Bor Text) → IsText (codes "socket") options path → has_option (codes "port") options ≡ false → ⊥) → (address : Address) → ¬ IsAddress options address
+pub no_address : (options : List Row) → ((n : ℕ) → IsNumber 16 (codes "port") options n → IsNotGiven (codes "socket") options → ⊥)
+    → ((path : Bor Text) → IsOptionText (codes "socket") options path → has_option (codes "port") options ≡ false → ⊥) → (address : Address) → ¬ IsAddress options address
 no_address options port socket (Port n) h = port n h.0 h.1
 no_address options port socket (Socket path) h = socket path h.0 h.1
 
@@ -265,7 +265,7 @@ no_connections options number endless (Some n) h = number n h.0 h.1
 no_connections options number endless None h = endless h.0 h.1
 
 -- neither a time is given nor none
-pub no_seconds : (id : Text) (options : List Row) → ((n : ℕ) → ¬ IsNumber 16 id options n) → (has_option id options ≡ false → ⊥) → (time : Option Duration) → ¬ IsSeconds id options time
+pub no_seconds : (id : Text) (options : List Row) → ((n : ℕ) → ¬ IsNumber 16 id options n) → (has_option id options ≡ false → ⊥) → (time : Option Duration) → ¬ IsOptionSeconds id options time
 no_seconds id options number none (Some time) h = number h.0 h.1
 no_seconds id options number none None h = none h
 

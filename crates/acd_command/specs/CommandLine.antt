@@ -119,20 +119,20 @@ abbrev pub IsFlag : Text → List Row → Bool → Type 0
 IsFlag name options given = given ≡ is_given name options
 
 -- the option has this text
-abbrev pub IsText : Text → List Row → Bor Text → Type 0
-IsText name options text = first_of name options ≡ Some text.now
+abbrev pub IsOptionText : Text → List Row → Bor Text → Type 0
+IsOptionText name options text = first_of name options ≡ Some text.now
 
 -- the file, where one was given
 abbrev pub IsFileIfGiven : List Row → Option (Bor Text) → Type 0
 IsFileIfGiven options file = option_map (λ (f : Bor Text). f.now) file ≡ first_of (codes "file") options
 
 -- the option was not given
-abbrev pub HasNone : Text → List Row → Type 0
-HasNone name options = first_of name options ≡ None
+abbrev pub IsNotGiven : Text → List Row → Type 0
+IsNotGiven name options = first_of name options ≡ None
 
 -- the option was given with these texts, in their order
-abbrev pub AreTexts : Text → List Row → Bor (List (Bor Text)) → Type 0
-AreTexts name options texts = all_of name options ≡ Some (map (λ (t : Bor Text). t.now) texts.now)
+abbrev pub AreOptionTexts : Text → List Row → Bor (List (Bor Text)) → Type 0
+AreOptionTexts name options texts = all_of name options ≡ Some (map (λ (t : Bor Text). t.now) texts.now)
 
 -- the option has a text that is this number, of so many bits at most
 abbrev pub IsNumber : ℕ → Text → List Row → ℕ → Type 0
@@ -141,8 +141,8 @@ IsNumber bits name options n =
 
 -- the address of a port or, where a path is named, that of a socket: one of both was asked for
 abbrev pub IsAddress : List Row → Address → Type 0
-IsAddress options (Port n) = IsNumber 16 (codes "port") options n × HasNone (codes "socket") options
-IsAddress options (Socket path) = IsText (codes "socket") options path × (has_option (codes "port") options ≡ false)
+IsAddress options (Port n) = IsNumber 16 (codes "port") options n × IsNotGiven (codes "socket") options
+IsAddress options (Socket path) = IsOptionText (codes "socket") options path × (has_option (codes "port") options ≡ false)
 
 -- so many connections or, where none is named, no end of them: one of both was asked for
 abbrev pub IsConnections : List Row → Option ℕ → Type 0
@@ -150,17 +150,17 @@ IsConnections options (Some n) = IsNumber 32 (codes "connections") options n × 
 IsConnections options None = (has_option (codes "connections") options ≡ false) × (is_given (codes "endless") options ≡ true)
 
 -- the option has a text that is so many seconds, or it was not given
-abbrev pub IsSeconds : Text → List Row → Option Duration → Type 0
-IsSeconds name options (Some time) = (n : ℕ) × IsNumber 16 name options n × (as_nanos time ≡ n * 1000000000)
-IsSeconds name options None = has_option name options ≡ false
+abbrev pub IsOptionSeconds : Text → List Row → Option Duration → Type 0
+IsOptionSeconds name options (Some time) = (n : ℕ) × IsNumber 16 name options n × (as_nanos time ≡ n * 1000000000)
+IsOptionSeconds name options None = has_option name options ≡ false
 
 -- so many connections, a look each time that `--tick` names, and the patience that is asked for
 abbrev pub IsSpan : List Row → Span → Type 0
-IsSpan options span = IsConnections options span.connections × IsSeconds (codes "tick") options span.step × IsSeconds (codes "patience") options span.patience
+IsSpan options span = IsConnections options span.connections × IsOptionSeconds (codes "tick") options span.step × IsOptionSeconds (codes "patience") options span.patience
 
 -- no end is asked for by its word, a look each time that `--tick` names, and the patience that is asked for
 abbrev pub IsEndless : List Row → Option Duration → Option Duration → Type 0
-IsEndless options step patience = IsFlag (codes "endless") options true × IsSeconds (codes "tick") options step × IsSeconds (codes "patience") options patience
+IsEndless options step patience = IsFlag (codes "endless") options true × IsOptionSeconds (codes "tick") options step × IsOptionSeconds (codes "patience") options patience
 
 -- what a prune leaves, of so many days or so many records: one of both was asked for
 abbrev pub IsRetention : List Row → Retention → Type 0
@@ -169,36 +169,36 @@ IsRetention options (Records n) = IsNumber 32 (codes "keep") options n × (has_o
 
 -- a prune by an archive: what stays, and whether nothing is printed if nothing goes
 abbrev pub IsPruneBy : List Row → Bor Text → Retention → Bool → Type 0
-IsPruneBy options archive retention quiet = IsText (codes "archive") options archive × IsRetention options retention × IsFlag (codes "quiet") options quiet
+IsPruneBy options archive retention quiet = IsOptionText (codes "archive") options archive × IsRetention options retention × IsFlag (codes "quiet") options quiet
 
 -- the work that reads a file
 abbrev pub IsWork : Text → List Row → Work → Type 0
 IsWork command options (kind.Print Report) = command ≡ codes "report"
-IsWork command options (kind.Print Export) = (command ≡ codes "export") × HasNone (codes "archive") options
+IsWork command options (kind.Print Export) = (command ≡ codes "export") × IsNotGiven (codes "archive") options
 IsWork command options (kind.Audit counts ending) =
-    (command ≡ codes "audit") × HasNone (codes "archive") options × IsFlag (codes "count") options counts × IsFlag (codes "whole") options false × (ending ≡ Plain)
+    (command ≡ codes "audit") × IsNotGiven (codes "archive") options × IsFlag (codes "count") options counts × IsFlag (codes "whole") options false × (ending ≡ Plain)
 IsWork command options (kind.Import requests) = ⊥
 
 -- the audit of a file, with a count or without, and with a look at its log or without
 abbrev pub IsAuditOf : Text → List Row → Bor Text → Bool → Bool → Type 0
-IsAuditOf command options file counts whole = (command ≡ codes "audit") × IsText (codes "file") options file × IsFlag (codes "count") options counts × IsFlag (codes "whole") options whole
+IsAuditOf command options file counts whole = (command ≡ codes "audit") × IsOptionText (codes "file") options file × IsFlag (codes "count") options counts × IsFlag (codes "whole") options whole
 
 -- the task of a command with these options
 abbrev pub IsTaskWith : Text → List Row → Task → Type 0
 IsTaskWith command options (Lines file reads ends) =
     (command ≡ codes "lines") × IsFileIfGiven options file × IsFlag (codes "reads") options reads × IsFlag (codes "end-on-store-fault") options ends
 IsTaskWith command options (Serve file address span) =
-    (command ≡ codes "serve") × IsText (codes "file") options file × IsAddress options address × IsSpan options span
+    (command ≡ codes "serve") × IsOptionText (codes "file") options file × IsAddress options address × IsSpan options span
 IsTaskWith command options (Standby file address step patience) =
-    (command ≡ codes "standby") × IsText (codes "file") options file × IsAddress options address × IsEndless options step patience
-IsTaskWith command options (Import file plan) = (command ≡ codes "import") × IsText (codes "file") options file × IsText (codes "plan") options plan
-IsTaskWith command options (AuditWhole file counts) = IsAuditOf command options file counts true × HasNone (codes "archive") options
-IsTaskWith command options (AuditWithArchive file archive counts whole) = IsAuditOf command options file counts whole × IsText (codes "archive") options archive
+    (command ≡ codes "standby") × IsOptionText (codes "file") options file × IsAddress options address × IsEndless options step patience
+IsTaskWith command options (Import file plan) = (command ≡ codes "import") × IsOptionText (codes "file") options file × IsOptionText (codes "plan") options plan
+IsTaskWith command options (AuditWhole file counts) = IsAuditOf command options file counts true × IsNotGiven (codes "archive") options
+IsTaskWith command options (AuditWithArchive file archive counts whole) = IsAuditOf command options file counts whole × IsOptionText (codes "archive") options archive
 IsTaskWith command options (Prune file archive retention quiet) =
-    (command ≡ codes "prune") × IsText (codes "file") options file × IsPruneBy options archive retention quiet
+    (command ≡ codes "prune") × IsOptionText (codes "file") options file × IsPruneBy options archive retention quiet
 IsTaskWith command options (ExportWithArchives file archives) =
-    (command ≡ codes "export") × IsText (codes "file") options file × AreTexts (codes "archive") options archives
-IsTaskWith command options (Read file work) = IsText (codes "file") options file × IsWork command options work
+    (command ≡ codes "export") × IsOptionText (codes "file") options file × AreOptionTexts (codes "archive") options archives
+IsTaskWith command options (Read file work) = IsOptionText (codes "file") options file × IsWork command options work
 
 abbrev pub IsTaskIn : Option (Text × List Row) → Task → Type 0
 IsTaskIn None task = ⊥
@@ -246,7 +246,7 @@ abbrev pub FindsConnections : List Row → Option (Option ℕ) → Type 0
 FindsConnections options found = MatchOption found ((many : Option ℕ) → ¬ IsConnections options many) (IsConnections options)
 
 abbrev pub FindsSeconds : Text → List Row → Option (Option Duration) → Type 0
-FindsSeconds name options found = MatchOption found ((time : Option Duration) → ¬ IsSeconds name options time) (IsSeconds name options)
+FindsSeconds name options found = MatchOption found ((time : Option Duration) → ¬ IsOptionSeconds name options time) (IsOptionSeconds name options)
 
 abbrev pub FindsSpan : List Row → Option Span → Type 0
 FindsSpan options found = MatchOption found ((span : Span) → ¬ IsSpan options span) (IsSpan options)

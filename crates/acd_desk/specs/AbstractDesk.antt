@@ -47,5 +47,5 @@ run_from c [] = c
 run_from c (a ∷ rest) = run_from (executed c a) rest
 
 -- the run over the first arrivals of a list, from the empty state
-abbrev pub run : Limits → List Arrival → Content
-run limits list = run_from (empty_content limits) (firsts limits.requests list)
+abbrev pub desk_run : Limits → List Arrival → Content
+desk_run limits list = run_from (empty_content limits) (firsts limits.requests list)

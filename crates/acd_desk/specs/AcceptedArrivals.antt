@@ -35,8 +35,8 @@ accepted (a ∷ rest) (t ∷ ts) = cond (is_fault t) [] (a ∷ []) ++ accepted r
 accepted _ _ = []
 
 -- their answers
-abbrev pub sent : List Taken → List Taken
-sent answers = filter (λ (t : Taken). not (is_fault t)) answers
+abbrev pub answers_sent : List Taken → List Taken
+answers_sent answers = filter (λ (t : Taken). not (is_fault t)) answers
 
 -- one of these is no fault
 abbrev pub has_accepted : List Taken → Bool

@@ -6,7 +6,7 @@ use Rattle.acd_book.specs.Content.{Content}
 use Rattle.acd_book.specs.State.{BookState}
 use Rattle.acd_desk.specs.declared.taken.Taken.{Taken}
 use Rattle.acd_desk.specs.Replies.{answer_in, after}
-use Rattle.acd_desk.specs.AcceptedArrivals.{accepted, maybe_last, sent}
+use Rattle.acd_desk.specs.AcceptedArrivals.{accepted, maybe_last, answers_sent}
 use Rattle.acd_desk.specs.CarriedContent.{Archive, together}
 
 -- the content after some arrivals, one after the other
@@ -25,7 +25,7 @@ StopsFrom start list others c = (c ≡ led start list) ⊎ ((a : Arrival) × Con
 
 -- from this content on the accepted arrivals were executed in turn, and nothing else was
 pub record Leads (start : Content) (arrivals : List Arrival) (answers : List Taken) (new : BookState) : Type 0 where
-  pub replies : sent answers ≡ answers_to start (accepted arrivals answers)
+  pub replies : answers_sent answers ≡ answers_to start (accepted arrivals answers)
   pub content : new.is_open → new.content ≡ led start (accepted arrivals answers)
   pub stops : (c : Content) → new.stops c → StopsFrom start (accepted arrivals answers) (maybe_last arrivals answers) c
 

@@ -24,15 +24,15 @@ desk_part (Err (Desk fault)) = Err fault
 desk_part (Err (Archive fault)) = Err desk.NoMemory
 
 -- and to the archive
-abbrev pub archive_part : {T : Type 0} → Result T AuditFault → Result T BookFault
-archive_part (Ok found) = Ok found
-archive_part (Err (Desk fault)) = Err book.NoMemory
-archive_part {T = T} (Err (Archive fault)) = by_opening {T = T} (Err fault)
+abbrev pub archived_part : {T : Type 0} → Result T AuditFault → Result T BookFault
+archived_part (Ok found) = Ok found
+archived_part (Err (Desk fault)) = Err book.NoMemory
+archived_part {T = T} (Err (Archive fault)) = by_opening {T = T} (Err fault)
 
 -- a fault of either as a fault of the audit, and what it leaves of the desk
-abbrev pub audit_fault : PairFault → AuditFault
-audit_fault (pair.Current fault) = Desk (fault_of fault)
-audit_fault (pair.Archive fault) = Archive fault
+abbrev pub pair_fault : PairFault → AuditFault
+pair_fault (pair.Current fault) = Desk (fault_of fault)
+pair_fault (pair.Archive fault) = Archive fault
 
 abbrev pub left_by_pair : PairFault → Working → Working
 left_by_pair (pair.Current fault) w = left_by fault w

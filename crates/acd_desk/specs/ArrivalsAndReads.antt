@@ -6,7 +6,7 @@ use Rattle.acd_book.specs.Content.{Content}
 use Rattle.acd_book.specs.State.{IfHonest}
 use Rattle.acd_desk.specs.declared.taken.Taken.{Taken}
 use Rattle.acd_desk.specs.declared.taken.Taken.TheVariants.{StoreFault}
-use Rattle.acd_desk.specs.AcceptedArrivals.{accepted, maybe_last, sent}
+use Rattle.acd_desk.specs.AcceptedArrivals.{accepted, maybe_last, answers_sent}
 use Rattle.acd_desk.specs.SoundContent.{ran_after, replies, StopsAt}
 use Rattle.acd_desk.specs.DeskState.{DeskState, InStep}
 use Rattle.acd_desk.specs.DeskCalls.{IfStarted}
@@ -21,7 +21,7 @@ pub record Attended (old : DeskState) (arrivals : List Arrival) (answers : List 
   -- the desk executed them in turn, from any content that it is in step with
   pub leads : IfHonest old.book new.book (old.book.is_open → InStep old → Leads old.book.content arrivals answers new.book)
   -- each answer but the faults is that of the abstract desk, at its place in the list of what was kept and accepted
-  pub replies : IfStarted old new (sent answers ≡ replies old.book.content (accepted arrivals answers))
+  pub replies : IfStarted old new (answers_sent answers ≡ replies old.book.content (accepted arrivals answers))
   -- an open book holds the run over the first arrivals of that list
   pub content : IfStarted old new (new.book.is_open → new.book.content ≡ ran_after old.book.content (accepted arrivals answers))
   -- whatever a stop leaves is that run, or that with one more arrival, which came after the last accepted one

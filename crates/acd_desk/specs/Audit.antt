@@ -7,12 +7,12 @@ use Rattle.acd_book.specs.State.{BookState, IfHonest}
 use Rattle.acd_desk.specs.declared.audit.Audit.{Audit}
 use Rattle.acd_desk.specs.declared.audit.Audit.TheVariants.{Sound, Differs}
 use Rattle.acd_desk.specs.declared.fault.DeskFault.{DeskFault}
-use Rattle.acd_desk.specs.AbstractDesk.{run}
+use Rattle.acd_desk.specs.AbstractDesk.{desk_run}
 use Rattle.acd_desk.specs.SoundContent.{arrivals_of, IsSound}
 
 -- the first n kept requests run again, each at the moment that its record holds
 abbrev pub replayed : Content → ℕ → Content
-replayed c n = run c.rows.limits (arrivals_of (take n c.kept))
+replayed c n = desk_run c.rows.limits (arrivals_of (take n c.kept))
 
 -- the limits fit, and that run keeps the first n records, and reports a beginning of the events
 pub record Agrees (c : Content) (n : ℕ) : Type 0 where

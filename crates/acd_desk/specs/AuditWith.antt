@@ -4,7 +4,7 @@ use Rattle.acd_terms.specs.declared.rows.Rows.{Rows}
 use Rattle.acd_terms.specs.declared.event.Event.{Event}
 use Rattle.acd_book.specs.declared.kept.Kept.{Kept}
 use Rattle.acd_book.specs.Content.{Content, kept_of, IsKeptAfter, IsCounted, GoOn}
-use Rattle.acd_book.specs.Memory.{stamp_of, number_of}
+use Rattle.acd_book.specs.Memory.{stamp_of, number_of_event}
 use Rattle.acd_book.specs.Order.{Rises, IsOrdered}
 use Rattle.acd_desk.specs.declared.audit.ArchiveAudit.{ArchiveAudit}
 use Rattle.acd_desk.specs.declared.audit.ArchiveAudit.TheVariants.{Sound, SentAgain, Differs}
@@ -43,7 +43,7 @@ pub record HoldsArchive (a c : Content) : Type 0 where
   pub kept : c.kept ≡ carried.kept ++ kept_left
   pub events : c.events ≡ carried.events ++ events_left
   pub kept_rise : Rises stamp_of a.rows.last_stamp kept_left
-  pub events_rise : Rises number_of a.rows.last_event events_left
+  pub events_rise : Rises number_of_event a.rows.last_event events_left
 
 -- the content is what a run of its first newer requests makes of the carried part, and then the rest
 pub record RunsOn (a c r : Content) (kept_left : List Kept) (events_left : List Event) : Type 0 where
@@ -57,7 +57,7 @@ pub record RunsOn (a c r : Content) (kept_left : List Kept) (events_left : List 
   pub events : c.events ≡ r.events ++ events_left
   pub counted : IsCounted r
   pub kept_rise : Rises stamp_of r.rows.last_stamp kept_left
-  pub events_rise : Rises number_of r.rows.last_event events_left
+  pub events_rise : Rises number_of_event r.rows.last_event events_left
 
 -- such a run leaves these rows
 pub record RunsTo (a c : Content) (s : Rows) : Type 0 where

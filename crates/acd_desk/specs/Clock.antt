@@ -14,7 +14,7 @@ use Rattle.acd_book.specs.State.{IfHonest}
 use Rattle.acd_desk.specs.declared.desk.Desk.{Desk}
 use Rattle.acd_desk.specs.declared.taken.Taken.{Taken}
 use Rattle.acd_desk.specs.AcceptedArrivals.{is_fault, is_reply}
-use Rattle.acd_desk.specs.Arrivals.{at}
+use Rattle.acd_desk.specs.Arrivals.{arrival_at}
 use Rattle.acd_desk.specs.SoundContent.{IsNew}
 use Rattle.acd_desk.specs.DeskState.{InStep}
 use Rattle.acd_desk.specs.DeskCalls.{DeskState, state_of, Took}
@@ -46,7 +46,7 @@ pub record LeavesNone (moment : Moment) (s : Rows) : Type 0 where
 -- a look that had the clock's tick handed in, and the answer to that
 pub record Ticked (moment : Moment) (old : DeskState) (t : Taken) (new : DeskState) : Type 0 where
   -- it is an arrival like any other
-  pub took : Took old (at moment (clock_tick moment)) t new
+  pub took : Took old (arrival_at moment (clock_tick moment)) t new
   -- something was due in the switch, or it had to be loaded
   pub look : may_be_due old.switch moment ≡ true
   -- something was due in the content of the book, or the answer is a fault

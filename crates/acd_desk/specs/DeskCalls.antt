@@ -10,7 +10,7 @@ use Rattle.acd_desk.specs.declared.desk.Desk.{Desk}
 use Rattle.acd_desk.specs.declared.taken.Taken.{Taken}
 use Rattle.acd_desk.specs.declared.taken.Taken.TheVariants.{NoMemory, StoreFault}
 use Rattle.acd_desk.specs.Replies.{answer_in, after}
-use Rattle.acd_desk.specs.AcceptedArrivals.{is_fault, is_reply, accepted, maybe_last, sent}
+use Rattle.acd_desk.specs.AcceptedArrivals.{is_fault, is_reply, accepted, maybe_last, answers_sent}
 use Rattle.acd_desk.specs.SoundContent.{IsSound, ran_after, replies, StopsAt}
 pub use Rattle.acd_desk.specs.DeskState.{DeskState, state_of}
 use Rattle.acd_desk.specs.DeskState.{InStep, Starts, with_new_key}
@@ -77,7 +77,7 @@ EndsUp old (t ∷ []) = is_fault t ≡ false
 EndsUp old (_ ∷ t ∷ ts) = EndsUp old (t ∷ ts)
 
 -- the book holds the run over the first arrivals of what was kept and accepted, and a reopening finds nothing else
-pub record Holds (start : Content) (list : List Arrival) (new : BookState) : Type 0 where
+pub record HoldsRun (start : Content) (list : List Arrival) (new : BookState) : Type 0 where
   pub content : new.content ≡ ran_after start list
   pub whole : IsSound new.content
   pub laws : KeepsLaws new.content
@@ -91,9 +91,9 @@ pub record Ran (old : DeskState) (arrivals : List Arrival) (answers : List Taken
   -- the desk executed them in turn, from any content that it is in step with
   pub leads : IfHonest old.book new.book (old.book.is_open → InStep old → Leads old.book.content arrivals answers new.book)
   -- each answer but the faults is that of the abstract desk, at its place in the list of what was kept and accepted
-  pub replies : IfStarted old new (sent answers ≡ replies old.book.content (accepted arrivals answers))
+  pub replies : IfStarted old new (answers_sent answers ≡ replies old.book.content (accepted arrivals answers))
   -- an open book holds the run over the first arrivals of that list, and a reopening finds nothing else
-  pub holds : IfStarted old new (new.book.is_open → Holds old.book.content (accepted arrivals answers) new.book)
+  pub holds : IfStarted old new (new.book.is_open → HoldsRun old.book.content (accepted arrivals answers) new.book)
   -- the book is open after an accepted arrival, so also where all were accepted
   pub up : IfHonest old.book new.book (EndsUp old answers → new.book.is_open)
   -- a book that was shut stays shut

@@ -4,7 +4,7 @@ use Rattle.std.specs.Borrow.{Bor}
 use Rattle.acd_terms.specs.declared.event.Event.{Event}
 use Rattle.acd_book.specs.declared.kept.Kept.{Kept}
 use Rattle.acd_book.specs.Content.{Content}
-use Rattle.acd_book.specs.Memory.{stamp_of, number_of}
+use Rattle.acd_book.specs.Memory.{stamp_of, number_of_event}
 
 -- the place of each of a kind in the order, and all that a content has of the kind
 pub record Kind (T : Type 0) : Type 0 where
@@ -15,7 +15,7 @@ abbrev pub by_stamp : Kind Kept
 by_stamp = record { place = stamp_of; all = λ (c : Content). c.kept }
 
 abbrev pub by_number : Kind Event
-by_number = record { place = number_of; all = λ (c : Content). c.events }
+by_number = record { place = number_of_event; all = λ (c : Content). c.events }
 
 -- those of a list above a place
 abbrev pub all_above : {T : Type 0} → (T → ℕ) → ℕ → List T → List T

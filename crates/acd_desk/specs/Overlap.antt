@@ -4,7 +4,7 @@ use Rattle.std.specs.Bool.{Decides}
 use Rattle.acd_terms.specs.declared.event.Event.{Event}
 use Rattle.acd_book.specs.declared.kept.Kept.{Kept}
 use Rattle.acd_book.specs.Content.{Content}
-use Rattle.acd_book.specs.Memory.{stamp_of, number_of}
+use Rattle.acd_book.specs.Memory.{stamp_of, number_of_event}
 use Rattle.acd_book.specs.Order.{Rises, IsOrdered}
 use Rattle.acd_terms.specs.Lists.{Every}
 use Rattle.acd_desk.specs.declared.overlap.Cut.{Cut}
@@ -13,7 +13,7 @@ use Rattle.acd_desk.specs.declared.overlap.Pages.{Pages}
 use Rattle.acd_desk.specs.declared.overlap.Next.TheVariants.{Same, Other, Over}
 use Rattle.acd_desk.specs.Kinds.{Kind, page_above}
 use Rattle.acd_desk.specs.Pages.{IsPage}
-use Rattle.acd_book.specs.ListOverlap.{IsSplitAt, Begins, cut_before}
+use Rattle.acd_book.specs.ListOverlap.{IsSplitAt, BeginsWithin, cut_before}
 use Rattle.acd_desk.specs.WithArchive.{ComeBefore}
 use Rattle.acd_desk.specs.AuditWith.{StandsInTime, HoldsArchive}
 
@@ -27,21 +27,21 @@ abbrev pub cut_stamp : Content → Content → ℕ
 cut_stamp a c = cut_before stamp_of a.rows.last_stamp c.kept
 
 abbrev pub cut_number : Content → Content → ℕ
-cut_number a c = cut_before number_of a.rows.last_event c.events
+cut_number a c = cut_before number_of_event a.rows.last_event c.events
 
 -- the last place of a kind that was left in an archive, by a content in order and the archive's last place
 abbrev pub IsCutAt : {T : Type 0} → Kind T → ℕ → Content → ℕ → Type 0
 IsCutAt kind last c found = Rises kind.place 0 (kind.all c) → found ≡ cut_before kind.place last (kind.all c)
 
 abbrev pub IsCutOf : Cut → Content → Cut → Type 0
-IsCutOf last c cut = (cut.stamp ≡ cut_before stamp_of last.stamp c.kept) × (cut.number ≡ cut_before number_of last.number c.events)
+IsCutOf last c cut = (cut.stamp ≡ cut_before stamp_of last.stamp c.kept) × (cut.number ≡ cut_before number_of_event last.number c.events)
 
 -- the kept records, and the events, begin with the archive's above the cut
 abbrev pub KeepsArchive : Content → Content → Type 0
-KeepsArchive a c = Begins stamp_of (cut_stamp a c) a.rows.last_stamp a.kept c.kept
+KeepsArchive a c = BeginsWithin stamp_of (cut_stamp a c) a.rows.last_stamp a.kept c.kept
 
 abbrev pub ReportsArchive : Content → Content → Type 0
-ReportsArchive a c = Begins number_of (cut_number a c) a.rows.last_event a.events c.events
+ReportsArchive a c = BeginsWithin number_of_event (cut_number a c) a.rows.last_event a.events c.events
 
 -- of two lists of one member at most: one has a first that the other hasn't, not above a last place where only the second list has one
 abbrev pub Differ : {T : Type 0} → (T → ℕ) × ℕ → List T → List T → Type 0
@@ -76,7 +76,7 @@ IsOtherUpTo last P (Some place) = (place ≤ last) × ¬ P
 -- each event left in the archive comes before each record that was carried over
 abbrev pub IsCleanCut : Content → ℕ → ℕ → Type 0
 IsCleanCut a stamp number = (past carried : List Kept) (left reported : List Event)
-    → IsSplitAt stamp_of stamp a.kept past carried → IsSplitAt number_of number a.events left reported → ComeBefore left carried
+    → IsSplitAt stamp_of stamp a.kept past carried → IsSplitAt number_of_event number a.events left reported → ComeBefore left carried
 
 -- it is found whether the cut is clean, of an archive that stands in time
 abbrev pub DecidesCleanCut : ℕ → ℕ → Content → Bool → Type 0
@@ -110,7 +110,7 @@ pub record StandAbove {T : Type 0} (kind : Kind T) (above last : ℕ) (a c : Con
 
 -- by one of a kind
 abbrev pub FindsOther : {T : Type 0} → Kind T → ℕ → ℕ → Content → Content → Option ℕ → Type 0
-FindsOther kind above last a c found = StandAbove kind above last a c → IsOther (Begins kind.place above last (kind.all a) (kind.all c)) found
+FindsOther kind above last a c found = StandAbove kind above last a c → IsOther (BeginsWithin kind.place above last (kind.all a) (kind.all c)) found
 
 -- by an event; or the cut left some events of the first carried record behind
 abbrev pub FindsMoment : Cut → ℕ → Content → Content → Option ℕ → Type 0

@@ -60,8 +60,8 @@ pub record BookCall : Type 1 where
   pub old : BookState
   pub new : BookState
 
-abbrev pub across : {B : Type 0} → (B → BookState) → B → B → BookCall
-across state old new = record { old = state old; new = state new }
+abbrev pub book_call : {B : Type 0} → (B → BookState) → B → B → BookCall
+book_call state old new = record { old = state old; new = state new }
 
 -- ---- of a pair, before a call and after it
 

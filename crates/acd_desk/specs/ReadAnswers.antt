@@ -58,11 +58,11 @@ or_group (Some g) station = Some (planned.Group g)
 or_group None station = station
 
 -- a planned device
-abbrev pub device_at : Rows → Device → Option PlannedDevice
-device_at s device = or_group (group_of s device) (if is_station s device then Some (planned.Station (station_at s device)) else None)
+abbrev pub planned_at : Rows → Device → Option PlannedDevice
+planned_at s device = or_group (group_of s device) (if is_station s device then Some (planned.Station (station_at s device)) else None)
 
 abbrev pub device_read : Rows → Device → Option (List ℕ)
-device_read s device = option_map device_text (device_at s device)
+device_read s device = option_map device_text (planned_at s device)
 
 -- those who wait in a group, by their places
 abbrev pub by_place : ConnectionRecord → ConnectionRecord → Ordering
@@ -76,11 +76,11 @@ abbrev pub connections_of_device : Rows → Device → List (Stamp × CallId) �
 connections_of_device s group places = filter_map (λ (p : Stamp × CallId). connection_of s p.1 group) places
 
 -- its eligible agents, by stamp and then by number
-abbrev pub by_stamp : AgentRecord → AgentRecord → Ordering
-by_stamp x y = pair_cmp (ready_pair x) (ready_pair y)
+abbrev pub by_ready_pair : AgentRecord → AgentRecord → Ordering
+by_ready_pair x y = pair_cmp (ready_pair x) (ready_pair y)
 
 unfoldable pub ready_in : Rows → Device → List Agent
-ready_in s group = map (λ (a : AgentRecord). a.agent) (in_order by_stamp (eligible_in s group))
+ready_in s group = map (λ (a : AgentRecord). a.agent) (in_order by_ready_pair (eligible_in s group))
 
 -- the queue of a planned group
 abbrev pub queue_read : Rows → Device → Option (List ℕ)

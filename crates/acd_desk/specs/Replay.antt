@@ -9,9 +9,9 @@ use Rattle.acd_terms.specs.declared.command.Arrival.{Arrival}
 use Rattle.acd_terms.specs.declared.command.Request.{Request}
 use Rattle.acd_book.specs.declared.kept.Kept.{Kept}
 use Rattle.acd_book.specs.Content.{Content, kept_of, IsKeptAfter, events_after}
-use Rattle.acd_book.specs.Memory.{stamp_of, number_of}
+use Rattle.acd_book.specs.Memory.{stamp_of, number_of_event}
 use Rattle.acd_book.specs.Order.{Rises, IsOrdered}
-use Rattle.acd_desk.specs.AbstractDesk.{stepped, record_of, run}
+use Rattle.acd_desk.specs.AbstractDesk.{stepped, record_of, desk_run}
 use Rattle.acd_desk.specs.SoundContent.{arrivals_of, IsSound}
 use Rattle.acd_desk.specs.declared.seen_keys.SeenKeys.{SeenKeys}
 use Rattle.acd_desk.specs.declared.page.Page.{Page}
@@ -36,12 +36,12 @@ again k = record { moment = k.moment; request = k.request }
 
 -- the content is a run of its first kept requests, and then the rest
 pub record Splits (c r : Content) (kept_left : List Kept) (events_left : List Event) : Type 0 where
-  pub is_run : r ≡ run c.rows.limits (arrivals_of r.kept)
+  pub is_run : r ≡ desk_run c.rows.limits (arrivals_of r.kept)
   pub size : length r.kept ≡ r.rows.last_stamp
   pub kept : c.kept ≡ r.kept ++ kept_left
   pub events : c.events ≡ r.events ++ events_left
   pub kept_rise : Rises stamp_of r.rows.last_stamp kept_left
-  pub events_rise : Rises number_of r.rows.last_event events_left
+  pub events_rise : Rises number_of_event r.rows.last_event events_left
 
 -- such a run leaves these rows, and each of its places agrees
 pub record Replays (c : Content) (s : Rows) : Type 0 where

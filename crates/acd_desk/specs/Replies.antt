@@ -9,7 +9,7 @@ use Rattle.acd_book.specs.declared.kept.Kept.{Kept}
 use Rattle.acd_book.specs.Content.{Content, is_key, kept_of}
 use Rattle.acd_desk.specs.declared.taken.Taken.{Taken}
 use Rattle.acd_desk.specs.declared.taken.Taken.TheVariants.{Reply, InvokeReused, DeskFull}
-use Rattle.acd_desk.specs.AbstractDesk.{has_key, executed, firsts, run}
+use Rattle.acd_desk.specs.AbstractDesk.{has_key, executed, firsts, desk_run}
 
 -- the same key, service and members, by the comparison that is derived
 unfoldable pub same_request : Request → Request → Bool
@@ -25,7 +25,7 @@ answer_in c r = answer_of (kept_of c.kept r.requester r.invoke) r
 
 -- the answer to a request of the list, looked up by its key
 abbrev pub reply_to : Limits → List Arrival → Request → Taken
-reply_to limits list r = answer_in (run limits list) r
+reply_to limits list r = answer_in (desk_run limits list) r
 
 -- x and k are at one place of the two lists
 abbrev pub StandTogether : List Arrival → List Kept → Arrival → Kept → Type 0
@@ -34,7 +34,7 @@ StandTogether _ _ x k = ⊥
 
 -- the arrival is among the first arrivals of the list, and the run keeps this of it
 abbrev pub StandsFirst : Limits → List Arrival → Arrival → Kept → Type 0
-StandsFirst limits list a kept = StandTogether (firsts limits.requests list) (run limits list).kept a kept
+StandsFirst limits list a kept = StandTogether (firsts limits.requests list) (desk_run limits list).kept a kept
 
 -- an arrival before it has its key
 pub record IsEarlier (before : List Arrival) (a earlier : Arrival) : Type 0 where

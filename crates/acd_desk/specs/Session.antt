@@ -11,9 +11,9 @@ use Rattle.acd_desk.specs.declared.open_fault.OpenFault.{OpenFault}
 use Rattle.acd_desk.specs.declared.open_fault.OpenFault.TheVariants as fault
 use Rattle.acd_desk.specs.declared.session.SessionFault.{SessionFault}
 use Rattle.acd_desk.specs.declared.session.SessionFault.TheVariants as session
-use Rattle.acd_desk.specs.AcceptedArrivals.{is_fault, accepted, maybe_last, sent}
+use Rattle.acd_desk.specs.AcceptedArrivals.{is_fault, accepted, maybe_last, answers_sent}
 use Rattle.acd_desk.specs.SoundContent.{IsSound, replies, StopsAt}
-use Rattle.acd_desk.specs.DeskCalls.{EndsIn, IsStoreFault, Holds}
+use Rattle.acd_desk.specs.DeskCalls.{EndsIn, IsStoreFault, HoldsRun}
 use Rattle.acd_desk.specs.Opening.{Refused}
 use Rattle.acd_desk.specs.AnyContent.{Leads}
 
@@ -38,9 +38,9 @@ pub record Session (After : Taken → Type 0) (old : BookState) (arrivals : List
   -- the desk executed them in turn, from any content whose counters are up to its records
   pub leads : IfHonest old new (IsCounted old.content → Leads old.content arrivals answers new)
   -- each answer but the faults is that of the abstract desk, at its place in the list of what was kept and accepted
-  pub replies : IfWhole old new (sent answers ≡ replies old.content (accepted arrivals answers))
+  pub replies : IfWhole old new (answers_sent answers ≡ replies old.content (accepted arrivals answers))
   -- an open book holds the run over the first arrivals of that list, and a reopening finds nothing else
-  pub holds : IfWhole old new (new.is_open → Holds old.content (accepted arrivals answers) new)
+  pub holds : IfWhole old new (new.is_open → HoldsRun old.content (accepted arrivals answers) new)
   -- the book is open after an accepted arrival, so also where all were accepted
   pub up : IfHonest old new (IsLastAccepted answers → new.is_open)
   -- whatever a stop leaves is that run, or that with one more arrival, which came after the last accepted one

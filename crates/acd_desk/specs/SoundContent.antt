@@ -9,7 +9,7 @@ use Rattle.acd_book.specs.Content.{Content, kept_of}
 use Rattle.acd_desk.specs.declared.taken.Taken.{Taken}
 use Rattle.acd_model.specs.Step.{executed_moment}
 use Rattle.acd_model.specs.Run.{TimedCommand}
-use Rattle.acd_desk.specs.AbstractDesk.{distinct_from, executed, run}
+use Rattle.acd_desk.specs.AbstractDesk.{distinct_from, executed, desk_run}
 use Rattle.acd_desk.specs.Replies.{reply_to}
 
 -- the kept requests at their moments
@@ -21,11 +21,11 @@ pub record IsSound (c : Content) : Type 0 where
   pub fits : limits_fit c.rows.limits ≡ true
   pub distinct : distinct_from [] (arrivals_of c.kept) ≡ arrivals_of c.kept
   pub few : length c.kept ≤ c.rows.limits.requests
-  pub replays : c ≡ run c.rows.limits (arrivals_of c.kept)
+  pub replays : c ≡ desk_run c.rows.limits (arrivals_of c.kept)
 
 -- the run of the list that was kept at the start, followed by these
 abbrev pub ran_after : Content → List Arrival → Content
-ran_after start list = run start.rows.limits (arrivals_of start.kept ++ list)
+ran_after start list = desk_run start.rows.limits (arrivals_of start.kept ++ list)
 
 -- the answers to these, at their places in that list
 abbrev pub replies : Content → List Arrival → List Taken

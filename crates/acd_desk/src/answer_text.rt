@@ -1,7 +1,7 @@
 //! Answers in text.
 
 ghost use Rattle.std.specs.Prelude.{◌≡◌};
-ghost use Rattle.acd_desk.specs.Arrivals.{at};
+ghost use Rattle.acd_desk.specs.Arrivals.{arrival_at};
 ghost use Rattle.acd_desk.specs.AnswerTexts.{said, IsRejection, IsSaid, DeskSays};
 
 use crate::desk::Desk;
@@ -109,7 +109,7 @@ impl<B: Book> Desk<B> {
     /// Executes one arrival, as [`Desk::take`] does, and answers it in text. Where the text of a rejection finds no
     /// memory the answer is noMemory.
     pub fn take_text(&mut self, moment: u32, request: &Request) -> AnswerText
-        ensures { DeskSays B.Book self.old (at moment request.now) (said result) self.new }
+        ensures { DeskSays B.Book self.old (arrival_at moment request.now) (said result) self.new }
     {
         let taken = self.take(moment, request);
         text_of(self.alloc, request, taken)

@@ -5,7 +5,7 @@ ghost use Rattle.acd_desk.specs.DeskReads.{DeskRead};
 ghost use Rattle.acd_desk.specs.Audit.{IsAudited, FindsSound};
 ghost use Rattle.acd_book.specs.BookReads.{Anything, MayRead};
 ghost use Rattle.std.specs.Prelude.{◌≡◌};
-ghost use Rattle.acd_desk.specs.ArchiveAudits.{desk_part, archive_part, audit_fault, left_by_pair, IsAuditedWith};
+ghost use Rattle.acd_desk.specs.ArchiveAudits.{desk_part, archived_part, pair_fault, left_by_pair, IsAuditedWith};
 
 use crate::desk::Desk;
 use crate::fault::DeskFault;
@@ -81,7 +81,7 @@ impl<B: Book> Desk<B> {
         progress: &mut P,
     ) -> Result<ArchiveAudit, AuditFault>
         ensures read { DeskRead B.Book self.old self.new (desk_part result) Anything }
-        ensures archive { MayRead A.state archive.old archive.new (archive_part result) Anything }
+        ensures archive { MayRead A.state archive.old archive.new (archived_part result) Anything }
         ensures audited { IsAuditedWith (A.state archive.old) (A.state archive.new)
             (B.state (book_of self.old)) (B.state (book_of self.new)) result }
     {
@@ -100,7 +100,7 @@ impl<B: Book> Desk<B> {
 
     // A fault of either as a fault of the audit: where the desk's store has failed, the desk has.
     fn pair_failed(&mut self, fault: PairFault) -> AuditFault
-        ensures fault { result ≡ audit_fault fault }
+        ensures fault { result ≡ pair_fault fault }
         ensures left { self.new
             ≡ record self.old { working = left_by_pair fault self.old.working } }
     {

@@ -1,7 +1,7 @@
 //! A desk over a book.
 
 ghost use Rattle.std.specs.Prelude.{◌≡◌, [], ◌∷◌, OnOk, OnErr, IfOk};
-ghost use Rattle.acd_desk.specs.Arrivals.{at};
+ghost use Rattle.acd_desk.specs.Arrivals.{arrival_at};
 ghost use Rattle.acd_desk.specs.DeskState.{state_of, book_of, with_switch};
 ghost use Rattle.acd_terms.specs.Lists.{Every};
 ghost use Rattle.acd_desk.specs.DeskCalls.{TookNew, DeskTook, DeskRan, HasFailed, EndsIn, IsStoreFault};
@@ -83,8 +83,8 @@ impl<B: Book> Desk<B> {
     // The key isn't kept, and the switch is out of the desk.
     fn execute_on(&mut self, loaded: LoadedSwitch, moment: u32, request: &Request) -> Taken
         requires { self.old.working ≡ Working.Unloaded }
-        ensures { TookNew B.Book (with_switch self.old loaded) (at moment request.now) result
-            self.new }
+        ensures { TookNew B.Book (with_switch self.old loaded) (arrival_at moment request.now)
+            result self.new }
     {
         let LoadedSwitch { mut switch } = loaded;
         if switch.is_full() {
@@ -105,7 +105,7 @@ impl<B: Book> Desk<B> {
 
     // The key isn't kept.
     fn execute(&mut self, moment: u32, request: &Request) -> Taken
-        ensures { TookNew B.Book self.old (at moment request.now) result self.new }
+        ensures { TookNew B.Book self.old (arrival_at moment request.now) result self.new }
     {
         match self.switch_out() {
             Ok(loaded) => self.execute_on(loaded, moment, request),
@@ -115,7 +115,7 @@ impl<B: Book> Desk<B> {
 
     // The answer to one arrival.
     fn answer(&mut self, moment: u32, request: &Request) -> Taken
-        ensures took { DeskTook B.Book self.old (at moment request.now) result self.new }
+        ensures took { DeskTook B.Book self.old (arrival_at moment request.now) result self.new }
         ensures shut { HasFailed B.Book self.old → result ≡ Taken.StoreFault }
     {
         if let Working::Failed = self.working {
@@ -133,8 +133,9 @@ impl<B: Book> Desk<B> {
     ///
     /// Tested in this order: the store failed before, the key is kept, the desk is full.
     pub fn take(&mut self, moment: u32, request: &Request) -> Taken
-        ensures took { DeskTook B.Book self.old (at moment request.now) result self.new }
-        ensures ran { DeskRan B.Book self.old (at moment request.now ∷ []) (result ∷ []) self.new }
+        ensures took { DeskTook B.Book self.old (arrival_at moment request.now) result self.new }
+        ensures ran { DeskRan B.Book self.old (arrival_at moment request.now ∷ []) (result ∷ [])
+            self.new }
         ensures shut { HasFailed B.Book self.old → result ≡ Taken.StoreFault }
     {
         self.answer(moment, request)

@@ -2,7 +2,7 @@
 
 ghost use Rattle.std.specs.Prelude.{◌≡◌, IfOk, IfErr};
 ghost use Rattle.acd_model.specs.Rules.First.{BreaksNoRule};
-ghost use Rattle.acd_desk.specs.Arrivals.{at};
+ghost use Rattle.acd_desk.specs.Arrivals.{arrival_at};
 ghost use Rattle.acd_desk.specs.AbstractDesk.{kept_at};
 ghost use Rattle.acd_desk.specs.PreparedCommit.{HasExecuted};
 ghost use Rattle.acd_desk.specs.Replay.{HasRoom};
@@ -35,7 +35,7 @@ pub(crate) fn executed(
 ) -> Result<(Executed, Kept), AllocError>
     requires rules { BreaksNoRule switch.old }
     requires room { HasRoom switch.old }
-    ensures { IfOk result (HasExecuted switch.old (at moment request.now) switch.new) }
+    ensures { IfOk result (HasExecuted switch.old (arrival_at moment request.now) switch.new) }
 {
     let done = switch.step_with_changes(moment, &request.command)?;
     let body = reply_text(alloc, &request.requester, request.invoke, done.outcome)?;

@@ -6,7 +6,7 @@ ghost use Rattle.acd_model.specs.Rules.First.{BreaksNoRule};
 ghost use Rattle.acd_model.specs.Rules.Occupied.{rings_from};
 ghost use Rattle.acd_model.specs.Scans.{connection_of};
 ghost use Rattle.acd_tables.specs.IndexedRows.{is_ringing, pair_cmp};
-ghost use Rattle.acd_reports.specs.QueueReport.{state_of};
+ghost use Rattle.acd_reports.specs.QueueReport.{group_state};
 ghost use Rattle.acd_desk.specs.GroupStates.{first_of, lesser_number, queued_of};
 
 use acd_reports::GroupState;
@@ -66,7 +66,7 @@ fn group_state(
 ) -> Result<GroupState, AllocError>
     requires rules { BreaksNoRule tables.now }
     requires ringing { ringing.now ≡ filter is_ringing tables.now.connections }
-    ensures { IfOk result (λ state. state ≡ state_of tables.now group.now) }
+    ensures { IfOk result (λ state. state ≡ group_state tables.now group.now) }
 {
     let Some(queue) = tables.queue_of(group.device) else {
         return Err(AllocError);
@@ -88,7 +88,7 @@ fn states_of(
 ) -> Result<Vec<GroupState>, AllocError>
     requires rules { BreaksNoRule tables.now }
     requires ringing { ringing.now ≡ filter is_ringing tables.now.connections }
-    ensures { IfOk result (λ states. states.items ≡ map (state_of tables.now) groups.now) }
+    ensures { IfOk result (λ states. states.items ≡ map (group_state tables.now) groups.now) }
 {
     let mut states = Vec::with_capacity(alloc, groups.len())?;
     for group in groups {
@@ -100,7 +100,8 @@ fn states_of(
 /// The state of each group for the report. It looks at the groups, the calls that wait and the offers that ring.
 pub(crate) fn group_states(alloc: Global, tables: &Tables) -> Result<Vec<GroupState>, AllocError>
     requires { BreaksNoRule tables.now }
-    ensures { IfOk result (λ states. states.items ≡ map (state_of tables.now) tables.now.groups) }
+    ensures { IfOk result
+        (λ states. states.items ≡ map (group_state tables.now) tables.now.groups) }
 {
     let ringing = tables.ringing()?;
     let groups = tables.groups()?;

@@ -6,7 +6,7 @@ ghost use Rattle.std.specs.List.Sorted.{IsStrictlySortedBy};
 ghost use Rattle.acd_model.specs.Scans.{connections_of};
 ghost use Rattle.acd_model.specs.Rules.First.{BreaksNoRule};
 ghost use Rattle.acd_tables.specs.IndexedRows.{pair_cmp};
-ghost use Rattle.acd_desk.specs.ReadAnswers.{text_read, agent_read, call_read, station_at, device_at, device_read, connections_of_device, queue_read, report_read, live_call, snapshot_of, snapshot_read};
+ghost use Rattle.acd_desk.specs.ReadAnswers.{text_read, agent_read, call_read, station_at, planned_at, device_read, connections_of_device, queue_read, report_read, live_call, snapshot_of, snapshot_read};
 
 use crate::group_states::group_states;
 use acd_codec::{
@@ -94,7 +94,7 @@ fn station_at(tables: &Tables, station: DeviceId) -> Result<PlannedStation, Allo
 
 // What is planned at the device.
 fn device_at(tables: &Tables, device: DeviceId) -> Result<Option<PlannedDevice>, AllocError>
-    ensures { IfOk result (λ found. found ≡ device_at tables.now device) }
+    ensures { IfOk result (λ found. found ≡ planned_at tables.now device) }
 {
     if let Some(group) = tables.group(device) {
         return Ok(Some(PlannedDevice::Group(group)));

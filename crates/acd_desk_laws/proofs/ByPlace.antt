@@ -10,7 +10,7 @@ use Rattle.acd_book.specs.declared.kept.Kept.{Kept}
 use Rattle.acd_book.specs.Content.{Content, empty_content, is_key, kept_of}
 use Rattle.acd_desk.specs.declared.taken.Taken.{Taken}
 use Rattle.acd_desk.specs.declared.taken.Taken.TheVariants.{Reply, InvokeReused}
-use Rattle.acd_desk.specs.AbstractDesk.{has_key, distinct_from, firsts, record_of, executed, run_from, run}
+use Rattle.acd_desk.specs.AbstractDesk.{has_key, distinct_from, firsts, record_of, executed, run_from, desk_run}
 use Rattle.acd_desk.specs.Replies.{same_request, answer_of, reply_to, StandTogether, StandsFirst, IsEarlier, IsReplyAt, first_arrival, repeat, reused, full}
 use Rattle.acd_desk.proofs.Contents.Keys.{same_itself}
 use Rattle.acd_desk.proofs.Contents.Runs.{has-push}
@@ -202,9 +202,9 @@ reply_by_place limits before a rest =
     let q : ℕ = a.request.invoke in
     let list : List Arrival = before ++ a ∷ rest in
     let f : List Arrival = firsts limits.requests list in
-    let kept : (run limits list).kept ≡ records (empty_content limits) f = kept_records f (empty_content limits) in
+    let kept : (desk_run limits list).kept ≡ records (empty_content limits) f = kept_records f (empty_content limits) in
     elim (found_or_not f (empty_content limits) p q) [
-      | inl x ↦ by_place limits before a rest (kept_of (run limits list).kept p q) x.first x.kept (record {
+      | inl x ↦ by_place limits before a rest (kept_of (desk_run limits list).kept p q) x.first x.kept (record {
         there = ap (λ (ks : List Kept). kept_of ks p q) kept ∙ x.there;
         stands = subst (λ (ks : List Kept). StandTogether f ks x.first x.kept) (sym kept) x.together;
         same = x.same;

@@ -8,7 +8,7 @@ use Rattle.acd_terms.specs.declared.rows.Limits.{Limits}
 use Rattle.acd_terms.specs.declared.command.Arrival.{Arrival}
 use Rattle.acd_terms.specs.declared.command.Request.{Request}
 use Rattle.acd_book.specs.Content.{Content, is_key, empty_content}
-use Rattle.acd_desk.specs.AbstractDesk.{has_key, distinct_from, firsts, run, run_from}
+use Rattle.acd_desk.specs.AbstractDesk.{has_key, distinct_from, firsts, desk_run, run_from}
 use Rattle.acd_desk.specs.Replies.{answer_in, reply_to}
 use Rattle.acd_desk_laws.specs.Feeding.{IsFed, nothing, part}
 use Rattle.acd_desk.proofs.Contents.Runs.{distinct-push, has-push}
@@ -146,7 +146,7 @@ alike_fed log _ _ (part reached fed before place count back) =
     (alike_more (take count (drop place log)) fed (take reached log) (alike_fed log reached fed before))
     (one_part log reached place count back)
 
-pub fed_holds_the_log : (limits : Limits) (log : List Arrival) (reached : ℕ) (fed : List Arrival) → IsFed log reached fed → run limits fed ≡ run limits (take reached log)
+pub fed_holds_the_log : (limits : Limits) (log : List Arrival) (reached : ℕ) (fed : List Arrival) → IsFed log reached fed → desk_run limits fed ≡ desk_run limits (take reached log)
 fed_holds_the_log limits log reached fed h = ap (λ (s : List Arrival). run_from (empty_content limits) (take limits.requests s)) (alike_fed log reached fed h).same
 
 -- ---- answers ----

@@ -15,7 +15,7 @@ use Rattle.acd_book.specs.declared.kept.Kept.{Kept}
 use Rattle.acd_book.specs.Content.{Content, empty_content, committed, is_key, kept_of}
 use Rattle.acd_desk.specs.declared.taken.Taken.{Taken}
 use Rattle.acd_desk.specs.declared.taken.Taken.TheVariants.{Reply, InvokeReused, DeskFull}
-use Rattle.acd_desk.specs.AbstractDesk.{has_key, distinct_from, firsts, kept_at, record_of, executed, run_from, run}
+use Rattle.acd_desk.specs.AbstractDesk.{has_key, distinct_from, firsts, kept_at, record_of, executed, run_from, desk_run}
 use Rattle.acd_desk.specs.Replies.{same_request, answer_of, reply_to}
 use Rattle.acd_desk_laws.specs.NameLaws.{unnamed_request, unnamed_arrival, unnamed_kept, HasOneRequestAKey, answers, SameArrivalsButNames, ContentIgnoresNames, AnswersIgnoreNames}
 use Rattle.acd_desk.proofs.Contents.Keys.{same_itself}
@@ -50,18 +50,18 @@ distinct_unnamed (a ∷ l) seen =
       | false ↦ refl
     ])
 
-run_unnamed : (limits : Limits) (l : List Arrival) → run limits (map unnamed_arrival l) ≡ unnamed_content (run limits l)
+run_unnamed : (limits : Limits) (l : List Arrival) → desk_run limits (map unnamed_arrival l) ≡ unnamed_content (desk_run limits l)
 unfolding unnamed
 run_unnamed limits l =
     ap (run_from (empty_content limits)) (ap (take limits.requests) (distinct_unnamed l []) ∙ take-map unnamed_arrival limits.requests (distinct_from [] l))
     ∙ run_from_unnamed (firsts limits.requests l) (empty_content limits)
 
-same_contents : (limits : Limits) (xs ys : List Arrival) → SameArrivalsButNames xs ys → unnamed_content (run limits xs) ≡ unnamed_content (run limits ys)
-same_contents limits xs ys same = sym (run_unnamed limits xs) ∙ ap (run limits) same ∙ run_unnamed limits ys
+same_contents : (limits : Limits) (xs ys : List Arrival) → SameArrivalsButNames xs ys → unnamed_content (desk_run limits xs) ≡ unnamed_content (desk_run limits ys)
+same_contents limits xs ys same = sym (run_unnamed limits xs) ∙ ap (desk_run limits) same ∙ run_unnamed limits ys
 
 pub content_ignores_names : ContentIgnoresNames
 content_ignores_names limits xs ys same =
-    let one : unnamed_content (run limits xs) ≡ unnamed_content (run limits ys) = same_contents limits xs ys same in
+    let one : unnamed_content (desk_run limits xs) ≡ unnamed_content (desk_run limits ys) = same_contents limits xs ys same in
     record {
       rows = ap (λ (c : Content). c.rows) one;
       events = ap (λ (c : Content). c.events) one;
@@ -95,11 +95,11 @@ kept_reply None = DeskFull
 kept_reply (Some k) = Reply k.status k.body
 
 reply_is_kept : (limits : Limits) (list : List Arrival) (a : Arrival) → HasOneRequestAKey list → Among a list
-    → reply_to limits list a.request ≡ kept_reply (kept_of (run limits list).kept a.request.requester a.request.invoke)
+    → reply_to limits list a.request ≡ kept_reply (kept_of (desk_run limits list).kept a.request.requester a.request.invoke)
 reply_is_kept limits list a once there =
     let p : List ℕ = a.request.requester in
     let q : ℕ = a.request.invoke in
-    let kept : List Kept = (run limits list).kept in
+    let kept : List Kept = (desk_run limits list).kept in
     let asked : AllAsked list kept = kept_asked list (firsts limits.requests list) (empty_content limits) tt
     (every-take (λ (x : Arrival). Among x list) limits.requests (distinct_from [] list) (every_distinct (λ (x : Arrival). Among x list) list [] (every_from (λ (x : Arrival). Among x list) list (λ x i. i)))) in
     (elim (kept_of kept p q) as (λ o. kept_of kept p q ≡ o → answer_of o a.request ≡ kept_reply o) [
@@ -118,10 +118,10 @@ map_alike f g (x ∷ xs) h = ap₂ (λ y l. y ∷ l) (h x (inl refl)) (map_alike
 
 -- what is kept without names gives the same answers, by keys alone
 answers_unnamed : (limits : Limits) (list : List Arrival) → HasOneRequestAKey list
-    → answers limits list ≡ map (λ (a : Arrival). kept_reply (kept_of (map unnamed_kept (run limits list).kept) a.request.requester a.request.invoke)) (map unnamed_arrival list)
+    → answers limits list ≡ map (λ (a : Arrival). kept_reply (kept_of (map unnamed_kept (desk_run limits list).kept) a.request.requester a.request.invoke)) (map unnamed_arrival list)
 answers_unnamed limits list once =
-    map_alike _ _ list (λ a i. reply_is_kept limits list a once i ∙ reply_unnamed (run limits list).kept a.request.requester a.request.invoke)
-    ∙ sym (map-map (λ (a : Arrival). kept_reply (kept_of (map unnamed_kept (run limits list).kept) a.request.requester a.request.invoke)) unnamed_arrival list)
+    map_alike _ _ list (λ a i. reply_is_kept limits list a once i ∙ reply_unnamed (desk_run limits list).kept a.request.requester a.request.invoke)
+    ∙ sym (map-map (λ (a : Arrival). kept_reply (kept_of (map unnamed_kept (desk_run limits list).kept) a.request.requester a.request.invoke)) unnamed_arrival list)
   where
     reply_unnamed : (kept : List Kept) (p : List ℕ) (q : ℕ) → kept_reply (kept_of kept p q) ≡ kept_reply (kept_of (map unnamed_kept kept) p q)
     reply_unnamed kept p q =

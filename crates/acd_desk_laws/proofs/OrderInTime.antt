@@ -16,7 +16,7 @@ use Rattle.acd_lemmas.proofs.Lists.{every-append}
 use Rattle.acd_switch.proofs.RoomOfRules.{moment_after}
 use Rattle.acd_book.specs.declared.kept.Kept.{Kept}
 use Rattle.acd_book.specs.Content.{Content, empty_content, GoOn}
-use Rattle.acd_book.specs.Memory.{stamp_of, number_of}
+use Rattle.acd_book.specs.Memory.{stamp_of, number_of_event}
 use Rattle.acd_book.specs.Order.{IsOrdered}
 use Rattle.acd_desk.specs.AbstractDesk.{stepped, record_of, executed, run_from, firsts}
 use Rattle.acd_desk.specs.SoundContent.{IsSound, arrivals_of}
@@ -124,7 +124,7 @@ stands_in_time p a sound =
     let long = length-append p.events a.events in
     let up = whole.up_to in
     record {
-      ordered = record { kept = rises_back stamp_of 0 p.kept a.kept ordered.kept; events = rises_back number_of 0 p.events a.events ordered.events };
+      ordered = record { kept = rises_back stamp_of 0 p.kept a.kept ordered.kept; events = rises_back number_of_event 0 p.events a.events ordered.events };
       counted = counted_alone p a sound;
       numbered = record { before = 0 + length p.events; go_on = go_back 0 p.events a.events whole.go_on; up_to = omega (arith, long, up) };
       kept = ascends_back (λ (k : Kept). k.moment) 0 p.kept a.kept whole.kept;

@@ -8,7 +8,7 @@ use Rattle.acd_book.specs.declared.kept.Kept.{Kept}
 use Rattle.acd_book.specs.Content.{Content, empty_content, kept_of}
 use Rattle.acd_book.specs.Memory.{is_numbered, stamp_of}
 use Rattle.acd_book.proofs.NumberedLists.{first, above, numbered-push}
-use Rattle.acd_desk.specs.AbstractDesk.{record_of, executed, firsts, run_from, run}
+use Rattle.acd_desk.specs.AbstractDesk.{record_of, executed, firsts, run_from, desk_run}
 use Rattle.acd_desk.specs.Replies.{after}
 use Rattle.acd_desk.specs.SoundContent.{arrivals_of, IsSound, ran_after}
 use Rattle.acd_desk.specs.ReadAnswers.{requests_size, requests_page}
@@ -143,17 +143,17 @@ pages_rebuild c read h =
     let taken : take (length read) c.kept ≡ read = ap (take (length read)) b.1 ∙ take_front read b.0 in
     let few : length read ≤ length c.kept = (let parts = ap (λ (l : List Kept). length l) b.1 ∙ length-append read b.0 in omega (arith, parts)) in
     let agrees = (sound_agrees c (length read) sound few).kept in
-    let kept : made.kept ≡ read = ap (λ (l : List Kept). (run limits (arrivals_of l)).kept) (sym taken) ∙ agrees ∙ taken in
+    let kept : made.kept ≡ read = ap (λ (l : List Kept). (desk_run limits (arrivals_of l)).kept) (sym taken) ∙ agrees ∙ taken in
     let same : made.rows.limits ≡ limits = run-limits (firsts limits.requests (arrivals_of read)) (empty_content limits) in
     let rest : drop (length read) c.kept ≡ b.0 = ap (drop (length read)) b.1 ∙ drop_front read b.0 in
     record {
       sound = run_sound limits (arrivals_of read) sound.fits;
       kept = kept;
-      leads = sound.replays ∙ ap (λ (l : List Kept). run limits (arrivals_of l)) b.1 ∙ ap (run limits) (arrivals_append read b.0)
-          ∙ ap (λ (l : List Kept). run limits (arrivals_of l ++ arrivals_of b.0)) (sym kept)
-          ∙ ap (λ (n : Limits). run n (arrivals_of made.kept ++ arrivals_of b.0)) (sym same)
+      leads = sound.replays ∙ ap (λ (l : List Kept). desk_run limits (arrivals_of l)) b.1 ∙ ap (desk_run limits) (arrivals_append read b.0)
+          ∙ ap (λ (l : List Kept). desk_run limits (arrivals_of l ++ arrivals_of b.0)) (sym kept)
+          ∙ ap (λ (n : Limits). desk_run n (arrivals_of made.kept ++ arrivals_of b.0)) (sym same)
           ∙ ap (λ (l : List Kept). ran_after made (arrivals_of l)) (sym rest);
       whole = λ all.
           let all_kept : c.kept ≡ read = b.1 ∙ ap (λ (l : List Kept). read ++ l) (none_left c read sound b all) ∙ append-nil read in
-          ap (λ (l : List Kept). run limits (arrivals_of l)) (sym all_kept) ∙ sym sound.replays;
+          ap (λ (l : List Kept). desk_run limits (arrivals_of l)) (sym all_kept) ∙ sym sound.replays;
     }

@@ -6,7 +6,7 @@ use Rattle.acd_book.specs.declared.book.Book.{Ghosts}
 use Rattle.acd_book.specs.Content.{Content, IsCounted}
 use Rattle.acd_book.specs.State.{BookState}
 use Rattle.acd_desk.specs.declared.taken.Taken.{Taken}
-use Rattle.acd_desk.specs.AcceptedArrivals.{accepted, maybe_last, sent}
+use Rattle.acd_desk.specs.AcceptedArrivals.{accepted, maybe_last, answers_sent}
 use Rattle.acd_desk.specs.SoundContent.{IsSound, ran_after, replies, StopsAt}
 use Rattle.acd_desk.specs.Laws.{KeepsLaws}
 use Rattle.acd_desk.specs.AnyContent.{led, answers_to, Leads, IsAsTogether}
@@ -33,7 +33,7 @@ CarriedOpens = (p : Archive) (c : Content) → IsSound (together p c) → Breaks
 
 -- the headline, of archive and book together
 pub record RanTogether (p : Archive) (start : Content) (arrivals : List Arrival) (answers : List Taken) (new : BookState) : Type 0 where
-  pub answered : sent answers ≡ replies (together p start) (accepted arrivals answers)
+  pub answered : answers_sent answers ≡ replies (together p start) (accepted arrivals answers)
   pub content : new.is_open → together p new.content ≡ ran_after (together p start) (accepted arrivals answers)
   pub whole : new.is_open → IsSound (together p new.content)
   pub laws : new.is_open → KeepsLaws (together p new.content)

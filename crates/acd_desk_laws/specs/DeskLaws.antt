@@ -4,7 +4,7 @@ use Rattle.acd_terms.specs.Limits.{limits_fit}
 use Rattle.acd_terms.specs.declared.rows.Limits.{Limits}
 use Rattle.acd_terms.specs.declared.command.Arrival.{Arrival}
 use Rattle.acd_book.specs.Content.{Content, empty_content}
-use Rattle.acd_desk.specs.AbstractDesk.{firsts, run}
+use Rattle.acd_desk.specs.AbstractDesk.{firsts, desk_run}
 use Rattle.acd_desk.specs.Replies.{reply_to, IsReplyAt, after}
 use Rattle.acd_desk.specs.SoundContent.{arrivals_of, IsSound, ran_after, raised_from}
 use Rattle.acd_desk.specs.Laws.{KeepsLaws}
@@ -12,7 +12,7 @@ use Rattle.acd_desk.specs.ReadAnswers.{Rise}
 
 -- one more arrival leads from the run of a list to the run of the longer list
 abbrev pub OneMoreArrival : Type 0
-OneMoreArrival = (limits : Limits) (list : List Arrival) (a : Arrival) → after (run limits list) a ≡ run limits (list ++ a ∷ [])
+OneMoreArrival = (limits : Limits) (list : List Arrival) (a : Arrival) → after (desk_run limits list) a ≡ desk_run limits (list ++ a ∷ [])
 
 -- the look-up by key answers what the table by place says
 abbrev pub AnswersByPlace : Type 0

@@ -2,7 +2,7 @@
 use Rattle.std.specs.Prelude.{◌≡◌, ℕ, ◌+◌, ◌<◌, ◌≤◌, max, List, [], ◌∷◌, ◌++◌, length, take, drop}
 use Rattle.acd_terms.specs.declared.rows.Limits.{Limits}
 use Rattle.acd_terms.specs.declared.command.Arrival.{Arrival}
-use Rattle.acd_desk.specs.AbstractDesk.{firsts, run}
+use Rattle.acd_desk.specs.AbstractDesk.{firsts, desk_run}
 use Rattle.acd_desk.specs.Replies.{reply_to}
 
 -- the arrivals by parts of the log, one after the other: each begins at the place that was reached, or at an earlier one
@@ -16,7 +16,7 @@ AgainAddsNothing = (limit : ℕ) (a b c : List Arrival) → firsts limit (a ++ b
 
 -- a desk that was fed parts of a log holds the run of the log, as far as it was reached
 abbrev pub FedHoldsTheLog : Type 0
-FedHoldsTheLog = (limits : Limits) (log : List Arrival) (reached : ℕ) (fed : List Arrival) → IsFed log reached fed → run limits fed ≡ run limits (take reached log)
+FedHoldsTheLog = (limits : Limits) (log : List Arrival) (reached : ℕ) (fed : List Arrival) → IsFed log reached fed → desk_run limits fed ≡ desk_run limits (take reached log)
 
 -- desks that were fed these give the same answer to the request at each place of the log that both have reached
 abbrev pub AnswerAlike : Limits → List Arrival → ℕ → ℕ → List Arrival → List Arrival → Type 0

@@ -8,7 +8,7 @@ use Rattle.acd_laws.specs.NameLaws.{unnamed_command, SameRowsButNames}
 use Rattle.acd_book.specs.declared.kept.Kept.{Kept}
 use Rattle.acd_book.specs.Content.{Content, is_key}
 use Rattle.acd_desk.specs.declared.taken.Taken.{Taken}
-use Rattle.acd_desk.specs.AbstractDesk.{run}
+use Rattle.acd_desk.specs.AbstractDesk.{desk_run}
 use Rattle.acd_desk.specs.Replies.{reply_to}
 
 -- with the name of its command removed
@@ -41,7 +41,7 @@ pub record SameContentsButNames (c d : Content) : Type 0 where
 
 -- two lists of arrivals that differ in names alone leave contents that differ in names alone
 abbrev pub ContentIgnoresNames : Type 0
-ContentIgnoresNames = (limits : Limits) (xs ys : List Arrival) → SameArrivalsButNames xs ys → SameContentsButNames (run limits xs) (run limits ys)
+ContentIgnoresNames = (limits : Limits) (xs ys : List Arrival) → SameArrivalsButNames xs ys → SameContentsButNames (desk_run limits xs) (desk_run limits ys)
 
 -- and where in neither list two arrivals have one key and ask something else, each arrival is answered as the one at its place in the other
 abbrev pub AnswersIgnoreNames : Type 0

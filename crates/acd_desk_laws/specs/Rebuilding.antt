@@ -4,7 +4,7 @@ use Rattle.acd_terms.specs.declared.rows.Limits.{Limits}
 use Rattle.acd_terms.specs.declared.command.Arrival.{Arrival}
 use Rattle.acd_book.specs.declared.kept.Kept.{Kept}
 use Rattle.acd_book.specs.Content.{Content}
-use Rattle.acd_desk.specs.AbstractDesk.{run}
+use Rattle.acd_desk.specs.AbstractDesk.{desk_run}
 use Rattle.acd_desk.specs.SoundContent.{arrivals_of, IsSound, ran_after}
 use Rattle.acd_desk.specs.ReadAnswers.{requests_page}
 
@@ -25,7 +25,7 @@ IsAllRead c read = (requests_page c (last_read read) ≡ []) ⊎ (last_read read
 
 -- the result of these requests at their moments
 abbrev pub made_of : Limits → List Kept → Content
-made_of limits read = run limits (arrivals_of read)
+made_of limits read = desk_run limits (arrivals_of read)
 
 -- the pages make a beginning of the run
 pub record Rebuilds (c : Content) (read : List Kept) : Type 0 where

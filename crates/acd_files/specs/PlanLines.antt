@@ -66,8 +66,8 @@ line_from place wanted (byte ∷ rest) = if nat_eq (place_after place byte).reco
 abbrev pub first_place : Place
 first_place = record { line = 1; records = 0; is_begun = false; is_quoted = false; last = 0 }
 
-abbrev pub line_of : List ℕ → ℕ → Option ℕ
-line_of plan wanted = line_from first_place wanted plan
+abbrev pub line_number : List ℕ → ℕ → Option ℕ
+line_number plan wanted = line_from first_place wanted plan
 
 -- what is shown of a line, from a byte on: so much before
 unfoldable pub shown_from : List ℕ → List ℕ → List ℕ

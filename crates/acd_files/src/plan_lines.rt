@@ -1,7 +1,7 @@
 //! The lines of a plan as whoever wrote it sees them.
 
 ghost use Rattle.std.specs.Prelude.{◌≡◌, ◌<◌, ◌++◌, string_bytes, IfOk, OnOk};
-ghost use Rattle.acd_files.specs.PlanLines.{place_after, begun_at, is_printable, shown_width, hex_digit, shown_byte, is_shown_to, form_text, line_of, first_line};
+ghost use Rattle.acd_files.specs.PlanLines.{place_after, begun_at, is_printable, shown_width, hex_digit, shown_byte, is_shown_to, form_text, line_number, first_line};
 
 use acd_reports::PlanMember;
 use std::alloc::{AllocError, Global};
@@ -60,7 +60,7 @@ fn begun(place: Place) -> Place
 /// The line in which this record begins, both counted from 1. The header is the first record.
 #[tactic(auto, using(crate::proofs::LineOf::line_none))]
 pub fn line_of(plan: &[u8], wanted: u64) -> Option<u64>
-    ensures { result ≡ line_of plan.now wanted }
+    ensures { result ≡ line_number plan.now wanted }
 {
     let mut place = Place {
         line: 1,

@@ -4,7 +4,7 @@ use Rattle.std.proofs.lemmas.List.{map-append}
 use Rattle.acd_terms.specs.declared.command.Arrival.{Arrival}
 use Rattle.acd_book.specs.Content.{Content}
 use Rattle.acd_desk.specs.declared.taken.Taken.{Taken}
-use Rattle.acd_desk.specs.Arrivals.{at}
+use Rattle.acd_desk.specs.Arrivals.{arrival_at}
 use Rattle.acd_desk.specs.DeskState.{DeskState}
 use Rattle.acd_desk.specs.ArrivalsAndReads.{Attended}
 use Rattle.acd_desk.proofs.Desks.CallsInTurn.{Settles, ran_nothing, attended_ran, attended_more, attended_read}
@@ -34,7 +34,7 @@ module _ {D : Type 0} (stands : D → DeskState) (settles : (d : D) → Settles 
 
   one_more : (s d e : D) (l : List Arrival) (ts : List Taken) (moment : ℕ) (asked : WebRequest) (out : List ℕ) (a : AnswersAsked stands moment d asked out e)
       → Attended (stands s) l ts (stands d) → So s l ts (posted stands moment d asked out e a) e
-  one_more s d e l ts moment (ask.Arrival r) out (inl a) h = attended_more (stands s) (stands d) (stands e) l ts (at moment r) a.0 (settles e) h a.2
+  one_more s d e l ts moment (ask.Arrival r) out (inl a) h = attended_more (stands s) (stands d) (stands e) l ts (arrival_at moment r) a.0 (settles e) h a.2
   one_more s d e l ts moment (ask.Arrival r) out (inr a) h = none_more s d e l ts a.2 h
   one_more s d e l ts moment (ask.Look wanted bodiless) out (inl a) h =
       none_more s e e l ts refl (attended_read (stands s) (stands d) (stands e) l ts a.0 (λ (c : Content) (text : _). text ≡ question_read c moment wanted) h a.2)

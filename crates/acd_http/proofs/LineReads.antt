@@ -4,7 +4,7 @@ use Rattle.std.proofs.lemmas.List.{map-append}
 use Rattle.acd_terms.specs.declared.command.Arrival.{Arrival}
 use Rattle.acd_book.specs.Content.{Content}
 use Rattle.acd_desk.specs.declared.taken.Taken.{Taken}
-use Rattle.acd_desk.specs.Arrivals.{at}
+use Rattle.acd_desk.specs.Arrivals.{arrival_at}
 use Rattle.acd_desk.specs.DeskCalls.{DeskState}
 use Rattle.acd_desk.proofs.Contents.RunsOfAnyContent.{sound_led}
 use Rattle.acd_desk.specs.ArrivalsAndReads.{Attended}
@@ -61,7 +61,7 @@ module _ {D : Type 0} (stands : D → DeskState) (settles : (d : D) → Settles 
   one_more s d e l ts (plain no_moment) out a h = none_more s d e l ts a.1 h
   one_more s d e l ts (plain too_long) out a h = none_more s d e l ts a.1 h
   one_more s d e l ts (plain (faulty member)) out a h = none_more s d e l ts a.1 h
-  one_more s d e l ts (plain (arrival moment r)) out a h = attended_more (stands s) (stands d) (stands e) l ts (at moment r) a.0 (settles e) h a.2
+  one_more s d e l ts (plain (arrival moment r)) out a h = attended_more (stands s) (stands d) (stands e) l ts (arrival_at moment r) a.0 (settles e) h a.2
   one_more s d e l ts (get moment (Err why)) out a h = none_more s d e l ts a.1 h
   one_more s d e l ts (get moment (Ok question)) out (inl a) h = none_more s d e l ts a.1 h
   one_more s d e l ts (get moment (Ok question)) out (inr a) h =

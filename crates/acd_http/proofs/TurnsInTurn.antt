@@ -8,13 +8,13 @@ use Rattle.acd_io.specs.declared.sending.Stopped.{Stopped}
 use Rattle.acd_io.specs.SentBytes.{WasSent}
 use Rattle.acd_lines.specs.Lines.{Output}
 use Rattle.acd_http.specs.ConnectionsInTurn.{Outcome, PrintsText, outcome_line, outcome_lines, AnsweredEach, AnsweredAll, EachWell, AnsweredUntilFailed}
-use Rattle.acd_http.specs.Turns.{Turn, answered, looked, turn_line, turn_lines, connections_of_turn, connection_count, Turned, LookedAt, TurnedEach, TurnedWell, TurnsTaken, AddsLooks, EndsAt, TurnsUntil}
+use Rattle.acd_http.specs.Turns.{ServiceTurn, answered, looked, turn_line, turn_lines, connections_of_turn, connection_count, Turned, LookedAt, TurnedEach, TurnedWell, TurnsTaken, AddsLooks, EndsAt, TurnsUntil}
 
-count_more : (xs : List Turn) (x : Turn) → connection_count (xs ++ x ∷ []) ≡ connection_count xs + connections_of_turn x
+count_more : (xs : List ServiceTurn) (x : ServiceTurn) → connection_count (xs ++ x ∷ []) ≡ connection_count xs + connections_of_turn x
 count_more [] x = omega arith
 count_more (y ∷ ys) x = let e = count_more ys x in omega arith
 
-lines_more : (n : ℕ) (xs : List Turn) (x : Turn) → turn_lines n (xs ++ x ∷ []) ≡ turn_lines n xs ++ turn_line (n + connection_count xs) x
+lines_more : (n : ℕ) (xs : List ServiceTurn) (x : ServiceTurn) → turn_lines n (xs ++ x ∷ []) ≡ turn_lines n xs ++ turn_line (n + connection_count xs) x
 unfolding turn_lines
 lines_more n [] x = append-nil (turn_line n x) ∙ ap (λ (k : ℕ). turn_line k x) (omega arith)
 lines_more n (y ∷ ys) x =
@@ -23,11 +23,11 @@ lines_more n (y ∷ ys) x =
     ∙ sym (append_assoc (turn_line n y) (turn_lines (n + connections_of_turn y) ys) (turn_line (n + connection_count (y ∷ ys)) x))
 
 module _ {D : Type 0} (stands : D → DeskState) (looks : Bool) where
-  each_more : (d e f : D) (xs : List Turn) (x : Turn) → TurnedEach stands looks d xs e → Turned stands looks e x f → TurnedEach stands looks d (xs ++ x ∷ []) f
+  each_more : (d e f : D) (xs : List ServiceTurn) (x : ServiceTurn) → TurnedEach stands looks d xs e → Turned stands looks e x f → TurnedEach stands looks d (xs ++ x ∷ []) f
   each_more d e f [] x h k = (f, subst (λ (a : D). Turned stands looks a x f) h k, refl)
   each_more d e f (y ∷ ys) x h k = (h.0, h.1, each_more h.0 e f ys x h.2 k)
 
-  well_more : (d e f : D) (xs : List Turn) (x : Turn) (h : TurnedEach stands looks d xs e) (k : Turned stands looks e x f) → TurnedWell stands looks d xs e h → (stands e).failed ≡ false
+  well_more : (d e f : D) (xs : List ServiceTurn) (x : ServiceTurn) (h : TurnedEach stands looks d xs e) (k : Turned stands looks e x f) → TurnedWell stands looks d xs e h → (stands e).failed ≡ false
       → TurnedWell stands looks d (xs ++ x ∷ []) f (each_more d e f xs x h k)
   unfolding each_more
   well_more d e f [] x h k well working = (ap (λ (a : D). (stands a).failed) (sym h) ∙ working, tt)
@@ -38,7 +38,7 @@ module _ {D : Type 0} (stands : D → DeskState) (looks : Bool) where
     unfolding turn_lines
     turns_none d a = record { turns = []; count = refl; turned = refl; well = λ is. tt; out = Appends-nil a }
 
-    pub turns_more : (many more : ℕ) (d e f : D) (printed : Result (Unit {0}) Stopped × Result (Unit {0}) Stopped) (a : Option (List ℕ)) (output : Output) (x : Turn) → more ≡ many + connections_of_turn x
+    pub turns_more : (many more : ℕ) (d e f : D) (printed : Result (Unit {0}) Stopped × Result (Unit {0}) Stopped) (a : Option (List ℕ)) (output : Output) (x : ServiceTurn) → more ≡ many + connections_of_turn x
         → TurnsTaken stands looks endless many d e (WasSent printed.0 a output.before) → (endless ≡ true → (stands e).failed ≡ false) → Turned stands looks e x f
         → PrintsText (turn_line (many + 1) x) printed.0 output printed.1 → TurnsTaken stands looks endless more d f (WasSent printed.1 a output.after)
     turns_more many more d e f printed a output x is h working one wrote =
@@ -61,29 +61,29 @@ module _ {D : Type 0} (stands : D → DeskState) (looks : Bool) where
 
 -- ---- where no look is made
 
-abbrev outcomes : List Turn → List Outcome
+abbrev outcomes : List ServiceTurn → List Outcome
 outcomes [] = []
 outcomes (answered x ∷ xs) = x ∷ outcomes xs
 outcomes (looked taken told ∷ xs) = outcomes xs
 
 module _ {D : Type 0} (stands : D → DeskState) where
-  alone : (d e : D) (xs : List Turn) → TurnedEach stands false d xs e → AnsweredEach stands d (outcomes xs) e
+  alone : (d e : D) (xs : List ServiceTurn) → TurnedEach stands false d xs e → AnsweredEach stands d (outcomes xs) e
   alone d e [] h = h
   alone d e (answered x ∷ xs) h = (h.0, h.1, alone h.0 e xs h.2)
   alone d e (looked taken told ∷ xs) h = absurd (true≢false (sym h.1.0))
 
-  alone_well : (d e : D) (xs : List Turn) (h : TurnedEach stands false d xs e) → TurnedWell stands false d xs e h → EachWell stands d (outcomes xs) e (alone d e xs h)
+  alone_well : (d e : D) (xs : List ServiceTurn) (h : TurnedEach stands false d xs e) → TurnedWell stands false d xs e h → EachWell stands d (outcomes xs) e (alone d e xs h)
   unfolding alone
   alone_well d e [] h well = tt
   alone_well d e (answered x ∷ xs) h well = (well.0, alone_well h.0 e xs h.2 well.1)
   alone_well d e (looked taken told ∷ xs) h well = absurd (true≢false (sym h.1.0))
 
-  alone_count : (d e : D) (xs : List Turn) → TurnedEach stands false d xs e → length (outcomes xs) ≡ connection_count xs
+  alone_count : (d e : D) (xs : List ServiceTurn) → TurnedEach stands false d xs e → length (outcomes xs) ≡ connection_count xs
   alone_count d e [] h = refl
   alone_count d e (answered x ∷ xs) h = let rest = alone_count h.0 e xs h.2 in omega arith
   alone_count d e (looked taken told ∷ xs) h = absurd (true≢false (sym h.1.0))
 
-  alone_lines : (n : ℕ) (d e : D) (xs : List Turn) → TurnedEach stands false d xs e → turn_lines n xs ≡ outcome_lines n (outcomes xs)
+  alone_lines : (n : ℕ) (d e : D) (xs : List ServiceTurn) → TurnedEach stands false d xs e → turn_lines n xs ≡ outcome_lines n (outcomes xs)
   unfolding turn_lines outcome_lines
   alone_lines n d e [] h = refl
   alone_lines n d e (answered x ∷ xs) h =

@@ -3,7 +3,7 @@ use Rattle.std.specs.Prelude.{ℕ, List, [], ◌∷◌, ◌++◌, map, Ok, Err}
 use mathlib.Core.Logic.{inl, inr}
 use Rattle.acd_terms.specs.declared.command.Arrival.{Arrival}
 use Rattle.acd_desk.specs.declared.taken.Taken.{Taken}
-use Rattle.acd_desk.specs.Arrivals.{at}
+use Rattle.acd_desk.specs.Arrivals.{arrival_at}
 use Rattle.acd_desk.specs.DeskState.{DeskState}
 use Rattle.acd_desk.specs.ArrivalsAndReads.{Attended}
 use Rattle.acd_http.specs.declared.web_request.WebRequest.{WebRequest}
@@ -15,7 +15,7 @@ use Rattle.acd_http.specs.ConnectionsInTurn.{Outcome, AnsweredOne, AnsweredEach}
 module _ {D : Type 0} (stands : D → DeskState) where
   -- the request that was asked, and what the desk answered to it, where it came so far
   abbrev pub posted : (moment : ℕ) (d : D) (asked : WebRequest) (out : List ℕ) (e : D) → AnswersAsked stands moment d asked out e → List (Arrival × Taken)
-  posted moment d (ask.Arrival r) out e (inl h) = (at moment r, h.0) ∷ []
+  posted moment d (ask.Arrival r) out e (inl h) = (arrival_at moment r, h.0) ∷ []
   posted moment d (ask.Arrival r) out e (inr h) = []
   posted moment d (ask.Look wanted bodiless) out e h = []
   posted moment d (ask.Refused why bodiless) out e h = []

@@ -11,7 +11,7 @@ use Rattle.acd_desk.specs.declared.fault.DeskFault.{DeskFault}
 use Rattle.acd_desk.specs.declared.taken.Taken.{Taken}
 use Rattle.acd_desk.specs.declared.question.Question.{Question}
 use Rattle.acd_desk.specs.AnswerTexts.{Said, said, fixed_said, taken_said, found_said}
-use Rattle.acd_desk.specs.Arrivals.{at}
+use Rattle.acd_desk.specs.Arrivals.{arrival_at}
 use Rattle.acd_desk.specs.DeskCalls.{DeskState, state_of, Took, Ran}
 use Rattle.acd_desk.specs.DeskReads.{ReadDone}
 use Rattle.acd_desk.specs.ReadAnswers.{question_read, is_plain}
@@ -82,7 +82,7 @@ module _ {D : Type 0} (stands : D → DeskState) (moment : ℕ) where
   Replies d (ask.Look question bodiless) out e =
       (found : Result (Option (List ℕ)) DeskFault) × (out ≡ found_reply bodiless (reply_kind question) found) × HasRead d question found e
   Replies d (ask.Arrival r) out e =
-      (t : Taken) × (out ≡ taken_reply r t) × Took (stands d) (at moment r) t (stands e) × Ran (stands d) (at moment r ∷ []) (t ∷ []) (stands e)
+      (t : Taken) × (out ≡ taken_reply r t) × Took (stands d) (arrival_at moment r) t (stands e) × Ran (stands d) (arrival_at moment r ∷ []) (t ∷ []) (stands e)
 
   -- Before the desk is asked there may be no memory: then it is left as it was.
   abbrev pub AnswersAsked : D → WebRequest → List ℕ → D → Type 0

@@ -10,7 +10,7 @@ use Rattle.acd_book.specs.State.{IfHonest}
 use Rattle.acd_desk.specs.declared.desk.Desk.{Desk}
 use Rattle.acd_desk.specs.declared.fault.DeskFault.{DeskFault}
 use Rattle.acd_desk.specs.declared.taken.Taken.{Taken}
-use Rattle.acd_desk.specs.Arrivals.{at}
+use Rattle.acd_desk.specs.Arrivals.{arrival_at}
 use Rattle.acd_desk.specs.AcceptedArrivals.{accepted}
 use Rattle.acd_desk.specs.SoundContent.{ran_after}
 use Rattle.acd_desk.specs.AnyContent.{led}
@@ -21,7 +21,7 @@ use Rattle.acd_desk.specs.ReadAnswers.{question_read, is_plain}
 use Rattle.acd_desk.specs.declared.question.Question.{Question}
 use Rattle.acd_desk.specs.declared.answer_text.AnswerText.{AnswerText}
 use Rattle.acd_desk.specs.AnswerTexts.{found_said}
-use Rattle.acd_lines.specs.Input.{Line, no_moment, too_long, faulty, arrival, request_read, asked, text_of_line}
+use Rattle.acd_lines.specs.Input.{Line, no_moment, too_long, faulty, arrival, request_read, line_asked, text_of_line}
 use Rattle.acd_lines.specs.Answers.{Answers, line_text, answered_text, fixed_line}
 use Rattle.acd_lines.specs.Lines.{Manner}
 use Rattle.acd_lines.specs.Parts.{AnswersEach, InTurn}
@@ -44,7 +44,7 @@ text_asked moment text = if is_read text then get moment (target_looked (drop 4 
 
 -- the meaning of a line
 abbrev pub reading_line_of : List ℕ → ReadingLine
-reading_line_of text = asked (plain no_moment) (plain too_long) text_asked text
+reading_line_of text = line_asked (plain no_moment) (plain too_long) text_asked text
 
 abbrev pub refused_line : Refused → List ℕ
 refused_line why = line_text (refused_said why)
@@ -90,7 +90,7 @@ module _ {D : Type 0} (stands : D → DeskState) where
   asked_by d (plain no_moment) out e h = []
   asked_by d (plain too_long) out e h = []
   asked_by d (plain (faulty member)) out e h = []
-  asked_by d (plain (arrival moment r)) out e h = (at moment r, h.0) ∷ []
+  asked_by d (plain (arrival moment r)) out e h = (arrival_at moment r, h.0) ∷ []
   asked_by d (get moment wanted) out e h = []
 
   -- each line is answered by the desk that the earlier ones left

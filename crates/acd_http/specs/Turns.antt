@@ -17,9 +17,9 @@ use Rattle.acd_http.specs.ConnectionsInTurn.{Outcome, PrintsText, outcome_line, 
 use denote.Triple.Both.{Both}
 
 -- a connection, by how it ended; or a look at the clock, by the answer to its tick, where one was handed in, and by whether a line was written of that
-pub data Turn : Type 0 where
-  answered : Outcome → Turn
-  looked : Option Taken → Bool → Turn
+pub data ServiceTurn : Type 0 where
+  answered : Outcome → ServiceTurn
+  looked : Option Taken → Bool → ServiceTurn
 
 -- the line that reports why a tick wasn't executed, or may not have been
 unfoldable pub tick_line : Option Taken → List ℕ
@@ -31,22 +31,22 @@ tick_line (Some (Reply status body)) = []
 tick_line None = []
 
 -- the line of a turn; if it is a connection, it has this number
-abbrev pub turn_line : ℕ → Turn → List ℕ
+abbrev pub turn_line : ℕ → ServiceTurn → List ℕ
 turn_line number (answered x) = outcome_line number x
 turn_line number (looked taken told) = cond told (tick_line taken) []
 
 -- 1 for a connection, 0 for a look
-abbrev pub connections_of_turn : Turn → ℕ
+abbrev pub connections_of_turn : ServiceTurn → ℕ
 connections_of_turn (answered x) = 1
 connections_of_turn (looked taken told) = 0
 
 -- how many of these are connections
-abbrev pub connection_count : List Turn → ℕ
+abbrev pub connection_count : List ServiceTurn → ℕ
 connection_count [] = 0
 connection_count (x ∷ xs) = connections_of_turn x + connection_count xs
 
 -- the lines of turns; the first connection among them has this number
-unfoldable pub turn_lines : ℕ → List Turn → List ℕ
+unfoldable pub turn_lines : ℕ → List ServiceTurn → List ℕ
 turn_lines number [] = []
 turn_lines number (x ∷ xs) = turn_line number x ++ turn_lines (number + connections_of_turn x) xs
 
@@ -58,23 +58,23 @@ module _ {D : Type 0} (stands : D → DeskState) where
     pub looked : Looked moment (stands d) taken (stands e)
 
   -- one turn; looks are made only where `looks` says so
-  abbrev pub Turned : Bool → D → Turn → D → Type 0
+  abbrev pub Turned : Bool → D → ServiceTurn → D → Type 0
   Turned looks d (answered x) e = AnsweredOne stands d x e
   Turned looks d (looked taken told) e = (looks ≡ true) × LookedAt taken d e
 
   -- one turn after another
-  abbrev pub TurnedEach : Bool → D → List Turn → D → Type 0
+  abbrev pub TurnedEach : Bool → D → List ServiceTurn → D → Type 0
   TurnedEach looks d [] e = e ≡ d
   TurnedEach looks d (x ∷ xs) e = (f : D) × Turned looks d x f × TurnedEach looks f xs e
 
   -- each of them by a desk that hadn't failed
-  abbrev pub TurnedWell : (looks : Bool) (d : D) (xs : List Turn) (e : D) → TurnedEach looks d xs e → Type 0
+  abbrev pub TurnedWell : (looks : Bool) (d : D) (xs : List ServiceTurn) (e : D) → TurnedEach looks d xs e → Type 0
   TurnedWell looks d [] e h = Unit {0}
   TurnedWell looks d (x ∷ xs) e h = ((stands d).failed ≡ false) × TurnedWell looks h.0 xs e h.2
 
   -- turns with so many connections were taken, each by a desk that hadn't failed where `endless`, and their lines were written as is said
   pub record TurnsTaken (looks endless : Bool) (many : ℕ) (d e : D) (WentOut : List ℕ → Type 0) : Type 0 where
-    pub turns : List Turn
+    pub turns : List ServiceTurn
     pub count : connection_count turns ≡ many
     pub turned : TurnedEach looks d turns e
     pub well : endless ≡ true → TurnedWell looks d turns e turned

@@ -1,7 +1,7 @@
 //! The number that a query names as `after`.
 
 ghost use Rattle.std.specs.Prelude.{◌≡◌, IfOk};
-ghost use Rattle.acd_http.specs.Query.{text, is_after, after_number, after_step, after_of};
+ghost use Rattle.acd_http.specs.Query.{query_text, names_after, after_number, after_step, after_of};
 
 use acd_io::number_up_to;
 use form_urlencoded::{decode, raw_pairs};
@@ -11,7 +11,7 @@ use std::alloc::{AllocError, Global};
 const DIGITS: usize = 15;
 
 fn is_after(alloc: Global, name: &[u8]) -> Result<bool, AllocError>
-    ensures { IfOk result (λ b. b ≡ is_after name.now) }
+    ensures { IfOk result (λ b. b ≡ names_after name.now) }
 {
     let name = decode(alloc, name)?;
     Ok(name.as_str() == "after")
@@ -29,7 +29,7 @@ fn after_number(digits: &[u8]) -> Option<u64>
 }
 
 fn number_of(alloc: Global, value: &[u8]) -> Result<Option<u64>, AllocError>
-    ensures { IfOk result (λ n. n ≡ after_number (text value.now)) }
+    ensures { IfOk result (λ n. n ≡ after_number (query_text value.now)) }
 {
     let value = decode(alloc, value)?;
     Ok(after_number(value.as_str().as_bytes()))

@@ -8,7 +8,7 @@ use Rattle.std.specs.Cmp.Derive.{both_true}
 use Rattle.std.specs.Bool.{if◌then◌else◌}
 use Rattle.std.specs.Io.BufRead.{ends_with_byte, strip_last}
 use Rattle.acd_lines.specs.declared.answering.Answering.{Ghosts}
-use Rattle.acd_lines.specs.Input.{has_none, moment_of_digits, asked_at, asked}
+use Rattle.acd_lines.specs.Input.{has_none, moment_of_digits, asked_at, line_asked}
 use Rattle.acd_lines.specs.Questions.{question}
 use Rattle.acd_lines.proofs.Splits.{divides}
 use Rattle.acd_lines.proofs.Moments.{number_long, moment_none, moment_split}
@@ -42,23 +42,23 @@ pub short_or_none : (front : List ℕ) → (length front ≤ 10) ⊎ (moment_of_
 short_or_none front = elim (cases_lt 10 (length front)) [ inl long ↦ inr (number_long front long) | inr short ↦ inl short ]
 
 module _ {L : Type 0} (unmarked long : L) (read : ℕ → List ℕ → L) where
-  line_split : (front rest : List ℕ) → has_none 32 front ≡ true → asked unmarked long read (front ++ 32 ∷ rest) ≡ asked_at unmarked long read (option_map (λ n. (n, rest)) (moment_of_digits front))
-  unfolding asked
+  line_split : (front rest : List ℕ) → has_none 32 front ≡ true → line_asked unmarked long read (front ++ 32 ∷ rest) ≡ asked_at unmarked long read (option_map (λ n. (n, rest)) (moment_of_digits front))
+  unfolding line_asked
   line_split front rest h = ap (asked_at unmarked long read) (moment_split (front ++ 32 ∷ rest) front rest refl h)
 
-  line_open : (text : List ℕ) → has_none 32 text ≡ true → asked unmarked long read text ≡ unmarked
-  unfolding asked
+  line_open : (text : List ℕ) → has_none 32 text ≡ true → line_asked unmarked long read text ≡ unmarked
+  unfolding line_asked
   line_open text h = ap (asked_at unmarked long read) (moment_none text h)
 
   -- a long text with no space in its front
-  line_unmarked : (base u : List ℕ) → 10 < length base → has_none 32 base ≡ true → asked unmarked long read (base ++ u) ≡ unmarked
+  line_unmarked : (base u : List ℕ) → 10 < length base → has_none 32 base ≡ true → line_asked unmarked long read (base ++ u) ≡ unmarked
   line_unmarked base u big none = elim (divides 32 u) [
     | inl spaceless ↦ line_open (base ++ u) (list_all-append _ base u ∙ both_true none spaceless)
     | inr one ↦
         let whole : base ++ u ≡ (base ++ one.0) ++ 32 ∷ one.1 = ap (λ (l : List ℕ). base ++ l) one.2 ∙ sym (append_assoc base one.0 (32 ∷ one.1)) in
         let size = length-append base one.0 in
         let no = number_long (base ++ one.0) (omega arith) in
-        ap (asked unmarked long read) whole ∙ line_split (base ++ one.0) one.1 (list_all-append _ base one.0 ∙ both_true none one.3) ∙ ap (λ o. asked_at unmarked long read (option_map (λ n. (n, one.1)) o)) no
+        ap (line_asked unmarked long read) whole ∙ line_split (base ++ one.0) one.1 (list_all-append _ base one.0 ∙ both_true none one.3) ∙ ap (λ o. asked_at unmarked long read (option_map (λ n. (n, one.1)) o)) no
   ]
 
   -- a text that is long after its space, or has no moment
@@ -70,18 +70,18 @@ module _ {L : Type 0} (unmarked long : L) (read : ℕ → List ℕ → L) where
   long_rest None rest h = refl
   long_rest (Some n) rest h = rw (lt-ltb 4096 (length rest) h) refl
 
-  line_of_front : (front b u : List ℕ) → 4107 < length (front ++ 32 ∷ b) → has_none 32 front ≡ true → asked unmarked long read (front ++ 32 ∷ (b ++ u)) ≡ long_line (moment_of_digits front)
+  line_of_front : (front b u : List ℕ) → 4107 < length (front ++ 32 ∷ b) → has_none 32 front ≡ true → line_asked unmarked long read (front ++ 32 ∷ (b ++ u)) ≡ long_line (moment_of_digits front)
   line_of_front front b u big none = line_split front (b ++ u) none ∙ elim (short_or_none front) [
     | inl short ↦ long_rest (moment_of_digits front) (b ++ u) (omega (arith, length-append b u, length-append front (32 ∷ b)))
     | inr nothing ↦ rw nothing refl
   ]
 
-  pub by_front : ByFront (asked unmarked long read)
+  pub by_front : ByFront (line_asked unmarked long read)
   by_front base u v h = elim (divides 32 base) [
     | inl none ↦ line_unmarked base u (omega arith) none ∙ sym (line_unmarked base v (omega arith) none)
     | inr one ↦
         let big : 4107 < length (one.0 ++ 32 ∷ one.1) = subst (λ (l : List ℕ). 4107 < length l) one.2 h in
-        let at = λ (w : List ℕ). ap (λ (l : List ℕ). asked unmarked long read (l ++ w)) one.2 ∙ ap (asked unmarked long read) (append_assoc one.0 (32 ∷ one.1) w) ∙ line_of_front one.0 one.1 w big one.3 in
+        let at = λ (w : List ℕ). ap (λ (l : List ℕ). line_asked unmarked long read (l ++ w)) one.2 ∙ ap (line_asked unmarked long read) (append_assoc one.0 (32 ∷ one.1) w) ∙ line_of_front one.0 one.1 w big one.3 in
         at u ∙ sym (at v)
   ]
 

@@ -7,7 +7,7 @@ use Rattle.std.specs.Io.KnownBytes.{Appends}
 use Rattle.acd_terms.specs.declared.command.Request.{Request}
 use Rattle.acd_terms.specs.declared.command.Arrival.{Arrival}
 use Rattle.acd_desk.specs.declared.taken.Taken.{Taken}
-use Rattle.acd_desk.specs.Arrivals.{at}
+use Rattle.acd_desk.specs.Arrivals.{arrival_at}
 use Rattle.acd_desk.specs.DeskCalls.{DeskState, Ran}
 use Rattle.acd_desk.proofs.Desks.CallsInTurn.{Settles, ran_nothing, ran_more}
 use Rattle.acd_lines.specs.Input.{arrival}
@@ -29,9 +29,9 @@ answered_more (q ∷ rs) [] outs r t out is h = absurd h
 answered_more (q ∷ rs) (u ∷ ts) [] r t out is h = absurd h
 answered_more (q ∷ rs) (u ∷ ts) (o ∷ outs) r t out is h = (h.0, answered_more rs ts outs r t out is h.1)
 
-arrived_more : (rs : List Request) (r : Request) → map (at 0) (rs ++ r ∷ []) ≡ map (at 0) rs ++ at 0 r ∷ []
+arrived_more : (rs : List Request) (r : Request) → map (arrival_at 0) (rs ++ r ∷ []) ≡ map (arrival_at 0) rs ++ arrival_at 0 r ∷ []
 arrived_more [] r = refl
-arrived_more (q ∷ rs) r = ap (λ (l : List Arrival). at 0 q ∷ l) (arrived_more rs r)
+arrived_more (q ∷ rs) r = ap (λ (l : List Arrival). arrival_at 0 q ∷ l) (arrived_more rs r)
 
 text_more : (outs : List (List ℕ)) (out : List ℕ) → concat (outs ++ out ∷ []) ≡ concat outs ++ out
 text_more outs out = concat-append outs (out ∷ []) ∙ ap (λ (l : List ℕ). concat outs ++ l) (append-nil out)
@@ -59,7 +59,7 @@ module _ {D : Type 0} (stands : D → DeskState) (settles : (d : D) → Settles 
     h.0 ++ answer.0 ∷ [],
     answered_more rs h.0 outs r answer.0 out answer.1 h.1,
     subst (λ (l : List Arrival). Ran (stands d) l (h.0 ++ answer.0 ∷ []) (stands e)) (sym (arrived_more rs r))
-        (ran_more (stands d) (stands mid) (stands e) (map (at 0) rs) h.0 (at 0 r) answer.0 (settles e) h.2 answer.2),
+        (ran_more (stands d) (stands mid) (stands e) (map (arrival_at 0) rs) h.0 (arrival_at 0 r) answer.0 (settles e) h.2 answer.2),
   )
 
   pub imports_more : (d mid e : D) (rs : List Request) (r : Request) (a b c : Option (List ℕ)) (waiting waiting' : List ℕ) → Imports stands d rs mid a b waiting

@@ -2,7 +2,7 @@
 use Rattle.std.proofs.Common.{◌≡◌, ℕ, List, [], ◌∷◌, ◌++◌, refl, sym, ap, subst, ◌∙◌, append_assoc, append-nil}
 use Rattle.acd_terms.specs.declared.command.Arrival.{Arrival}
 use Rattle.acd_desk.specs.declared.taken.Taken.{Taken}
-use Rattle.acd_desk.specs.Arrivals.{at}
+use Rattle.acd_desk.specs.Arrivals.{arrival_at}
 use Rattle.acd_desk.specs.DeskCalls.{DeskState, Ran}
 use Rattle.acd_desk.proofs.Desks.CallsInTurn.{Settles, ran_nothing, ran_more}
 use Rattle.acd_lines.specs.Input.{Line, no_moment, too_long, faulty, arrival, line_of, text_of_line, lines_of, arrivals_in}
@@ -33,7 +33,7 @@ module _ {D : Type 0} (stands : D → DeskState) where
   one_line settles s d e l ts too_long out ran h = ([], quiet s d e l ts h.1 ran, λ lines answers outs rest. (h.0, rest))
   one_line settles s d e l ts (faulty member) out ran h = ([], quiet s d e l ts h.1 ran, λ lines answers outs rest. (h.0, rest))
   one_line settles s d e l ts (arrival moment r) out ran h =
-      (h.0 ∷ [], ran_more (stands s) (stands d) (stands e) l ts (at moment r) h.0 (settles e) ran h.2, λ lines answers outs rest. (h.1, rest))
+      (h.0 ∷ [], ran_more (stands s) (stands d) (stands e) l ts (arrival_at moment r) h.0 (settles e) ran h.2, λ lines answers outs rest. (h.1, rest))
 
   answers_on : ((d : D) → Settles (stands d)) → (s d e : D) (l : List Arrival) (ts : List Taken) (pieces outs : List (List ℕ)) → Ran (stands s) l ts (stands d) → AnswersEach line_of (Answers stands) d pieces outs e
       → (more : List Taken) × AnswerLines (lines_of pieces) more outs × Ran (stands s) (l ++ arrivals_in (lines_of pieces)) (ts ++ more) (stands e)

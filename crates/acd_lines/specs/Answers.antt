@@ -8,7 +8,7 @@ use Rattle.acd_codec.specs.declared.fault.FixedAnswer.TheVariants as fixed
 use Rattle.acd_desk.specs.declared.taken.Taken.{Taken}
 use Rattle.acd_desk.specs.declared.answer_text.AnswerText.{AnswerText}
 use Rattle.acd_desk.specs.AnswerTexts.{Said, said, fixed_said, malformed_said, taken_said}
-use Rattle.acd_desk.specs.Arrivals.{at}
+use Rattle.acd_desk.specs.Arrivals.{arrival_at}
 use Rattle.acd_desk.specs.DeskCalls.{DeskState, Took}
 use Rattle.acd_lines.specs.Input.{Line, no_moment, too_long, faulty, arrival}
 
@@ -41,7 +41,7 @@ module _ {D : Type 0} (stands : D → DeskState) where
   Answers d no_moment out e = (out ≡ malformed_line members.Moment) × (e ≡ d)
   Answers d too_long out e = (out ≡ fixed_line fixed.BodyTooLarge) × (e ≡ d)
   Answers d (faulty member) out e = ((out ≡ malformed_line member) ⊎ (out ≡ fixed_line fixed.NoMemory)) × (e ≡ d)
-  Answers d (arrival moment request) out e = (t : Taken) × (out ≡ taken_line request t) × Took (stands d) (at moment request) t (stands e)
+  Answers d (arrival moment request) out e = (t : Taken) × (out ≡ taken_line request t) × Took (stands d) (arrival_at moment request) t (stands e)
 
   -- the same where that is the line of an answer
   abbrev pub AnsweredBy : D → Line → AnswerText → D → Type 0

@@ -15,8 +15,8 @@ abbrev pub KeepsEnds : {B A W : Type 0} → Replies B A W → Replies B A W → 
 KeepsEnds first last = (last.desk.ghost_name ≡ first.desk.ghost_name) × (last.writer.ghost_name ≡ first.writer.ghost_name)
 
 -- by its desk, its outbox and its writer, as they were before the call, and as they are after
-abbrev pub step : {B A W : Type 0} → (W → Option (List ℕ)) → Replies B A W → Replies B A W → OverCall (Desk B)
-step contents first last = record {
+abbrev pub over_replies : {B A W : Type 0} → (W → Option (List ℕ)) → Replies B A W → Replies B A W → OverCall (Desk B)
+over_replies contents first last = record {
   old = first.desk.now;
   new = last.desk.now;
   out = record {
@@ -40,11 +40,11 @@ abbrev pub talk : {B A W : Type 0} → (W → Option (List ℕ)) → Conversatio
 talk contents now = talk_with contents now.replies now.partial.now
 
 -- as it was before a call, and as it is after
-pub record Turn (S : Type 0) : Type 0 where
+pub record LineTurn (S : Type 0) : Type 0 where
   pub old : Talk S
   pub new : Talk S
 
-abbrev pub turn : {B A W : Type 0} → (W → Option (List ℕ)) → Conversation B A W → Conversation B A W → Turn (Desk B)
+abbrev pub turn : {B A W : Type 0} → (W → Option (List ℕ)) → Conversation B A W → Conversation B A W → LineTurn (Desk B)
 turn contents first last = record { old = talk contents first; new = talk contents last }
 
 -- nothing is kept, and nothing waits

@@ -8,7 +8,7 @@ use Rattle.acd_terms.specs.declared.command.Request.{Request}
 use Rattle.acd_terms.specs.declared.command.Arrival.{Arrival}
 use Rattle.acd_codec.specs.declared.member.Member.{Member}
 use Rattle.acd_codec.specs.RequestReading.{reads_as}
-use Rattle.acd_desk.specs.Arrivals.{at}
+use Rattle.acd_desk.specs.Arrivals.{arrival_at}
 
 -- x is put before the first piece
 abbrev pub onto : ℕ → List (List ℕ) → List (List ℕ)
@@ -72,8 +72,8 @@ abbrev pub asked_at : {L : Type 0} → L → L → (ℕ → List ℕ → L) → 
 asked_at unmarked long read None = unmarked
 asked_at unmarked long read (Some p) = if nat_lt 4096 (length p.1) then long else read p.0 p.1
 
-unfoldable pub asked : {L : Type 0} → L → L → (ℕ → List ℕ → L) → List ℕ → L
-asked unmarked long read text = asked_at unmarked long read (moment_of text)
+unfoldable pub line_asked : {L : Type 0} → L → L → (ℕ → List ℕ → L) → List ℕ → L
+line_asked unmarked long read text = asked_at unmarked long read (moment_of text)
 
 -- the request after a moment
 abbrev pub request_read : ℕ → List ℕ → Line
@@ -81,7 +81,7 @@ request_read moment json = line_read moment (reads_as json)
 
 -- the kind of a line
 abbrev pub line_of : List ℕ → Line
-line_of text = asked no_moment too_long request_read text
+line_of text = line_asked no_moment too_long request_read text
 
 -- the lines that some pieces are
 abbrev pub lines_of : List (List ℕ) → List Line
@@ -93,4 +93,4 @@ arrivals_in [] = []
 arrivals_in (no_moment ∷ lines) = arrivals_in lines
 arrivals_in (too_long ∷ lines) = arrivals_in lines
 arrivals_in (faulty member ∷ lines) = arrivals_in lines
-arrivals_in (arrival moment request ∷ lines) = at moment request ∷ arrivals_in lines
+arrivals_in (arrival moment request ∷ lines) = arrival_at moment request ∷ arrivals_in lines

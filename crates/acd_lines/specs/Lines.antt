@@ -10,7 +10,7 @@ use Rattle.acd_terms.specs.declared.command.Arrival.{Arrival}
 use Rattle.acd_book.specs.declared.book.Book.{Ghosts}
 use Rattle.acd_desk.specs.declared.desk.Desk.{Desk}
 use Rattle.acd_desk.specs.declared.taken.Taken.{Taken}
-use Rattle.acd_desk.specs.Arrivals.{at}
+use Rattle.acd_desk.specs.Arrivals.{arrival_at}
 use Rattle.acd_desk.specs.DeskCalls.{DeskRan, DeskState, state_of}
 use Rattle.acd_lines.specs.declared.fault.LinesFault.{LinesFault}
 use Rattle.acd_lines.specs.declared.fault.LinesFault.TheVariants.{Read, Write, NoMemory}
@@ -124,7 +124,7 @@ ArrivalsAnswered Said lines outs = (answers : List Taken) × AnswerLines (lines_
 
 -- the same of the requests of a plan, which come in at moment 0
 abbrev pub RequestsAnswered : (List Arrival → List Taken → Type 0) → List Request → List (List ℕ) → Type 0
-RequestsAnswered Said requests outs = (answers : List Taken) × AnswerLines (imported requests) answers outs × Said (map (at 0) requests) answers
+RequestsAnswered Said requests outs = (answers : List Taken) × AnswerLines (imported requests) answers outs × Said (map (arrival_at 0) requests) answers
 
 -- the desk has run over them
 abbrev pub HasRun : {B : Type 0} → Ghosts B → Desk B → Desk B → List Arrival → List Taken → Type 0

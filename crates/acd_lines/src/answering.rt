@@ -4,7 +4,7 @@ ghost use Rattle.std.specs.Prelude.{◌≡◌, ℕ, List};
 ghost use Rattle.acd_codec.specs.declared.member.Member.TheVariants as members;
 ghost use Rattle.acd_codec.specs.declared.fault.FixedAnswer.TheVariants as fixes;
 ghost use Rattle.acd_desk.specs.declared.desk.Desk.{Desk as DeskOver};
-ghost use Rattle.acd_lines.specs.Input.{asked};
+ghost use Rattle.acd_lines.specs.Input.{line_asked};
 ghost use Rattle.acd_lines.specs.Answers.{malformed_line, fixed_line, GetsAnswer};
 
 use crate::answer::read;
@@ -42,14 +42,14 @@ pub trait Answering<B: Book> {
 }
 
 /// The answer to a line, whose line end is left out.
-#[tactic(auto, unfolding(crate::specs::Input::asked))]
+#[tactic(auto, unfolding(crate::specs::Input::line_asked))]
 pub(crate) fn answer_line<B: Book, A: Answering<B>>(
     lines: &mut A,
     alloc: Global,
     desk: &mut Desk<B>,
     text: &[u8],
 ) -> AnswerText
-    ensures { GetsAnswer A.answers desk.old (asked A.unmarked A.long A.read text.now) result
+    ensures { GetsAnswer A.answers desk.old (line_asked A.unmarked A.long A.read text.now) result
         desk.new }
 {
     let Some((moment, rest)) = moment_of(text) else {

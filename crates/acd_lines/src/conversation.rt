@@ -4,7 +4,7 @@ ghost use Rattle.std.specs.Prelude.{◌≡◌, ◌<◌, [], length, OnOk};
 ghost use Rattle.std.specs.Io.BufRead.{strip_last};
 ghost use Rattle.acd_desk.specs.DeskCalls.{state_of};
 ghost use Rattle.acd_lines.specs.Answers.{answered_text};
-ghost use Rattle.acd_lines.specs.Conversing.{step, turn, KeepsEnds, IsBegun, heard};
+ghost use Rattle.acd_lines.specs.Conversing.{over_replies, turn, KeepsEnds, IsBegun, heard};
 ghost use Rattle.acd_lines.specs.WaitingBytes.{outgoing, Pushed, Flushed};
 ghost use Rattle.acd_lines.specs.Questions.{LineAnswered, LineEnded, Fed, Finished, Conversed};
 
@@ -89,7 +89,8 @@ impl<B: Book, A: Answering<B>, W: Write> Replies<'_, B, A, W> {
     // Answers a line.
     fn respond(&mut self, text: &[u8]) -> Result<(), Stopped>
         ensures same { KeepsEnds self.old self.new }
-        ensures answered { LineAnswered A.Answering text.now (step W.contents self.old self.new)
+        ensures answered { LineAnswered A.Answering text.now
+            (over_replies W.contents self.old self.new)
             result }
     {
         let answered = answer_line(self.lines, self.alloc, self.desk, text);
@@ -107,7 +108,7 @@ impl<B: Book, A: Answering<B>, W: Write> Replies<'_, B, A, W> {
     fn flush(&mut self) -> Result<(), Stopped>
         ensures same { KeepsEnds self.old self.new }
         ensures desk { self.new.desk.now ≡ self.old.desk.now }
-        ensures flushed { Flushed result (step W.contents self.old self.new).out }
+        ensures flushed { Flushed result (over_replies W.contents self.old self.new).out }
     {
         self.outbox.flush(self.writer)
     }

@@ -21,7 +21,7 @@ use Rattle.acd_desk.proofs.Desks.Sessions.{session_ran}
 use Rattle.acd_io.specs.SentBytes.{Breaks}
 use Rattle.acd_lines.specs.Lines.{LinesAnswered, FirstRequests, RequestsAnswered, Streams}
 use Rattle.acd_lines.proofs.WeakerAnswers.{requests_so}
-use Rattle.acd_program.specs.Ended.{IsBegunPlan, IsBegun, StoppedOver, WorkStopped, WorkLeft}
+use Rattle.acd_program.specs.Ended.{IsBegunPlan, IsWorkBegun, StoppedOver, WorkStopped, WorkLeft}
 use Rattle.acd_program.specs.AuditFindings.{IsFindingOf}
 use Rattle.acd_sessions.specs.LinesOver.{NoneMade}
 use Rattle.acd_sessions.specs.Over.{IsSession, LeavesBooks}
@@ -45,21 +45,21 @@ begun_by old d e requests old_output new_output opened h =
     requests_so (FirstRequests requests) (λ (l : List Arrival) (ts : List Taken). Ran d l ts e) (IsSession old e.book) (Breaks old_output new_output) (λ l ts ran. session_ran IsFault old d e l ts opened ran ran.later) h
 
 -- over a book that came of another
-begun_of : (work : Work) (old mid new : BookState) (old_output new_output : Option (List ℕ)) → IsHeldBook old mid → IsBegun work old_output new_output mid new → IsBegun work old_output new_output old new
+begun_of : (work : Work) (old mid new : BookState) (old_output new_output : Option (List ℕ)) → IsHeldBook old mid → IsWorkBegun work old_output new_output mid new → IsWorkBegun work old_output new_output old new
 begun_of (Import requests) old mid new old_output new_output of h =
     requests_so (FirstRequests requests.now) (IsSession mid new) (IsSession old new) (Breaks old_output new_output) (λ l ts s. session_of IsFault old mid new l ts of s) h
 begun_of (Print printout) old mid new old_output new_output of h = h
 begun_of (Audit counts ending) old mid new old_output new_output of h = h
 
 -- as of the database that was left
-begun_left : (Sound : Type 0) (new : BookState) → (new.is_sound → Sound) → (work : Work) (old : BookState) (old_output new_output : Option (List ℕ)) → IsBegun work old_output new_output old new → IsBegun work old_output new_output old (called new Sound)
+begun_left : (Sound : Type 0) (new : BookState) → (new.is_sound → Sound) → (work : Work) (old : BookState) (old_output new_output : Option (List ℕ)) → IsWorkBegun work old_output new_output old new → IsWorkBegun work old_output new_output old (called new Sound)
 begun_left Sound new so (Import requests) old old_output new_output h =
     requests_so (FirstRequests requests.now) (IsSession old new) (IsSession old (called new Sound)) (Breaks old_output new_output) (λ l ts s. session_called Sound new so IsFault old l ts s) h
 begun_left Sound new so (Print printout) old old_output new_output h = h
 begun_left Sound new so (Audit counts ending) old old_output new_output h = h
 
 -- a disk that is clean then was so before
-begun_clean : (work : Work) (old new : BookState) (old_output new_output : Option (List ℕ)) → IsBegun work old_output new_output old new → new.is_clean → old.is_clean
+begun_clean : (work : Work) (old new : BookState) (old_output new_output : Option (List ℕ)) → IsWorkBegun work old_output new_output old new → new.is_clean → old.is_clean
 begun_clean (Import requests) old new old_output new_output h = h.answered.2.step.clean
 begun_clean (Print printout) old new old_output new_output h = absurd h
 begun_clean (Audit counts ending) old new old_output new_output h = absurd h
@@ -73,7 +73,7 @@ pub stopped_in : (work : Work) (makes : Bool) (s t : State) (mid : BookState) (c
 stopped_in work makes s t mid cache failures old_output new_output settles taken (inl none) = inl (unserved_asked makes s t mid cache failures settles taken none.0, none.1)
 stopped_in work makes s t mid cache failures old_output new_output settles taken (inr begun) =
     let new : BookState = followed cache (book_state t failures) in
-    inr (over_connection (IsBegun work old_output new_output) (IsBegun work old_output new_output) makes s t mid cache failures
+    inr (over_connection (IsWorkBegun work old_output new_output) (IsWorkBegun work old_output new_output) makes s t mid cache failures
     (record {
       carries = λ old of is. begun_of work old mid new old_output new_output of is;
       leaves = λ old is. begun_left (LeavesBooks t) new (leaves_books t cache failures) work old old_output new_output is;
@@ -92,7 +92,7 @@ module _ {D : Type 0} {g : Ghosts D} where
     left = elim h.left [
       | inl stopped ↦ inl (elim stopped [
         | inl none ↦ inl (unserved_makes is_new makes (file_state conn) (file_state h.last) may none.0, none.1)
-        | inr begun ↦ inr (over_makes (IsBegun work old_output new_output) is_new makes (file_state conn) (file_state h.last) may begun)
+        | inr begun ↦ inr (over_makes (IsWorkBegun work old_output new_output) is_new makes (file_state conn) (file_state h.last) may begun)
       ])
       | inr cut ↦ inr (record {
         left = cut.left;

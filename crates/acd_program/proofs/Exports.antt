@@ -7,7 +7,7 @@ use Rattle.sqlite_disk.specs.declared.Disk.{Ghosts}
 use Rattle.sqlite_store.specs.declared.store.FileStore.{FileStore}
 use Rattle.acd_terms.specs.declared.event.Event.{Event}
 use Rattle.acd_book.specs.Content.{Content}
-use Rattle.acd_book.specs.Memory.{number_of}
+use Rattle.acd_book.specs.Memory.{number_of_event}
 use Rattle.acd_book.specs.Order.{Rises}
 use Rattle.acd_book.specs.State.{BookState, Reads}
 use Rattle.acd_book.specs.declared.fault.BookFault.{BookFault}
@@ -53,7 +53,7 @@ pub no_memory_after : {A C : Type 0} {P : Content → A → Type 0} (Q : Content
 no_memory_after {P = P} Q a b x r read is = read_no_memory {P = P} Q a b x r (by_read P a b (Ok x) read (λ c y h. h)) is
 
 -- numbers that rise
-pub rise_of : (n : ℕ) (es : List Event) → Rises number_of n es → Rise n es
+pub rise_of : (n : ℕ) (es : List Event) → Rises number_of_event n es → Rise n es
 rise_of n [] h = tt
 rise_of n (e ∷ es) h = (h.0, rise_of e.number es h.1)
 

@@ -13,7 +13,7 @@ use Rattle.acd_program.specs.declared.export.EventTable.{EventTable}
 use Rattle.acd_program.specs.declared.fault.ArchiveFault.{ArchiveFault}
 use Rattle.acd_program.specs.declared.fault.Fault.{Fault}
 use Rattle.acd_program.specs.declared.fault.Fault.TheVariants as fault
-use Rattle.acd_sessions.specs.Over.{Database, OverCall, OverConnection}
+use Rattle.acd_sessions.specs.Over.{Database, OverDatabase, OverConnection}
 use Rattle.acd_program.specs.WithArchive.{OverArchive, InArchive, LeavesArchive}
 use Rattle.acd_program.specs.Work.{WasAsked}
 
@@ -44,7 +44,7 @@ IsAdded old new before after = WasAsked before (AddsEvents old new) (tt {0}) aft
 
 -- so was the book that a database holds, with the connection that came back
 abbrev pub AddsOver : {S F : Type 0} → Database S → EventTable → EventTable → Result (Unit {0}) F × Held S → Type 0
-AddsOver db old new result = IfOk result.0 (λ (done : Unit {0}). OverCall db (IsAdded old new) result.1)
+AddsOver db old new result = IfOk result.0 (λ (done : Unit {0}). OverDatabase db (IsAdded old new) result.1)
 
 -- and that of an archive in files, which were closed
 abbrev pub AddsIn : {D F : Type 0} {g : Ghosts D} → Held (FileStore D g) → EventTable → EventTable → Result (Unit {0}) F → Type 0

@@ -15,7 +15,7 @@ use Rattle.acd_program.specs.declared.auditing.Finding.TheVariants.{Sound, Count
 use Rattle.acd_program.specs.declared.outcome.Cut.{Cut}
 use Rattle.acd_program.specs.declared.outcome.Pruning.{Pruning}
 use Rattle.acd_program.specs.declared.outcome.Pruning.TheVariants as prune
-use Rattle.acd_sessions.specs.Output.{number_between, number_line}
+use Rattle.acd_sessions.specs.Output.{number_text, number_line}
 
 -- it is the audit of a content that is in order; a desk that is in step with it counts its kept records. Without an archive it is not known which request was sent again
 abbrev pub IsFinding : DeskState → Finding → Type 0
@@ -53,7 +53,7 @@ sound_line Headless = codes "sound, but the head of its log can't be read\n"
 
 -- the line of a content that is sound but for a request that was sent again; a log that ends early comes first
 abbrev pub again_line : Ending → ℕ → List ℕ
-again_line Plain stamp = number_between (codes "sound, but request ") stamp (codes " was sent again\n")
+again_line Plain stamp = number_text (codes "sound, but request ") stamp (codes " was sent again\n")
 again_line Early stamp = sound_line Early
 again_line Headless stamp = sound_line Headless
 
@@ -77,7 +77,7 @@ again_counted_line ending stamp count = finding_line ending (SentAgainCounted st
 
 -- the line of one that went so far
 abbrev pub cut_line : Cut → List ℕ
-cut_line cut = if cut.is_part then number_between (codes "pruned up to request ") cut.stamp (codes ", more to go\n") else number_line (codes "pruned up to request ") cut.stamp
+cut_line cut = if cut.is_part then number_text (codes "pruned up to request ") cut.stamp (codes ", more to go\n") else number_line (codes "pruned up to request ") cut.stamp
 
 -- of one that found nothing to prune; a quiet one says nothing
 abbrev pub nothing_line : Bool → List ℕ

@@ -59,10 +59,10 @@ abbrev pub IsBegunPlan : List Request → Option (List ℕ) → Option (List ℕ
 IsBegunPlan requests old_output new_output old new = LinesAnswered (FirstRequests requests) (RequestsAnswered (IsSession old new)) (Breaks old_output new_output)
 
 -- so the requests of an import; no other work is left so
-abbrev pub IsBegun : Work → Option (List ℕ) → Option (List ℕ) → BookState → BookState → Type 0
-IsBegun (Import requests) old_output new_output old new = IsBegunPlan requests.now old_output new_output old new
-IsBegun (Print printout) old_output new_output old new = ⊥
-IsBegun (Audit counts ending) old_output new_output old new = ⊥
+abbrev pub IsWorkBegun : Work → Option (List ℕ) → Option (List ℕ) → BookState → BookState → Type 0
+IsWorkBegun (Import requests) old_output new_output old new = IsBegunPlan requests.now old_output new_output old new
+IsWorkBegun (Print printout) old_output new_output old new = ⊥
+IsWorkBegun (Audit counts ending) old_output new_output old new = ⊥
 
 -- a fault ended the work of a plan: no desk did anything and nothing was written, or it is begun
 abbrev pub StoppedPlan : List Request → Option (List ℕ) → Option (List ℕ) → BookState → BookState → Type 0
@@ -70,7 +70,7 @@ StoppedPlan requests old_output new_output old new = (OnlyAsked old new × (new_
 
 -- the same of any work over the book
 abbrev pub StoppedOver : Work → Option (List ℕ) → Option (List ℕ) → BookState → BookState → Type 0
-StoppedOver work old_output new_output old new = (OnlyAsked old new × (new_output ≡ old_output)) ⊎ IsBegun work old_output new_output old new
+StoppedOver work old_output new_output old new = (OnlyAsked old new × (new_output ≡ old_output)) ⊎ IsWorkBegun work old_output new_output old new
 
 -- over a book that was handed in, with the one that came back: the requests of a plan
 abbrev pub plan_over : {B F : Type 0} → book.Ghosts B → B → List Request → Output → B → ToDo Done F
@@ -90,7 +90,7 @@ work_over books old work out new = record {
 
 -- a fault ended the work: (a), and nothing was written; or (b), with the first requests of a plan
 abbrev pub WorkStopped : Work → Bool → State → State → Option (List ℕ) → Option (List ℕ) → Type 0
-WorkStopped work makes old new old_output new_output = (Unserved makes old new × (new_output ≡ old_output)) ⊎ OverConnection (IsBegun work old_output new_output) makes old new
+WorkStopped work makes old new old_output new_output = (Unserved makes old new × (new_output ≡ old_output)) ⊎ OverConnection (IsWorkBegun work old_output new_output) makes old new
 
 -- over a database that was handed in, with the connection that came back
 abbrev pub work_in : {S F : Type 0} → Stores S → Bool → Held S → Work → Output → Held S → ToDo Done F

@@ -15,7 +15,7 @@ use Rattle.acd_book.specs.declared.fault.BookFault.{BookFault}
 use Rattle.acd_desk.specs.AuditWith.{StandsInTime}
 use Rattle.acd_book.specs.BookReads.{Anything, ReadsIfOpen}
 use Rattle.acd_desk.specs.CarriedContent.{Archive}
-use Rattle.acd_desk.specs.Pairs.{BookCall, across}
+use Rattle.acd_desk.specs.Pairs.{BookCall, book_call}
 use Rattle.acd_desk.specs.Pruning.{IsPlace, IsGone}
 use Rattle.acd_log.specs.declared.ending.Ending.{Ending}
 use Rattle.acd_log.specs.declared.ending.Ending.TheVariants.{Plain, Early, Headless}
@@ -25,7 +25,7 @@ use Rattle.acd_program.specs.declared.fault.Fault.{Fault}
 use Rattle.acd_program.specs.declared.fault.Fault.TheVariants as fault
 use Rattle.acd_program.specs.declared.outcome.Pruning.{Pruning}
 use Rattle.acd_program.specs.declared.outcome.Pruning.TheVariants as prune
-use Rattle.acd_sessions.specs.Over.{Database, OnlyAsked, OverCall, OverConnection, Unserved}
+use Rattle.acd_sessions.specs.Over.{Database, OnlyAsked, OverDatabase, OverConnection, Unserved}
 use Rattle.acd_sessions.specs.ToDo.{ToDo}
 use Rattle.acd_program.specs.WithArchive.{IsFindingWith, WasRead, WereAsked, OverArchive, InArchive, LeavesArchive}
 use Rattle.acd_program.specs.Work.{WasAsked}
@@ -101,13 +101,13 @@ OnlyAskedBoth archive current = OnlyAsked archive.old archive.new × OnlyAsked c
 
 -- a book that a call was lent, by the name of its parameter
 abbrev pub lent : {B : Type 0} → book.Ghosts B → Both (MutBor B) (MutBor B) → BookCall
-lent books given = across books.state given.entry.now given.exit.now
+lent books given = book_call books.state given.entry.now given.exit.now
 
 -- the asking of an archive's book, and of another one with that which came back
 abbrev pub asking : {A B F : Type 0} → (Content → Content → A → Type 0) → BookCall → book.Ghosts B → B → B → ToDo A F
 asking IsAnswer archive books old new = record {
   Done = AskedBoth IsAnswer archive.old archive.new (books.state old) (books.state new);
-  Left = λ fault. OnlyAskedBoth archive (across books.state old new);
+  Left = λ fault. OnlyAskedBoth archive (book_call books.state old new);
 }
 
 -- by the archive's content and a finding this is to go
@@ -156,7 +156,7 @@ ArePlanned ending current pruning old new = WereAsked (IsPruningInOrder ending) 
 
 -- so they were, the archive in a database that was handed in, with the other book and the connection that came back
 abbrev pub PlansOver : {S B F : Type 0} → Database S → Ending → book.Ghosts B → B → (Result Pruning F × B) × Held S → Type 0
-PlansOver db ending books given result = IfOk result.0.0 (λ (pruning : Pruning). OverCall db (ArePlanned ending (across books.state given result.0.1) pruning) result.1)
+PlansOver db ending books given result = IfOk result.0.0 (λ (pruning : Pruning). OverDatabase db (ArePlanned ending (book_call books.state given result.0.1) pruning) result.1)
 
 -- and in files
 abbrev pub PlansIn : {D F : Type 0} {g : Ghosts D} → Ending → Held (FileStore D g) → BookCall → Result Pruning F → Type 0

@@ -2,7 +2,7 @@
 //! come.
 
 ghost use Rattle.std.specs.Prelude.{◌≡◌, IfOk};
-ghost use Rattle.acd_desk.specs.ArchiveAudits.{desk_part, archive_part};
+ghost use Rattle.acd_desk.specs.ArchiveAudits.{desk_part, archived_part};
 ghost use Rattle.acd_book.specs.BookReads.{Anything, MayRead};
 ghost use Rattle.acd_desk.specs.DeskReads.{DeskRead};
 ghost use Rattle.acd_program.specs.WithArchive.{uncounted_with, counted_with, FindsWith};
@@ -79,7 +79,7 @@ pub(crate) fn audited_with_archive<A: Book, B: Book>(
 ) -> Result<Finding, AuditFault>
     ensures found { FindsWith A.Book (archive.old, archive.new) B.Book (desk.old, desk.new) result }
     ensures read { DeskRead B.Book desk.old desk.new (desk_part result) Anything }
-    ensures archive { MayRead A.state archive.old archive.new (archive_part result) Anything }
+    ensures archive { MayRead A.state archive.old archive.new (archived_part result) Anything }
     ensures counted { IfOk result (HasCount counts) }
 {
     let count = match desk.executed() {

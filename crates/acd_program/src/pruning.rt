@@ -3,8 +3,8 @@
 ghost use Rattle.std.specs.Prelude.{◌≡◌, false, IfOk, IfErr};
 ghost use Rattle.sqlite.specs.Held.{state};
 ghost use Rattle.sqlite_std_file.specs.File.{IsFresh};
-ghost use Rattle.acd_sqlbook.specs.View.{book_of};
-ghost use Rattle.acd_desk.specs.Pairs.{across};
+ghost use Rattle.acd_sqlbook.specs.View.{book_seen};
+ghost use Rattle.acd_desk.specs.Pairs.{book_call};
 ghost use Rattle.acd_sessions.specs.Over.{OnlyAsked};
 ghost use Rattle.acd_program.specs.FileTasks.{AsksToPrune, prune_over};
 ghost use Rattle.acd_sessions.specs.Over.{database, Unserved};
@@ -151,7 +151,7 @@ fn planned_in<D: Disk + Drop, B: Book>(
     retention: Retention,
 ) -> (Result<Pruning, WorkFault>, B)
     requires { conn.in_transaction ≡ false }
-    ensures asked { PlansIn ending conn (across B.state book result.1) result.0 }
+    ensures asked { PlansIn ending conn (book_call B.state book result.1) result.0 }
     ensures spared { IsShutWith (Unserved false) conn }
     ensures kept { OnlyAsked (B.state book) (B.state result.1) }
 {
@@ -170,7 +170,7 @@ fn planned_with_archive<'a, S: Start, B: Book>(
     retention: Retention,
 ) -> (Result<Pruning, Fault<'a>>, B)
     ensures asked { AsksToPrune ⟦<FileFrom<S> as Disk>⟧ ending
-        (across B.state book result.1) result.0 }
+        (book_call B.state book result.1) result.0 }
     ensures left { IfErr result.0 (LeavesBeside ⟦<FileFrom<S> as Disk>⟧ IsFresh) }
     ensures kept { OnlyAsked (B.state book) (B.state result.1) }
 {
@@ -188,7 +188,7 @@ fn planned_with_archive<'a, S: Start, B: Book>(
 // ---- the prune ----
 
 fn carry_out<C: Alter>(book: &mut SqlBook<C>, pruning: Pruning) -> Result<(), BookFault>
-    ensures { CarriesOut (book_of C.Store book.old) (book_of C.Store book.new) result pruning }
+    ensures { CarriesOut (book_seen C.Store book.old) (book_seen C.Store book.new) result pruning }
 {
     match pruning {
         Pruning::Refused(_, _) => Ok(()),

@@ -36,6 +36,6 @@ ReadsPlan false old fields new = rows_left old ≡ []
 ReadsPlan true old fields new = (rows_left old ≡ fields ∷ rows_left new) × (length (unread new) < length (unread old)) × IsPlanReader new
 
 -- the requests read after some others
-abbrev pub after : List Request → Result (List Request) PlanFault → Result (List Request) PlanFault
-after requests (Ok more) = Ok (requests ++ more)
-after requests (Err fault) = Err fault
+abbrev pub read_after : List Request → Result (List Request) PlanFault → Result (List Request) PlanFault
+read_after requests (Ok more) = Ok (requests ++ more)
+read_after requests (Err fault) = Err fault

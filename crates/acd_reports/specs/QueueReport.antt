@@ -28,8 +28,8 @@ unfoldable pub ringing_from : Rows → ℕ → ℕ
 ringing_from s group = length (filter (rings_from group) s.connections)
 
 -- the state of a group in the report
-abbrev pub state_of : Rows → GroupRecord → GroupState
-state_of s g = record { group = g; waiting = length (waiting_in s g.device); ringing = ringing_from s g.device; first_queued = first_queued s g.device }
+abbrev pub group_state : Rows → GroupRecord → GroupState
+group_state s g = record { group = g; waiting = length (waiting_in s g.device); ringing = ringing_from s g.device; first_queued = first_queued s g.device }
 
 -- a line: the group, the columns and the name
 abbrev pub line : List ℕ → List (ℕ × List ℕ) → List ℕ → List ℕ
@@ -60,4 +60,4 @@ report_text groups moment = header_line ++ concat (map (group_line moment) group
 
 -- and of the groups of these rows
 unfoldable pub queue_report : Rows → ℕ → List ℕ
-queue_report s moment = report_text (map (state_of s) s.groups) moment
+queue_report s moment = report_text (map (group_state s) s.groups) moment

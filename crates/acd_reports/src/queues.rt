@@ -2,7 +2,7 @@
 
 ghost use Rattle.std.specs.Prelude.{◌≡◌, length, map, IfOk, string_bytes};
 ghost use Rattle.acd_model.specs.Scans.{waiting_in};
-ghost use Rattle.acd_reports.specs.QueueReport.{average_wait, first_queued, longest_wait, ringing_from, state_of, group_line, report_text, queue_report};
+ghost use Rattle.acd_reports.specs.QueueReport.{average_wait, first_queued, longest_wait, ringing_from, group_state, group_line, report_text, queue_report};
 ghost use Rattle.acd_reports.specs.Layout.{Appends};
 
 use crate::columns::{push_left, push_numbers};
@@ -73,7 +73,7 @@ fn longest_wait(first: Option<u32>, moment: u32) -> Option<u64>
 }
 
 fn state_of(rows: &Rows, group: &GroupRecord) -> GroupState
-    ensures { result ≡ state_of rows.now group.now }
+    ensures { result ≡ group_state rows.now group.now }
 {
     GroupState {
         group: *group,
@@ -88,7 +88,7 @@ fn states_of(
     rows: &Rows,
     groups: &[GroupRecord],
 ) -> Result<Vec<GroupState>, AllocError>
-    ensures { IfOk result (λ v. v.items ≡ map (state_of rows.now) groups.now) }
+    ensures { IfOk result (λ v. v.items ≡ map (group_state rows.now) groups.now) }
 {
     let mut states = Vec::with_capacity(alloc, groups.len())?;
     for group in groups {

@@ -15,7 +15,7 @@ use Rattle.acd_sql_columns.specs.Schema.{no_schema}
 use Rattle.acd_sqlbook.specs.declared.cache.Cache.{Cache}
 use Rattle.acd_sqlbook.specs.Caches.{IsBlank, followed}
 use Rattle.acd_sqlbook.specs.State.{book_state, IsNewBook}
-use Rattle.acd_sqlbook.specs.View.{BookView, book_of}
+use Rattle.acd_sqlbook.specs.View.{BookView, book_seen}
 use Rattle.sqlite.specs.Held.{state}
 use Rattle.sqlite_trees.specs.declared.store.Store.{Ghosts}
 use Rattle.acd_sqlbook.proofs.CachedCalls.{blank_of}
@@ -57,7 +57,7 @@ module _ {S : Type 0} (store : Ghosts S) (s : State) where
   CleanBefore b = HasCleanDisk (state store b.conn) → HasCleanDisk s
 
 pub adopted_taken : {S E : Type 0} (store : Ghosts S) (makes : Bool) (s : State) (r : Result (BookView S) E) → IfOk r (Adopts store s) → IfOk r (λ (b : BookView S). IsBlank b.cache)
-    → IfOk r (λ (b : BookView S). b.failures ≡ 0) → IfOk r (CleanBefore store s) → IfOk r (λ (b : BookView S). IsTaken makes s (book_of store b))
+    → IfOk r (λ (b : BookView S). b.failures ≡ 0) → IfOk r (CleanBefore store s) → IfOk r (λ (b : BookView S). IsTaken makes s (book_seen store b))
 adopted_taken store makes s (Ok b) adopted none counted clean = inl (record {
   tables = λ here. let book = (adopted here).of_book in (book.0, book.1.schema_is);
   of_held = of_held s (state store b.conn) b.cache b.failures adopted none counted clean;

@@ -15,7 +15,7 @@ use Rattle.acd_sqlbook.specs.State.{book_state}
 use Rattle.acd_sqlbook.specs.declared.cache.Cache.{Cache}
 use Rattle.acd_desk.specs.declared.taken.Taken.{Taken}
 use Rattle.acd_desk.specs.AnyContent.{Leads}
-use Rattle.acd_desk.specs.DeskCalls.{Holds}
+use Rattle.acd_desk.specs.DeskCalls.{HoldsRun}
 use Rattle.acd_desk.specs.Session.{Session}
 use Rattle.acd_sessions.specs.Over.{LeavesBooks}
 
@@ -37,7 +37,7 @@ module _ (Sound : Type 0) (b : BookState) where
   pub leads_called : (c : Content) (l : List Arrival) (ts : List Taken) → Leads c l ts b → Leads c l ts (called b Sound)
   leads_called c l ts h = record { replies = h.replies; content = h.content; stops = h.stops }
 
-  pub holds_called : (c : Content) (l : List Arrival) → Holds c l b → Holds c l (called b Sound)
+  pub holds_called : (c : Content) (l : List Arrival) → HoldsRun c l b → HoldsRun c l (called b Sound)
   holds_called c l h = record { content = h.content; whole = h.whole; laws = h.laws; alone = h.alone }
 
 -- of a book that was sound, what a step, a session or a read left

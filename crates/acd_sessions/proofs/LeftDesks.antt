@@ -9,7 +9,7 @@ use Rattle.acd_model.specs.Rules.First.{BreaksNoRule}
 use Rattle.acd_book.specs.Content.{Content, IsCounted}
 use Rattle.acd_book.specs.State.{BookState, BookStep, unfailing}
 use Rattle.acd_book.proofs.BookSteps.{step_then}
-use Rattle.acd_sqlbook.specs.View.{BookView, book_of}
+use Rattle.acd_sqlbook.specs.View.{BookView, book_seen}
 use Rattle.acd_desk.specs.declared.desk.Desk.{Desk}
 use Rattle.acd_desk.specs.declared.fault.DeskFault.{DeskFault}
 use Rattle.acd_desk.specs.declared.taken.Taken.{Taken}
@@ -33,7 +33,7 @@ use Rattle.acd_http.specs.declared.exchanging.ExchangeFault.TheVariants as fault
 use Rattle.acd_http.specs.Exchange.{Replies, AnswersAsked}
 use Rattle.acd_http.specs.declared.serving.Span.{Span}
 use Rattle.acd_http.specs.ConnectionsInTurn.{Outcome, Visited, AnsweredOne}
-use Rattle.acd_http.specs.Turns.{Turn, LookedAt, Turned, TurnedEach, TurnedWell, EndsAt}
+use Rattle.acd_http.specs.Turns.{ServiceTurn, LookedAt, Turned, TurnedEach, TurnedWell, EndsAt}
 use Rattle.acd_http.specs.Turns as turn
 use Rattle.acd_http.specs.LinesWithReads.{ReadingLine, plain, get, reading_line_of, ReadingAnswers}
 use Rattle.acd_io.specs.SentBytes.{Begins}
@@ -272,18 +272,18 @@ module _ {D T : Type 0} (stands : D → DeskState) (stood : T → DeskState) (vi
       (look.0, record { moment = h.moment; working = v.failed d ∙ h.working; looked = look.1 })
 
   module _ (looks : Bool) where
-    turn_seen : (d : D) (x : Turn) (e : D) → Kept d → Turned stands looks d x e → Kept e × Turned stood looks (view d) x (view e)
+    turn_seen : (d : D) (x : ServiceTurn) (e : D) → Kept d → Turned stands looks d x e → Kept e × Turned stood looks (view d) x (view e)
     turn_seen d (turn.answered x) e k h = one_seen d x e k h
     turn_seen d (turn.looked taken told) e k h = let look = look_seen d taken e k h.1 in (look.0, (h.0, look.1))
 
-    turns_seen : (d : D) (xs : List Turn) (e : D) → Kept d → TurnedEach stands looks d xs e → Kept e × TurnedEach stood looks (view d) xs (view e)
+    turns_seen : (d : D) (xs : List ServiceTurn) (e : D) → Kept d → TurnedEach stands looks d xs e → Kept e × TurnedEach stood looks (view d) xs (view e)
     turns_seen d [] e k h = (same_kept d e h k, ap view h)
     turns_seen d (x ∷ xs) e k h =
         let one = turn_seen d x h.0 k h.1 in
         let rest = turns_seen h.0 xs e one.0 h.2 in
         (rest.0, (view h.0, one.1, rest.1))
 
-    well_seen : (d : D) (xs : List Turn) (e : D) (k : Kept d) (h : TurnedEach stands looks d xs e) → TurnedWell stands looks d xs e h → TurnedWell stood looks (view d) xs (view e) (turns_seen d xs e k h).1
+    well_seen : (d : D) (xs : List ServiceTurn) (e : D) (k : Kept d) (h : TurnedEach stands looks d xs e) → TurnedWell stands looks d xs e h → TurnedWell stood looks (view d) xs (view e) (turns_seen d xs e k h).1
     unfolding turns_seen
     well_seen d [] e k h w = w
     well_seen d (x ∷ xs) e k h w = (v.failed d ∙ w.0, well_seen h.0 xs e (turn_seen d x h.0 k h.1).0 h.2 w.1)
@@ -372,10 +372,10 @@ module _ {S : Type 0} (store : Ghosts S) where
 
   module _ (Did : OfBook → OfBook → Type 0) (DidSeen : (Seen (InDatabase S) → DeskState) → Seen (InDatabase S) → Seen (InDatabase S) → Type 0)
       (see : (Clean : Type 0) (began : BookState) (d e : OfBook) → IsKept Clean began d → Did d e → IsKept Clean began e × DidSeen (seen (left_of store began)) (view d) (view e)) where
-    over_seen : (old : BookState) (taken last : BookView S) (d e : OfBook) (conn : Held S) → IsHeldBook old (book_of store taken) → Opened (book_of store taken) (stands_in d) → Did d e → last ≡ e.book → conn ≡ last.conn
-        → (HasCleanDisk (state store conn) → (book_of store taken).is_clean) × SeenOver store DidSeen old conn
+    over_seen : (old : BookState) (taken last : BookView S) (d e : OfBook) (conn : Held S) → IsHeldBook old (book_seen store taken) → Opened (book_seen store taken) (stands_in d) → Did d e → last ≡ e.book → conn ≡ last.conn
+        → (HasCleanDisk (state store conn) → (book_seen store taken).is_clean) × SeenOver store DidSeen old conn
     over_seen old taken last d e conn of opened did final back =
-        let Clean : Type 0 = (book_of store taken).is_clean in
+        let Clean : Type 0 = (book_seen store taken).is_clean in
         let k : IsKept Clean old d = ((λ clean sound. opened.step.sound clean (of.step.sound (opened.step.clean clean) sound)), λ clean. opened.step.clean clean) in
         let done = see Clean old d e k did in
         let same : conn ≡ e.book.conn = back ∙ ap (λ (b : BookView S). b.conn) final in (
@@ -383,7 +383,7 @@ module _ {S : Type 0} (store : Ghosts S) where
           record {
             first = view d;
             final = view e;
-            opened = opened_of old (book_of store taken) (stands_in d) of opened;
+            opened = opened_of old (book_seen store taken) (stands_in d) of opened;
             did = done.1;
             opens = subst (λ (x : Held S). HasCleanDisk (state store x) → old.is_sound → LeavesBooks (state store x)) (sym same)
                 (λ clean sound. leaves_books (state store e.book.conn) e.book.cache e.book.failures (done.0.0 clean sound));

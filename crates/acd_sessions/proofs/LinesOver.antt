@@ -9,7 +9,7 @@ use Rattle.sqlite_trees.specs.Tree.{Trees}
 use Rattle.sqlite_trees.specs.declared.store.Store.{Ghosts}
 use Rattle.acd_book.specs.declared.book.Book as book
 use Rattle.acd_book.specs.State.{BookState}
-use Rattle.acd_sqlbook.specs.View.{BookView, book_of}
+use Rattle.acd_sqlbook.specs.View.{BookView, book_seen}
 use Rattle.acd_desk.specs.declared.desk.Desk.{Desk}
 use Rattle.acd_desk.specs.Opening.{Opened}
 use Rattle.acd_desk.specs.DeskCalls.{IsFault}
@@ -61,13 +61,13 @@ module _ {D : Type 0} (stands : D → DeskState) (T : D → D → List (List ℕ
 module _ {S : Type 0} (store : Ghosts S) where
   module _ (T : Desk (BookView S) → Desk (BookView S) → List (List ℕ) → List (List ℕ) → Type 0) (makes ends : Bool) (io : Streams) where
     -- lines over the book that was opened in it
-    pub lines_in : (s : State) (taken last : BookView S) (r : Result (Unit {0}) WorkFault) (conn : Held S) → ((db : Trees) → IsTrue s.is_open → s.may_leave db → db ≡ s.committed.trees) → IsTaken makes s (book_of store taken) → conn ≡ last.conn
-        → LinesOver (in_database store) T ends io (book_of store taken) r last → LinesIn store T makes ends io s r conn
+    pub lines_in : (s : State) (taken last : BookView S) (r : Result (Unit {0}) WorkFault) (conn : Held S) → ((db : Trees) → IsTrue s.is_open → s.may_leave db → db ≡ s.committed.trees) → IsTaken makes s (book_seen store taken) → conn ≡ last.conn
+        → LinesOver (in_database store) T ends io (book_seen store taken) r last → LinesIn store T makes ends io s r conn
     lines_in s taken last r conn settles of back (inl none) = inl (record {
       why = open_fault none.why;
       outcome = none.outcome;
       unserved = subst (λ (x : Held S). Unserved makes s (state store x)) (sym back)
-          (unserved_refused makes s (state store last.conn) (book_of store taken) last.cache last.failures none.why settles of none.refused);
+          (unserved_refused makes s (state store last.conn) (book_seen store taken) last.cache last.failures none.why settles of none.refused);
       untouched = none.untouched;
     })
     lines_in s taken last r conn settles of back (inr some) = inr (record { taken = taken; last = last; of_old = of; over = some; back = back })
@@ -158,16 +158,16 @@ pub lines_are_sessions : {S R W : Type 0} (store : Ghosts S) (remaining : R → 
 lines_are_sessions {S} store remaining contents runs makes ends reader writer r given conn h =
     let s : State = state store given in
     let io : Streams = streams remaining contents reader writer in
-    let new : BookState = book_of store h.last in
+    let new : BookState = book_seen store h.last in
     subst (λ (x : Held S). OverConnection (SessionLeaves ends io r) makes s (state store x)) (sym h.back)
-    (over_connection (SessionLeaves ends io r) (SessionLeaves ends io r) makes s (state store h.last.conn) (book_of store h.taken) h.last.cache h.last.failures
+    (over_connection (SessionLeaves ends io r) (SessionLeaves ends io r) makes s (state store h.last.conn) (book_seen store h.taken) h.last.cache h.last.failures
     (record {
-      carries = λ old of ended. ended_since ends io r old (book_of store h.taken) new of ended;
+      carries = λ old of ended. ended_since ends io r old (book_seen store h.taken) new of ended;
       leaves = λ old ended. ended_left (LeavesBooks (state store h.last.conn)) new (leaves_books (state store h.last.conn) h.last.cache h.last.failures) ends io r old ended;
-      clean = ended_clean ends io r (book_of store h.taken) new;
+      clean = ended_clean ends io r (book_seen store h.taken) new;
     })
     h.of_old
-    (session_of_desk (in_database store) runs ends io r (book_of store h.taken) h.last h.over))
+    (session_of_desk (in_database store) runs ends io r (book_seen store h.taken) h.last h.over))
 
 -- whole, or its beginning
 pub ended_in : {S : Type 0} (store : Ghosts S) (makes ends : Bool) (io : Streams) → AreASession store makes ends io → (given : Held S) (r : Result (Unit {0}) WorkFault) (conn : Held S)

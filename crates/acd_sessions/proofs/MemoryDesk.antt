@@ -6,7 +6,7 @@ use Rattle.acd_terms.specs.declared.command.Arrival.{Arrival}
 use Rattle.acd_book.specs.Content.{Content, HasRisen}
 use Rattle.acd_book.specs.State.{BookState}
 use Rattle.acd_desk.specs.declared.taken.Taken.{Taken}
-use Rattle.acd_desk.specs.AcceptedArrivals.{accepted, sent}
+use Rattle.acd_desk.specs.AcceptedArrivals.{accepted, answers_sent}
 use Rattle.acd_desk.specs.SoundContent.{IsSound, replies}
 use Rattle.acd_desk.specs.CarriedContent.{no_archive}
 use Rattle.acd_desk.specs.DeskState.{DeskState, state_of}
@@ -52,7 +52,7 @@ in_memory_quiet old new = record {
 from_nothing : (old new : DeskState) → IsNewDesk old → IsQuiet old new → (arrivals : List Arrival) (answers : List Taken) → Ran old arrivals answers new → AnsweredFromNothing arrivals answers
 from_nothing old new first quiet arrivals answers ran = record {
   even = ran.even;
-  replies = subst (λ (c : Content). sent answers ≡ replies c (accepted arrivals answers)) first.empty (ran.replies quiet.clean first.starts);
+  replies = subst (λ (c : Content). answers_sent answers ≡ replies c (accepted arrivals answers)) first.empty (ran.replies quiet.clean first.starts);
   no_fault = λ found. elim (ran.desk.cause (ran.desk.shuts found)) [
     | inl cause ↦ elim cause [
       | inl failed ↦ absurd (true≢false (sym failed ∙ first.works))

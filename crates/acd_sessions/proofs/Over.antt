@@ -12,11 +12,11 @@ use Rattle.acd_sqlbook.specs.Caches.{followed}
 use Rattle.acd_sqlbook.specs.State.{book_state}
 use Rattle.acd_desk.specs.declared.taken.Taken.{Taken}
 use Rattle.acd_desk.specs.declared.taken.Taken.TheVariants.{StoreFault}
-use Rattle.acd_desk.specs.AcceptedArrivals.{accepted, maybe_last, sent}
+use Rattle.acd_desk.specs.AcceptedArrivals.{accepted, maybe_last, answers_sent}
 use Rattle.acd_desk.specs.DeskState.{DeskState}
 use Rattle.acd_desk.specs.SoundContent.{IsSound, replies, StopsAt}
 use Rattle.acd_desk.specs.Opening.{Opened}
-use Rattle.acd_desk.specs.DeskCalls.{Ran, IsFault, Holds}
+use Rattle.acd_desk.specs.DeskCalls.{Ran, IsFault, HoldsRun}
 use Rattle.acd_desk.specs.Session.{Session}
 use Rattle.acd_desk.specs.AnyContent.{Leads}
 use Rattle.acd_desk.proofs.Desks.Sessions.{session_ran}
@@ -62,8 +62,8 @@ session_of P old mid new l ts of s =
       opened = λ clean is. of.opened (s.step.clean clean) is;
       accepts = λ clean is. subst (λ (c : Content). BreaksNoRule c.rows) (same clean is) (s.accepts clean (sound clean is));
       leads = λ clean is counted. subst (λ (c : Content). Leads c l ts new) (same clean is) (s.leads clean (sound clean is) (subst IsCounted (sym (same clean is)) counted));
-      replies = λ clean is whole. subst (λ (c : Content). sent ts ≡ replies c (accepted l ts)) (same clean is) (s.replies clean (sound clean is) (well clean is whole));
-      holds = λ clean is whole opened. subst (λ (c : Content). Holds c (accepted l ts) new) (same clean is) (s.holds clean (sound clean is) (well clean is whole) opened);
+      replies = λ clean is whole. subst (λ (c : Content). answers_sent ts ≡ replies c (accepted l ts)) (same clean is) (s.replies clean (sound clean is) (well clean is whole));
+      holds = λ clean is whole opened. subst (λ (c : Content). HoldsRun c (accepted l ts) new) (same clean is) (s.holds clean (sound clean is) (well clean is whole) opened);
       up = λ clean is last. s.up clean (sound clean is) last;
       stops = λ clean is whole c at. subst (λ (x : Content). StopsAt x (accepted l ts) (maybe_last l ts) c) (same clean is) (s.stops clean (sound clean is) (well clean is whole) c at);
       sound_stops = λ clean is whole c at. s.sound_stops clean (sound clean is) (well clean is whole) c at;

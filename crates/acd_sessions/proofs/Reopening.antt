@@ -69,14 +69,14 @@ use Rattle.acd_sql_columns.specs.InTables.{content_of}
 use Rattle.acd_sql_columns.specs.Transactions.{IsBook}
 use Rattle.acd_sqlbook.specs.Caches.{IsBlank}
 use Rattle.acd_sqlbook.specs.StoreLaws.{IsAdoptAnswer, IsOverBook}
-use Rattle.acd_sqlbook.specs.View.{BookView, book_of}
+use Rattle.acd_sqlbook.specs.View.{BookView, book_seen}
 use Rattle.acd_sqlbook.proofs.CachedCalls.{blank_of}
 use Rattle.acd_sqlbook.proofs.ReopenedBooks.{over_book, books_are_adopted}
 use Rattle.acd_sessions.specs.Desks.{in_database}
 use Rattle.acd_files.specs.Files.{new_page, created, read_only, AreReadOnly, AreReady, IsMade, IsCreateRefused, IsOpenedIn}
 use Rattle.acd_sessions.specs.Over.{held, LeavesBooks}
 use Rattle.acd_files.proofs.Begun.{large_read, store_clean, unopened_clean}
-use Rattle.acd_sessions.specs.Reopening.{DeskResult, IsDeskOf, Reopened, FailsByDisk, IsOpenedOver, IsTakenFrom, FilesReopen, IsNumbered, AreSynced, SyncedReopen, ReopensClosed}
+use Rattle.acd_sessions.specs.Reopening.{DeskResult, IsDeskOf, Reopened, FailsByDisk, IsOpenedOver, IsTakenFrom, FilesReopen, NumbersTrees, AreSynced, SyncedReopen, ReopensClosed}
 
 -- ---- a desk over a book
 
@@ -85,7 +85,7 @@ module _ {S : Type 0} (g : Ghosts S) (conn : Held S) (c : Content) (over : IsOve
     has : HasCleanDisk (state g book.conn) → content_of (state g book.conn).committed.trees ≡ c
     has clean = (books_are_adopted g conn c over (Ok book) answer).content clean
 
-    sound : HasCleanDisk (state g book.conn) → (book_of g book).is_sound
+    sound : HasCleanDisk (state g book.conn) → (book_seen g book).is_sound
     sound clean = ((answer.adopted clean).sound over.reopens.canonical, λ up. blank_of book.cache blank _)
 
     desk_of : (p : Archive) (result : DeskResult S) → IsSound (together p c) → Opens (in_database g) book result → IsDeskOf g c result
@@ -271,7 +271,7 @@ module _ {D E : Type 0} (g : disk.Ghosts D) (h : disk.Ghosts E) (stays : SeenMay
       )
 
 module _ {D E : Type 0} (g : disk.Ghosts D) (h : disk.Ghosts E) (stays : SeenMayStay h) where
-  pub left_opens : (old : Held (FileStore D g)) (image : Image) → LeavesBooks (file_state old) → IsNumbered old → (store.state old.store).may_leave image → ∥ LeftSo g h stays old image ∥₁
+  pub left_opens : (old : Held (FileStore D g)) (image : Image) → LeavesBooks (file_state old) → NumbersTrees old → (store.state old.store).may_leave image → ∥ LeftSo g h stays old image ∥₁
   left_opens old image leaves numbered may = ∥∥₁_elim old.store.safe squash₁ (λ all.
       let found = all image may in
       let db = store.reading old.store found.0 in

@@ -6,7 +6,7 @@ use Rattle.sqlite.specs.State.{State}
 use Rattle.sqlite.specs.Held.{Held, state}
 use Rattle.sqlite_trees.specs.Tree.{Trees}
 use Rattle.sqlite_trees.specs.declared.store.Store.{Ghosts}
-use Rattle.acd_sqlbook.specs.View.{BookView, book_of}
+use Rattle.acd_sqlbook.specs.View.{BookView, book_seen}
 use Rattle.acd_desk.specs.DeskState.{DeskState, state_of}
 use Rattle.acd_io.specs.SentBytes.{Begins, WasSent}
 use Rattle.acd_io.proofs.Sends.{begins_so}
@@ -64,13 +64,13 @@ module _ (span : Span) (a b : Option (List ℕ)) (address : Address) (old_output
 
   module _ {S : Type 0} (store : Ghosts S) (s : State) (r : Result (Unit {0}) WorkFault) (conn : Held S) where
     -- over the book that was opened in the database
-    pub serve_in : (makes : Bool) (taken last : BookView S) → ((db : Trees) → IsTrue s.is_open → s.may_leave db → db ≡ s.committed.trees) → IsTaken makes s (book_of store taken) → conn ≡ last.conn
-        → ServeOver span a b address old_output new_output (in_database store) (book_of store taken) r last → ServeIn span a b address old_output new_output store makes s r conn
+    pub serve_in : (makes : Bool) (taken last : BookView S) → ((db : Trees) → IsTrue s.is_open → s.may_leave db → db ≡ s.committed.trees) → IsTaken makes s (book_seen store taken) → conn ≡ last.conn
+        → ServeOver span a b address old_output new_output (in_database store) (book_seen store taken) r last → ServeIn span a b address old_output new_output store makes s r conn
     serve_in makes taken last settles of back (inl none) = inl (record {
       why = open_fault none.why;
       ended = none.ended;
       unserved = subst (λ (x : Held S). Unserved makes s (state store x)) (sym back)
-          (unserved_refused makes s (state store last.conn) (book_of store taken) last.cache last.failures none.why settles of none.refused);
+          (unserved_refused makes s (state store last.conn) (book_seen store taken) last.cache last.failures none.why settles of none.refused);
       quiet = none.quiet;
       unsaid = none.unsaid;
     })

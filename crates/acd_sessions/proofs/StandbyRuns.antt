@@ -7,9 +7,9 @@ use Rattle.sqlite_trees.specs.Tree.{Trees}
 use Rattle.sqlite_trees.specs.declared.store.Store.{Ghosts}
 use Rattle.acd_terms.proofs.Results.{ok_err}
 use Rattle.acd_terms.specs.declared.command.Arrival.{Arrival}
-use Rattle.acd_sqlbook.specs.View.{BookView, book_of}
+use Rattle.acd_sqlbook.specs.View.{BookView, book_seen}
 use Rattle.acd_desk.specs.declared.taken.Taken.{Taken}
-use Rattle.acd_desk.specs.Arrivals.{at}
+use Rattle.acd_desk.specs.Arrivals.{arrival_at}
 use Rattle.acd_desk.specs.ArrivalsAndReads.{Attended}
 use Rattle.acd_desk.specs.Clock.{clock_tick, Looked}
 use Rattle.acd_desk.specs.DeskState.{DeskState, state_of}
@@ -18,7 +18,7 @@ use Rattle.acd_lines.specs.Lines.{Streams, streams, LinesDone, EndedBy, Output}
 use Rattle.acd_lines.specs.declared.fault.LinesFault.{LinesFault}
 use Rattle.acd_lines.specs.declared.fault.LinesFault.TheVariants as lines
 use Rattle.acd_http.specs.LinesWithReads.{arrivals_of_reads, answers_of, LinesLeadToTheRun}
-use Rattle.acd_http.specs.Turns.{Turn, Turned, TurnedEach}
+use Rattle.acd_http.specs.Turns.{ServiceTurn, Turned, TurnedEach}
 use Rattle.acd_http.specs.Turns as turn
 use Rattle.acd_http.specs.TurnRequests.{ticked, handed_by, all_handed}
 use Rattle.acd_http.proofs.ConnectionRuns.{arrived, replied, So, none_more, one_connection, joined}
@@ -133,13 +133,13 @@ module _ (serving : Serving) (known : Option (List ℕ)) (mine : Streams) (error
 module _ (to_do : OrderedService) where
   module _ {S : Type 0} (store : Ghosts S) (s : State) (r : Result (Unit {0}) WorkFault) (conn : Held S) where
     -- over the book that was opened in it
-    pub standby_in : (makes : Bool) (taken last : BookView S) → ((db : Trees) → IsTrue s.is_open → s.may_leave db → db ≡ s.committed.trees) → IsTaken makes s (book_of store taken) → conn ≡ last.conn
-        → StandbyOver (in_database store) (book_of store taken) to_do r last → StandbyIn store makes s to_do r conn
+    pub standby_in : (makes : Bool) (taken last : BookView S) → ((db : Trees) → IsTrue s.is_open → s.may_leave db → db ≡ s.committed.trees) → IsTaken makes s (book_seen store taken) → conn ≡ last.conn
+        → StandbyOver (in_database store) (book_seen store taken) to_do r last → StandbyIn store makes s to_do r conn
     standby_in makes taken last settles of back (inl none) = inl (record {
       why = open_fault none.why;
       ended = none.ended;
       unserved = subst (λ (x : Held S). Unserved makes s (state store x)) (sym back)
-          (unserved_refused makes s (state store last.conn) (book_of store taken) last.cache last.failures none.why settles of none.refused);
+          (unserved_refused makes s (state store last.conn) (book_seen store taken) last.cache last.failures none.why settles of none.refused);
       quiet = none.quiet;
       unsaid = none.unsaid;
     })
@@ -192,15 +192,15 @@ module _ {D : Type 0} (stands : D → DeskState) (settles : (d : D) → Settles 
       → Attended (stands s) l ts (stands d) → So stands settles s l ts (ticked moment taken) e
   one_look s d e l ts moment None h before =
       none_more stands settles s e e l ts refl (attended_read (stands s) (stands d) (stands e) l ts _ _ before h.read)
-  one_look s d e l ts moment (Some t) h before = attended_more (stands s) (stands d) (stands e) l ts (at moment (clock_tick moment)) t (settles e) before h.took
+  one_look s d e l ts moment (Some t) h before = attended_more (stands s) (stands d) (stands e) l ts (arrival_at moment (clock_tick moment)) t (settles e) before h.took
 
   module _ (looks : Bool) where
-    one_turn : (s d e : D) (l : List Arrival) (ts : List Taken) (x : Turn) (v : Turned stands looks d x e) → Attended (stands s) l ts (stands d) → So stands settles s l ts (handed_by stands looks d x e v) e
+    one_turn : (s d e : D) (l : List Arrival) (ts : List Taken) (x : ServiceTurn) (v : Turned stands looks d x e) → Attended (stands s) l ts (stands d) → So stands settles s l ts (handed_by stands looks d x e v) e
     one_turn s d e l ts (turn.answered x) v before = one_connection stands settles s d e l ts x v before
     one_turn s d e l ts (turn.looked taken told) v before = one_look s d e l ts v.1.moment taken v.1.looked before
 
     -- turns after what was attended to before
-    turns_after : (s d e : D) (l : List Arrival) (ts : List Taken) (xs : List Turn) (h : TurnedEach stands looks d xs e) → Attended (stands s) l ts (stands d) → So stands settles s l ts (all_handed stands looks d xs e h) e
+    turns_after : (s d e : D) (l : List Arrival) (ts : List Taken) (xs : List ServiceTurn) (h : TurnedEach stands looks d xs e) → Attended (stands s) l ts (stands d) → So stands settles s l ts (all_handed stands looks d xs e h) e
     turns_after s d e l ts [] h before = none_more stands settles s d e l ts h before
     turns_after s d e l ts (x ∷ xs) h before =
         let p = handed_by stands looks d x h.0 h.1 in

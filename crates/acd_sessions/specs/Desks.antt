@@ -6,7 +6,7 @@ use Rattle.sqlite_trees.specs.declared.store.Store.{Ghosts}
 use Rattle.acd_book.specs.declared.book.Book as book
 use Rattle.acd_book.specs.Content.{Content}
 use Rattle.acd_book.specs.State.{BookState}
-use Rattle.acd_sqlbook.specs.View.{BookView, book_of}
+use Rattle.acd_sqlbook.specs.View.{BookView, book_seen}
 use Rattle.acd_desk.specs.declared.desk.Desk.{Desk}
 use Rattle.acd_desk.specs.Opening.{Opened}
 use Rattle.acd_desk.specs.DeskState.{state_of}
@@ -31,13 +31,13 @@ pub record OverNewDesk (Did : Desk Content → Desk Content → Type 0) : Type 0
 module _ {S : Type 0} (store : Ghosts S) where
   -- the state of a book in a database
   abbrev pub in_database : book.Ghosts (BookView S)
-  in_database = record { state = book_of store }
+  in_database = record { state = book_seen store }
 
   -- A book was opened in the database or, where that had no tables and one was to be made, a new one was made. A desk over it did this, and the connection
   -- came back.
   pub record OverDatabase (makes : Bool) (Did : Desk (BookView S) → Desk (BookView S) → Type 0) (old : State) (new : Held S) : Type 0 where
     pub taken : BookView S
     pub last : BookView S
-    pub of_old : IsTaken makes old (book_of store taken)
-    pub over : OverDesk in_database Did (book_of store taken) last
+    pub of_old : IsTaken makes old (book_seen store taken)
+    pub over : OverDesk in_database Did (book_seen store taken) last
     pub back : new ≡ last.conn

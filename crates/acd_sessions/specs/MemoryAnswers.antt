@@ -9,7 +9,7 @@ use Rattle.acd_book.specs.State.{unfailing}
 use Rattle.acd_book.specs.declared.book.Book.{Ghosts}
 use Rattle.acd_desk.specs.declared.taken.Taken.{Taken}
 use Rattle.acd_desk.specs.declared.taken.Taken.TheVariants.{StoreFault}
-use Rattle.acd_desk.specs.AcceptedArrivals.{accepted, sent}
+use Rattle.acd_desk.specs.AcceptedArrivals.{accepted, answers_sent}
 use Rattle.acd_desk.specs.SoundContent.{replies}
 use Rattle.acd_desk.specs.DeskState.{DeskState, Starts}
 use Rattle.acd_lines.specs.Lines.{LinesAnswered, AllLines, ArrivalsAnswered}
@@ -31,7 +31,7 @@ pub record IsNewDesk (s : DeskState) : Type 0 where
 -- each answer is noMemory, or that of the abstract desk at its place among the arrivals that were not answered so
 pub record AnsweredFromNothing (arrivals : List Arrival) (answers : List Taken) : Type 0 where
   pub even : length arrivals ≡ length answers
-  pub replies : sent answers ≡ replies nothing (accepted arrivals answers)
+  pub replies : answers_sent answers ≡ replies nothing (accepted arrivals answers)
   pub no_fault : ¬ (Contains answers StoreFault)
 
 -- the whole input, and one answer line for each of its lines

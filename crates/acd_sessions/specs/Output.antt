@@ -2,8 +2,8 @@
 use Rattle.std.specs.Prelude.{ℕ, List, ◌∷◌, [], ◌++◌, decimal}
 
 -- a number between two texts
-abbrev pub number_between : List ℕ → ℕ → List ℕ → List ℕ
-number_between front number back = front ++ (decimal number ++ back)
+abbrev pub number_text : List ℕ → ℕ → List ℕ → List ℕ
+number_text front number back = front ++ (decimal number ++ back)
 
 -- a line that ends in a number
 abbrev pub number_line : List ℕ → ℕ → List ℕ

@@ -103,8 +103,8 @@ abbrev pub OverConnection : (BookState → BookState → Type 0) → Bool → St
 OverConnection P makes old new = (failures : ℕ) × ((HadTables old new × P (held old) (left new failures)) ⊎ ((makes ≡ true) × (old.now.schema ≡ no_schema) × P (unmade old) (left new failures)))
 
 -- this holds of the book of a database that was handed in, as this connection leaves it
-abbrev pub OverCall : {S : Type 0} → Database S → (BookState → BookState → Type 0) → Held S → Type 0
-OverCall db P new = OverConnection P db.makes (state db.store db.conn) (state db.store new)
+abbrev pub OverDatabase : {S : Type 0} → Database S → (BookState → BookState → Type 0) → Held S → Type 0
+OverDatabase db P new = OverConnection P db.makes (state db.store db.conn) (state db.store new)
 
 -- a desk over the book was asked, or there was none: whatever it answered, a reopening finds nothing new
 pub record OnlyAsked (old new : BookState) : Type 0 where

@@ -101,8 +101,8 @@ abbrev pub FreshAreSynced : {D S : Type 0} → disk.Ghosts D → (Bool → D →
 FreshAreSynced {D} g IsFresh found = (files : Files D) → IsFresh true files.log × IsFresh false files.db → (image_of g files ≡ image_at found) × AreSynced g files
 
 -- The store numbers the trees of its catalog, as it does behind each connection.
-abbrev pub IsNumbered : {D : Type 0} {g : disk.Ghosts D} → Held (FileStore D g) → Type 0
-IsNumbered conn = IsTrue (store.view conn.store).is_numbered
+abbrev pub NumbersTrees : {D : Type 0} {g : disk.Ghosts D} → Held (FileStore D g) → Type 0
+NumbersTrees conn = IsTrue (store.view conn.store).is_numbered
 
 -- Files whose bytes are these open as a book of one of these contents: of any length, where their pages are as long as those of a new file.
 abbrev pub ReopensAsOneOf : {E : Type 0} → disk.Ghosts E → ℕ → (Content → Type 0) → Image → Type 0
@@ -118,7 +118,7 @@ OpensLeft h conn image = ReopensAsOneOf h (store.state conn.store).page_size (he
 
 -- Whatever a crash may leave of the two files of a connection that leaves books opens, in a later run, as such a book.
 abbrev pub LeftOpens : {D E : Type 0} → disk.Ghosts D → disk.Ghosts E → Type 0
-LeftOpens {D} g h = (old : Held (FileStore D g)) (image : Image) → LeavesBooks (file_state old) → IsNumbered old → MayLeave old image → OpensLeft h old image
+LeftOpens {D} g h = (old : Held (FileStore D g)) (image : Image) → LeavesBooks (file_state old) → NumbersTrees old → MayLeave old image → OpensLeft h old image
 
 -- After a closing they open as a book of the last commit, with the log or without it.
 pub record ReopensClosed {E : Type 0} (h : disk.Ghosts E) (image : Image) (c : Content) : Type 0 where

@@ -14,7 +14,7 @@ use Rattle.acd_desk.specs.Opening.{Refused}
 use Rattle.acd_desk.specs.DeskState.{DeskState, state_of}
 use Rattle.acd_io.specs.SentBytes.{Begins}
 use Rattle.acd_http.specs.declared.serving.Span.{Span}
-use Rattle.acd_http.specs.Turns.{TurnsUntil, Turn, turn_lines}
+use Rattle.acd_http.specs.Turns.{TurnsUntil, ServiceTurn, turn_lines}
 use Rattle.acd_sessions.specs.Desks.{OverDesk}
 use Rattle.acd_lines.specs.Lines.{Output, written}
 use Rattle.acd_sessions.specs.Output.{number_line, text_line}
@@ -135,4 +135,4 @@ ServesIn store makes given result to_do =
 
 -- the lines of the faults of connections and ticks were written, or a beginning of them
 abbrev pub PrintsServiceFaults : Option (List ℕ) → Option (List ℕ) → Type 0
-PrintsServiceFaults old_output new_output = (turns : List Turn) × Begins old_output new_output (turn_lines 1 turns)
+PrintsServiceFaults old_output new_output = (turns : List ServiceTurn) × Begins old_output new_output (turn_lines 1 turns)

@@ -19,7 +19,7 @@ use Rattle.acd_lines.specs.Output.{whole_lines}
 use Rattle.acd_lines.specs.declared.fault.LinesFault.{LinesFault}
 use Rattle.acd_http.specs.declared.serving.Span.{Span}
 use Rattle.acd_http.specs.LinesWithReads.{AnswersReads, arrivals_of_reads, answers_of}
-use Rattle.acd_http.specs.Turns.{Turn, TurnedEach}
+use Rattle.acd_http.specs.Turns.{ServiceTurn, TurnedEach}
 use Rattle.acd_http.specs.TurnRequests.{requests_handed, answers_handed}
 use Rattle.acd_io.specs.RestOfInput.{input_left}
 use Rattle.acd_io.specs.declared.until_order.UntilOrder.{UntilOrder}
@@ -187,7 +187,7 @@ module _ {D : Type 0} (stands : D → DeskState) where
     pub pieces : List (List ℕ)
     pub outs : List (List ℕ)
     pub lines : AnswersReads stands d pieces outs m
-    pub turns : List Turn
+    pub turns : List ServiceTurn
     pub turned : TurnedEach stands looks m turns e
 
   -- the requests among the lines, and those of the turns, and the answers to them

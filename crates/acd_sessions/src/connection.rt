@@ -5,7 +5,7 @@ ghost use Rattle.sqlite.specs.Held.{state};
 ghost use Rattle.acd_sql_schema.specs.Creation.{IfClean};
 ghost use Rattle.acd_sqlbook.specs.Adoption.{IsUntouched};
 ghost use Rattle.acd_sqlbook.specs.Opening.{IfOpened, IfHandedBack};
-ghost use Rattle.acd_sqlbook.specs.View.{book_of};
+ghost use Rattle.acd_sqlbook.specs.View.{book_seen};
 ghost use Rattle.acd_lines.specs.Questions.{TakesTurns};
 ghost use Rattle.acd_sessions.specs.Faults.{unmade_fault};
 ghost use Rattle.acd_sessions.specs.LinesOver.{LinesLeaveEach};
@@ -46,7 +46,8 @@ fn create<S: Alter>(
     conn: Connection<S>,
 ) -> Result<SqlBook<S>, (AdoptFault, Connection<S>)>
     requires { conn.in_transaction ≡ false }
-    ensures made { IfOk result (λ b. IsHeldBook (unmade (state S.Store conn)) (book_of S.Store b)) }
+    ensures made { IfOk result
+        (λ b. IsHeldBook (unmade (state S.Store conn)) (book_seen S.Store b)) }
     ensures idle { IfErr result (λ e. e.1.in_transaction ≡ false) }
     ensures stops { IfErr result (λ e. MayMakeIn S.Store conn e.1) }
 {
@@ -63,7 +64,7 @@ pub fn book_over<S: Alter>(
     makes: bool,
 ) -> Result<SqlBook<S>, (AdoptFault, Connection<S>)>
     requires { conn.in_transaction ≡ false }
-    ensures taken { IfOk result (λ b. IsTaken makes (state S.Store conn) (book_of S.Store b)) }
+    ensures taken { IfOk result (λ b. IsTaken makes (state S.Store conn) (book_seen S.Store b)) }
     ensures idle { IfErr result (λ e. e.1.in_transaction ≡ false) }
     ensures unserved { IfErr result (λ e. Unserved makes (state S.Store conn) (state S.Store e.1)) }
 {
@@ -91,7 +92,7 @@ pub fn archive_over<S: Alter>(
     mut conn: Connection<S>,
 ) -> Result<SqlBook<S>, (AdoptFault, Connection<S>)>
     requires { conn.in_transaction ≡ false }
-    ensures taken { IfOk result (λ b. IsTaken false (state S.Store conn) (book_of S.Store b)) }
+    ensures taken { IfOk result (λ b. IsTaken false (state S.Store conn) (book_seen S.Store b)) }
     ensures untouched { IfOpened S.Store conn result IsUntouched }
     ensures refused { IfHandedBack S.Store conn result (λ fault. IsUntouched) }
 {

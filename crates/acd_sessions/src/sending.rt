@@ -1,7 +1,7 @@
 //! The sending of lines that end in a number or a text.
 
 ghost use Rattle.acd_io.specs.SentBytes.{Sends};
-ghost use Rattle.acd_sessions.specs.Output.{number_between, number_line, text_line};
+ghost use Rattle.acd_sessions.specs.Output.{number_text, number_line, text_line};
 
 use acd_io::{Stopped, send};
 use itoa::Buffer;
@@ -18,7 +18,7 @@ pub fn send_between<W: Write>(
     back: &[u8],
 ) -> Result<(), Stopped>
     ensures { Sends W.contents writer.old writer.new result
-        (number_between front.now number back.now) }
+        (number_text front.now number back.now) }
 {
     let mut calls = CALLS;
     let mut digits = Buffer::new();

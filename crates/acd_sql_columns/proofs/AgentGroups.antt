@@ -31,7 +31,7 @@ use Rattle.acd_sql_columns.proofs.Records.{further_stored}
 use Rattle.acd_sql_columns.proofs.Listings.{schema_is, whole_begins}
 
 groups_alone : (v : Version) → IsIn v table.AgentGroups → (db : Trees) → Keeps Unique (schema_of v) db
-    → AllByRecursion (λ row. (not (has_twin (db schema.agent_groups.tree) row) && true) ≡ true) (db schema.agent_groups.tree)
+    → AllByRecursion (λ row. (not (has_twin (db schema.agent_groups_layout.tree) row) && true) ≡ true) (db schema.agent_groups_layout.tree)
 groups_alone version.First there db keeps = absurd there
 groups_alone version.Second there db keeps = keeps.1.1.1.1.1.1.1.1.1.0
 

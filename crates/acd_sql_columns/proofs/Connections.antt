@@ -37,7 +37,7 @@ use Rattle.acd_sql_columns.proofs.Listings.{Listing, held_begins}
 use Rattle.acd_sql_columns.proofs.Records.{connection_stored}
 
 connections_alone : (v : Version) (db : Trees) → Keeps Unique (schema_of v) db
-    → AllByRecursion (λ row. (not (has_twin (db schema.connections.tree) row) && true) ≡ true) (db schema.connections.tree)
+    → AllByRecursion (λ row. (not (has_twin (db schema.connections_layout.tree) row) && true) ≡ true) (db schema.connections_layout.tree)
 connections_alone version.First db keeps = keeps.1.1.1.1.1.0
 connections_alone version.Second db keeps = keeps.1.1.1.1.1.0
 
@@ -49,7 +49,7 @@ connections_heaped = record {
   of_record = λ x. refl;
   shows = λ id x. refl;
   of_row = λ row. refl;
-  casts = λ x. casts_all schema.connections.columns connection_fields x refl;
+  casts = λ x. casts_all schema.connections_layout.columns connection_fields x refl;
   stored = connection_stored;
   alone = λ v there db keeps. connections_alone v db keeps;
   held = λ c db encodes. encodes table.Connections;

@@ -18,7 +18,7 @@ use Rattle.sqlite_tied.specs.Compute.{everything}
 use Rattle.acd_sql_columns.specs.declared.meta.Meta.{Meta}
 use Rattle.acd_book.specs.Content.{empty_content}
 use Rattle.acd_sql_columns.specs.declared.tables.Table.TheVariants as table
-use Rattle.acd_sql_columns.specs.Schema.{book_schema, after_first}
+use Rattle.acd_sql_columns.specs.Schema.{book_schema, further_columns}
 use Rattle.acd_sql_columns.specs.Schema as schema
 use Rattle.acd_sql_columns.specs.Values.{id_value}
 use Rattle.acd_sql_columns.specs.Rows.{meta_fields, meta_values, meta_row, meta_row_as}
@@ -44,8 +44,8 @@ unfolding understood everything
 meta_text = record {
   at = 0;
   layout = schema.meta;
-  terms = col 0 0 ∷ lit Null ∷ run 1 (after_first schema.meta);
-  width = after_first schema.meta + 2;
+  terms = col 0 0 ∷ lit Null ∷ run 1 (further_columns schema.meta);
+  width = further_columns schema.meta + 2;
   place = refl;
   command = refl;
   plain = (refl, refl);

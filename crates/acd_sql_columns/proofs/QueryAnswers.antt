@@ -28,7 +28,7 @@ use Rattle.acd_lemmas.proofs.State.{monitor_find}
 use Rattle.acd_book.specs.Content.{Content, kept_of, is_key, is_at_after}
 use Rattle.acd_book.specs.declared.kept.Kept.{Kept}
 use Rattle.acd_sql_columns.specs.declared.tables.Table.TheVariants as table
-use Rattle.acd_sql_columns.specs.Schema.{book_schema, tables_1, added_in_2 as both_new, names_of, after_first}
+use Rattle.acd_sql_columns.specs.Schema.{book_schema, tables_1, added_in_2 as both_new, names_of, further_columns}
 use Rattle.acd_sql_columns.specs.Schema as schema
 use Rattle.acd_sql_columns.specs.Values.{id_value}
 use Rattle.acd_sql_columns.specs.Rows.{monitor_values, monitor_row, event_values, event_row, kept_values, kept_row}
@@ -82,12 +82,12 @@ at_device (Some d) device = truth (is_eq (value_cmp (id_value d) (id_value devic
 events_at_listing : Listing tables_1 SELECT_EVENTS_AT_DEVICE.now
 unfolding understood everything
 events_at_listing = record {
-  tree = schema.events.tree;
+  tree = schema.events_layout.tree;
   terms = op2 (Compare Gt Binary) (col 1 0) (col 0 0) ∷ op2 (Compare Eq Binary) (col 1 4) (col 0 1) ∷ [];
-  project = col 1 0 ∷ columns 2 (after_first schema.events);
+  project = col 1 0 ∷ columns 2 (further_columns schema.events_layout);
   order = by_number;
   limit = col 0 2;
-  names = names_of schema.events;
+  names = names_of schema.events_layout;
   command = λ rest s. refl;
   plain = λ rest s. (refl, refl);
   unlisted = λ rest s. refl;
@@ -129,12 +129,12 @@ first_found p (x ∷ xs) = elim (p x) as (λ b. take 1 (cond b (x ∷ filter p x
 monitor_listing : Listing tables_1 SELECT_MONITOR.now
 unfolding understood everything
 monitor_listing = record {
-  tree = schema.monitors.tree;
+  tree = schema.monitors_layout.tree;
   terms = op2 (Compare Eq Binary) (col 1 0) (col 0 0) ∷ [];
-  project = col 1 0 ∷ columns 2 (after_first schema.monitors);
+  project = col 1 0 ∷ columns 2 (further_columns schema.monitors_layout);
   order = by_number;
   limit = lit (Int (pos 1));
-  names = names_of schema.monitors;
+  names = names_of schema.monitors_layout;
   command = λ rest s. refl;
   plain = λ rest s. (refl, refl);
   unlisted = λ rest s. refl;
@@ -169,12 +169,12 @@ two false false = refl
 key_listing : Listing tables_1 SELECT_KEPT_OF_REQUEST.now
 unfolding understood everything
 key_listing = record {
-  tree = schema.kept.tree;
+  tree = schema.kept_layout.tree;
   terms = op2 (Compare Eq Binary) (col 1 2) (col 0 0) ∷ op2 (Compare Eq Binary) (col 1 3) (col 0 1) ∷ [];
-  project = col 1 0 ∷ columns 2 (after_first schema.kept);
+  project = col 1 0 ∷ columns 2 (further_columns schema.kept_layout);
   order = by_number;
   limit = lit (Int (pos 1));
-  names = names_of schema.kept;
+  names = names_of schema.kept_layout;
   command = λ rest s. refl;
   plain = λ rest s. (refl, refl);
   unlisted = λ rest s. refl;

@@ -165,12 +165,12 @@ asks_connections = asks connections connections_heaped SELECT_CONNECTIONS.now co
 pub unordered_connections : Listing tables_1 SELECT_STANDING_CONNECTIONS.now
 unfolding understood everything
 unordered_connections = record {
-  tree = schema.connections.tree;
+  tree = schema.connections_layout.tree;
   terms = [];
-  project = columns 1 (length schema.connections.columns);
+  project = columns 1 (length schema.connections_layout.columns);
   order = [];
   limit = no_limit;
-  names = names_of schema.connections;
+  names = names_of schema.connections_layout;
   command = λ rest s. refl;
   plain = λ rest s. (refl, refl);
   unlisted = λ rest s. refl;
@@ -319,7 +319,7 @@ shown_low l text it asks d old new rows old_database is h = record {
 pub low_events : Listing tables_1 SELECT_LOW_EVENT.now
 unfolding understood everything
 low_events = record {
-  tree = schema.events.tree;
+  tree = schema.events_layout.tree;
   terms = below_one;
   project = col 1 0 ∷ [];
   order = by_number;
@@ -337,7 +337,7 @@ asks_low_events = record { tree = refl; tests = λ r. refl; one = refl }
 pub low_kept : Listing tables_1 SELECT_LOW_KEPT.now
 unfolding understood everything
 low_kept = record {
-  tree = schema.kept.tree;
+  tree = schema.kept_layout.tree;
   terms = below_one;
   project = col 1 0 ∷ [];
   order = by_number;

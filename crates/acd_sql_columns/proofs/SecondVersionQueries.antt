@@ -13,12 +13,12 @@ use Rattle.acd_sql_columns.proofs.WholeTableQueries.{AsksAll}
 unfoldable pub further_listing : Listing (tables_1 ++ added_in_2) SELECT_STANDING_AGENT_GROUPS.now
 unfolding understood everything
 further_listing = record {
-  tree = schema.agent_groups.tree;
+  tree = schema.agent_groups_layout.tree;
   terms = [];
-  project = columns 1 (length schema.agent_groups.columns);
+  project = columns 1 (length schema.agent_groups_layout.columns);
   order = [];
   limit = no_limit;
-  names = names_of schema.agent_groups;
+  names = names_of schema.agent_groups_layout;
   command = λ rest s. refl;
   plain = λ rest s. (refl, refl);
   unlisted = λ rest s. refl;

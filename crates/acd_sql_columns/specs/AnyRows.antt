@@ -20,7 +20,7 @@ use Rattle.acd_sql_columns.specs.Content.{tree_of, IsIn}
 use Rattle.acd_sql_columns.specs.Decoding.{as_group, as_priority, as_agent, as_further}
 use Rattle.acd_sql_columns.specs.Relations.{are_after, are_of_groups}
 use Rattle.acd_sql_columns.specs.Values.{id_value, cells}
-use Rattle.acd_sql_columns.specs.Schema.{Layout, after_first, tables_1, BeginsSchema, old_schema, book_schema}
+use Rattle.acd_sql_columns.specs.Schema.{Layout, further_columns, tables_1, BeginsSchema, old_schema, book_schema}
 use Rattle.acd_sql_columns.specs.Schema as schema
 use Rattle.acd_sql_columns.specs.Ranges.{priority_of_row, further_of_row, group_of_row, station_of_row, agent_of_row, call_in, connection_of_row, monitor_of_row, counters_in, event_in, kept_in}
 
@@ -47,7 +47,7 @@ are_good t rows = list_all (is_good t) rows
 
 -- the number of the row, which is the key, and the columns after it
 abbrev pub keyed_in : Layout → Row → Row
-keyed_in l r = column r 0 ∷ cells 2 (after_first l) r
+keyed_in l r = column r 0 ∷ cells 2 (further_columns l) r
 
 -- all columns
 abbrev pub numbered_in : Layout → Row → Row
@@ -56,16 +56,16 @@ numbered_in l r = cells 1 (length l.columns) r
 -- the values of a row that are looked at
 abbrev pub values_in : Table → Row → Row
 values_in table.Meta r = cells 3 (length (drop 2 schema.meta.columns)) r
-values_in table.Groups r = keyed_in schema.groups r
-values_in table.Stations r = keyed_in schema.stations r
-values_in table.Agents r = keyed_in schema.agents r
-values_in table.Calls r = keyed_in schema.calls r
-values_in table.Connections r = numbered_in schema.connections r
-values_in table.Monitors r = keyed_in schema.monitors r
-values_in table.Events r = keyed_in schema.events r
-values_in table.Kept r = keyed_in schema.kept r
-values_in table.AgentGroups r = numbered_in schema.agent_groups r
-values_in table.GroupPriority r = keyed_in schema.group_priority r
+values_in table.Groups r = keyed_in schema.groups_layout r
+values_in table.Stations r = keyed_in schema.stations_layout r
+values_in table.Agents r = keyed_in schema.agents_layout r
+values_in table.Calls r = keyed_in schema.calls_layout r
+values_in table.Connections r = numbered_in schema.connections_layout r
+values_in table.Monitors r = keyed_in schema.monitors_layout r
+values_in table.Events r = keyed_in schema.events_layout r
+values_in table.Kept r = keyed_in schema.kept_layout r
+values_in table.AgentGroups r = numbered_in schema.agent_groups_layout r
+values_in table.GroupPriority r = keyed_in schema.group_priority_layout r
 
 -- of all rows of the table
 abbrev pub rows_in : Table → Trees → List Row
@@ -86,10 +86,10 @@ is_ranked db = are_of_groups (map as_group (rows_in table.Groups db)) (map as_pr
 -- Each row has its number, and a value for each column. One from before a column was added may lack the last ones, where these may hold NULL.
 abbrev pub HaveAllColumns : Version → Trees → Type 0
 HaveAllColumns v db =
-    AllByRecursion (λ r. length r ≡ suc (length schema.stations.columns)) (db (tree_of table.Stations))
-    × AllByRecursion (λ r. length r ≡ suc (length schema.connections.columns)) (db (tree_of table.Connections))
-    × AllByRecursion (λ r. length r ≡ suc (length schema.events.columns)) (db (tree_of table.Events))
-    × (IsIn v table.AgentGroups → AllByRecursion (λ r. length r ≡ suc (length schema.agent_groups.columns)) (db (tree_of table.AgentGroups)))
+    AllByRecursion (λ r. length r ≡ suc (length schema.stations_layout.columns)) (db (tree_of table.Stations))
+    × AllByRecursion (λ r. length r ≡ suc (length schema.connections_layout.columns)) (db (tree_of table.Connections))
+    × AllByRecursion (λ r. length r ≡ suc (length schema.events_layout.columns)) (db (tree_of table.Events))
+    × (IsIn v table.AgentGroups → AllByRecursion (λ r. length r ≡ suc (length schema.agent_groups_layout.columns)) (db (tree_of table.AgentGroups)))
 
 -- as a store keeps the rows of a version's tables: they have integers as numbers, which rise
 pub record IsCanonicalAs (v : Version) (db : Trees) : Type 0 where

@@ -29,16 +29,16 @@ use Rattle.acd_sql_columns.specs.Rows.{IsReadable, meta_row_as, group_row, stati
 -- the tree of a table
 abbrev pub tree_of : Table → ℕ
 tree_of table.Meta = schema.meta.tree
-tree_of table.Groups = schema.groups.tree
-tree_of table.Stations = schema.stations.tree
-tree_of table.Agents = schema.agents.tree
-tree_of table.Calls = schema.calls.tree
-tree_of table.Connections = schema.connections.tree
-tree_of table.Monitors = schema.monitors.tree
-tree_of table.Events = schema.events.tree
-tree_of table.Kept = schema.kept.tree
-tree_of table.AgentGroups = schema.agent_groups.tree
-tree_of table.GroupPriority = schema.group_priority.tree
+tree_of table.Groups = schema.groups_layout.tree
+tree_of table.Stations = schema.stations_layout.tree
+tree_of table.Agents = schema.agents_layout.tree
+tree_of table.Calls = schema.calls_layout.tree
+tree_of table.Connections = schema.connections_layout.tree
+tree_of table.Monitors = schema.monitors_layout.tree
+tree_of table.Events = schema.events_layout.tree
+tree_of table.Kept = schema.kept_layout.tree
+tree_of table.AgentGroups = schema.agent_groups_layout.tree
+tree_of table.GroupPriority = schema.group_priority_layout.tree
 
 -- the content of a table
 abbrev pub TableContent : Table → Type 0

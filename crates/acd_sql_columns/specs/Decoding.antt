@@ -27,7 +27,7 @@ use Rattle.acd_sql_columns.specs.declared.decode.EventValues.{EventValues}
 use Rattle.acd_sql_columns.specs.declared.meta.Meta.{Meta}
 use Rattle.acd_sql_columns.specs.Fields.{shown_whole}
 use Rattle.acd_sql_columns.specs.Rows.{group_fields, group_made, priority_fields, priority_made, further_fields, further_made, station_fields, station_made, agent_fields, agent_made, call_fields, call_made, connection_fields, connection_made, monitor_fields, monitor_made, meta_fields, meta_made, event_fields, event_made}
-use Rattle.acd_sql_columns.specs.Values.{number_in, text_in}
+use Rattle.acd_sql_columns.specs.Values.{number_or_zero, text_or_empty}
 
 -- ---- the values of the columns, in the order in which a statement puts them
 
@@ -103,9 +103,9 @@ as_request (Err member) = record { requester = []; invoke = 0; command = Tick }
 -- the request is in its text
 abbrev pub as_kept : Row → Kept
 as_kept r = record {
-  stamp = number_in (column r 0);
-  moment = number_in (column r 3);
-  request = as_request (reads_as (text_in (column r 4)));
-  status = number_in (column r 5);
-  body = text_in (column r 6);
+  stamp = number_or_zero (column r 0);
+  moment = number_or_zero (column r 3);
+  request = as_request (reads_as (text_or_empty (column r 4)));
+  status = number_or_zero (column r 5);
+  body = text_or_empty (column r 6);
 }

@@ -11,7 +11,7 @@ use Rattle.acd_sql_columns.specs.Rows.{keyed_row}
 use Rattle.acd_sql_columns.specs.declared.tables.Table.{Table}
 use Rattle.acd_sql_columns.specs.declared.texts.Texts.{Texts}
 use Rattle.acd_sql_columns.specs.Relations.{Relations}
-use Rattle.acd_sql_columns.specs.Schema.{Layout, after_first}
+use Rattle.acd_sql_columns.specs.Schema.{Layout, further_columns}
 
 -- ---- where the key is the number of a row
 
@@ -54,7 +54,7 @@ the_text (Some text) = text
 
 -- how many columns come after the key
 abbrev pub after_key : {R : Type 0} → Description R → ℕ
-after_key d = after_first d.layout
+after_key d = further_columns d.layout
 
 -- the row as it is: the column that is the number of the row is NULL
 abbrev pub row_of : {R : Type 0} → Description R → R → Row

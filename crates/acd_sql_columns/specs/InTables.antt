@@ -10,7 +10,7 @@ use Rattle.acd_model.specs.Rules.Plan.{connection_order}
 use Rattle.acd_book.specs.Content.{Content}
 use Rattle.acd_sql_columns.specs.declared.relations.GroupPriority.{GroupPriority}
 use Rattle.acd_sql_columns.specs.Relations.{pair_order, joined_group, joined_agent}
-use Rattle.acd_sql_columns.specs.Values.{number_in}
+use Rattle.acd_sql_columns.specs.Values.{number_or_zero}
 use Rattle.acd_sql_columns.specs.declared.tables.Table.TheVariants as table
 use Rattle.acd_sql_columns.specs.declared.meta.Meta.{Meta}
 use Rattle.acd_sql_columns.specs.Content.{tree_of}
@@ -40,7 +40,7 @@ meta_stored (row ∷ rows) = as_meta (drop 2 (unkeyed row))
 -- the version that the first table holds
 abbrev pub version_in : List Row → ℕ
 version_in [] = 0
-version_in (first ∷ rows) = number_in (column first 2)
+version_in (first ∷ rows) = number_or_zero (column first 2)
 
 -- version 1 has no further groups and no priorities
 abbrev pub pairs_in : Trees → List (ℕ × ℕ)

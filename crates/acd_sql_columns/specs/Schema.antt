@@ -24,11 +24,11 @@ use Rattle.acd_sql_columns.specs.Sorts.{type_in, is_sure}
 abbrev pub column_of : List ℕ → Kind → Bool → Column
 column_of name kind not_null = record { name = name; kind = kind; is_strict = true; not_null = not_null; default = Null; collation = Binary }
 
-abbrev pub number : List ℕ → Column
-number name = column_of name Integer true
+abbrev pub number_column : List ℕ → Column
+number_column name = column_of name Integer true
 
-abbrev pub text : List ℕ → Column
-text name = column_of name Text true
+abbrev pub text_column : List ℕ → Column
+text_column name = column_of name Text true
 
 -- the columns that hold the fields of a record
 abbrev pub field_columns : {R : Type 0} → List (Field R) → List Column
@@ -69,8 +69,8 @@ table_of l = record {
 }
 
 -- how many columns come after the first
-abbrev pub after_first : Layout → ℕ
-after_first l = length (drop 1 l.columns)
+abbrev pub further_columns : Layout → ℕ
+further_columns l = length (drop 1 l.columns)
 
 -- as a query of all columns names them
 abbrev pub names_of : Layout → List (List ℕ)
@@ -104,17 +104,17 @@ unique name tree table columns = record { name = name; tree = tree; table = tabl
 
 abbrev pub meta : Layout
 meta = record (keyed (codes "meta") 0 (
-    number (codes "id") ∷ number (codes "version") ∷ field_columns meta_fields
+    number_column (codes "id") ∷ number_column (codes "version") ∷ field_columns meta_fields
     )) { checks = op2 (Compare Eq Binary) (col 1 0) (lit (Int (pos 1))) ∷ [] }
 
-abbrev pub groups : Layout
-groups = keyed (codes "acd_groups") 1 (field_columns group_fields)
+abbrev pub groups_layout : Layout
+groups_layout = keyed (codes "acd_groups") 1 (field_columns group_fields)
 
-abbrev pub stations : Layout
-stations = keyed (codes "stations") 2 (field_columns station_fields)
+abbrev pub stations_layout : Layout
+stations_layout = keyed (codes "stations") 2 (field_columns station_fields)
 
-abbrev pub agents : Layout
-agents = record (keyed (codes "agents") 3 (field_columns agent_fields)) {
+abbrev pub agents_layout : Layout
+agents_layout = record (keyed (codes "agents") 3 (field_columns agent_fields)) {
   uniques = (5 ∷ []) ∷ [];
   orders = plain ∷ [];
   checks = is_between 3 0 4 ∷ [];
@@ -124,12 +124,12 @@ agents = record (keyed (codes "agents") 3 (field_columns agent_fields)) {
 abbrev pub agents_station : Index
 agents_station = unique (codes "sqlite_autoindex_agents_1") 4 3 (5 ∷ [])
 
-abbrev pub calls : Layout
-calls = keyed (codes "calls") 5 (field_columns call_fields)
+abbrev pub calls_layout : Layout
+calls_layout = keyed (codes "calls") 5 (field_columns call_fields)
 
 -- its key is of two columns, so its rows have separate rowids
-abbrev pub connections : Layout
-connections = record {
+abbrev pub connections_layout : Layout
+connections_layout = record {
   name = codes "connections";
   tree = 6;
   columns = field_columns connection_fields;
@@ -144,15 +144,15 @@ connections = record {
 abbrev pub connections_key : Index
 connections_key = unique (codes "sqlite_autoindex_connections_1") 7 6 (1 ∷ 2 ∷ [])
 
-abbrev pub monitors : Layout
-monitors = keyed (codes "monitors") 8 (field_columns monitor_fields)
+abbrev pub monitors_layout : Layout
+monitors_layout = keyed (codes "monitors") 8 (field_columns monitor_fields)
 
-abbrev pub events : Layout
-events = record (keyed (codes "events") 9 (field_columns event_fields)) { checks = is_between 3 1 18 ∷ [] }
+abbrev pub events_layout : Layout
+events_layout = record (keyed (codes "events") 9 (field_columns event_fields)) { checks = is_between 3 1 18 ∷ [] }
 
-abbrev pub kept : Layout
-kept = record (keyed (codes "kept") 10 (
-    number (codes "stamp") ∷ text (codes "requester") ∷ number (codes "invoke") ∷ number (codes "moment") ∷ text (codes "request") ∷ number (codes "status") ∷ text (codes "body") ∷ []
+abbrev pub kept_layout : Layout
+kept_layout = record (keyed (codes "kept") 10 (
+    number_column (codes "stamp") ∷ text_column (codes "requester") ∷ number_column (codes "invoke") ∷ number_column (codes "moment") ∷ text_column (codes "request") ∷ number_column (codes "status") ∷ text_column (codes "body") ∷ []
     )) { uniques = (2 ∷ 3 ∷ []) ∷ []; orders = plain ∷ [] }
 
 abbrev pub kept_key : Index
@@ -161,7 +161,7 @@ kept_key = unique (codes "sqlite_autoindex_kept_1") 11 10 (2 ∷ 3 ∷ [])
 -- ---- version 1
 
 abbrev pub tables_1 : List Table
-tables_1 = table_of meta ∷ table_of groups ∷ table_of stations ∷ table_of agents ∷ table_of calls ∷ table_of connections ∷ table_of monitors ∷ table_of events ∷ table_of kept ∷ []
+tables_1 = table_of meta ∷ table_of groups_layout ∷ table_of stations_layout ∷ table_of agents_layout ∷ table_of calls_layout ∷ table_of connections_layout ∷ table_of monitors_layout ∷ table_of events_layout ∷ table_of kept_layout ∷ []
 
 abbrev pub old_schema : Schema
 old_schema = record { tables = tables_1; indexes = agents_station ∷ connections_key ∷ kept_key ∷ []; views = [] }
@@ -169,8 +169,8 @@ old_schema = record { tables = tables_1; indexes = agents_station ∷ connection
 -- ---- version 2
 
 -- the groups of an agent after its first; its key is of two columns, so its rows have separate rowids
-abbrev pub agent_groups : Layout
-agent_groups = record {
+abbrev pub agent_groups_layout : Layout
+agent_groups_layout = record {
   name = codes "agent_groups";
   tree = 12;
   columns = field_columns further_fields;
@@ -186,14 +186,14 @@ abbrev pub agent_groups_key : Index
 agent_groups_key = unique (codes "sqlite_autoindex_agent_groups_1") 13 12 (1 ∷ 2 ∷ [])
 
 -- the groups whose priority isn't 0
-abbrev pub group_priority : Layout
-group_priority = record (keyed (codes "group_priority") 14 (field_columns priority_fields)) {
+abbrev pub group_priority_layout : Layout
+group_priority_layout = record (keyed (codes "group_priority") 14 (field_columns priority_fields)) {
   checks = is_between 2 1 9 ∷ [];
   references = refers 0 (codes "acd_groups") ∷ [];
 }
 
 abbrev pub added_in_2 : List Table
-added_in_2 = table_of agent_groups ∷ table_of group_priority ∷ []
+added_in_2 = table_of agent_groups_layout ∷ table_of group_priority_layout ∷ []
 
 abbrev pub book_schema : Schema
 book_schema = record { tables = tables_1 ++ added_in_2; indexes = agents_station ∷ connections_key ∷ kept_key ∷ agent_groups_key ∷ []; views = [] }

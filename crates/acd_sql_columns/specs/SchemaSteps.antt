@@ -18,7 +18,7 @@ use Rattle.sqlite.specs.Listing.{understood}
 use Rattle.sqlite.specs.State.{State, text_of}
 use Rattle.acd_sql_columns.specs.declared.meta.Meta.{Meta}
 use Rattle.acd_sql_columns.specs.Rows.{meta_row, meta_row_as}
-use Rattle.acd_sql_columns.specs.Schema.{Layout, table_of, no_schema, book_schema, meta, groups, stations, agents, calls, connections, monitors}
+use Rattle.acd_sql_columns.specs.Schema.{Layout, table_of, no_schema, book_schema, meta, groups_layout, stations_layout, agents_layout, calls_layout, connections_layout, monitors_layout}
 
 abbrev pub create_command : Result Compiled CompileError → Command
 create_command (Ok c) = c.command
@@ -72,8 +72,8 @@ with_tables s (l ∷ ls) = with_tables (created s (unplaced l)) ls
 
 -- the limits and the plan
 abbrev pub plan_schema : Schema
-plan_schema = with_tables no_schema (meta ∷ groups ∷ stations ∷ agents ∷ [])
+plan_schema = with_tables no_schema (meta ∷ groups_layout ∷ stations_layout ∷ agents_layout ∷ [])
 
 -- and what changes from call to call
 abbrev pub state_schema : Schema
-state_schema = with_tables plan_schema (calls ∷ connections ∷ monitors ∷ [])
+state_schema = with_tables plan_schema (calls_layout ∷ connections_layout ∷ monitors_layout ∷ [])

@@ -18,7 +18,7 @@ use Rattle.acd_terms.specs.declared.event.Cause.TheVariants.{NewCall}
 use Rattle.acd_terms.specs.declared.state.ConnectionState.{ConnectionState}
 use Rattle.acd_terms.specs.declared.state.ConnectionState.TheVariants.{Initiated}
 use Rattle.acd_sql_columns.specs.Codes.{agent_code, pending_code, kind_code, cause_code, connection_code, agent_state_of, pending_of, event_kind_of, cause_of, connection_state_of}
-use Rattle.acd_sql_columns.specs.Values.{id_value, number_in, text_in, whole_at, stamp_at, serial_at, moment_at, seconds_at, priority_at, device_at, agent_value_at, name_at, agent_state_at, pending_at, kind_at, cause_at, connection_state_at, or_none}
+use Rattle.acd_sql_columns.specs.Values.{id_value, number_or_zero, text_or_empty, whole_at, stamp_at, serial_at, moment_at, seconds_at, priority_at, device_at, agent_value_at, name_at, agent_state_at, pending_at, kind_at, cause_at, connection_state_at, or_none}
 
 pub data Sort : Type 0 where
   whole : Sort
@@ -102,20 +102,20 @@ read_at (maybe s) r at = or_none (read_of s) r at
 -- ---- the value shown, whatever the column holds: one of another kind, and a code that nothing has, mean some fixed value
 
 abbrev pub shown_of : (s : Sort) → Value → Of s
-shown_of whole v = number_in v
-shown_of stamp v = number_in v
-shown_of serial v = number_in v
-shown_of moment v = number_in v
-shown_of seconds v = number_in v
-shown_of priority v = number_in v
-shown_of device v = number_in v
-shown_of agent v = number_in v
-shown_of name v = text_in v
-shown_of agent_state v = unwrap_or (agent_state_of (number_in v)) NoState
-shown_of pending v = unwrap_or (pending_of (number_in v)) LoggedOff
-shown_of kind v = unwrap_or (event_kind_of (number_in v)) ServiceInitiated
-shown_of cause v = unwrap_or (cause_of (number_in v)) NewCall
-shown_of connection_state v = unwrap_or (connection_state_of (number_in v)) Initiated
+shown_of whole v = number_or_zero v
+shown_of stamp v = number_or_zero v
+shown_of serial v = number_or_zero v
+shown_of moment v = number_or_zero v
+shown_of seconds v = number_or_zero v
+shown_of priority v = number_or_zero v
+shown_of device v = number_or_zero v
+shown_of agent v = number_or_zero v
+shown_of name v = text_or_empty v
+shown_of agent_state v = unwrap_or (agent_state_of (number_or_zero v)) NoState
+shown_of pending v = unwrap_or (pending_of (number_or_zero v)) LoggedOff
+shown_of kind v = unwrap_or (event_kind_of (number_or_zero v)) ServiceInitiated
+shown_of cause v = unwrap_or (cause_of (number_or_zero v)) NewCall
+shown_of connection_state v = unwrap_or (connection_state_of (number_or_zero v)) Initiated
 
 abbrev pub shown_or_none : (s : Sort) → Value → Option (Of s)
 shown_or_none s Null = None

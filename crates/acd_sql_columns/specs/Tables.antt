@@ -24,7 +24,7 @@ abbrev pub groups : Description GroupRow
 groups = record {
   table = table.Groups;
   place = 1;
-  layout = schema.groups;
+  layout = schema.groups_layout;
   key = λ g. g.device;
   values = group_values;
   in_row = group_of_row;
@@ -43,7 +43,7 @@ abbrev pub stations : Description StationRecord
 stations = record {
   table = table.Stations;
   place = 2;
-  layout = schema.stations;
+  layout = schema.stations_layout;
   key = λ s. s.device;
   values = station_values;
   in_row = station_of_row;
@@ -62,7 +62,7 @@ abbrev pub agents : Description AgentRow
 agents = record {
   table = table.Agents;
   place = 3;
-  layout = schema.agents;
+  layout = schema.agents_layout;
   key = λ a. a.agent;
   values = agent_values;
   in_row = agent_of_row;
@@ -81,7 +81,7 @@ abbrev pub calls : Description CallRecord
 calls = record {
   table = table.Calls;
   place = 4;
-  layout = schema.calls;
+  layout = schema.calls_layout;
   key = λ k. k.call;
   values = call_values;
   in_row = call_in;
@@ -100,7 +100,7 @@ abbrev pub monitors : Description MonitorRecord
 monitors = record {
   table = table.Monitors;
   place = 6;
-  layout = schema.monitors;
+  layout = schema.monitors_layout;
   key = λ w. w.monitor;
   values = monitor_values;
   in_row = monitor_of_row;
@@ -119,7 +119,7 @@ abbrev pub events : Description Event
 events = record {
   table = table.Events;
   place = 7;
-  layout = schema.events;
+  layout = schema.events_layout;
   key = λ e. e.number;
   values = event_values;
   in_row = event_in;
@@ -139,7 +139,7 @@ abbrev pub kept : Description Kept
 kept = record {
   table = table.Kept;
   place = 8;
-  layout = schema.kept;
+  layout = schema.kept_layout;
   key = λ k. k.stamp;
   values = kept_values;
   in_row = kept_in;
@@ -158,7 +158,7 @@ abbrev pub group_priority : Description GroupPriority
 group_priority = record {
   table = table.GroupPriority;
   place = 10;
-  layout = schema.group_priority;
+  layout = schema.group_priority_layout;
   key = λ p. p.device;
   values = priority_values;
   in_row = priority_of_row;
@@ -177,7 +177,7 @@ abbrev pub connections : Heap ConnectionRecord
 connections = record {
   table = table.Connections;
   place = 5;
-  layout = schema.connections;
+  layout = schema.connections_layout;
   first = λ x. x.call;
   second = λ x. x.device;
   values = connection_values;
@@ -192,7 +192,7 @@ abbrev pub agent_groups : Heap (ℕ × ℕ)
 agent_groups = record {
   table = table.AgentGroups;
   place = 9;
-  layout = schema.agent_groups;
+  layout = schema.agent_groups_layout;
   first = λ p. p.0;
   second = λ p. p.1;
   values = further_values;

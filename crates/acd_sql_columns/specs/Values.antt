@@ -33,18 +33,18 @@ option_in (Int (pos n)) = Some n
 option_in _ = None
 
 -- a number, and 0 in place of another value
-abbrev pub number_in : Value → ℕ
-number_in (Int (pos n)) = n
-number_in _ = 0
+abbrev pub number_or_zero : Value → ℕ
+number_or_zero (Int (pos n)) = n
+number_or_zero _ = 0
 
 abbrev pub text_value : Value → Option (List ℕ)
 text_value (Text t) = Some t
 text_value _ = None
 
 -- a text, and none of its bytes in place of another value
-abbrev pub text_in : Value → List ℕ
-text_in (Text t) = t
-text_in _ = []
+abbrev pub text_or_empty : Value → List ℕ
+text_or_empty (Text t) = t
+text_or_empty _ = []
 
 -- ---- values in their ranges
 

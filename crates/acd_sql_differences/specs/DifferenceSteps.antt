@@ -91,14 +91,14 @@ AreDifferences c held new changes =
     (changes.items ≡ differences_of c held new) × LeadTo c.order c.same c.changes.gone c.changes.put held new changes.items
 
 -- the first change, if there is one, and what is left of both lists
-abbrev pub Turn : Type 0 → Type 0
-Turn T = Option Change × Bor (List T) × Bor (List T)
+abbrev pub FirstChange : Type 0 → Type 0
+FirstChange T = Option Change × Bor (List T) × Bor (List T)
 
 -- the changes are that one and those of what is left; without a turn there are none
-abbrev pub IsTurn : {T : Type 0} → Comparing T → List T → List T → Option (Turn T) → Type 0
+abbrev pub IsTurn : {T : Type 0} → Comparing T → List T → List T → Option (FirstChange T) → Type 0
 IsTurn c held new None = differences_of c held new ≡ []
 IsTurn c held new (Some t) = differences_of c held new ≡ option_to_list t.0 ++ differences_of c t.1.now t.2.now
 
 -- less is left of both lists
-abbrev pub IsShorter : {T : Type 0} → List T → List T → Turn T → Type 0
+abbrev pub IsShorter : {T : Type 0} → List T → List T → FirstChange T → Type 0
 IsShorter held new t = length t.1.now + length t.2.now < length held + length new

@@ -51,7 +51,7 @@ use Rattle.acd_sql_columns.specs.InTables.{in_order}
 use Rattle.acd_sql_columns.specs.Ranges.{counters_in}
 use Rattle.acd_sql_columns.specs.Relations.{Relations, pair_order, relations_of, group_part, agent_part, further_in, priorities_in, joined_group, joined_agent}
 use Rattle.acd_sql_columns.specs.Rows.{keyed_row, meta_row_as, meta_shown, group_row, agent_row, further_row, priority_row, group_values, agent_values, further_values, priority_values}
-use Rattle.acd_sql_columns.specs.Schema.{Layout, after_first, table_of, tables_1, with_later, book_schema, BeginsSchema}
+use Rattle.acd_sql_columns.specs.Schema.{Layout, further_columns, table_of, tables_1, with_later, book_schema, BeginsSchema}
 use Rattle.acd_sql_columns.specs.Schema as schema
 use Rattle.acd_sql_columns.specs.Tables.{groups, stations, agents, calls, connections, monitors, events, kept, group_priority, agent_groups}
 use Rattle.acd_sql_columns.specs.Values.{id_value, cells}
@@ -484,13 +484,13 @@ beside_of version.First d book obeys canonical seats queues = none_beside d.tree
 beside_of version.Second d book obeys canonical seats queues =
     let rows = d.trees (tree_of table.GroupPriority) in
     let further = heaped version.Second d book obeys canonical agent_groups groups_heaped tt (canonical.whole.3 tt) in
-    let typed = in_second d obeys book.schema_is rule.Datatype schema.group_priority 10 refl in
-    let present = in_second d obeys book.schema_is rule.NotNull schema.group_priority 10 refl in
+    let typed = in_second d obeys book.schema_is rule.Datatype schema.group_priority_layout 10 refl in
+    let present = in_second d obeys book.schema_is rule.NotNull schema.group_priority_layout 10 refl in
     let wide =
-    all_from (λ r. length r ≡ suc (length schema.group_priority.columns)) rows
+    all_from (λ r. length r ≡ suc (length schema.group_priority_layout.columns)) rows
     (λ r k.
-    whole_row schema.group_priority r refl refl (all_has (λ r. is_typed schema.group_priority r ≡ true) rows r typed k)
-    (all_has (λ r. are_present schema.group_priority.key 0 schema.group_priority.columns r ≡ true) rows r present k))
+    whole_row schema.group_priority_layout r refl refl (all_has (λ r. is_typed schema.group_priority_layout r ≡ true) rows r typed k)
+    (all_has (λ r. are_present schema.group_priority_layout.key 0 schema.group_priority_layout.columns r ≡ true) rows r present k))
     in
     let ranks =
     are_of group_priority priorities_described rows (canonical.rising table.GroupPriority tt) wide typed
@@ -541,7 +541,7 @@ module _ (v : Version) (d : Database) (book : IsOfBook v d) (obeys : IsDatabase 
         meta_is =
             row.1
             ∙ ap (λ r. r ∷ [])
-            (meta_form (version_number v) row.0 m.0 whole.0 row.2 (key_null schema.meta (after_first schema.meta) row.0 refl whole.0 typed.0) row.3 shown);
+            (meta_form (version_number v) row.0 m.0 whole.0 row.2 (key_null schema.meta (further_columns schema.meta) row.0 refl whole.0 typed.0) row.3 shown);
         meta_good = ap (λ r. is_some (counters_in r)) (sym shown) ∙ good.0;
         groups = its_groups;
         stations = described v d book obeys canonical stations stations_described tt refl canonical.whole.0;

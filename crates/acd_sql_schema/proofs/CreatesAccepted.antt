@@ -4,7 +4,7 @@ use Rattle.std.specs.Fmt.{digits}
 use Rattle.sqlite_trees.specs.Sound.{begins, same_name, is_free_name}
 use Rattle.sqlite.specs.Listing.{understood}
 use Rattle.sqlite_tied.specs.Compute.{everything}
-use Rattle.acd_sql_columns.specs.Schema.{no_schema, old_schema, agent_groups, group_priority, meta, groups, stations, agents, calls, connections, monitors, events, kept}
+use Rattle.acd_sql_columns.specs.Schema.{no_schema, old_schema, agent_groups_layout, group_priority_layout, meta, groups_layout, stations_layout, agents_layout, calls_layout, connections_layout, monitors_layout, events_layout, kept_layout}
 use Rattle.acd_sql_columns.specs.declared.texts.TheConstants.{CREATE_AGENTS, CREATE_AGENT_GROUPS, CREATE_CALLS, CREATE_CONNECTIONS, CREATE_EVENTS, CREATE_GROUPS, CREATE_GROUP_PRIORITY, CREATE_KEPT, CREATE_META, CREATE_MONITORS, CREATE_STATIONS}
 use Rattle.acd_sql_columns.specs.SchemaSteps.{unplaced, with_tables, plan_schema, state_schema}
 use Rattle.acd_sql_schema.proofs.CreateAccepted.{IsTaken}
@@ -23,7 +23,7 @@ takes_meta = record {
   short = refl;
 }
 
-pub takes_groups : IsTaken (with_tables no_schema (meta ∷ [])) CREATE_GROUPS.now (unplaced groups)
+pub takes_groups : IsTaken (with_tables no_schema (meta ∷ [])) CREATE_GROUPS.now (unplaced groups_layout)
 unfolding understood everything digits begins same_name is_free_name
 takes_groups = record {
   one = (refl, refl);
@@ -37,7 +37,7 @@ takes_groups = record {
   short = refl;
 }
 
-pub takes_stations : IsTaken (with_tables no_schema (meta ∷ groups ∷ [])) CREATE_STATIONS.now (unplaced stations)
+pub takes_stations : IsTaken (with_tables no_schema (meta ∷ groups_layout ∷ [])) CREATE_STATIONS.now (unplaced stations_layout)
 unfolding understood everything digits begins same_name is_free_name
 takes_stations = record {
   one = (refl, refl);
@@ -51,7 +51,7 @@ takes_stations = record {
   short = refl;
 }
 
-pub takes_agents : IsTaken (with_tables no_schema (meta ∷ groups ∷ stations ∷ [])) CREATE_AGENTS.now (unplaced agents)
+pub takes_agents : IsTaken (with_tables no_schema (meta ∷ groups_layout ∷ stations_layout ∷ [])) CREATE_AGENTS.now (unplaced agents_layout)
 unfolding understood everything digits begins same_name is_free_name
 takes_agents = record {
   one = (refl, refl);
@@ -65,7 +65,7 @@ takes_agents = record {
   short = refl;
 }
 
-pub takes_calls : IsTaken plan_schema CREATE_CALLS.now (unplaced calls)
+pub takes_calls : IsTaken plan_schema CREATE_CALLS.now (unplaced calls_layout)
 unfolding understood everything digits begins same_name is_free_name
 takes_calls = record {
   one = (refl, refl);
@@ -79,7 +79,7 @@ takes_calls = record {
   short = refl;
 }
 
-pub takes_connections : IsTaken (with_tables plan_schema (calls ∷ [])) CREATE_CONNECTIONS.now (unplaced connections)
+pub takes_connections : IsTaken (with_tables plan_schema (calls_layout ∷ [])) CREATE_CONNECTIONS.now (unplaced connections_layout)
 unfolding understood everything digits begins same_name is_free_name
 takes_connections = record {
   one = (refl, refl);
@@ -93,7 +93,7 @@ takes_connections = record {
   short = refl;
 }
 
-pub takes_monitors : IsTaken (with_tables plan_schema (calls ∷ connections ∷ [])) CREATE_MONITORS.now (unplaced monitors)
+pub takes_monitors : IsTaken (with_tables plan_schema (calls_layout ∷ connections_layout ∷ [])) CREATE_MONITORS.now (unplaced monitors_layout)
 unfolding understood everything digits begins same_name is_free_name
 takes_monitors = record {
   one = (refl, refl);
@@ -107,7 +107,7 @@ takes_monitors = record {
   short = refl;
 }
 
-pub takes_events : IsTaken state_schema CREATE_EVENTS.now (unplaced events)
+pub takes_events : IsTaken state_schema CREATE_EVENTS.now (unplaced events_layout)
 unfolding understood everything digits begins same_name is_free_name
 takes_events = record {
   one = (refl, refl);
@@ -121,7 +121,7 @@ takes_events = record {
   short = refl;
 }
 
-pub takes_kept : IsTaken (with_tables state_schema (events ∷ [])) CREATE_KEPT.now (unplaced kept)
+pub takes_kept : IsTaken (with_tables state_schema (events_layout ∷ [])) CREATE_KEPT.now (unplaced kept_layout)
 unfolding understood everything digits begins same_name is_free_name
 takes_kept = record {
   one = (refl, refl);
@@ -136,7 +136,7 @@ takes_kept = record {
 }
 
 -- the two tables that version 2 adds
-pub takes_agent_groups : IsTaken old_schema CREATE_AGENT_GROUPS.now (unplaced agent_groups)
+pub takes_agent_groups : IsTaken old_schema CREATE_AGENT_GROUPS.now (unplaced agent_groups_layout)
 unfolding understood everything digits begins same_name is_free_name
 takes_agent_groups = record {
   one = (refl, refl);
@@ -150,7 +150,7 @@ takes_agent_groups = record {
   short = refl;
 }
 
-pub takes_group_priority : IsTaken (with_tables old_schema (agent_groups ∷ [])) CREATE_GROUP_PRIORITY.now (unplaced group_priority)
+pub takes_group_priority : IsTaken (with_tables old_schema (agent_groups_layout ∷ [])) CREATE_GROUP_PRIORITY.now (unplaced group_priority_layout)
 unfolding understood everything digits begins same_name is_free_name
 takes_group_priority = record {
   one = (refl, refl);

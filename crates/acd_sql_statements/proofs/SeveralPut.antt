@@ -72,7 +72,7 @@ abbrev all_put : List Event → List Event → List Event
 all_put [] rs = rs
 all_put (e ∷ es) rs = all_put es (put_by (by_key number e) rs e)
 
-are_cast : (es : List Event) → map (λ s. cast_row (table_of schema.events) (drop 0 s)) (map event_row es) ≡ map event_row es
+are_cast : (es : List Event) → map (λ s. cast_row (table_of schema.events_layout) (drop 0 s)) (map event_row es) ≡ map event_row es
 are_cast [] = refl
 are_cast (e ∷ es) = ap₂ (λ (x : Row) (xs : List Row). x ∷ xs) (events_described.casts e) (are_cast es)
 
@@ -81,7 +81,7 @@ have_numbers rows [] = refl
 have_numbers rows (e ∷ es) = ap (λ (l : List Row). event_row e ∷ l) (have_numbers (put_row (event_row e) rows) es)
 
 are_numbered : (rows : List Row) (es : List Event)
-    → numbered Chosen rows (map (λ s. cast_row (table_of schema.events) (drop 0 s)) (map event_row es)) ≡ map event_row es
+    → numbered Chosen rows (map (λ s. cast_row (table_of schema.events_layout) (drop 0 s)) (map event_row es)) ≡ map event_row es
 are_numbered rows es = ap (numbered Chosen rows) (are_cast es) ∙ have_numbers rows es
 
 rows_put : (es rs : List Event) → put_all (map event_row rs) (map event_row es) ≡ map event_row (all_put es rs)
@@ -101,13 +101,13 @@ module _ (text : List ℕ) (terms : List Term) (es : List Event) (p : Puts text 
   abbrev insertion : Insertion book_schema text
   insertion = record {
     at = 7;
-    layout = schema.events;
+    layout = schema.events_layout;
     terms = terms;
     width = 11;
     place = refl;
     command = p.command;
     plain = p.plain;
-    inert = inert_works book_schema inert schema.events.tree;
+    inert = inert_works book_schema inert schema.events_layout.tree;
   }
 
   put_at_once : (r : Relations) (old new : State) (count : ℕ) → HoldsUncommitted old r → Executes text (several_values es) old new (Ok count)
@@ -116,8 +116,8 @@ module _ (text : List ℕ) (terms : List Term) (es : List Event) (p : Puts text 
       let db = old.now.trees in
       let are = d.tables table.Events in
       let made = inserted book_schema text insertion (several_values es) old new count d.schema ran in
-      let rows = db schema.events.tree in
-      let source = ap (λ (l : List Row). edited db (edit_of db (table_of schema.events) [] Chosen 0 l)) p.source in
+      let rows = db schema.events_layout.tree in
+      let source = ap (λ (l : List Row). edited db (edit_of db (table_of schema.events_layout) [] Chosen 0 l)) p.source in
       let numbers = ap (put_all rows) (are_numbered rows es) in
       let before = ap (λ (l : List Row). put_all l (map event_row es)) are.rows_are in
       subst (HoldsUncommitted new) (all_are es r)

@@ -8,7 +8,7 @@ use Rattle.acd_book.proofs.ReadsInTurn.{Finding}
 use Rattle.acd_book.specs.Content.{Content}
 use Rattle.acd_book.specs.declared.kept.Kept.{Kept}
 use Rattle.acd_sql_columns.specs.declared.meta.Meta.{Meta}
-use Rattle.acd_sqlbook.specs.Commit.{counted, counters_of, made_by, written_by}
+use Rattle.acd_sqlbook.specs.Commit.{meta_after, counters_of, made_by, written_by}
 use Rattle.acd_sql_columns.specs.Relations.{meta_of}
 use Rattle.acd_sqlbook.specs.Calls.{HasRead, HasCommitted, HasReplaced}
 use Rattle.acd_sqlbook.specs.Counters.{AreCounters}
@@ -75,12 +75,12 @@ Counts held changes events kept c found = AreCounters held c → found ≡ count
 
 pub reads_counters : (old new : State) (held : Option Meta) (meta : Meta) (r : Result (ℕ × Meta) Error) (changes : List Change) (events : ℕ) (kept : Kept)
     → HasRead old new (Ok meta) (λ c found. AreCounters held c → found ≡ meta_of c.rows)
-    → IfOk r (λ next. next ≡ (meta.last_call, counted meta changes events kept)) → HasRead old new r (Counts held changes events kept)
+    → IfOk r (λ next. next ≡ (meta.last_call, meta_after meta changes events kept)) → HasRead old new r (Counts held changes events kept)
 reads_counters old new held meta r changes events kept h is =
     reads_on old new meta r (λ c found. AreCounters held c → found ≡ meta_of c.rows) (Counts held changes events kept) h
-    (ok_map (λ (next : ℕ × Meta). next ≡ (meta.last_call, counted meta changes events kept))
+    (ok_map (λ (next : ℕ × Meta). next ≡ (meta.last_call, meta_after meta changes events kept))
     (λ (next : ℕ × Meta). (c : Content) → (AreCounters held c → meta ≡ meta_of c.rows) → Counts held changes events kept c next) r
-    (λ next e c same of. e ∙ ap (λ (m : Meta). (m.last_call, counted m changes events kept)) (same of)) is)
+    (λ next e c same of. e ∙ ap (λ (m : Meta). (m.last_call, meta_after m changes events kept)) (same of)) is)
 
 -- ---- commits
 
@@ -179,7 +179,7 @@ commits_counted old mid new r held last next changes events kept read h =
 pub holds_counted : (r : Result (Unit {0}) Error) (held now : Option Meta) (next : Meta) (changes : List Change) (events : List Event) (kept : Kept)
     (c : Content)
     → OnOk r (now ≡ Some next)
-    → next ≡ counted (meta_of c.rows) changes (length events) kept → OnOk r (AreCounters now (written_by changes events kept c))
+    → next ≡ meta_after (meta_of c.rows) changes (length events) kept → OnOk r (AreCounters now (written_by changes events kept c))
 holds_counted (Ok x) held now next changes events kept c is counts =
     subst (λ (o : Option Meta). AreCounters o (written_by changes events kept c)) (sym is) counts
 holds_counted (Err e) held now next changes events kept c is counts = tt

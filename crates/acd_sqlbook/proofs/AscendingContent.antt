@@ -7,7 +7,7 @@ use Rattle.sqlite_trees.specs.Tree.{Trees}
 use Rattle.acd_terms.specs.Lists.{AllAfter, IsAscending}
 use Rattle.acd_terms.specs.declared.event.Event.{Event}
 use Rattle.acd_book.specs.Content.{Content}
-use Rattle.acd_book.specs.Memory.{stamp_of, number_of}
+use Rattle.acd_book.specs.Memory.{stamp_of, number_of_event}
 use Rattle.acd_book.specs.Order.{Rises, IsOrdered}
 use Rattle.acd_book.specs.declared.kept.Kept.{Kept}
 use Rattle.acd_sql_columns.specs.declared.tables.Table.TheVariants as table
@@ -45,7 +45,7 @@ kept_above k good =
     let stamp = bound _ _ x.0 w.1 in
     stamp_above (kept_values k) stamp.0 k.stamp stamp.1 refl
 
-event_above : (e : Event) → is_good table.Events (event_values e) ≡ true → 0 < number_of e
+event_above : (e : Event) → is_good table.Events (event_values e) ≡ true → 0 < number_of_event e
 unfolding event_in
 event_above e good =
     let x = some_from (event_in (event_values e)) good in
@@ -72,8 +72,8 @@ stored_ordered db c is good = record {
       (all_so (λ k. is_good table.Kept (kept_values k) ≡ true) (λ k. 0 < stamp_of k) kept_above c.kept
       (of_mapped (λ r. is_good table.Kept r ≡ true) kept_values c.kept (each_good table.Kept (map kept_values c.kept) (good.tables table.Kept))))
       (is table.Kept).0.ascending;
-  events = rises number_of c.events
-      (all_so (λ e. is_good table.Events (event_values e) ≡ true) (λ e. 0 < number_of e) event_above c.events
+  events = rises number_of_event c.events
+      (all_so (λ e. is_good table.Events (event_values e) ≡ true) (λ e. 0 < number_of_event e) event_above c.events
       (of_mapped (λ r. is_good table.Events r ≡ true) event_values c.events (each_good table.Events (map event_values c.events) (good.tables table.Events))))
       (is table.Events).ascending;
 }

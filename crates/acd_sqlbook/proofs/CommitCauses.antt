@@ -20,7 +20,7 @@ use Rattle.acd_sql_statements.specs.ReadFailures.{HasReadCause, FailsToRead}
 use Rattle.acd_sqlbook.specs.Calls.{HasRead}
 use Rattle.acd_sqlbook.specs.WriteChoice.{written_changes}
 use Rattle.acd_sqlbook.specs.Counters.{AreCounters, StopsOn}
-use Rattle.acd_sqlbook.specs.Commit.{ChangeFits, EventFits, KeptFits, counted, applied, all_applied, with_events}
+use Rattle.acd_sqlbook.specs.Commit.{ChangeFits, EventFits, KeptFits, meta_after, applied, all_applied, with_events}
 use Rattle.acd_sqlbook.specs.CommitStops.{AllNumbersFit, AreCounted, HasReadCauseOr, Drops, HasAbove, IsCausedByReadOr, FailsToApply, IsUndone, IsUncounted, RefusesInAll, RefusesInChanges, RefusesInEvents, StopsInAll, StopsInChanges, StopsInEvents, StopsCounted, StopsReplace}
 use Rattle.acd_sqlbook.proofs.TableReplacement.{Leading}
 use Rattle.acd_sqlbook.proofs.AfterProbe.{Counts}
@@ -33,10 +33,10 @@ counts_not {A} {B} R old new e r is h =
 
 pub counts_unfit : {A : Type 0} (old new : State) (held : Option Meta) (meta : Meta) (e : Error) (changes : List Change) (events : ℕ) (kept : Kept)
     → HasRead {A = Meta} old new (Ok meta) (λ c found. AreCounters held c → found ≡ meta_of c.rows)
-    → ¬ (MetaFits (counted meta changes events kept) × KeptFits kept)
+    → ¬ (MetaFits (meta_after meta changes events kept) × KeptFits kept)
     → HasReadCauseOr {A = A} (StopsOn held (IsUncounted changes events kept)) old new (Err e)
 counts_unfit old new held meta e changes events kept read unfit = record {
-  cause = λ k c holds. inr (λ of. subst (λ m. ¬ (MetaFits (counted m changes events kept) × KeptFits kept)) (read.value k c holds of) unfit);
+  cause = λ k c holds. inr (λ of. subst (λ m. ¬ (MetaFits (meta_after m changes events kept) × KeptFits kept)) (read.value k c holds of) unfit);
   counts = tt;
   limit = tt;
 }

@@ -11,14 +11,14 @@ use Rattle.acd_model.specs.Moves.{changed}
 use Rattle.acd_model.specs.Writes.{with_group, with_station, with_agent, with_call, with_connection, with_monitor, without_call, without_connection, without_monitor, with_last}
 use Rattle.acd_model.specs.declared.moves.Change.{Change}
 use Rattle.acd_model.specs.declared.moves.Change.TheVariants.{Nothing, PutGroup, PutStation, PutAgent, PutCall, PutConnection, PutMonitor, RemoveCall, RemoveConnection, RemoveMonitor}
-use Rattle.acd_book.specs.Memory.{number_of}
+use Rattle.acd_book.specs.Memory.{number_of_event}
 use Rattle.acd_book.specs.Order.{Rises}
 use Rattle.acd_book.proofs.EventsAbove.{events_raised}
 use Rattle.acd_book.specs.Content.{Content, GoOn, Follows, committed, FollowsBy, committed_by, rows_by}
 use Rattle.acd_book.specs.declared.kept.Kept.{Kept}
 use Rattle.acd_sql_columns.specs.declared.meta.Meta.{Meta}
 use Rattle.acd_sql_columns.specs.Relations.{meta_of}
-use Rattle.acd_sqlbook.specs.Commit.{with_meta, applied, all_applied, content_with_event, with_events, with_kept, made_by, written_by, top_call, top_monitor, last_call, last_monitor, counted}
+use Rattle.acd_sqlbook.specs.Commit.{with_meta, applied, all_applied, content_with_event, with_events, with_kept, made_by, written_by, top_call, top_monitor, last_call, last_monitor, meta_after}
 use Rattle.acd_sqlbook.proofs.WritesInTurn.{next}
 use Rattle.acd_lemmas.proofs.Changes.{limits-changed_by}
 
@@ -94,7 +94,7 @@ kept_is c k last low h =
     ap (λ l. record c { kept = l }) (put_last (λ (x : Kept). x.stamp) k c.kept (every_less (λ (x : Kept). x.stamp) last k.stamp c.kept low h))
 
 -- events whose numbers rise
-rises_are : (last : ℕ) (c : Content) (es : List Event) → Rises number_of last es → Every (λ (x : Event). x.number ≤ last) c.events
+rises_are : (last : ℕ) (c : Content) (es : List Event) → Rises number_of_event last es → Every (λ (x : Event). x.number ≤ last) c.events
     → with_events c es ≡ record c { events = c.events ++ es }
 rises_are last c [] up low = ap (λ l. record c { events = l }) (sym (append-nil c.events))
 rises_are last c (e ∷ es) up low =
@@ -106,7 +106,7 @@ rises_are last c (e ∷ es) up low =
     ∙ ap (λ l. record c { events = l }) (ap (λ l. l ++ es) put ∙ append_assoc c.events (e ∷ []) es)
 
 -- a commit of such events puts them after the others
-pub written_events : (changes : List Change) (events : List Event) (kept : Kept) (c : Content) (last : ℕ) → Rises number_of last events
+pub written_events : (changes : List Change) (events : List Event) (kept : Kept) (c : Content) (last : ℕ) → Rises number_of_event last events
     → Every (λ (x : Event). x.number ≤ last) c.events
     → (written_by changes events kept c).events ≡ c.events ++ events
 written_events changes events kept c last up low =
@@ -183,15 +183,15 @@ monitors_after s [] = refl
 monitors_after s (change ∷ changes) = monitors_after (changed s change) changes ∙ ap (λ n. last_monitor n changes) (monitor_after s change)
 
 pub counts_are : (changes : List Change) (events : List Event) (kept : Kept) (c : Content)
-    → meta_of (rows_by changes events kept c) ≡ counted (meta_of c.rows) changes (length events) kept
+    → meta_of (rows_by changes events kept c) ≡ meta_after (meta_of c.rows) changes (length events) kept
 unfolding with_last
 counts_are changes events kept c = rw (limits-changed_by c.rows changes, calls_after c.rows changes, monitors_after c.rows changes) refl
 
 -- a commit that writes these counters makes what is to be made
 pub commit_is : (changes : List Change) (events : List Event) (kept : Kept) (m : Meta) (c : Content) → m ≡ meta_of c.rows → FollowsBy changes events kept c
-    → made_by changes events kept (counted m changes (length events) kept) c ≡ committed_by changes events kept c
+    → made_by changes events kept (meta_after m changes (length events) kept) c ≡ committed_by changes events kept c
 commit_is changes events kept m c is follows =
-    ap (λ k. made_by changes events kept (counted k changes (length events) kept) c) is
+    ap (λ k. made_by changes events kept (meta_after k changes (length events) kept) c) is
     ∙ ap (λ k. made_by changes events kept k c) (sym (counts_are changes events kept c))
     ∙ made_is changes events kept c follows
 

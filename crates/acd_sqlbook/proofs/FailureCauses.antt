@@ -19,25 +19,25 @@ use Rattle.acd_sql_statements.specs.StoreFailures.{IsMemory, StoreHasFailed}
 use Rattle.acd_sql_columns.specs.InRange.{IsInRange}
 use Rattle.acd_sql_statements.specs.ReadFailures.{FailsToRead, HasReadCause}
 use Rattle.acd_sql_schema.specs.Creation.{FailsToSetUp, IsUnstarted}
-use Rattle.acd_sqlbook.specs.Commit.{counted}
+use Rattle.acd_sqlbook.specs.Commit.{meta_after}
 use Rattle.acd_sqlbook.specs.Counters.{AreCounters, StopsOn}
 use Rattle.acd_sql_columns.specs.declared.meta.Meta.{Meta}
 use Rattle.acd_sqlbook.specs.CommitStops.{AllNumbersFit, Drops, HasAbove, IsCausedByReadOr, IsUncounted, RefusesInAll, StopsCounted, StopsReplace}
-use Rattle.acd_sqlbook.specs.State.{IsSoundState, fault_of, book_result, failures_after}
+use Rattle.acd_sqlbook.specs.State.{IsSoundState, error_fault, book_result, failures_after}
 use Rattle.acd_sqlbook.specs.Causes.{StoreCall, StoreCause, HasCause, IsUnreadable, RefusesToCommit, create, read, failed, change, replace, shut, unfit, unreadable, occupied, drops, refused}
 use Rattle.acd_sqlbook.proofs.BookStates.{held_is}
 use Rattle.acd_sqlbook.proofs.CommitCauses.{parted}
 
 -- want of memory is no failure of the store
-pub not_memory : (e : Error) (f : BookFault) → f ≡ fault_of e → f ≡ Store → IsMemory e → ⊥
-not_memory e f is store memory = absurd (let apart = sym store ∙ is ∙ ap fault_of memory in cc)
+pub not_memory : (e : Error) (f : BookFault) → f ≡ error_fault e → f ≡ Store → IsMemory e → ⊥
+not_memory e f is store memory = absurd (let apart = sym store ∙ is ∙ ap error_fault memory in cc)
 
 pub store_cause : (asked : StoreCall) (old new : State) → StoreHasFailed old new → StoreCause asked old new
 store_cause asked old new (inl more) = failed more
 store_cause asked old new (inr down) = shut down
 
 -- the making began without a limit of steps
-pub create_cause : (limits : Limits) (old new : State) (e : Error) (f : BookFault) → old.step_limit ≡ None → f ≡ fault_of e → f ≡ Store
+pub create_cause : (limits : Limits) (old new : State) (e : Error) (f : BookFault) → old.step_limit ≡ None → f ≡ error_fault e → f ≡ Store
     → FailsToSetUp old new limits e → StoreCause (create limits) old new
 create_cause limits old new e f free is store (inl memory) = absurd (not_memory e f is store memory)
 create_cause limits old new e f free is store (inr (inl fails)) = store_cause (create limits) old new fails
@@ -61,9 +61,9 @@ pub never_limited : (limit : Option ℕ) → limit ≡ None → IsSome limit →
 never_limited None free some = absurd (cc some)
 never_limited (Some n) free some = absurd (cc free)
 
-read_cause : (old new : State) (c : Content) → old.step_limit ≡ None → content_of old.committed.trees ≡ c → (e : Error) → fault_of e ≡ Store
+read_cause : (old new : State) (c : Content) → old.step_limit ≡ None → content_of old.committed.trees ≡ c → (e : Error) → error_fault e ≡ Store
     → FailsToRead c old new e → StoreCause read old new
-read_cause old new c free is e store (inl memory) = absurd (not_memory e (fault_of e) refl store memory)
+read_cause old new c free is e store (inl memory) = absurd (not_memory e (error_fault e) refl store memory)
 read_cause old new c free is e store (inr (inl more)) = failed more
 read_cause old new c free is e store (inr (inr (inl steps))) = absurd (never_limited old.step_limit free steps)
 read_cause old new c free is e store (inr (inr (inr bad))) = unreadable (λ range. bad (subst IsInRange is range))
@@ -72,7 +72,7 @@ pub reads_caused : {A : Type 0} (old new : State) (r : Result A Error) (answer :
     → HasReadCause old new r → HasCleanDisk new → IsSoundState old → answer ≡ Err Store → StoreCause read old new
 reads_caused old new (Ok a) answer free is h clean sound store = absurd (let apart = sym store ∙ is in cc)
 reads_caused old new (Err e) answer free is h clean sound store =
-    let fault : fault_of e ≡ Store = cc in
+    let fault : error_fault e ≡ Store = cc in
     elim (cases_Bool old.is_open) [
       | inl up ↦ let held = sound.stands up in read_cause old new held.0 free (held_is old held.0 held.1) e fault (h.cause clean held.0 held.1 tt)
       | inr down ↦ shut down
@@ -84,9 +84,9 @@ reads_caused old new (Err e) answer free is h clean sound store =
 module _ (asked : StoreCall) (old new : State) (Stops : Content → Type 0) (free : old.step_limit ≡ None)
     (bad : ¬ (IsInRange (content_of old.committed.trees)) → IsUnreadable asked old)
     (stopped : (c : Content) → content_of old.committed.trees ≡ c → Stops c → StoreCause asked old new) where
-  each_cause : (c : Content) → content_of old.committed.trees ≡ c → (e : Error) → fault_of e ≡ Store → FailsToRead c old new e ⊎ Stops c
+  each_cause : (c : Content) → content_of old.committed.trees ≡ c → (e : Error) → error_fault e ≡ Store → FailsToRead c old new e ⊎ Stops c
       → StoreCause asked old new
-  each_cause c is e store (inl (inl memory)) = absurd (not_memory e (fault_of e) refl store memory)
+  each_cause c is e store (inl (inl memory)) = absurd (not_memory e (error_fault e) refl store memory)
   each_cause c is e store (inl (inr (inl more))) = failed more
   each_cause c is e store (inl (inr (inr (inl steps)))) = absurd (never_limited old.step_limit free steps)
   each_cause c is e store (inl (inr (inr (inr out)))) = unreadable (bad (λ range. out (subst IsInRange is range)))
@@ -96,7 +96,7 @@ module _ (asked : StoreCall) (old new : State) (Stops : Content → Type 0) (fre
       → HasCleanDisk new → IsSoundState old → answer ≡ Err Store → StoreCause asked old new
   commit_caused (Ok a) answer is h clean sound store = absurd (let apart = sym store ∙ is in cc)
   commit_caused (Err e) answer is h clean sound store =
-      let fault : fault_of e ≡ Store = cc in
+      let fault : error_fault e ≡ Store = cc in
       elim (cases_Bool old.is_open) [
         | inl up ↦ let held = sound.stands up in each_cause held.0 (held_is old held.0 held.1) e fault (h clean held.0 held.1)
         | inr down ↦ shut down
@@ -106,7 +106,7 @@ module _ (changes : List Change) (events : List Event) (kept : Kept) (old new : 
   change_stops : (c : Content) → content_of old.committed.trees ≡ c → StopsCounted changes events kept c → StoreCause (change changes events kept) old new
   change_stops c is (inl large) = unfit (inl (subst (IsUncounted changes (length events) kept) (sym is) large))
   change_stops c is (inr stops) =
-      elim (parted (HasAbove (Some c.rows.last_call) c) changes events kept (counted (meta_of c.rows) changes (length events) kept) c stops) [
+      elim (parted (HasAbove (Some c.rows.last_call) c) changes events kept (meta_after (meta_of c.rows) changes (length events) kept) c stops) [
         | inl large ↦ unfit (inr large)
         | inr refuses ↦ refused (subst (RefusesToCommit changes events kept) (sym is) refuses)
       ]

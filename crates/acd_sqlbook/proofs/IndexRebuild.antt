@@ -11,7 +11,7 @@ use Rattle.acd_terms.specs.declared.event.Event.{Event}
 use Rattle.acd_terms.specs.declared.rows.Rows.{Rows}
 use Rattle.acd_lemmas.proofs.Numbers.{less_is, no_less, below_is, same_number}
 use Rattle.acd_book.specs.Content.{Content, events_after}
-use Rattle.acd_book.specs.Memory.{number_of}
+use Rattle.acd_book.specs.Memory.{number_of_event}
 use Rattle.acd_book.specs.Order.{Rises}
 use Rattle.acd_book.specs.MonitorIndexes.{WatchesAfter}
 use Rattle.acd_sql_columns.specs.Transactions.{Quiet, NoStop}
@@ -28,7 +28,7 @@ use Rattle.acd_book.proofs.EventsAbove.{left_after}
 -- ---- events up to a number, and those above it
 
 ascend_rise : (e : Event) (events : List Event) → AllAfter (λ (a b : Event). nat_cmp a.number b.number) e events → Ascends events
-    → Rises number_of e.number events
+    → Rises number_of_event e.number events
 ascend_rise e [] after up = tt
 ascend_rise e (x ∷ events) after up = (less_is e.number x.number after.0, ascend_rise x events up.0 up.1)
 
@@ -37,7 +37,7 @@ record Parts (n : ℕ) (events : List Event) : Type 0 where
   rest : List Event
   all : events ≡ seen ++ rest
   low : Every (λ (e : Event). e.number ≤ n) seen
-  above : Rises number_of n rest
+  above : Rises number_of_event n rest
 
 parted : (n : ℕ) (events : List Event) → Ascends events → Parts n events
 parted n [] up = record { seen = []; rest = []; all = refl; low = tt; above = tt }
@@ -65,7 +65,7 @@ page_front : (limit : ℕ) (i : Index) (page events : List Event) (b : BeginsInd
 page_front limit i page events b is =
     is ∙ ap (λ (l : List Event). events_after l i.last limit) b.all ∙ left_after i.last limit b.seen b.rest b.indexes.last b.above
 
-rises_left : (n last : ℕ) (events : List Event) → Rises number_of last events → Rises number_of (last_of last (take n events)) (drop n events)
+rises_left : (n last : ℕ) (events : List Event) → Rises number_of_event last events → Rises number_of_event (last_of last (take n events)) (drop n events)
 rises_left zero last events up = up
 rises_left (suc n) last [] up = tt
 rises_left (suc n) last (e ∷ events) up = rises_left n e.number events up.1
@@ -82,7 +82,7 @@ goes_on limit i next page events b is goes =
           ∙ sym (append_assoc b.seen (take limit b.rest) (drop limit b.rest))
           ∙ ap (λ (l : List Event). (b.seen ++ l) ++ drop limit b.rest) (sym front);
       indexes = goes.of_both b.seen b.indexes;
-      above = subst (λ (n : ℕ). Rises number_of n (drop limit b.rest)) (sym (goes.end ∙ ap (last_of i.last) front)) (rises_left limit i.last b.rest b.above);
+      above = subst (λ (n : ℕ). Rises number_of_event n (drop limit b.rest)) (sym (goes.end ∙ ap (last_of i.last) front)) (rises_left limit i.last b.rest b.above);
     }
 
 none_taken : (n : ℕ) (events : List Event) → 0 < n → [] ≡ take n events → events ≡ []

@@ -8,7 +8,7 @@ use Rattle.sqlite.specs.State.{State}
 use Rattle.acd_terms.specs.Lists.{Among, Every, AllAfter, IsAscending}
 use Rattle.acd_terms.specs.declared.event.Event.{Event}
 use Rattle.acd_book.specs.Content.{Content, is_at, is_at_after, events_after}
-use Rattle.acd_book.specs.Memory.{number_of}
+use Rattle.acd_book.specs.Memory.{number_of_event}
 use Rattle.acd_book.specs.Order.{Rises}
 use Rattle.acd_sql_columns.specs.Transactions.{HoldsContent}
 use Rattle.acd_sql_columns.specs.declared.tables.Table.TheVariants as table
@@ -56,7 +56,7 @@ one_there (x ∷ events) e up (inr a) low =
 abbrev IsThere : List Event → Event → Type 0
 IsThere events e = Among e events × (0 < e.number)
 
-all_there : (events some : List Event) → Ascends events → Every (IsThere events) some → picked events (map number_of some) ≡ some
+all_there : (events some : List Event) → Ascends events → Every (IsThere events) some → picked events (map number_of_event some) ≡ some
 all_there events [] up all = refl
 all_there events (e ∷ some) up all = ap₂ (λ (l m : List Event). l ++ m) (one_there events e up all.0.0 all.0.1) (all_there events some up all.1)
 
@@ -82,7 +82,7 @@ passing_there device n (x ∷ events) = next_there device n x events (is_at_afte
 
 -- the events of a page of numbers are the page
 pub page_picked : (device n limit : ℕ) (events : List Event) (numbers : List ℕ) → Ascends events
-    → numbers ≡ map number_of (take limit (filter (is_at_after (Some device) n) events))
+    → numbers ≡ map number_of_event (take limit (filter (is_at_after (Some device) n) events))
     → picked events numbers ≡ take limit (filter (is_at_after (Some device) n) events)
 page_picked device n limit events numbers up is =
     let page = take limit (filter (is_at_after (Some device) n) events) in
@@ -102,9 +102,9 @@ all_taken i xs h = grind (arith, common_steps)
 
 -- one more event, which continues
 pub rises_on : (top i : ℕ) (events : List Event) (e : Event) → i < length events → e ≡ get_or events i e → top < e.number
-    → Rises number_of e.number (drop (i + 1) events) → Rises number_of top (drop i events)
+    → Rises number_of_event e.number (drop (i + 1) events) → Rises number_of_event top (drop i events)
 rises_on top i events e low is up rest =
-    subst (Rises number_of top) (sym (drop_next i events e low ∙ ap (λ (x : Event). x ∷ drop (i + 1) events) (sym is))) (up, rest)
+    subst (Rises number_of_event top) (sym (drop_next i events e low ∙ ap (λ (x : Event). x ∷ drop (i + 1) events) (sym is))) (up, rest)
 
 pub ends_on : (top i : ℕ) (events : List Event) (e : Event) → i < length events → e ≡ get_or events i e
     → last_of top (drop i events) ≡ last_of e.number (drop (i + 1) events)

@@ -8,7 +8,7 @@ use Rattle.acd_terms.specs.declared.event.Event.{Event}
 use Rattle.acd_terms.specs.declared.record.MonitorRecord.{MonitorRecord}
 use Rattle.acd_model.specs.Scans.{monitor_of}
 use Rattle.acd_book.specs.Content.{Content, is_at_after, watched_by, events_of_monitor}
-use Rattle.acd_book.specs.MonitorIndexes.{IsPage}
+use Rattle.acd_book.specs.MonitorIndexes.{ArePageNumbers}
 use Rattle.acd_sql_columns.specs.Transactions.{HoldsContent}
 use Rattle.acd_sql_columns.specs.ReadResults.{Finds}
 use Rattle.acd_sql_statements.specs.EventsByNumber.{picked}
@@ -27,7 +27,7 @@ abbrev pub IsIndexedPageOf : Index → ℕ → ℕ → ℕ → Content → Vec E
 IsIndexedPageOf index monitor number limit c events = Indexes index c.events → events.items ≡ events_of_monitor c monitor number limit
 
 pub page_by_numbers : (old new : State) (index : Index) (device number limit : ℕ) (numbers : List ℕ) (r : Result (Vec Event Global) Error)
-    → IsPage index.watched device number limit numbers
+    → ArePageNumbers index.watched device number limit numbers
     → Finds old new r (λ c events. events.items ≡ picked c.events numbers)
     → Finds old new r (IsIndexedPage index device number limit)
 page_by_numbers old new index device number limit numbers r page =

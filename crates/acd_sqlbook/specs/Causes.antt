@@ -20,8 +20,8 @@ use Rattle.acd_sql_differences.specs.ChangeOrder.{rows_differences}
 use Rattle.acd_sql_columns.specs.InRange.{IsInRange}
 use Rattle.acd_sql_schema.specs.Creation.{IsUnstarted}
 use Rattle.acd_sqlbook.specs.State.{IsSoundState}
-use Rattle.acd_sqlbook.specs.View.{BookView, book_of}
-use Rattle.acd_sqlbook.specs.Commit.{counted}
+use Rattle.acd_sqlbook.specs.View.{BookView, book_seen}
+use Rattle.acd_sqlbook.specs.Commit.{meta_after}
 use Rattle.acd_sqlbook.specs.CommitStops.{AllNumbersFit, AreCounted, Drops, HasAbove, IsUncounted, RefusesInAll}
 use Rattle.acd_sqlbook.specs.Lent.{Lent}
 use Rattle.acd_sqlbook.specs.Pruning.{IsUnfitPrune, RefusesPrune}
@@ -70,7 +70,7 @@ IsDropping (prune stamp number) s = ⊥
 
 -- of a commit of changes, with the counters that go on from the content's
 abbrev pub RefusesToCommit : List Change → List Event → Kept → Content → Type 0
-RefusesToCommit changes events kept c = RefusesInAll (HasAbove (Some c.rows.last_call) c) changes events kept (counted (meta_of c.rows) changes (length events) kept) c
+RefusesToCommit changes events kept c = RefusesInAll (HasAbove (Some c.rows.last_call) c) changes events kept (meta_after (meta_of c.rows) changes (length events) kept) c
 
 -- by what it says of such tables, the store refuses the row of the limits; it refuses no query, and no table of a book; of a commit or a prune it refuses a
 -- statement, on what those before it made
@@ -105,4 +105,4 @@ IsCaused asked g book result =
 
 -- the same of a book that is sound, its cache too
 abbrev pub IsCausedIfSound : {S A : Type 0} → StoreCall → Ghosts S → Lent (BookView S) → Result A BookFault → Type 0
-IsCausedIfSound asked g book result = (book_of g book.entry.now).is_sound → IsCaused asked g book result
+IsCausedIfSound asked g book result = (book_seen g book.entry.now).is_sound → IsCaused asked g book result

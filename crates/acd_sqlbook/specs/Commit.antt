@@ -137,8 +137,8 @@ last_monitor last [] = last
 last_monitor last (change ∷ changes) = last_monitor (top_monitor last change) changes
 
 -- those after a commit of so many events
-abbrev pub counted : Meta → List Change → ℕ → Kept → Meta
-counted m changes events k = record {
+abbrev pub meta_after : Meta → List Change → ℕ → Kept → Meta
+meta_after m changes events k = record {
   limits = m.limits;
   last_stamp = k.stamp;
   last_moment = k.moment;
@@ -149,11 +149,11 @@ counted m changes events k = record {
 
 -- the last call's number, and those counters
 abbrev pub counters_of : List Change → ℕ → Kept → Content → ℕ × Meta
-counters_of changes events kept c = (c.rows.last_call, counted (meta_of c.rows) changes events kept)
+counters_of changes events kept c = (c.rows.last_call, meta_after (meta_of c.rows) changes events kept)
 
 -- those that continue the content's
 abbrev pub counters_after : List Change → List Event → Kept → Content → Meta
-counters_after changes events kept c = counted (meta_of c.rows) changes (length events) kept
+counters_after changes events kept c = meta_after (meta_of c.rows) changes (length events) kept
 
 -- the writes of a commit, with these counters
 abbrev pub written_by : List Change → List Event → Kept → Content → Content

@@ -30,7 +30,7 @@ use Rattle.acd_sql_statements.specs.SeveralEvents.{RefusesEvents}
 use Rattle.acd_sqlbook.specs.Counters.{StopsOn}
 use Rattle.acd_sqlbook.specs.Lent.{Lent, Shown, state_before, state_after}
 use Rattle.acd_sqlbook.specs.WriteChoice.{written_changes}
-use Rattle.acd_sqlbook.specs.Commit.{ChangeFits, EventFits, KeptFits, counted, counters_after, applied, all_applied, with_events, with_kept}
+use Rattle.acd_sqlbook.specs.Commit.{ChangeFits, EventFits, KeptFits, meta_after, counters_after, applied, all_applied, with_events, with_kept}
 
 -- no call that it has, and no call of its connections, is above this one
 pub record AreUpTo (last : ℕ) (c : Content) : Type 0 where
@@ -157,7 +157,7 @@ IsUndoneAt g conn result Stops = IsUndone Stops (state_before g conn) (state_aft
 
 -- these counters don't fit their columns after so many events, or the kept record doesn't fit
 abbrev pub AreUncounted : Meta → List Change → ℕ → Kept → Type 0
-AreUncounted meta changes events kept = ¬ (MetaFits (counted meta changes events kept) × KeptFits kept)
+AreUncounted meta changes events kept = ¬ (MetaFits (meta_after meta changes events kept) × KeptFits kept)
 
 -- the same of a content's
 abbrev pub IsUncounted : List Change → ℕ → Kept → Content → Type 0

@@ -5,7 +5,7 @@ use Rattle.sqlite.specs.declared.error.Error.{Error}
 use Rattle.acd_terms.specs.Lists.{Every}
 use Rattle.acd_terms.specs.declared.event.Event.{Event}
 use Rattle.acd_book.specs.Content.{Content, events_of_monitor, is_at_after}
-use Rattle.acd_book.specs.Memory.{number_of}
+use Rattle.acd_book.specs.Memory.{number_of_event}
 use Rattle.acd_book.specs.Order.{Rises}
 use Rattle.acd_book.specs.MonitorIndexes.{ListsEvents}
 use Rattle.acd_sqlbook.specs.declared.index.Index.{Index}
@@ -27,14 +27,14 @@ last_of last (e ∷ events) = last_of e.number events
 
 -- each event has a number above `last` and above all events before it, and `top` is the last one's number
 pub record RisesTo (last : ℕ) (events : List Event) (top : ℕ) : Type 0 where
-  pub rise : Rises number_of last events
+  pub rise : Rises number_of_event last events
   pub low : last ≤ top
   pub all : Every (λ (e : Event). e.number ≤ top) events
   pub end : top ≡ last_of last events
 
 -- the next index is of more events, which go on above all before
 pub record IndexGoesOn (old : Index) (more : List Event) (new : Index) : Type 0 where
-  pub rise : Rises number_of old.last more
+  pub rise : Rises number_of_event old.last more
   pub end : new.last ≡ last_of old.last more
   pub of_both : (events : List Event) → Indexes old events → Indexes new (events ++ more)
 
@@ -44,7 +44,7 @@ pub record BeginsIndex (i : Index) (events : List Event) : Type 0 where
   pub rest : List Event
   pub all : events ≡ seen ++ rest
   pub indexes : Indexes i seen
-  pub above : Rises number_of i.last rest
+  pub above : Rises number_of_event i.last rest
 
 -- what is indexed after a commit: nothing or, where it succeeded, an index that goes on
 abbrev pub IsIndexAfter : Option Index → Result (Unit {0}) Error → List Event → Option Index → Type 0

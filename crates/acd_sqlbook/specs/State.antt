@@ -40,13 +40,13 @@ pub record IsNewBook (b : BookState) (limits : Limits) : Type 0 where
 -- ---- faults
 
 -- want of memory is no failure of the store
-abbrev pub fault_of : Error → BookFault
-fault_of (SqliteFailure OutOfMemory) = NoMemory
-fault_of _ = Store
+abbrev pub error_fault : Error → BookFault
+error_fault (SqliteFailure OutOfMemory) = NoMemory
+error_fault _ = Store
 
 abbrev pub book_result : {A : Type 0} → Result A Error → Result A BookFault
 book_result (Ok found) = Ok found
-book_result (Err error) = Err (fault_of error)
+book_result (Err error) = Err (error_fault error)
 
 -- the count of failures after an answer; it stays at its greatest value
 abbrev pub failures_after : {A : Type 0} → Result A BookFault → ℕ → ℕ

@@ -24,19 +24,19 @@ view_code {S} store =
     (λ b. (b.conn, (b.failures, b.cache))) (λ p. record { conn = p.0; failures = p.1.0; cache = p.1.1 }) (λ _. refl)
 
 -- the book that it is
-abbrev pub book_of : {S : Type 0} → Ghosts S → BookView S → BookState
-book_of store b = followed b.cache (book_state (state store b.conn) b.failures)
+abbrev pub book_seen : {S : Type 0} → Ghosts S → BookView S → BookState
+book_seen store b = followed b.cache (book_state (state store b.conn) b.failures)
 
 -- ---- a call of it: a read finds what `IsAnswer` says, just this of the content, or just this list; or it commits
 
 abbrev pub SqlReads : {S A : Type 0} → Ghosts S → Lent (BookView S) → Result A BookFault → (Content → A → Type 0) → Type 0
-SqlReads store book result IsAnswer = BookReads (book_of store) book.entry.now book.exit.now result IsAnswer
+SqlReads store book result IsAnswer = BookReads (book_seen store) book.entry.now book.exit.now result IsAnswer
 
 abbrev pub SqlFinds : {S A : Type 0} → Ghosts S → Lent (BookView S) → Result A BookFault → (Content → A) → Type 0
-SqlFinds store book result answer = BookFinds (book_of store) book.entry.now book.exit.now result answer
+SqlFinds store book result answer = BookFinds (book_seen store) book.entry.now book.exit.now result answer
 
 abbrev pub SqlLists : {S T Z : Type 0} → Ghosts S → Lent (BookView S) → Result (Vec T Z) BookFault → (Content → List T) → Type 0
-SqlLists store book result answer = BookLists (book_of store) book.entry.now book.exit.now result answer
+SqlLists store book result answer = BookLists (book_seen store) book.entry.now book.exit.now result answer
 
 abbrev pub SqlCommits : {S : Type 0} → Ghosts S → Lent (BookView S) → Result (Unit {0}) BookFault → Commit → Type 0
-SqlCommits store book result commit = BookCommits (book_of store) book.entry.now book.exit.now result commit
+SqlCommits store book result commit = BookCommits (book_seen store) book.entry.now book.exit.now result commit

@@ -3,10 +3,10 @@
 ghost use Rattle.std.specs.Prelude.{◌≡◌, ◌≤◌, false, Err, is_ok, IsTrue, IfOk, IfErr};
 ghost use Rattle.acd_sql_columns.specs.Transactions.{LimitsFit};
 ghost use Rattle.acd_sqlbook.specs.Calls.{IsUnlimited, WasClean};
-ghost use Rattle.acd_sqlbook.specs.State.{fault_of, book_result, failures_after};
+ghost use Rattle.acd_sqlbook.specs.State.{error_fault, book_result, failures_after};
 ghost use Rattle.acd_sqlbook.specs.Caches.{IsBlank};
 ghost use Rattle.acd_sqlbook.specs.Opening.{HasCreateCause, HasNoTables, IfHandedBack, IsNewOver};
-ghost use Rattle.acd_sqlbook.specs.View.{book_of, SqlReads, SqlFinds, SqlLists, SqlCommits};
+ghost use Rattle.acd_sqlbook.specs.View.{book_seen, SqlReads, SqlFinds, SqlLists, SqlCommits};
 ghost use Rattle.acd_sql_schema.specs.Creation.{MayMake};
 ghost use Rattle.acd_sqlbook.specs.Causes.{IsCaused, IsCausedIfSound, read as reading, change as changing, prune as pruning, replace as replacing};
 ghost use Rattle.acd_book.specs.Content.{IsNextKept, events_page, kept_under, monitor_page, records_page, commit_by, commit_of};
@@ -53,7 +53,7 @@ impl<S: Alter> Model for SqlBook<S> {
 
 // Want of memory is no failure of the store.
 fn fault_of(error: Error) -> BookFault
-    ensures { result ≡ fault_of error }
+    ensures { result ≡ error_fault error }
 {
     match error {
         Error::SqliteFailure(ErrorCode::OutOfMemory) => BookFault::NoMemory,
@@ -173,7 +173,7 @@ impl<S: Alter> Book for SqlBook<S> {
     ghost use Rattle.std.proofs.Math.Logic.{∥∥₁_map};
     ghost use Rattle.acd_sql_columns.specs.InTables.{content_of};
 
-    ghost state = { λ b. book_of S.Store b };
+    ghost state = { λ b. book_seen S.Store b };
 
     ghost settled = { λ b c clean sound up stop. stop.2 ∙ ap content_of
         (S.settled b.conn.store stop.0 up stop.1) };

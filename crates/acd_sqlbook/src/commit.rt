@@ -7,7 +7,7 @@ ghost use Rattle.acd_codec.specs.RequestTexts.{request_text};
 ghost use Rattle.acd_terms.specs.Lists.{Every};
 ghost use Rattle.acd_sqlbook.specs.Calls.{AddsOneStop, CommitsContent, KeepsContent, StaysOpen, WasClean};
 ghost use Rattle.acd_sqlbook.specs.WriteChoice.{is_taken_away, IsVainBefore, IsWrittenNext, IsNextPart, puts_the_same, is_put_once, is_above, is_new};
-ghost use Rattle.acd_sqlbook.specs.Commit.{CommitLeaves, PutsChange, WritesChange, WritesChanges, ChangeFits, EventFits, KeptFits, StampFits, IsGoodChange, with_events, made_from, top_call, top_monitor, last_call, last_monitor, counted};
+ghost use Rattle.acd_sqlbook.specs.Commit.{CommitLeaves, PutsChange, WritesChange, WritesChanges, ChangeFits, EventFits, KeptFits, StampFits, IsGoodChange, with_events, made_from, top_call, top_monitor, last_call, last_monitor, meta_after};
 ghost use Rattle.acd_sqlbook.specs.CommitStops.{RefusesWrite, StopsWrite, StopsInWritten, StopsAtEvents, StopsInEvents, StopsInCommit, FailsAt, HasWriteCauseAt, IsUndoneAt};
 ghost use Rattle.acd_sql_schema.specs.Creation.{WasOpen};
 ghost use Rattle.acd_sql_statements.specs.WriteRefusals.{RefusesAgent};
@@ -401,9 +401,9 @@ fn last_monitor(last: u64, changes: &[Change]) -> u64
 
 /// The counters after a commit, where there are numbers for its events.
 pub(crate) fn counted(meta: &Meta, changes: &[Change], events: u64, kept: &Kept) -> Option<Meta>
-    ensures is { IfSome result (λ m. m ≡ counted meta.now changes.now events kept.now) }
+    ensures is { IfSome result (λ m. m ≡ meta_after meta.now changes.now events kept.now) }
     ensures none { result ≡ None
-        → ¬ (MetaFits (counted meta.now changes.now events kept.now)) }
+        → ¬ (MetaFits (meta_after meta.now changes.now events kept.now)) }
 {
     let last_event = meta.last_event.checked_add(events)?;
     Some(Meta {

@@ -1,7 +1,7 @@
 //! The events at the devices of the running monitors, as far as they are indexed.
 
 ghost use Rattle.std.specs.Prelude.{IfSome};
-ghost use Rattle.acd_book.specs.MonitorIndexes.{IsPage};
+ghost use Rattle.acd_book.specs.MonitorIndexes.{ArePageNumbers};
 ghost use Rattle.acd_sqlbook.specs.EventIndex.{IndexGoesOn, IsIndexAfter, RisesTo};
 
 use acd_book::MonitorIndex;
@@ -32,7 +32,7 @@ impl Index {
     /// The numbers of the first events at a device above a number, where that is known and they are far apart.
     pub(crate) fn numbers(&self, device: DeviceId, number: u64, limit: usize) -> Option<&[u64]>
         ensures { IfSome result (λ found.
-            IsPage self.now.watched device number limit found.now) }
+            ArePageNumbers self.now.watched device number limit found.now) }
     {
         let numbers = self.watched.numbers(device, number, limit)?;
         if self.is_near(numbers, number, limit) {

@@ -5,7 +5,7 @@ ghost use Rattle.std.specs.Prelude.{◌≡◌, ◌↔◌, false, None, Some, IsT
 ghost use Rattle.sqlite.specs.State.{HasCleanDisk};
 ghost use Rattle.sqlite.specs.Held.{state};
 ghost use Rattle.acd_book.specs.Content.{events_page, kept_under, records_page};
-ghost use Rattle.acd_sqlbook.specs.Commit.{KeptFits, counted, counters_of};
+ghost use Rattle.acd_sqlbook.specs.Commit.{KeptFits, meta_after, counters_of};
 ghost use Rattle.acd_sqlbook.specs.Counters.{StopsOn};
 ghost use Rattle.acd_sql_columns.specs.Relations.{meta_of};
 ghost use Rattle.acd_sql_columns.specs.Transactions.{Quiet, NoStop, LimitsFit, MetaFits};
@@ -61,7 +61,7 @@ pub(crate) fn meta_fits(meta: &Meta) -> bool
 
 // The counters after a commit of so many events, where their columns can hold them.
 fn next_meta(meta: &Meta, changes: &[Change], events: u64, kept: &Kept) -> Result<Meta, Error>
-    ensures is { IfOk result (λ next. next ≡ counted meta.now changes.now events kept.now) }
+    ensures is { IfOk result (λ next. next ≡ meta_after meta.now changes.now events kept.now) }
     ensures fits { IfOk result (λ next. MetaFits next) }
     ensures kept { OnOk result (KeptFits kept.now) }
     ensures unfit { OnErr result (AreUncounted meta.now changes.now events kept.now) }

@@ -12,7 +12,7 @@ use Rattle.acd_terms.specs.declared.record.AgentRecord.{AgentRecord}
 use Rattle.acd_model.specs.Tick.{is_overdue, is_overdue_offer, overdue_in, is_wrapped_up, is_over_in, wrapped_up_in}
 use Rattle.acd_model.specs.Scans.{agent_of, connection_of}
 use Rattle.acd_tables.specs.IndexedRows.{is_ringing, is_working}
-use Rattle.acd_tables.specs.Uses.{kept}
+use Rattle.acd_tables.specs.Uses.{if_passes}
 use Rattle.acd_lemmas.proofs.Lists.{filter-filter}
 
 offered : (s : Rows) (m : ℕ) (g o : Option ℕ) → is_overdue_offer s m g o ≡ true → (is_some g && is_some o) ≡ true
@@ -77,7 +77,7 @@ module _ {R : Type 0} (p keep : R → Bool) (so : (x : R) → p x ≡ true → k
   fails : (x : R) → keep x ≡ false → p x ≡ false
   fails x e = false_from_ne_true (p x) (λ q. (let there = so x q in cc (e, there)))
 
-  passes_kept : (o : Option R) → passes p (kept keep o) ≡ passes p o
+  passes_kept : (o : Option R) → passes p (if_passes keep o) ≡ passes p o
   passes_kept None = refl
   passes_kept (Some x) = by (keep x) refl
     where
@@ -95,23 +95,23 @@ module _ {R : Type 0} (p keep : R → Bool) (so : (x : R) → p x ≡ true → k
       by false e more = more ∙ sym (ap (λ b. b || list_any p xs) (fails x e))
 
   module _ {K : Type 0} (f : K → Option R) where
-    any_picked : (ks : List K) → list_any p (filter_map (λ k. kept keep (f k)) ks) ≡ list_any (λ k. passes p (f k)) ks
+    any_picked : (ks : List K) → list_any p (filter_map (λ k. if_passes keep (f k)) ks) ≡ list_any (λ k. passes p (f k)) ks
     any_picked [] = refl
-    any_picked (k ∷ ks) = by (kept keep (f k)) (any_picked ks) ∙ ap (λ b. b || list_any (λ k. passes p (f k)) ks) (passes_kept (f k))
+    any_picked (k ∷ ks) = by (if_passes keep (f k)) (any_picked ks) ∙ ap (λ b. b || list_any (λ k. passes p (f k)) ks) (passes_kept (f k))
       where
-        by : (o : Option R) → list_any p (filter_map (λ k. kept keep (f k)) ks) ≡ list_any (λ k. passes p (f k)) ks
-            → list_any p (cons_option o (filter_map (λ k. kept keep (f k)) ks)) ≡ (passes p o || list_any (λ k. passes p (f k)) ks)
+        by : (o : Option R) → list_any p (filter_map (λ k. if_passes keep (f k)) ks) ≡ list_any (λ k. passes p (f k)) ks
+            → list_any p (cons_option o (filter_map (λ k. if_passes keep (f k)) ks)) ≡ (passes p o || list_any (λ k. passes p (f k)) ks)
         by None more = more
         by (Some x) more = ap (λ b. p x || b) more
 
-    any_given : (ks : List K) (xs : List R) → filter_map (λ k. kept keep (f k)) ks ≡ filter keep xs → list_any (λ k. passes p (f k)) ks ≡ list_any p xs
+    any_given : (ks : List K) (xs : List R) → filter_map (λ k. if_passes keep (f k)) ks ≡ filter keep xs → list_any (λ k. passes p (f k)) ks ≡ list_any p xs
     any_given ks xs e = sym (any_picked ks) ∙ ap (list_any p) e ∙ any_filtered xs
 
 pub overdue_given : (s : Rows) (m : ℕ) (keys : List (ℕ × ℕ))
-    → filter_map (λ p. kept is_ringing (connection_of s p.0 p.1)) keys ≡ filter is_ringing s.connections
+    → filter_map (λ p. if_passes is_ringing (connection_of s p.0 p.1)) keys ≡ filter is_ringing s.connections
     → list_any (λ p. passes (is_overdue s m) (connection_of s p.0 p.1)) keys ≡ list_any (is_overdue s m) s.connections
 overdue_given s m keys e = any_given (is_overdue s m) is_ringing (overdue_rings s m) (λ p. connection_of s p.0 p.1) keys s.connections e
 
-pub rested_given : (s : Rows) (m : ℕ) (keys : List ℕ) → filter_map (λ n. kept is_working (agent_of s n)) keys ≡ filter is_working s.agents
+pub rested_given : (s : Rows) (m : ℕ) (keys : List ℕ) → filter_map (λ n. if_passes is_working (agent_of s n)) keys ≡ filter is_working s.agents
     → list_any (λ n. passes (is_wrapped_up s m) (agent_of s n)) keys ≡ list_any (is_wrapped_up s m) s.agents
 rested_given s m keys e = any_given (is_wrapped_up s m) is_working (rested_works s m) (λ n. agent_of s n) keys s.agents e

@@ -22,7 +22,7 @@ use Rattle.acd_lemmas.proofs.KeyedLists.{cmp_self}
 use Rattle.acd_lemmas.proofs.State.{connections_total, agents_total, connection_among, connection_found, found_key, agent_among, agent_found, agent_key}
 use Rattle.acd_tables.specs.AtDevice.{is_at_device, connections_at, line_at}
 use Rattle.acd_tables.specs.IndexedRows.{pair_cmp, is_ringing, is_working, rings, works, Ringing, Working}
-use Rattle.acd_tables.specs.Uses.{kept}
+use Rattle.acd_tables.specs.Uses.{if_passes}
 use Rattle.acd_tables.proofs.SwapLemmas.{pair_key}
 
 module _ {X : Type 0} (cmp : X → X → Ordering) (o : IsTotalOrder cmp) where
@@ -105,7 +105,7 @@ module _ {K R : Type 0} (cmp : K → K → Ordering) (order : R → R → Orderi
 pub after_none : {X : Type 0} (start xs ys : List X) → start ≡ [] → xs ≡ ys → start ++ xs ≡ ys
 after_none start xs ys e f = ap (λ l. l ++ xs) e ∙ f
 
-kept-some : {T : Type 0} (p : T → Bool) (o : Option T) (r : T) → kept p o ≡ Some r → (o ≡ Some r) × (p r ≡ true)
+kept-some : {T : Type 0} (p : T → Bool) (o : Option T) (r : T) → if_passes p o ≡ Some r → (o ≡ Some r) × (p r ≡ true)
 kept-some p None r e = absurd (cc (e))
 kept-some p (Some x) r e = by (p x) refl e
   where
@@ -113,7 +113,7 @@ kept-some p (Some x) r e = by (p x) refl e
     by true g h = (h, (let same : x ≡ r = cc (h) in ap p (sym same) ∙ g))
     by false g h = absurd (cc (h))
 
-kept-passes : {T : Type 0} (p : T → Bool) (r : T) → p r ≡ true → kept p (Some r) ≡ Some r
+kept-passes : {T : Type 0} (p : T → Bool) (r : T) → p r ≡ true → if_passes p (Some r) ≡ Some r
 kept-passes p r e = rw e refl
 
 -- a key that a set contains is among its keys
@@ -134,48 +134,48 @@ exact_pair p q e =
 
 module _ (s : Rows) where
   pub picks-ringing : (index : BTreeSet (ℕ × ℕ)) → IsAscending connection_order s.connections → Ringing s index → IsStrictlySortedBy pair_cmp index.keys
-      → filter_map (λ p. kept is_ringing (connection_of s p.0 p.1)) index.keys ≡ filter is_ringing s.connections
+      → filter_map (λ p. if_passes is_ringing (connection_of s p.0 p.1)) index.keys ≡ filter is_ringing s.connections
   picks-ringing index ascending h sorted =
-      picked pair_cmp connection_order (λ c. (c.call, c.device)) (λ x y. refl) (λ p. kept is_ringing (connection_of s p.0 p.1)) has_key connections_total
+      picked pair_cmp connection_order (λ c. (c.call, c.device)) (λ x y. refl) (λ p. if_passes is_ringing (connection_of s p.0 p.1)) has_key connections_total
       index.keys (filter is_ringing s.connections) sorted
       (ascending-filter connection_order is_ringing s.connections ascending) forth back
     where
-      has_key : (p : ℕ × ℕ) (r : ConnectionRecord) → kept is_ringing (connection_of s p.0 p.1) ≡ Some r → (r.call, r.device) ≡ p
+      has_key : (p : ℕ × ℕ) (r : ConnectionRecord) → if_passes is_ringing (connection_of s p.0 p.1) ≡ Some r → (r.call, r.device) ≡ p
       has_key p r e = let k = found_key s p.0 p.1 r (kept-some is_ringing (connection_of s p.0 p.1) r e).0 in
           ap (λ a. (a, r.device)) k.0 ∙ ap (λ b. (p.0, b)) k.1
 
-      forth : (p : ℕ × ℕ) (r : ConnectionRecord) → kept is_ringing (connection_of s p.0 p.1) ≡ Some r → Among r (filter is_ringing s.connections)
+      forth : (p : ℕ × ℕ) (r : ConnectionRecord) → if_passes is_ringing (connection_of s p.0 p.1) ≡ Some r → Among r (filter is_ringing s.connections)
       forth p r e = let there = kept-some is_ringing (connection_of s p.0 p.1) r e in
           among-filter is_ringing s.connections r (connection_among s p.0 p.1 r there.0) there.1
 
       back : (r : ConnectionRecord) → Among r (filter is_ringing s.connections)
-          → Among (r.call, r.device) index.keys × (kept is_ringing (connection_of s r.call r.device) ≡ Some r)
+          → Among (r.call, r.device) index.keys × (if_passes is_ringing (connection_of s r.call r.device) ≡ Some r)
       back r a =
           let there = filter_among is_ringing s.connections r a in
           let found = connection_found s ascending r there.0 in (
             contained pair_cmp exact_pair index (r.call, r.device) (h (r.call, r.device) ∙ ap rings found ∙ there.1),
-            ap (kept is_ringing) found
+            ap (if_passes is_ringing) found
                 ∙ kept-passes is_ringing r there.1,
           )
 
   pub picks-working : (index : BTreeSet ℕ) → IsAscending agent_order s.agents → Working s index → IsStrictlySortedBy nat_cmp index.keys
-      → filter_map (λ n. kept is_working (agent_of s n)) index.keys ≡ filter is_working s.agents
+      → filter_map (λ n. if_passes is_working (agent_of s n)) index.keys ≡ filter is_working s.agents
   picks-working index ascending h sorted =
-      picked nat_cmp agent_order (λ a. a.agent) (λ x y. refl) (λ n. kept is_working (agent_of s n)) has_key agents_total index.keys (filter is_working s.agents)
+      picked nat_cmp agent_order (λ a. a.agent) (λ x y. refl) (λ n. if_passes is_working (agent_of s n)) has_key agents_total index.keys (filter is_working s.agents)
       sorted
       (ascending-filter agent_order is_working s.agents ascending) forth back
     where
-      has_key : (n : ℕ) (r : AgentRecord) → kept is_working (agent_of s n) ≡ Some r → r.agent ≡ n
+      has_key : (n : ℕ) (r : AgentRecord) → if_passes is_working (agent_of s n) ≡ Some r → r.agent ≡ n
       has_key n r e = agent_key s n r (kept-some is_working (agent_of s n) r e).0
 
-      forth : (n : ℕ) (r : AgentRecord) → kept is_working (agent_of s n) ≡ Some r → Among r (filter is_working s.agents)
+      forth : (n : ℕ) (r : AgentRecord) → if_passes is_working (agent_of s n) ≡ Some r → Among r (filter is_working s.agents)
       forth n r e = let there = kept-some is_working (agent_of s n) r e in among-filter is_working s.agents r (agent_among s n r there.0) there.1
 
-      back : (r : AgentRecord) → Among r (filter is_working s.agents) → Among r.agent index.keys × (kept is_working (agent_of s r.agent) ≡ Some r)
+      back : (r : AgentRecord) → Among r (filter is_working s.agents) → Among r.agent index.keys × (if_passes is_working (agent_of s r.agent) ≡ Some r)
       back r a =
           let there = filter_among is_working s.agents r a in
           let found = agent_found s ascending r there.0 in
-          (contained nat_cmp exact_number index r.agent (h r.agent ∙ ap works found ∙ there.1), ap (kept is_working) found ∙ kept-passes is_working r there.1)
+          (contained nat_cmp exact_number index r.agent (h r.agent ∙ ap works found ∙ there.1), ap (if_passes is_working) found ∙ kept-passes is_working r there.1)
 
 -- connections by their devices and calls
 abbrev by_line : ConnectionRecord → ConnectionRecord → Ordering

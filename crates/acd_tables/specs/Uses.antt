@@ -45,14 +45,14 @@ unfoldable pub past_lines : Device → Bound (Device × CallId)
 past_lines device = if device == 2 ^ 64 - 1 then Unbounded else Excluded (device + 1, 0)
 
 -- an optional value, if it passes
-abbrev pub kept : {T : Type 0} → (T → Bool) → Option T → Option T
-kept p None = None
-kept p (Some x) = if p x then Some x else None
+abbrev pub if_passes : {T : Type 0} → (T → Bool) → Option T → Option T
+if_passes p None = None
+if_passes p (Some x) = if p x then Some x else None
 
 -- the connection of these keys, if it is an offer that rings
 abbrev pub ringing_of : Rows → CallId × Device → Option ConnectionRecord
-ringing_of s keys = kept is_ringing (connection_of s keys.0 keys.1)
+ringing_of s keys = if_passes is_ringing (connection_of s keys.0 keys.1)
 
 -- the agent, if in after-call work
 abbrev pub working_of : Rows → Agent → Option AgentRecord
-working_of s agent = kept is_working (agent_of s agent)
+working_of s agent = if_passes is_working (agent_of s agent)

@@ -10,7 +10,7 @@ use Rattle.acd_desk.specs.declared.fault.DeskFault.TheVariants.{NoMemory}
 use Rattle.acd_desk.specs.declared.working.Working.{Working}
 use Rattle.acd_desk.specs.declared.pair.PairFault.{PairFault}
 use Rattle.acd_desk.specs.declared.pair.PairFault.TheVariants as pair
-use Rattle.acd_desk.specs.ArchiveAudits.{desk_part, archive_part, audit_fault, left_by_pair, IsAuditedWith}
+use Rattle.acd_desk.specs.ArchiveAudits.{desk_part, archived_part, pair_fault, left_by_pair, IsAuditedWith}
 use Rattle.acd_desk.specs.Pairs.{ReadsBoth}
 use Rattle.acd_desk.specs.Faults.{fault_of, left_by}
 use Rattle.acd_desk.specs.DeskState.{switch_of, is_failed, Mirrors}
@@ -51,12 +51,12 @@ other_failed {S = S} b d w read working = without_memory b d w (Anything {T = S}
 -- neither answered anything: the consequence for the desk, and for the archive
 pub both_failed : (a e b d : BookState) (w : Working) (f : PairFault) (P : Content → Content → ArchiveAudit → Type 0) → ReadsBoth a e b d (Err f) P
     → is_failed w ≡ false
-    → ReadDone {A = ArchiveAudit} (stands b w) (stands d (left_by_pair f w)) (desk_part (Err (audit_fault f))) Anything
+    → ReadDone {A = ArchiveAudit} (stands b w) (stands d (left_by_pair f w)) (desk_part (Err (pair_fault f))) Anything
 both_failed a e b d w (pair.Current f) P read working = read_failed {T = ArchiveAudit} b d w f read.current working
 both_failed a e b d w (pair.Archive f) P read working = other_failed {T = ArchiveAudit} b d w read.current working
 
 pub archive_neither : (a e b d : BookState) (f : PairFault) (P : Content → Content → ArchiveAudit → Type 0) → ReadsBoth a e b d (Err f) P
-    → ReadsIfOpen {A = ArchiveAudit} a e (archive_part (Err (audit_fault f))) Anything
+    → ReadsIfOpen {A = ArchiveAudit} a e (archived_part (Err (pair_fault f))) Anything
 archive_neither a e b d (pair.Current f) P read = read.archive
 archive_neither a e b d (pair.Archive f) P read = read.archive
 

@@ -8,7 +8,7 @@ use Rattle.acd_terms.specs.declared.command.Arrival.{Arrival}
 use Rattle.acd_lemmas.proofs.Lists.{every-append}
 use Rattle.acd_book.specs.declared.kept.Kept.{Kept}
 use Rattle.acd_book.specs.Content.{Content, kept_of, IsCounted}
-use Rattle.acd_book.specs.Memory.{stamp_of, number_of}
+use Rattle.acd_book.specs.Memory.{stamp_of, number_of_event}
 use Rattle.acd_book.specs.Order.{Rises}
 use Rattle.acd_desk.specs.SoundContent.{arrivals_of}
 use Rattle.acd_desk.specs.AnyContent.{led}
@@ -66,7 +66,7 @@ pub record Newer (a c : Content) (goes : IsLedFrom a c) : Type 0 where
   pub reported : List Event
   pub events : c.events ≡ goes.carried.events ++ reported
   pub kept_rise : Rises stamp_of a.rows.last_stamp goes.newer
-  pub events_rise : Rises number_of a.rows.last_event reported
+  pub events_rise : Rises number_of_event a.rows.last_event reported
 
 pub led_newer : (a c : Content) (goes : IsLedFrom a c) → Newer a c goes
 led_newer a c goes =
@@ -79,7 +79,7 @@ led_newer a c goes =
       reported = grown.reported;
       events = ap (λ (x : Content). x.events) goes.made ∙ grown.events;
       kept_rise = subst (λ (s : Rows). Rises stamp_of s.last_stamp goes.newer) rows (subst (Rises stamp_of goes.carried.rows.last_stamp) more grown.kept_rise);
-      events_rise = subst (λ (s : Rows). Rises number_of s.last_event grown.reported) rows grown.events_rise;
+      events_rise = subst (λ (s : Rows). Rises number_of_event s.last_event grown.reported) rows grown.events_rise;
     }
 
 -- its counters are up to its records

@@ -7,7 +7,7 @@ use Rattle.acd_terms.specs.declared.event.Event.{Event}
 use Rattle.acd_lemmas.proofs.Lists.{every-append}
 use Rattle.acd_book.specs.declared.kept.Kept.{Kept}
 use Rattle.acd_book.specs.Content.{Content, IsKeptAfter, GoOn, events_after}
-use Rattle.acd_book.specs.Memory.{stamp_of, number_of}
+use Rattle.acd_book.specs.Memory.{stamp_of, number_of_event}
 use Rattle.acd_book.specs.Order.{Rises}
 use Rattle.acd_book.specs.ListOverlap.{IsSplitAt}
 use Rattle.acd_desk.specs.AuditWith.{Ascends, StandsInTime}
@@ -76,7 +76,7 @@ none_at_all n number last (x ∷ past) go is le low =
     clash : (n l number last : ℕ) → n + length (x ∷ past) ≤ number - 1 → n + length (x ∷ past) ≡ last → number ≤ last → ⊥
     clash n l number last most is le = omega (arith, most, is, le)
 
-positive : (es : List Event) (n : ℕ) → Rises number_of n es → Every (λ (x : Event). 0 < x.number) es
+positive : (es : List Event) (n : ℕ) → Rises number_of_event n es → Every (λ (x : Event). 0 < x.number) es
 positive [] n h = tt
 positive (e ∷ es) n h = (above n e.number h.0, positive es e.number h.1)
   where
@@ -113,24 +113,24 @@ pred : (n : ℕ) → n - 1 ≤ n
 pred n = omega arith
 
 -- the event of the number is the last one left in the archive
-at_number : (number : ℕ) {es past : List Event} {e : Event} {rest left reported : List Event} → IsSplitAt number_of (number - 1) es past (e ∷ rest)
-    → IsSplitAt number_of number es left reported → e.number ≡ number → past ++ e ∷ [] ≡ left
+at_number : (number : ℕ) {es past : List Event} {e : Event} {rest left reported : List Event} → IsSplitAt number_of_event (number - 1) es past (e ∷ rest)
+    → IsSplitAt number_of_event number es left reported → e.number ≡ number → past ++ e ∷ [] ≡ left
 at_number number {past = past} {e = e} {rest = rest} {left = left} {reported = reported} one two here =
-    (split_once number_of number (past ++ e ∷ []) rest left reported (append_assoc past (e ∷ []) rest ∙ sym one.whole ∙ two.whole)
-    (every-append (λ (x : Event). x.number ≤ number) past (e ∷ []) (every_upto number_of (number - 1) number past (pred number) one.below)
+    (split_once number_of_event number (past ++ e ∷ []) rest left reported (append_assoc past (e ∷ []) rest ∙ sym one.whole ∙ two.whole)
+    (every-append (λ (x : Event). x.number ≤ number) past (e ∷ []) (every_upto number_of_event (number - 1) number past (pred number) one.below)
     (subst (λ (n : ℕ). n ≤ number) (sym here) (le_refl number), tt))
-    two.below (subst (λ (n : ℕ). Rises number_of n rest) here one.above.1) two.above).0
+    two.below (subst (λ (n : ℕ). Rises number_of_event n rest) here one.above.1) two.above).0
 
 -- no event has the number: none is left in the archive
-beside_number : (number : ℕ) {es past : List Event} {e : Event} {rest left reported : List Event} → IsSplitAt number_of (number - 1) es past (e ∷ rest)
-    → IsSplitAt number_of number es left reported → number < e.number → past ≡ left
+beside_number : (number : ℕ) {es past : List Event} {e : Event} {rest left reported : List Event} → IsSplitAt number_of_event (number - 1) es past (e ∷ rest)
+    → IsSplitAt number_of_event number es left reported → number < e.number → past ≡ left
 beside_number number {past = past} {e = e} {rest = rest} {left = left} {reported = reported} one two above =
-    (split_once number_of number past (e ∷ rest) left reported (sym one.whole ∙ two.whole)
-    (every_upto number_of (number - 1) number past (pred number) one.below) two.below (above, one.above.1) two.above).0
+    (split_once number_of_event number past (e ∷ rest) left reported (sym one.whole ∙ two.whole)
+    (every_upto number_of_event (number - 1) number past (pred number) one.below) two.below (above, one.above.1) two.above).0
 
 -- the events left in the archive, by the event that comes first above the number before
 clean_left : (a : Content) (number moment : ℕ) (past rest left reported : List Event) (carried : List Kept) → StandsInTime a → number ≤ a.rows.last_event
-    → IsSplitAt number_of (number - 1) a.events past rest → IsSplitAt number_of number a.events left reported → IsBefore (take 1 rest) number moment
+    → IsSplitAt number_of_event (number - 1) a.events past rest → IsSplitAt number_of_event number a.events left reported → IsBefore (take 1 rest) number moment
     → Every (λ (k : Kept). moment ≤ k.moment) carried → Every (IsEarlier carried) left
 clean_left a number moment past [] left reported carried stands within_last one two before late =
     let whole : a.events ≡ past = one.whole ∙ append-nil past in
@@ -170,8 +170,8 @@ clean_left a number moment past (e ∷ rest) left reported carried stands within
     equal n m le more = omega (arith, le, more)
 
 -- the event is left in the archive, and the record carried over
-before_left : (number : ℕ) (es past rest left reported : List Event) (k : Kept) (tail : List Kept) → IsSplitAt number_of (number - 1) es past rest
-    → IsSplitAt number_of number es left reported → Every (IsEarlier (k ∷ tail)) left → IsBefore (take 1 rest) number k.moment
+before_left : (number : ℕ) (es past rest left reported : List Event) (k : Kept) (tail : List Kept) → IsSplitAt number_of_event (number - 1) es past rest
+    → IsSplitAt number_of_event number es left reported → Every (IsEarlier (k ∷ tail)) left → IsBefore (take 1 rest) number k.moment
 before_left number es past [] left reported k tail one two clean = tt
 before_left number es past (e ∷ rest) left reported k tail one two clean = λ here.
     (every_back (IsEarlier (k ∷ tail)) past (e ∷ []) (subst (Every (IsEarlier (k ∷ tail))) (sym (at_number number one two here)) clean)).0.0
@@ -180,10 +180,10 @@ pub clean_decided : (a : Content) (stamp number before : ℕ) (k : Kept) (found 
     → IsKeptAfter a.kept stamp (Some k) → before ≡ number - 1 → found ≡ events_after a.events before 1 → Decides b (IsBefore found number k.moment)
     → Decides b (IsCleanCut a stamp number)
 clean_decided a stamp number before k found b stands within_last next is_before is decides =
-    let events_two = split_at number_of 0 (number - 1) a.events (omega arith) stands.ordered.events in
-    let one : IsSplitAt number_of (number - 1) a.events events_two.0 events_two.1 = events_two.2 in
+    let events_two = split_at number_of_event 0 (number - 1) a.events (omega arith) stands.ordered.events in
+    let one : IsSplitAt number_of_event (number - 1) a.events events_two.0 events_two.1 = events_two.2 in
     let found_is : found ≡ take 1 events_two.1
-    = is ∙ ap (λ (n : ℕ). events_after a.events n 1) is_before ∙ next_left number_of (number - 1) a.events events_two.0 events_two.1 one in
+    = is ∙ ap (λ (n : ℕ). events_after a.events n 1) is_before ∙ next_left number_of_event (number - 1) a.events events_two.0 events_two.1 one in
     let IsNext : List Kept → Type 0 = λ l. IsKeptAfter l stamp (Some k) in (
       λ holds past carried left reported kept_split events_split.
           let front = next_record stamp past carried k kept_split.below kept_split.above (subst IsNext kept_split.whole next) in
@@ -197,8 +197,8 @@ clean_decided a stamp number before k found b stands within_last next is_before 
       λ clean.
           let kept_parts = split_at stamp_of 0 stamp a.kept (omega arith) stands.ordered.kept in
           let kept_split : IsSplitAt stamp_of stamp a.kept kept_parts.0 kept_parts.1 = kept_parts.2 in
-          let parts = split_at number_of 0 number a.events (omega arith) stands.ordered.events in
-          let events_split : IsSplitAt number_of number a.events parts.0 parts.1 = parts.2 in
+          let parts = split_at number_of_event 0 number a.events (omega arith) stands.ordered.events in
+          let events_split : IsSplitAt number_of_event number a.events parts.0 parts.1 = parts.2 in
           let front = next_record stamp kept_parts.0 kept_parts.1 k kept_split.below kept_split.above (subst IsNext kept_split.whole next) in
           let all : Every (IsEarlier (k ∷ front.0)) parts.0
           = subst (λ (ks : List Kept). Every (IsEarlier ks) parts.0) front.1 (clean kept_parts.0 kept_parts.1 parts.0 parts.1 kept_split events_split) in

@@ -9,7 +9,7 @@ use Rattle.acd_terms.specs.declared.command.Arrival.{Arrival}
 use Rattle.acd_lemmas.proofs.Lists.{head_is}
 use Rattle.acd_book.specs.declared.kept.Kept.{Kept}
 use Rattle.acd_book.specs.Content.{Content, kept_of, events_after, IsCounted}
-use Rattle.acd_book.specs.Memory.{stamp_of, number_of}
+use Rattle.acd_book.specs.Memory.{stamp_of, number_of_event}
 use Rattle.acd_book.specs.Order.{Rises}
 use Rattle.acd_book.proofs.EventsAbove.{left_after}
 use Rattle.acd_desk.specs.declared.seen_keys.SeenKeys.{SeenKeys}
@@ -49,7 +49,7 @@ runs_start a c h counted =
         events = h.events;
         counted = carried_counted a h.left h.carried h.cut counted;
         kept_rise = subst (λ (s : Rows). Rises stamp_of s.last_stamp h.kept_left) rows h.kept_rise;
-        events_rise = subst (λ (s : Rows). Rises number_of s.last_event h.events_left) rows h.events_rise;
+        events_rise = subst (λ (s : Rows). Rises number_of_event s.last_event h.events_left) rows h.events_rise;
       },
       refl,
     )
@@ -95,9 +95,9 @@ runs_next a c r k tail el s m room =
         events = s.events ∙ ap (λ (l : List Event). r.events ++ l) left ∙ sym (append_assoc r.events evs (drop (length evs) el));
         counted = counted_executed r x s.counted;
         kept_rise = subst (λ (n : ℕ). Rises stamp_of n tail) is_stamp s.kept_rise.1;
-        events_rise = subst (λ (n : ℕ). Rises number_of n (drop (length evs) el)) (sym event)
+        events_rise = subst (λ (n : ℕ). Rises number_of_event n (drop (length evs) el)) (sym event)
             (rises_after r.rows.last_event evs (drop (length evs) el) (step_numbers r.rows x.moment x.request.command)
-            (subst (Rises number_of r.rows.last_event) left s.events_rise));
+            (subst (Rises number_of_event r.rows.last_event) left s.events_rise));
       },
       refl,
       refl,
@@ -150,11 +150,11 @@ rest_led a c r kl el s goes counted =
     (sym (append_assoc s.carried.kept s.newer kl) ∙ ap (λ (l : List Kept). l ++ kl) (sym s.ran) ∙ sym s.kept ∙ goes.kept)
     (carried_low a s.left s.carried s.cut counted) (carried_low a goes.left goes.carried goes.cut counted) kept_rise new.kept_rise in
     -- events
-    let events_rise : Rises number_of a.rows.last_event (grown.reported ++ el)
-    = subst (λ (x : Rows). Rises number_of x.last_event (grown.reported ++ el)) first_rows
-    (rises_append number_of s.carried.rows.last_event made.rows.last_event grown.reported el grown.numbers grown.events_rise grown.events_low
-    (subst (λ (x : Rows). Rises number_of x.last_event el) rows s.events_rise)) in
-    let events_once = split_once number_of a.rows.last_event s.carried.events (grown.reported ++ el) goes.carried.events new.reported
+    let events_rise : Rises number_of_event a.rows.last_event (grown.reported ++ el)
+    = subst (λ (x : Rows). Rises number_of_event x.last_event (grown.reported ++ el)) first_rows
+    (rises_append number_of_event s.carried.rows.last_event made.rows.last_event grown.reported el grown.numbers grown.events_rise grown.events_low
+    (subst (λ (x : Rows). Rises number_of_event x.last_event el) rows s.events_rise)) in
+    let events_once = split_once number_of_event a.rows.last_event s.carried.events (grown.reported ++ el) goes.carried.events new.reported
     (sym (append_assoc s.carried.events grown.reported el) ∙ ap (λ (l : List Event). l ++ el) (sym (ap (λ (x : Content). x.events) s.made ∙ grown.events))
     ∙ sym s.events ∙ new.events)
     (carried_events_low a s.left s.carried s.cut counted) (carried_events_low a goes.left goes.carried goes.cut counted) events_rise new.events_rise in

@@ -8,7 +8,7 @@ use Rattle.acd_terms.specs.declared.event.Event.{Event}
 use Rattle.acd_book.specs.declared.kept.Kept.{Kept}
 use Rattle.acd_book.specs.declared.fault.BookFault.{BookFault}
 use Rattle.acd_book.specs.Content.{Content}
-use Rattle.acd_book.specs.Memory.{stamp_of, number_of}
+use Rattle.acd_book.specs.Memory.{stamp_of, number_of_event}
 use Rattle.acd_book.specs.Order.{Rises}
 use Rattle.acd_book.specs.State.{BookState, Reads}
 use Rattle.acd_desk.specs.declared.overlap.Cut.{Cut}
@@ -18,7 +18,7 @@ use Rattle.acd_desk.specs.declared.overlap.Pages.{Pages}
 use Rattle.acd_desk.specs.declared.pair.PairFault.{PairFault}
 use Rattle.acd_desk.specs.Kinds.{Kind, by_stamp, by_number, first_above, page_above}
 use Rattle.acd_desk.specs.Pages.{Extends}
-use Rattle.acd_book.specs.ListOverlap.{IsSplitAt, Begins, cut_before}
+use Rattle.acd_book.specs.ListOverlap.{IsSplitAt, BeginsWithin, cut_before}
 use Rattle.acd_desk.specs.CarriedContent.{Archive}
 use Rattle.acd_lemmas.proofs.Lists.{head_is}
 use Rattle.acd_desk.specs.AuditWith.{HoldsArchive}
@@ -117,7 +117,7 @@ next_shown {T = T} kind place last old new {archived} {current} {found} is_archi
 -- wherever the ends are, they are those of the archive's kept ones
 at_cut : {T : Type 0} (kind : Kind T) (a c : Content) (above last end : ℕ) (found : Option ℕ) → last ≡ end → above ≡ cut_before kind.place end (kind.all c)
     → StandAbove kind (cut_before kind.place end (kind.all c)) end a c → FindsOther kind above last a c found
-    → IsOther (Begins kind.place (cut_before kind.place end (kind.all c)) end (kind.all a) (kind.all c)) found
+    → IsOther (BeginsWithin kind.place (cut_before kind.place end (kind.all c)) end (kind.all a) (kind.all c)) found
 at_cut kind a c above last end found is_last is_cut at finds =
     subst (λ (n : ℕ). FindsOther kind n end a c found) is_cut (subst (λ (n : ℕ). FindsOther kind above n a c found) is_last finds) at
 
@@ -161,9 +161,9 @@ kept_split a c h order =
     split_there stamp_of a.rows.last_stamp a.kept c.kept h.left.kept h.carried.kept h.kept_left (ap (λ (x : Content). x.kept) h.cut.whole) h.kept
     order.archive.ordered.kept order.archive.counted.kept h.kept_rise
 
-events_split : (a c : Content) (h : HoldsArchive a c) → AreInOrder a c → IsSplitAt number_of (cut_number a c) a.events h.left.events h.carried.events
+events_split : (a c : Content) (h : HoldsArchive a c) → AreInOrder a c → IsSplitAt number_of_event (cut_number a c) a.events h.left.events h.carried.events
 events_split a c h order =
-    split_there number_of a.rows.last_event a.events c.events h.left.events h.carried.events h.events_left (ap (λ (x : Content). x.events) h.cut.whole) h.events
+    split_there number_of_event a.rows.last_event a.events c.events h.left.events h.carried.events h.events_left (ap (λ (x : Content). x.events) h.cut.whole) h.events
     order.archive.ordered.events order.archive.counted.events h.events_rise
 
 pub holds_keeps : (a c : Content) → AreInOrder a c → HoldsArchive a c → KeepsArchive a c
@@ -180,7 +180,7 @@ holds_clean a c order h past carried left reported kept_two events_two =
     let holds = events_split a c h order in
     let once = split_once stamp_of (cut_stamp a c) h.left.kept h.carried.kept past carried (sym mine.whole ∙ kept_two.whole)
     mine.below kept_two.below mine.above kept_two.above in
-    let also = split_once number_of (cut_number a c) h.left.events h.carried.events left reported (sym holds.whole ∙ events_two.whole)
+    let also = split_once number_of_event (cut_number a c) h.left.events h.carried.events left reported (sym holds.whole ∙ events_two.whole)
     holds.below events_two.below holds.above events_two.above in
     subst (λ (ks : List Kept). Every (λ (e : Event). Every (λ (k : Kept). e.moment < k.moment) ks) left) once.1
     (subst (λ (es : List Event). Every (λ (e : Event). Every (λ (k : Kept). e.moment < k.moment) h.carried.kept) es) also.0 h.cut.events)
@@ -202,7 +202,7 @@ fault_on {T = T} {S = S} {P = P} {a = a} {b = b} {d = d} {f = f} {r = r} one two
 -- ---- the first place where they differ ----
 
 number_within : (a c : Content) (n : ℕ) → n ≡ cut_number a c → n ≤ a.rows.last_event
-number_within a c n is = subst (λ (m : ℕ). m ≤ a.rows.last_event) (sym is) (cut_within number_of a.rows.last_event c.events)
+number_within a c n is = subst (λ (m : ℕ). m ≤ a.rows.last_event) (sym is) (cut_within number_of_event a.rows.last_event c.events)
 
 pub moment_unclean : {a b : Books} {cut : Cut} {last : ℕ} {clean : Bool} → clean ≡ false
     → ReadsFrom a b (Ok clean) (OfArchive (DecidesCleanCut cut.stamp cut.number)) → ReadsFrom a b (Ok (Some 0)) (FindsMoment cut last)
@@ -277,5 +277,5 @@ place_found one two =
     let at = cuts order.current in
     holds order is_last (
       at.0 ∙ ap (λ (n : ℕ). cut_before stamp_of n z.kept) is_last.stamp,
-      at.1 ∙ ap (λ (n : ℕ). cut_before number_of n z.events) is_last.number,
+      at.1 ∙ ap (λ (n : ℕ). cut_before number_of_event n z.events) is_last.number,
     ))

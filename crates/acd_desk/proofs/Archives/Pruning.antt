@@ -7,7 +7,7 @@ use Rattle.acd_terms.specs.declared.event.Event.{Event}
 use Rattle.acd_lemmas.proofs.Lists.{every-append}
 use Rattle.acd_book.specs.declared.kept.Kept.{Kept}
 use Rattle.acd_book.specs.Content.{Content}
-use Rattle.acd_book.specs.Memory.{stamp_of, number_of}
+use Rattle.acd_book.specs.Memory.{stamp_of, number_of_event}
 use Rattle.acd_book.specs.Order.{Rises}
 use Rattle.acd_book.specs.PrunedContent.{pruned}
 use Rattle.acd_desk.specs.CarriedContent.{Archive, together}
@@ -69,12 +69,12 @@ divided {T = T} f n last archived left carried newer current rise whole mine le 
 
 -- the events that go are before the records that stay, where the cut is clean
 comes_before : (a c : Content) (stamp number : ℕ) (left : Archive) (carried : Content) → StandsInTime a → IsCleanCut a stamp number → IsCut a left carried
-    → (ks : Divided stamp_of stamp carried.kept c.kept) (es : Divided number_of number carried.events c.events) → ComeBefore es.gone ks.rest
+    → (ks : Divided stamp_of stamp carried.kept c.kept) (es : Divided number_of_event number carried.events c.events) → ComeBefore es.gone ks.rest
 comes_before a c stamp number left carried stands clean cut ks es =
     let kept_two = split_at stamp_of 0 stamp a.kept (zero_least stamp) stands.ordered.kept in
     let kept_split : IsSplitAt stamp_of stamp a.kept kept_two.0 kept_two.1 = kept_two.2 in
-    let events_two = split_at number_of 0 number a.events (zero_least number) stands.ordered.events in
-    let events_split : IsSplitAt number_of number a.events events_two.0 events_two.1 = events_two.2 in
+    let events_two = split_at number_of_event 0 number a.events (zero_least number) stands.ordered.events in
+    let events_split : IsSplitAt number_of_event number a.events events_two.0 events_two.1 = events_two.2 in
     let IsBefore : Event → Kept → Type 0 = λ e k. e.moment < k.moment in
     let IsBeforeRest : Event → Type 0 = λ e. Every (IsBefore e) ks.rest in
     let kept : a.kept ≡ (left.kept ++ ks.gone) ++ ks.rest
@@ -99,7 +99,7 @@ comes_before a c stamp number left carried stands clean cut ks es =
     (every_each (λ (e : Event). Every (IsBefore e) kept_two.1) IfBelow events_two.0 (λ e before le. one e before)
     (clean kept_two.0 kept_two.1 events_two.0 events_two.1 kept_split events_split))
     (every_each (λ (e : Event). number < e.number) IfBelow events_two.1 (λ e lt le. absurd (not_both number e.number lt le))
-    (above_each number_of number events_two.1 events_split.above))))))
+    (above_each number_of_event number events_two.1 events_split.above))))))
 
 -- what goes, and what stays of the carried part
 record Parts (a c : Content) (carried : Content) (stamp number : ℕ) : Type 0 where
@@ -114,8 +114,8 @@ parts a c h stamp number stands place =
     let ks : Divided stamp_of stamp h.carried.kept c.kept
     = divided stamp_of stamp a.rows.last_stamp a.kept h.left.kept h.carried.kept h.kept_left c.kept stands.ordered.kept (kept_whole a h.left h.carried h.cut)
     h.kept place.records h.kept_rise in
-    let es : Divided number_of number h.carried.events c.events
-    = divided number_of number a.rows.last_event a.events h.left.events h.carried.events h.events_left c.events stands.ordered.events
+    let es : Divided number_of_event number h.carried.events c.events
+    = divided number_of_event number a.rows.last_event a.events h.left.events h.carried.events h.events_left c.events stands.ordered.events
     (events_whole a h.left h.carried h.cut) h.events place.events h.events_rise in
     let gone : Archive = record { events = es.gone; kept = ks.gone } in
     let rest : Content = record { rows = h.carried.rows; events = es.rest; kept = ks.rest } in

@@ -1,7 +1,7 @@
 -- A step of the comparison of two lists, of which one begins with what the other one has above a number.
 use Rattle.std.proofs.Common.{◌≡◌, ℕ, ◌+◌, ◌<◌, ◌≤◌, List, [], ◌∷◌, ◌++◌, take, inl, inr, sym, ap, subst, ◌∙◌, arith}
 use Rattle.acd_book.specs.Order.{Rises}
-use Rattle.acd_book.specs.ListOverlap.{Begins}
+use Rattle.acd_book.specs.ListOverlap.{BeginsWithin}
 use Rattle.acd_desk.specs.declared.overlap.Next.TheVariants.{Same, Over}
 use Rattle.acd_desk.specs.Kinds.{first_above}
 use Rattle.acd_desk.specs.Overlap.{Differ, IsNextOf}
@@ -31,7 +31,7 @@ left_empty f cut n archived current s none = none_first s.left (sym (archived_le
 
 -- and what is left of this one is above the last number
 pub over_shares : {T : Type 0} (f : T → ℕ) (cut n last : ℕ) (archived current : List T) → Shares f cut n archived current
-    → IsNextOf (f, last) (next_above f n archived) (next_above f n current) Over → Begins f cut last archived current
+    → IsNextOf (f, last) (next_above f n archived) (next_above f n current) Over → BeginsWithin f cut last archived current
 over_shares {T = T} f cut n last archived current s next =
     let newer : (l : List T) → next_above f n current ≡ take 1 l → Rises f n l → Rises f last l
     = λ l. elim l as (λ l. next_above f n current ≡ take 1 l → Rises f n l → Rises f last l) [
@@ -42,7 +42,7 @@ over_shares {T = T} f cut n last archived current s next =
     (newer s.rest (current_left f cut n archived current s) s.rest_high)
 
 pub other_shares : {T : Type 0} (f : T → ℕ) (cut n last : ℕ) (archived current : List T) → Shares f cut n archived current
-    → Differ (f, last) (next_above f n archived) (next_above f n current) → ¬ Begins f cut last archived current
+    → Differ (f, last) (next_above f n archived) (next_above f n current) → ¬ BeginsWithin f cut last archived current
 other_shares f cut n last archived current s (inl next) = other_next f cut n last archived current s next.0 next.1 next.2 next.3
 other_shares {T = T} f cut n last archived current s (inr next) =
     λ b.

@@ -9,7 +9,7 @@ use Rattle.acd_terms.specs.declared.command.Arrival.{Arrival}
 use Rattle.acd_lemmas.proofs.Lists.{every-append}
 use Rattle.acd_book.specs.declared.kept.Kept.{Kept}
 use Rattle.acd_book.specs.Content.{Content, kept_of, IsCounted}
-use Rattle.acd_book.specs.Memory.{stamp_of, number_of}
+use Rattle.acd_book.specs.Memory.{stamp_of, number_of_event}
 use Rattle.acd_book.specs.Order.{Rises}
 use Rattle.acd_desk.specs.AbstractDesk.{stepped, record_of, executed}
 use Rattle.acd_desk.specs.Replies.{after}
@@ -28,7 +28,7 @@ pub record Grows (c d : Content) (n : ℕ) : Type 0 where
   pub kept : d.kept ≡ c.kept ++ more
   pub events : d.events ≡ c.events ++ reported
   pub kept_rise : Rises stamp_of c.rows.last_stamp more
-  pub events_rise : Rises number_of c.rows.last_event reported
+  pub events_rise : Rises number_of_event c.rows.last_event reported
   pub kept_low : Every (λ (k : Kept). k.stamp ≤ d.rows.last_stamp) more
   pub events_low : Every (λ (e : Event). e.number ≤ d.rows.last_event) reported
   pub stamps : c.rows.last_stamp ≤ d.rows.last_stamp
@@ -82,9 +82,9 @@ grows_then c d e n m one two =
       kept = two.kept ∙ ap (λ (l : List Kept). l ++ two.more) one.kept ∙ append_assoc c.kept one.more two.more;
       events = two.events ∙ ap (λ (l : List Event). l ++ two.reported) one.events ∙ append_assoc c.events one.reported two.reported;
       kept_rise = rises_append stamp_of c.rows.last_stamp d.rows.last_stamp one.more two.more one.stamps one.kept_rise one.kept_low two.kept_rise;
-      events_rise = rises_append number_of c.rows.last_event d.rows.last_event one.reported two.reported one.numbers one.events_rise one.events_low two.events_rise;
+      events_rise = rises_append number_of_event c.rows.last_event d.rows.last_event one.reported two.reported one.numbers one.events_rise one.events_low two.events_rise;
       kept_low = every-append (λ (k : Kept). k.stamp ≤ e.rows.last_stamp) one.more two.more (every_upto stamp_of d.rows.last_stamp e.rows.last_stamp one.more two.stamps one.kept_low) two.kept_low;
-      events_low = every-append (λ (x : Event). x.number ≤ e.rows.last_event) one.reported two.reported (every_upto number_of d.rows.last_event e.rows.last_event one.reported two.numbers one.events_low) two.events_low;
+      events_low = every-append (λ (x : Event). x.number ≤ e.rows.last_event) one.reported two.reported (every_upto number_of_event d.rows.last_event e.rows.last_event one.reported two.numbers one.events_low) two.events_low;
       stamps = within c.rows.last_stamp d.rows.last_stamp e.rows.last_stamp one.stamps two.stamps;
       numbers = within c.rows.last_event d.rows.last_event e.rows.last_event one.numbers two.numbers;
       few = omega (arith, long, few, few_more);

@@ -6,7 +6,7 @@ use Rattle.acd_terms.specs.declared.command.Arrival.{Arrival}
 use Rattle.acd_terms.specs.declared.rows.Limits.{Limits}
 use Rattle.acd_book.specs.declared.kept.Kept.{Kept}
 use Rattle.acd_book.specs.Content.{Content, empty_content, GoOn, IsCounted}
-use Rattle.acd_desk.specs.AbstractDesk.{stepped, record_of, executed, run_from, run, firsts}
+use Rattle.acd_desk.specs.AbstractDesk.{stepped, record_of, executed, run_from, desk_run, firsts}
 use Rattle.acd_desk.proofs.Contents.Steps.{step_stamp, step_numbers, step_event}
 use Rattle.acd_lemmas.proofs.Lists.{every-append}
 use Rattle.acd_book.proofs.EventsAbove.{events_raised}
@@ -39,5 +39,5 @@ run_counted : (l : List Arrival) (c : Content) → IsCounted c → IsCounted (ru
 run_counted [] c h = h
 run_counted (a ∷ l) c h = run_counted l (executed c a) (counted_executed c a h)
 
-pub counted_run : (n : Limits) (l : List Arrival) → IsCounted (run n l)
+pub counted_run : (n : Limits) (l : List Arrival) → IsCounted (desk_run n l)
 counted_run n l = run_counted (firsts n.requests l) (empty_content n) (record { events = tt; kept = tt })

@@ -11,10 +11,10 @@ use Rattle.acd_terms.specs.declared.command.Arrival.{Arrival}
 use Rattle.acd_book.specs.declared.kept.Kept.{Kept}
 use Rattle.acd_book.specs.Content.{Content, empty_content, is_key, kept_of}
 use Rattle.acd_desk.specs.declared.taken.Taken.{Taken}
-use Rattle.acd_desk.specs.AbstractDesk.{has_key, firsts, record_of, executed, run}
+use Rattle.acd_desk.specs.AbstractDesk.{has_key, firsts, record_of, executed, desk_run}
 use Rattle.acd_desk.specs.Replies.{answer_of, answer_in, reply_to, after}
 use Rattle.acd_desk.specs.declared.taken.Taken.TheVariants.{Reply, InvokeReused, DeskFull, NoMemory, StoreFault}
-use Rattle.acd_desk.specs.AcceptedArrivals.{is_fault, accepted, sent, has_accepted, maybe_last}
+use Rattle.acd_desk.specs.AcceptedArrivals.{is_fault, accepted, answers_sent, has_accepted, maybe_last}
 use Rattle.acd_desk.specs.SoundContent.{arrivals_of, IsSound, ran_after, replies}
 use Rattle.acd_desk.proofs.Contents.Runs.{run-stamp, run-limits, run-found, firsts-room, has-distinct, after_firsts}
 use Rattle.acd_book.proofs.Keys.{key_itself}
@@ -40,18 +40,18 @@ find_stays c a p q there =
     cases (is_some (kept_of c.kept a.request.requester a.request.invoke)) (nat_lt c.rows.last_stamp c.rows.limits.requests) refl
 
 -- a key of the list is in its run, where that isn't full
-pub known_in_run : (n : Limits) (l : List Arrival) (p : List ℕ) (q : ℕ) → has_key l p q ≡ true → (run n l).rows.last_stamp < (run n l).rows.limits.requests → is_some (kept_of (run n l).kept p q) ≡ true
+pub known_in_run : (n : Limits) (l : List Arrival) (p : List ℕ) (q : ℕ) → has_key l p q ≡ true → (desk_run n l).rows.last_stamp < (desk_run n l).rows.limits.requests → is_some (kept_of (desk_run n l).kept p q) ≡ true
 known_in_run n l p q there room =
     let f : List Arrival = firsts n.requests l in
-    let stamp : (run n l).rows.last_stamp ≡ 0 + length f = run-stamp f (empty_content n) in
-    let limit : (run n l).rows.limits.requests ≡ n.requests = ap (λ (x : Limits). x.requests) (run-limits f (empty_content n)) in
+    let stamp : (desk_run n l).rows.last_stamp ≡ 0 + length f = run-stamp f (empty_content n) in
+    let limit : (desk_run n l).rows.limits.requests ≡ n.requests = ap (λ (x : Limits). x.requests) (run-limits f (empty_content n)) in
     let short : length f < n.requests = omega (arith, room, stamp, limit) in
     run-found n f p q ∙ ap (λ (s : List Arrival). has_key s p q) (firsts-room n.requests l short) ∙ has-distinct l [] p q ∙ there
 
 pub reply_stays : (n : Limits) (l : List Arrival) (a : Arrival) (r : Request) → has_key l r.requester r.invoke ≡ true → reply_to n (l ++ a ∷ []) r ≡ reply_to n l r
 reply_stays n l a r there =
     ap (λ (x : Content). answer_in x r) (sym (after_firsts n l a))
-    ∙ ap (λ (o : Option Kept). answer_of o r) (find_stays (run n l) a r.requester r.invoke (known_in_run n l r.requester r.invoke there))
+    ∙ ap (λ (o : Option Kept). answer_of o r) (find_stays (desk_run n l) a r.requester r.invoke (known_in_run n l r.requester r.invoke there))
 
 pub has_within : (pre post : List Arrival) (a : Arrival) → has_key (pre ++ a ∷ post) a.request.requester a.request.invoke ≡ true
 has_within pre post a =
@@ -72,12 +72,12 @@ replies_stay n x (b ∷ l) pre =
 
 pub ran_none : (start : Content) → IsSound start → start ≡ ran_after start []
 ran_none start sound =
-    sound.replays ∙ ap (run start.rows.limits) (sym (append-nil (arrivals_of start.kept)))
+    sound.replays ∙ ap (desk_run start.rows.limits) (sym (append-nil (arrivals_of start.kept)))
 
 pub ran_push : (start : Content) (l : List Arrival) (a : Arrival) → after (ran_after start l) a ≡ ran_after start (l ++ a ∷ [])
 ran_push start l a =
     after_firsts start.rows.limits (arrivals_of start.kept ++ l) a
-    ∙ ap (run start.rows.limits) (append_assoc (arrivals_of start.kept) l (a ∷ []))
+    ∙ ap (desk_run start.rows.limits) (append_assoc (arrivals_of start.kept) l (a ∷ []))
 
 pub replies_push : (start : Content) (l : List Arrival) (a : Arrival)
     → replies start l ++ answer_in (after (ran_after start l) a) a.request ∷ [] ≡ replies start (l ++ a ∷ [])
@@ -150,9 +150,9 @@ cond-not : (b : Bool) (t : Taken) → cond (not b) (t ∷ []) [] ≡ cond b [] (
 cond-not true t = refl
 cond-not false t = refl
 
-pub sent-push : (ts : List Taken) (t : Taken) → sent (ts ++ t ∷ []) ≡ sent ts ++ cond (is_fault t) [] (t ∷ [])
+pub sent-push : (ts : List Taken) (t : Taken) → answers_sent (ts ++ t ∷ []) ≡ answers_sent ts ++ cond (is_fault t) [] (t ∷ [])
 sent-push [] t = cond-not (is_fault t) t
-sent-push (u ∷ ts) t = elim (not (is_fault u)) as (λ b. cond b (u ∷ sent (ts ++ t ∷ [])) (sent (ts ++ t ∷ [])) ≡ cond b (u ∷ sent ts) (sent ts) ++ cond (is_fault t) [] (t ∷ [])) [
+sent-push (u ∷ ts) t = elim (not (is_fault u)) as (λ b. cond b (u ∷ answers_sent (ts ++ t ∷ [])) (answers_sent (ts ++ t ∷ [])) ≡ cond b (u ∷ answers_sent ts) (answers_sent ts) ++ cond (is_fault t) [] (t ∷ [])) [
   | true ↦ ap (λ (s : List Taken). u ∷ s) (sent-push ts t)
   | false ↦ sent-push ts t
 ]

@@ -11,7 +11,7 @@ use Rattle.acd_terms.specs.declared.command.Arrival.{Arrival}
 use Rattle.acd_book.specs.declared.kept.Kept.{Kept}
 use Rattle.acd_book.specs.Content.{Content, empty_content, is_key, kept_of}
 use Rattle.acd_desk.specs.declared.taken.Taken.TheVariants.{Reply, InvokeReused}
-use Rattle.acd_desk.specs.AbstractDesk.{has_key, distinct_from, firsts, record_of, executed, run_from, run}
+use Rattle.acd_desk.specs.AbstractDesk.{has_key, distinct_from, firsts, record_of, executed, run_from, desk_run}
 use Rattle.acd_desk.specs.Replies.{answer_of, answer_in, after}
 use Rattle.acd_desk.proofs.Contents.Steps.{step_limits, step_stamp}
 use Rattle.acd_desk.proofs.Contents.Keys.{same_itself}
@@ -135,16 +135,16 @@ new_key n l a room new =
     ∙ ap (λ (s : List Arrival). s ++ a ∷ []) (sym whole)
 
 -- a desk does with an arrival what the abstract switch does with the list that it ends
-pub after_firsts : (n : Limits) (l : List Arrival) (a : Arrival) → after (run n l) a ≡ run n (l ++ a ∷ [])
+pub after_firsts : (n : Limits) (l : List Arrival) (a : Arrival) → after (desk_run n l) a ≡ desk_run n (l ++ a ∷ [])
 after_firsts n l a =
     let f : List Arrival = firsts n.requests l in
-    let c : Content = run n l in
+    let c : Content = desk_run n l in
     let p : List ℕ = a.request.requester in
     let q : ℕ = a.request.invoke in
     let found : is_some (kept_of c.kept p q) ≡ has_key f p q = run-found n f p q in
     let stamp : c.rows.last_stamp ≡ 0 + length f = run-stamp f (empty_content n) in
     let limit : c.rows.limits.requests ≡ n.requests = ap (λ (x : Limits). x.requests) (run-limits f (empty_content n)) in
-    let P : Bool → Bool → Type 0 = λ x y. cond x c (cond y (executed c a) c) ≡ run n (l ++ a ∷ []) in
+    let P : Bool → Bool → Type 0 = λ x y. cond x c (cond y (executed c a) c) ≡ desk_run n (l ++ a ∷ []) in
     let cases : (x y : Bool) → is_some (kept_of c.kept p q) ≡ x → nat_lt c.rows.last_stamp c.rows.limits.requests ≡ y → P x y
     = λ x. elim x as (λ x. (y : Bool) → is_some (kept_of c.kept p q) ≡ x → nat_lt c.rows.last_stamp c.rows.limits.requests ≡ y → P x y) [
       | true ↦ λ y old room. ap (run_from (empty_content n)) (sym (known n.requests l a (sym found ∙ old)))

@@ -5,7 +5,7 @@ use Rattle.acd_terms.specs.declared.command.Arrival.{Arrival}
 use Rattle.acd_book.specs.Content.{Content}
 use Rattle.acd_desk.specs.declared.taken.Taken.{Taken}
 use Rattle.acd_desk.specs.Replies.{answer_in, after}
-use Rattle.acd_desk.specs.AcceptedArrivals.{is_fault, sent}
+use Rattle.acd_desk.specs.AcceptedArrivals.{is_fault, answers_sent}
 use Rattle.acd_desk.specs.SoundContent.{IsSound, ran_after, replies, StopsAt}
 use Rattle.acd_desk.specs.AnyContent.{led, answers_to, StopsFrom}
 use Rattle.acd_desk.proofs.Contents.LongerLists.{ran_none, ran_push, replies_push, sent-push}
@@ -20,8 +20,8 @@ answers_push : (c : Content) (l : List Arrival) (a : Arrival) → answers_to c l
 answers_push c [] a = refl
 answers_push c (x ∷ l) a = ap (λ (ts : List Taken). answer_in (after c x) x.request ∷ ts) (answers_push (after c x) l a)
 
-pub one_said : (start : Content) (l : List Arrival) (ts : List Taken) (a : Arrival) (t : Taken) → sent ts ≡ answers_to start l
-    → (is_fault t ≡ false → t ≡ answer_in (after (led start l) a) a.request) → sent (ts ++ t ∷ []) ≡ answers_to start (l ++ cond (is_fault t) [] (a ∷ []))
+pub one_said : (start : Content) (l : List Arrival) (ts : List Taken) (a : Arrival) (t : Taken) → answers_sent ts ≡ answers_to start l
+    → (is_fault t ≡ false → t ≡ answer_in (after (led start l) a) a.request) → answers_sent (ts ++ t ∷ []) ≡ answers_to start (l ++ cond (is_fault t) [] (a ∷ []))
 one_said start l ts a t so_far says =
     let P : Bool → Type 0 = λ b. answers_to start l ++ cond b [] (t ∷ []) ≡ answers_to start (l ++ cond b [] (a ∷ [])) in
     let cases : (b : Bool) → is_fault t ≡ b → P b

@@ -8,7 +8,7 @@ use Rattle.acd_terms.specs.declared.command.Arrival.{Arrival}
 use Rattle.acd_model.specs.Step.{Stepped, executed_moment}
 use Rattle.acd_book.specs.declared.kept.Kept.{Kept}
 use Rattle.acd_book.specs.Content.{Content, empty_content, is_key}
-use Rattle.acd_desk.specs.AbstractDesk.{has_key, distinct_from, firsts, kept_at, record_of, executed, run_from, run}
+use Rattle.acd_desk.specs.AbstractDesk.{has_key, distinct_from, firsts, kept_at, record_of, executed, run_from, desk_run}
 use Rattle.acd_desk.specs.SoundContent.{arrivals_of, IsSound, ran_after, raised_from, StopsAt}
 use Rattle.acd_desk.proofs.Contents.Steps.{step_raised, raised_again}
 use Rattle.acd_desk.proofs.Contents.Runs.{has-push, run-limits}
@@ -104,26 +104,26 @@ sound_list c sound =
     let few : length (arrivals_of c.kept) ≤ c.rows.limits.requests = omega (arith, size, sound.few) in
     sound.replays ∙ ap (run_from (empty_content c.rows.limits)) (firsts_same c.rows.limits.requests (arrivals_of c.kept) sound.distinct few)
 
-pub run_sound : (n : Limits) (l : List Arrival) → limits_fit n ≡ true → IsSound (run n l)
+pub run_sound : (n : Limits) (l : List Arrival) → limits_fit n ≡ true → IsSound (desk_run n l)
 run_sound n l fits =
     let f : List Arrival = firsts n.requests l in
     let r : List Arrival = raised_from (empty_content n) f in
-    let limits : (run n l).rows.limits ≡ n = run-limits f (empty_content n) in
-    let kept : arrivals_of (run n l).kept ≡ r = kept-raised f (empty_content n) in
+    let limits : (desk_run n l).rows.limits ≡ n = run-limits f (empty_content n) in
+    let kept : arrivals_of (desk_run n l).kept ≡ r = kept-raised f (empty_content n) in
     let new : New [] r = new-raised f [] [] (empty_content n) (λ p q. refl) (new-take n.requests (distinct_from [] l) [] (distinct-new l [] [] (λ p q. refl))) in
     let short : length f ≤ n.requests = grind (arith, common_steps) in
     let raised : length r ≡ length f = length-raised f (empty_content n) in
-    let size : length (arrivals_of (run n l).kept) ≡ length (run n l).kept = length-arrivals (run n l).kept in
-    let as_long : length (arrivals_of (run n l).kept) ≡ length r = ap (λ (s : List Arrival). length s) kept in
-    let limit : (run n l).rows.limits.requests ≡ n.requests = ap (λ (x : Limits). x.requests) limits in
+    let size : length (arrivals_of (desk_run n l).kept) ≡ length (desk_run n l).kept = length-arrivals (desk_run n l).kept in
+    let as_long : length (arrivals_of (desk_run n l).kept) ≡ length r = ap (λ (s : List Arrival). length s) kept in
+    let limit : (desk_run n l).rows.limits.requests ≡ n.requests = ap (λ (x : Limits). x.requests) limits in
     let distinct : distinct_from [] r ≡ r = new-distinct r [] new in
     let same : firsts n.requests r ≡ r = firsts_same n.requests r distinct (omega (arith, short, raised)) in
     record {
       fits = ap limits_fit limits ∙ fits;
       distinct = ap (distinct_from []) kept ∙ distinct ∙ sym kept;
       few = omega (arith, size, as_long, short, raised, limit);
-      replays = sym (run-raised f (empty_content n)) ∙ ap (run_from (empty_content n)) (sym same) ∙ ap (run n) (sym kept)
-          ∙ ap (λ (m : Limits). run m (arrivals_of (run n l).kept)) (sym limits);
+      replays = sym (run-raised f (empty_content n)) ∙ ap (run_from (empty_content n)) (sym same) ∙ ap (desk_run n) (sym kept)
+          ∙ ap (λ (m : Limits). desk_run m (arrivals_of (desk_run n l).kept)) (sym limits);
     }
 
 pub ran_sound : (start : Content) (l : List Arrival) → IsSound start → IsSound (ran_after start l)

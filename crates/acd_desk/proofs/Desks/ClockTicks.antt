@@ -30,7 +30,7 @@ use Rattle.acd_desk.specs.declared.working.LoadedSwitch.{LoadedSwitch}
 use Rattle.acd_desk.specs.declared.working.Working.{Working}
 use Rattle.acd_desk.specs.declared.working.Working.TheVariants.{Loaded, Unloaded, Failed}
 use Rattle.acd_desk.specs.AcceptedArrivals.{is_fault, is_reply}
-use Rattle.acd_desk.specs.Arrivals.{at}
+use Rattle.acd_desk.specs.Arrivals.{arrival_at}
 use Rattle.acd_desk.specs.Faults.{taken_by}
 use Rattle.acd_desk.specs.AbstractDesk.{executed}
 use Rattle.acd_desk.specs.Replies.{answer_of, answer_in, after}
@@ -154,14 +154,14 @@ was_executed c a t new said replied = by (nat_lt c.rows.last_stamp c.rows.limits
         none : t ≡ DeskFull → ⊥
         none full = true≢false (sym replied ∙ ap is_reply full)
 
-leaves_none : (c d : Content) (moment : ℕ) → BreaksNoRule c.rows → d ≡ executed c (at moment (clock_tick moment)) → LeavesNone (executed_moment c.rows moment) d.rows
+leaves_none : (c d : Content) (moment : ℕ) → BreaksNoRule c.rows → d ≡ executed c (arrival_at moment (clock_tick moment)) → LeavesNone (executed_moment c.rows moment) d.rows
 leaves_none c d moment rules is =
     subst (λ (x : Content). LeavesNone (executed_moment c.rows moment) x.rows) (sym is)
     (record { due = tick_leaves_none c.rows moment rules; bounds = λ more. tick_bounds_answers c.rows moment more rules })
 
-pub ticked : (moment : ℕ) (old mid new : DeskState) (t : Taken) → Brought old mid → may_be_due mid.switch moment ≡ true → Took mid (at moment (clock_tick moment)) t new → Ticked moment old t new
+pub ticked : (moment : ℕ) (old mid new : DeskState) (t : Taken) → Brought old mid → may_be_due mid.switch moment ≡ true → Took mid (arrival_at moment (clock_tick moment)) t new → Ticked moment old t new
 ticked moment old mid new t b due took =
-    let a : Arrival = at moment (clock_tick moment) in
+    let a : Arrival = arrival_at moment (clock_tick moment) in
     let before : new.book.is_clean → mid.book.is_clean = took.step.clean in
     let sound_then : new.book.is_clean → old.book.is_sound → mid.book.is_sound = λ clean. b.reread.step.sound (before clean) in
     let same : new.book.is_clean → old.book.is_sound → mid.book.content ≡ old.book.content = λ clean. b.reread.same (before clean) in
@@ -193,7 +193,7 @@ no_answer fault.StoreFault = (refl, refl)
 -- the switch couldn't be loaded
 pub not_ticked : (moment : ℕ) (old new : DeskState) (f : DeskFault) → BringsNone old f new → Ticked moment old (taken_by f) new
 not_ticked moment old new f b = record {
-  took = took_nothing old new (at moment (clock_tick moment)) f b.1;
+  took = took_nothing old new (arrival_at moment (clock_tick moment)) f b.1;
   look = ap (λ (o : Option Rows). may_be_due o moment) b.0;
   due = λ fine. absurd (true≢false (sym (no_answer f).0 ∙ fine));
   leaves = λ replied. absurd (true≢false (sym replied ∙ (no_answer f).1));

@@ -5,13 +5,13 @@ use Rattle.acd_book.specs.Content.{Content, HasRisen}
 use Rattle.acd_book.specs.State.{BookState}
 use Rattle.acd_book.proofs.BookSteps.{step_then}
 use Rattle.acd_desk.specs.declared.taken.Taken.{Taken}
-use Rattle.acd_desk.specs.AcceptedArrivals.{accepted, maybe_last, sent}
+use Rattle.acd_desk.specs.AcceptedArrivals.{accepted, maybe_last, answers_sent}
 use Rattle.acd_desk.specs.SoundContent.{IsSound, replies, StopsAt}
 use Rattle.acd_desk.specs.AnyContent.{Leads}
 use Rattle.acd_desk.specs.CarriedContent.{no_archive}
 use Rattle.acd_desk.specs.DeskState.{DeskState, Starts}
 use Rattle.acd_desk.specs.Opening.{Opened}
-use Rattle.acd_desk.specs.DeskCalls.{Ran, EndsIn, EndsUp, Holds}
+use Rattle.acd_desk.specs.DeskCalls.{Ran, EndsIn, EndsUp, HoldsRun}
 use Rattle.acd_desk.specs.Session.{Session, IsLastAccepted}
 
 ends_up : (s : DeskState) (ts : List Taken) → s.book.is_open → IsLastAccepted ts → EndsUp s ts
@@ -34,8 +34,8 @@ session_ran After old d e l ts o ran later =
           let before = ran.step.clean clean in
           subst (λ (c : Content). Leads c l ts e.book) (same clean sound)
           (ran.leads clean (o.step.sound before sound) (o.opened before sound).1 (o.in_step before sound counted));
-      replies = λ clean sound whole. subst (λ (c : Content). sent ts ≡ replies c (accepted l ts)) (same clean sound) (ran.replies clean (starts clean sound whole));
-      holds = λ clean sound whole opened. subst (λ (c : Content). Holds c (accepted l ts) e.book) (same clean sound) (ran.holds clean (starts clean sound whole) opened);
+      replies = λ clean sound whole. subst (λ (c : Content). answers_sent ts ≡ replies c (accepted l ts)) (same clean sound) (ran.replies clean (starts clean sound whole));
+      holds = λ clean sound whole opened. subst (λ (c : Content). HoldsRun c (accepted l ts) e.book) (same clean sound) (ran.holds clean (starts clean sound whole) opened);
       up = λ clean sound last. ran.up clean (o.step.sound (ran.step.clean clean) sound) (up clean sound last);
       stops = λ clean sound whole c at. subst (λ (x : Content). StopsAt x (accepted l ts) (maybe_last l ts) c) (same clean sound) (ran.stops clean (starts clean sound whole) c at);
       sound_stops = λ clean sound whole c at. ran.sound_stops clean (starts clean sound whole) c at;

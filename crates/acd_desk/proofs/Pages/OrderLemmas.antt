@@ -28,7 +28,7 @@ use Rattle.acd_laws.proofs.Rules.AllRuleTests.{rules_are_kept}
 use Rattle.acd_tables.specs.IndexedRows.{pair_cmp}
 use Rattle.acd_tables.proofs.ScansByIndex.{ascending-same, contained, exact_pair}
 use Rattle.acd_codec.specs.ReadTexts.{queue_text}
-use Rattle.acd_desk.specs.ReadAnswers.{in_order, by_place, by_stamp, queue_in, ready_in, queue_read}
+use Rattle.acd_desk.specs.ReadAnswers.{in_order, by_place, by_ready_pair, queue_in, ready_in, queue_read}
 
 pub pair_total : IsTotalOrder pair_cmp
 pair_total = then_total (on_total (λ (p : ℕ × ℕ). p.0) nat_cmp_total) (on_total (λ (p : ℕ × ℕ). p.1) nat_cmp_total)
@@ -146,7 +146,7 @@ module _ (s : Rows) (rules : BreaksNoRule s) (g : ℕ) (set : BTreeSet (ℕ × �
       let order = (rules_are_kept s rules).orders.agents in
       let apart = ready-apart (filter (is_eligible s g) s.agents) (ascending-filter agent_order (is_eligible s g) s.agents order) in
       ap (map (λ (p : ℕ × ℕ). p.1)) (lent_keys ready_pair set (filter (is_eligible s g) s.agents) sorted apart members)
-      ∙ seconds (in_order by_stamp (filter (is_eligible s g) s.agents))
+      ∙ seconds (in_order by_ready_pair (filter (is_eligible s g) s.agents))
     where
       seconds : (xs : List AgentRecord) → map (λ (p : ℕ × ℕ). p.1) (map ready_pair xs) ≡ map (λ (a : AgentRecord). a.agent) xs
       seconds [] = refl

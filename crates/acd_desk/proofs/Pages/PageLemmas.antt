@@ -4,7 +4,7 @@ use Rattle.std.specs.Prelude.{nat_lt, slice_get}
 use Rattle.std.proofs.lemmas.Bool.Decides.{nat_tests}
 use Rattle.acd_terms.specs.declared.event.Event.{Event}
 use Rattle.acd_book.specs.Content.{Content, events_after}
-use Rattle.acd_book.specs.Memory.{number_of}
+use Rattle.acd_book.specs.Memory.{number_of_event}
 use Rattle.acd_desk.specs.Kinds.{all_above}
 use Rattle.acd_reports.proofs.ExportLemmas.{joined}
 use Rattle.acd_reports.specs.Export.{header_record, records_text, events_csv}
@@ -118,7 +118,7 @@ page-then n limit events e rise last =
     let number : last_of n page ≡ e.number = last-number n page e last in
     let up : n ≤ e.number = subst (λ k. n ≤ k) number (last-up n page rest rises) in
     let rest_above : rest ≡ above events e.number
-    = sym (after_last n page rest rises) ∙ ap (λ l. above l (last_of n page)) whole ∙ ap (above all) number ∙ above_again number_of n e.number events up in
+    = sym (after_last n page rest rises) ∙ ap (λ l. above l (last_of n page)) whole ∙ ap (above all) number ∙ above_again number_of_event n e.number events up in
     sym whole ∙ ap (λ l. page ++ l) rest_above
 
 -- where a page has none, there is none

@@ -6,12 +6,12 @@ use Rattle.acd_terms.specs.declared.event.Event.{Event}
 use Rattle.acd_terms.specs.declared.command.Arrival.{Arrival}
 use Rattle.acd_book.specs.declared.kept.Kept.{Kept}
 use Rattle.acd_book.specs.Content.{Content, empty_content, IsCounted, GoOn}
-use Rattle.acd_book.specs.Memory.{stamp_of, number_of}
+use Rattle.acd_book.specs.Memory.{stamp_of, number_of_event}
 use Rattle.acd_book.specs.Order.{Rises, IsOrdered}
 use Rattle.acd_book.specs.State.{BookState, Reads}
 use Rattle.acd_desk.specs.declared.audit.Audit.{Audit}
 use Rattle.acd_desk.specs.declared.audit.Audit.TheVariants.{Sound, Differs}
-use Rattle.acd_desk.specs.AbstractDesk.{stepped, record_of, executed, firsts, run_from, run}
+use Rattle.acd_desk.specs.AbstractDesk.{stepped, record_of, executed, firsts, run_from, desk_run}
 use Rattle.acd_desk.specs.SoundContent.{arrivals_of, IsSound, raised_from}
 use Rattle.acd_desk.specs.Audit.{replayed, Agrees, IsFirstDifference, IsAudit}
 use Rattle.acd_desk.proofs.Contents.Steps.{step_numbers}
@@ -51,7 +51,7 @@ sound_agrees c n sound le =
     let short : length t ≤ c.rows.limits.requests = omega (arith, some, le, few) in
     let same : firsts c.rows.limits.requests t ≡ t = firsts_same c.rows.limits.requests t (new-distinct t [] (new-take n l [] new)) short in
     let replay : replayed c n ≡ r
-    = ap (run c.rows.limits) (sym (take-map (λ (k : Kept). record { moment = k.moment; request = k.request }) n c.kept)) ∙ ap (run_from start) same in
+    = ap (desk_run c.rows.limits) (sym (take-map (λ (k : Kept). record { moment = k.moment; request = k.request }) n c.kept)) ∙ ap (run_from start) same in
     let whole : c ≡ run_from r (drop n l) = sound_list c sound ∙ ap (run_from start) (sym (take-append-drop n l)) ∙ run_in_two start t (drop n l) in
     let kept = kept_more r (drop n l) in
     let events = events_more r (drop n l) in
@@ -112,9 +112,9 @@ one_audit c (Differs n) (Differs m) h g =
 
 -- ---- a sound content is in order ----
 
-pub going_rises : (last : ℕ) (es : List Event) → GoOn last es → Rises number_of last es
+pub going_rises : (last : ℕ) (es : List Event) → GoOn last es → Rises number_of_event last es
 going_rises last [] h = tt
-going_rises last (e ∷ es) h = (next last e.number h.0, subst (λ (n : ℕ). Rises number_of n es) (sym h.0) (going_rises (last + 1) es h.1))
+going_rises last (e ∷ es) h = (next last e.number h.0, subst (λ (n : ℕ). Rises number_of_event n es) (sym h.0) (going_rises (last + 1) es h.1))
   where
     next : (n m : ℕ) → m ≡ n + 1 → n < m
     next n m is = omega (arith, is)
@@ -125,7 +125,7 @@ zero_least n = omega arith
 executed_ordered : (c : Content) (a : Arrival) → IsCounted c → IsOrdered c → IsOrdered (executed c a)
 executed_ordered c a counted ordered = record {
   kept = rises_append stamp_of 0 c.rows.last_stamp c.kept (record_of c.rows a ∷ []) (zero_least c.rows.last_stamp) ordered.kept counted.kept (lt-add-one c.rows.last_stamp, tt);
-  events = rises_append number_of 0 c.rows.last_event c.events (stepped c.rows a).events (zero_least c.rows.last_event) ordered.events counted.events
+  events = rises_append number_of_event 0 c.rows.last_event c.events (stepped c.rows a).events (zero_least c.rows.last_event) ordered.events counted.events
       (going_rises c.rows.last_event (stepped c.rows a).events (step_numbers c.rows a.moment a.request.command));
 }
 

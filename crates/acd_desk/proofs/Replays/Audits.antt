@@ -13,9 +13,9 @@ use Rattle.acd_terms.specs.declared.event.Event.{Event}
 use Rattle.acd_terms.specs.declared.command.Arrival.{Arrival}
 use Rattle.acd_book.specs.declared.kept.Kept.{Kept}
 use Rattle.acd_book.specs.Content.{Content, empty_content, kept_of, is_key, events_after, IsKeptAfter, IsCounted, GoOn}
-use Rattle.acd_book.specs.Memory.{stamp_of, number_of}
+use Rattle.acd_book.specs.Memory.{stamp_of, number_of_event}
 use Rattle.acd_book.specs.Order.{Rises, IsOrdered}
-use Rattle.acd_desk.specs.AbstractDesk.{stepped, record_of, executed, run_from, run, firsts}
+use Rattle.acd_desk.specs.AbstractDesk.{stepped, record_of, executed, run_from, desk_run, firsts}
 use Rattle.acd_desk.specs.Replies.{after}
 use Rattle.acd_desk.specs.SoundContent.{arrivals_of, IsSound}
 use Rattle.acd_desk.specs.Audit.{replayed, Agrees, AgreesBefore, IsFirstDifference}
@@ -33,11 +33,11 @@ use Rattle.acd_book.proofs.EventsAbove.{left_after}
 
 -- ---- lists in order ----
 
-pub rises_after : (last : ℕ) (es left : List Event) → GoOn last es → Rises number_of last (es ++ left) → Rises number_of (last + length es) left
-rises_after last [] left go rise = subst (λ (n : ℕ). Rises number_of n left) (omega arith) rise
+pub rises_after : (last : ℕ) (es left : List Event) → GoOn last es → Rises number_of_event last (es ++ left) → Rises number_of_event (last + length es) left
+rises_after last [] left go rise = subst (λ (n : ℕ). Rises number_of_event n left) (omega arith) rise
 rises_after last (e ∷ es) left go rise =
-    let next : Rises number_of (last + 1) (es ++ left) = subst (λ (n : ℕ). Rises number_of n (es ++ left)) go.0 rise.1 in
-    subst (λ (n : ℕ). Rises number_of n left) (omega arith) (rises_after (last + 1) es left go.1 next)
+    let next : Rises number_of_event (last + 1) (es ++ left) = subst (λ (n : ℕ). Rises number_of_event n (es ++ left)) go.0 rise.1 in
+    subst (λ (n : ℕ). Rises number_of_event n left) (omega arith) (rises_after (last + 1) es left go.1 next)
 
 every_find : (P : Kept → Type 0) (p : Kept → Bool) (xs : List Kept) (x : Kept) → Every P xs → find p xs ≡ Some x → P x
 every_find P p [] x h is = absurd (some_none x (sym is))
@@ -84,7 +84,7 @@ begins {T = T} n whole xs ys is size = ap₂ (λ (k : ℕ) (l : List T). take k 
 
 -- the replay up to a place is the run that splits the content there
 replayed_is : (c r : Content) (kl : List Kept) (el : List Event) (n : ℕ) → Splits c r kl el → length r.kept ≡ n → replayed c n ≡ r
-replayed_is c r kl el n s size = ap (λ (l : List Kept). run c.rows.limits (arrivals_of l)) (begins n c.kept r.kept kl s.kept size) ∙ sym s.is_run
+replayed_is c r kl el n s size = ap (λ (l : List Kept). desk_run c.rows.limits (arrivals_of l)) (begins n c.kept r.kept kl s.kept size) ∙ sym s.is_run
 
 agrees_to : (c r : Content) (kl : List Kept) (el : List Event) (n : ℕ) → limits_fit c.rows.limits ≡ true → Splits c r kl el → length r.kept ≡ n → Agrees c n
 agrees_to c r kl el n fits s size =
@@ -106,8 +106,8 @@ replayed_next c r k tail el s =
     let long : length (r.kept ++ k ∷ []) ≡ r.rows.last_stamp + 1 = omega (arith, size, old) in
     let first = begins (r.rows.last_stamp + 1) c.kept (r.kept ++ k ∷ []) tail whole long in (
       first,
-      ap (λ (l : List Kept). run c.rows.limits (arrivals_of l)) first
-          ∙ ap (run c.rows.limits) (map-append (λ (x : Kept). record { moment = x.moment; request = x.request }) r.kept (k ∷ []))
+      ap (λ (l : List Kept). desk_run c.rows.limits (arrivals_of l)) first
+          ∙ ap (desk_run c.rows.limits) (map-append (λ (x : Kept). record { moment = x.moment; request = x.request }) r.kept (k ∷ []))
           ∙ sym (after_firsts c.rows.limits (arrivals_of r.kept) (again k))
           ∙ ap (λ (x : Content). after x (again k)) (sym s.is_run),
     )
@@ -198,13 +198,13 @@ splits_next c r k tail el s m room =
     let long = length-append r.kept (record_of r.rows a ∷ []) in
     let size = s.size in
     record {
-      is_run = sym does ∙ sym next.1 ∙ ap (λ (l : List Kept). run c.rows.limits (arrivals_of l)) (next.0 ∙ mine);
+      is_run = sym does ∙ sym next.1 ∙ ap (λ (l : List Kept). desk_run c.rows.limits (arrivals_of l)) (next.0 ∙ mine);
       size = omega (arith, long, size, stamp);
       kept = s.kept ∙ sym (append_assoc r.kept (k ∷ []) tail) ∙ ap (λ (l : List Kept). l ++ tail) mine;
       events = s.events ∙ ap (λ (l : List Event). r.events ++ l) left ∙ sym (append_assoc r.events evs (drop (length evs) el));
       kept_rise = subst (λ (n : ℕ). Rises stamp_of n tail) is_stamp s.kept_rise.1;
-      events_rise = subst (λ (n : ℕ). Rises number_of n (drop (length evs) el)) (sym event)
-          (rises_after r.rows.last_event evs (drop (length evs) el) (step_numbers r.rows a.moment a.request.command) (subst (Rises number_of r.rows.last_event) left s.events_rise));
+      events_rise = subst (λ (n : ℕ). Rises number_of_event n (drop (length evs) el)) (sym event)
+          (rises_after r.rows.last_event evs (drop (length evs) el) (step_numbers r.rows a.moment a.request.command) (subst (Rises number_of_event r.rows.last_event) left s.events_rise));
     }
 
 -- each place up to the next agrees
@@ -349,7 +349,7 @@ ends_sound c r el fits s none rows =
 
 sound_ends : (c r : Content) (el : List Event) → Splits c r [] el → IsSound c → (events_after c.events r.rows.last_event 1 ≡ []) × (c.rows ≡ r.rows)
 sound_ends c r el s sound =
-    let same : c ≡ r = sound.replays ∙ ap (λ (l : List Kept). run c.rows.limits (arrivals_of l)) (s.kept ∙ append-nil r.kept) ∙ sym s.is_run in
+    let same : c ≡ r = sound.replays ∙ ap (λ (l : List Kept). desk_run c.rows.limits (arrivals_of l)) (s.kept ∙ append-nil r.kept) ∙ sym s.is_run in
     let no_event : el ≡ [] = append_cancel_left r.events el [] (sym s.events ∙ ap (λ (x : Content). x.events) same ∙ sym (append-nil r.events)) in (
       read_left c r [] el 1 s ∙ ap (λ (l : List Event). take 1 l) no_event,
       ap (λ (x : Content). x.rows) same,

@@ -51,13 +51,13 @@ FaultsOfRequesters =
     × (read_text is_requester_byte 32 (codes "AAAAAAAAAAAAAAAAAAAAAAAAAAAAAAAAA") ≡ Err name_fault.TooLong)
 
 -- a group before all others
-abbrev pub returns : Device
-returns = 105
+abbrev pub returns_group : Device
+returns_group = 105
 
 -- a call is answered, and who is logged on has other groups
-abbrev pub regrouped : List Device → Rows
-regrouped groups =
-    let s = (run_after [] (answered ++ at 30 (AddGroup returns (codes "Returns") 20 30) ∷ [])).rows in
+abbrev pub agents_regrouped : List Device → Rows
+agents_regrouped groups =
+    let s = (run_after [] (answered ++ at 30 (AddGroup returns_group (codes "Returns") 20 30) ∷ [])).rows in
     record s { agents = map (λ (a : AgentRecord). if is_null a.state then a else record a { groups = groups }) s.agents }
 
 abbrev pub turned : Rows → Rows
@@ -66,7 +66,7 @@ turned s = record s { connections = reverse s.connections }
 -- a second group isn't planned, is less than all that are, or is a station; lists out of order are found before
 abbrev pub RowsThatBreakARule : Type 0
 RowsThatBreakARule =
-    (first_broken (regrouped (returns ∷ billing ∷ [])) ≡ None)
-    × (first_broken (regrouped (billing ∷ claims ∷ [])) ≡ Some rule.Agent) × (first_broken (regrouped (104 ∷ billing ∷ [])) ≡ Some rule.Agent)
-    × (first_broken (regrouped (billing ∷ second_station ∷ [])) ≡ Some rule.Agent)
-    × (first_broken (turned (regrouped (billing ∷ second_station ∷ []))) ≡ Some rule.Order)
+    (first_broken (agents_regrouped (returns_group ∷ billing ∷ [])) ≡ None)
+    × (first_broken (agents_regrouped (billing ∷ claims ∷ [])) ≡ Some rule.Agent) × (first_broken (agents_regrouped (104 ∷ billing ∷ [])) ≡ Some rule.Agent)
+    × (first_broken (agents_regrouped (billing ∷ second_station ∷ [])) ≡ Some rule.Agent)
+    × (first_broken (turned (agents_regrouped (billing ∷ second_station ∷ []))) ≡ Some rule.Order)

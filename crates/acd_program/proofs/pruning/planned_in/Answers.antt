@@ -1,5 +1,5 @@
 use Rattle.std.proofs.lemmas.Result.{IfOk-weaker}
-use Rattle.acd_desk.specs.Pairs.{across}
+use Rattle.acd_desk.specs.Pairs.{book_call}
 use Rattle.acd_program.proofs.Prunes.{were_in}
 use Rattle.acd_program.proofs.pruning.planned_in.Goals as goal
 
@@ -7,7 +7,7 @@ pub returns-clause-asked : goal.returns-clause-asked
 returns-clause-asked g c =
     let r = c.planned_over-planned.result.0 in
     IfOk-weaker c.found_and_closed.result _ _
-    (λ p both. were_in c.args.ending (across g.B.Book.state c.args.book r.1) p r.0 c.close_connection.result c.args.conn c.planned_over-planned.result.1 c.planned_over-planned.ensures.asked
+    (λ p both. were_in c.args.ending (book_call g.B.Book.state c.args.book r.1) p r.0 c.close_connection.result c.args.conn c.planned_over-planned.result.1 c.planned_over-planned.ensures.asked
     c.planned_over-planned.ensures.spared c.close_connection.ensures.laid both)
     c.found_and_closed.ensures
 

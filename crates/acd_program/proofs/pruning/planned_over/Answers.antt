@@ -4,7 +4,7 @@ use Rattle.acd_sqlbook.specs.Caches.{followed}
 use Rattle.acd_sqlbook.specs.State.{book_state}
 use Rattle.acd_sessions.specs.Over.{database, Unserved}
 use Rattle.acd_program.specs.Pruning.{IsPruningInOrder, PlansOver}
-use Rattle.acd_desk.specs.Pairs.{across}
+use Rattle.acd_desk.specs.Pairs.{book_call}
 use Rattle.acd_sessions.proofs.Asking.{only_left}
 use Rattle.acd_program.proofs.AuditsWithArchive.{unserved_untouched}
 use Rattle.acd_program.proofs.Prunes.{only_ended, plans_over}
@@ -22,7 +22,7 @@ returns-clause-asked g c =
     let last : _ = c.planned-planned.new.archive in
     let mid : _ = followed c.in-Ok.archive.cache (book_state (state g.S.Store c.in-Ok.archive.conn) c.in-Ok.archive.failures) in
     subst (λ (x : _). PlansOver (database g.S.Store false c.args.conn) c.args.ending g.B.Book c.args.book (c.planned-planned.result, x)) (sym c.into_connection.ensures.same)
-    (plans_over c.args.ending (across g.B.Book.state c.args.book c.planned-planned.result.1) c.planned-planned.result.0 (state g.S.Store c.args.conn) (state g.S.Store last.conn) mid last.cache last.failures
+    (plans_over c.args.ending (book_call g.B.Book.state c.args.book c.planned-planned.result.1) c.planned-planned.result.0 (state g.S.Store c.args.conn) (state g.S.Store last.conn) mid last.cache last.failures
     c.in-Ok.ensures.taken c.planned-planned.ensures)
 
 pub returns-clause-spared : goal.returns-clause-spared

@@ -1,6 +1,6 @@
 use Rattle.std.proofs.Common.{◌≡◌, ◌++◌, drop, map}
-use Rattle.acd_reports.specs.QueueReport.{state_of}
+use Rattle.acd_reports.specs.QueueReport.{group_state}
 use Rattle.acd_reports.proofs.queues.states_of.Given as goal
 
 abbrev pub invariant-loop-group : goal.invariant-loop-group
-invariant-loop-group l = l.states.items ++ map (state_of l.rows) (drop l.group-index l.groups) ≡ map (state_of l.rows) l.groups
+invariant-loop-group l = l.states.items ++ map (group_state l.rows) (drop l.group-index l.groups) ≡ map (group_state l.rows) l.groups

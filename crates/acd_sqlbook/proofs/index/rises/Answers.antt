@@ -1,7 +1,7 @@
 use Rattle.std.proofs.Common.{◌≤◌, ◌<◌, rules, sym, ap, subst, ◌∙◌, arith}
 use Rattle.acd_terms.specs.Lists.{Every}
 use Rattle.acd_terms.specs.declared.event.Event.{Event}
-use Rattle.acd_book.specs.Memory.{number_of}
+use Rattle.acd_book.specs.Memory.{number_of_event}
 use Rattle.acd_book.specs.Order.{Rises}
 use Rattle.acd_sqlbook.specs.EventIndex.{last_of}
 use Rattle.acd_sqlbook.proofs.IndexedEvents.{rises_on, below_on, ends_on, none_left, all_taken}
@@ -27,7 +27,7 @@ returns c =
     let i = c.loop-event.event-index in
     let events = c.args.events.now in
     record {
-      rise = inv.rise (subst (Rises number_of c.loop-event.top) (sym (none_left i events c.loop-event-test.false)) tt);
+      rise = inv.rise (subst (Rises number_of_event c.loop-event.top) (sym (none_left i events c.loop-event-test.false)) tt);
       low = inv.low;
       all = subst (Every (λ (e : Event). e.number ≤ c.loop-event.top)) (all_taken i events c.loop-event-test.false) inv.all;
       end = sym (ap (last_of c.loop-event.top) (none_left i events c.loop-event-test.false)) ∙ inv.end;

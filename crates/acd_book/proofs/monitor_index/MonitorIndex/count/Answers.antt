@@ -3,7 +3,7 @@ use Rattle.std.specs.Prelude.{IfSome, option_map}
 use Rattle.std.specs.Option.{IsSome, option_copied_mut}
 use Rattle.std.specs.Map.{lookup}
 use Rattle.acd_book.specs.Content.{is_at_after}
-use Rattle.acd_book.specs.Memory.{number_of}
+use Rattle.acd_book.specs.Memory.{number_of_event}
 use Rattle.acd_book.specs.MonitorIndexes.{IsListed, monitor_count}
 use Rattle.acd_book.specs.declared.numbers.Numbers.{Numbers}
 use Rattle.acd_book.proofs.MonitorCounts.{more_is, first_is}
@@ -24,7 +24,7 @@ returns-clause-lists c events low h =
     let new : IsListed events c.args.device c.new.result
     =
     c.new.ensures.none
-    ∙ sym (ap (map number_of) (subst (λ (n : ℕ). filter (is_at_after (Some c.args.device) n) events ≡ []) (sym c.new.ensures.above)
+    ∙ sym (ap (map number_of_event) (subst (λ (n : ℕ). filter (is_at_after (Some c.args.device) n) events ≡ []) (sym c.new.ensures.above)
     (none_above c.args.device c.args.above events low))) in
     elim (either c.insert.result c.insert.ensures.updates c.insert.ensures.err) [
       | inl u ↦ listed_but events events c.args.self.now.lists.entries c.insert.new.self.entries c.args.device (Some c.new.result) u.1

@@ -2,7 +2,7 @@ use Rattle.std.proofs.Common.{◌≡◌, Ok, Err, rules, sym, subst, ◌∙◌}
 use Rattle.acd_book.specs.Content.{Content}
 use Rattle.acd_desk.specs.declared.audit.ArchiveAudit.{ArchiveAudit}
 use Rattle.acd_desk.specs.declared.audit.AuditFault.{AuditFault}
-use Rattle.acd_desk.specs.ArchiveAudits.{desk_part, archive_part, audit_fault, IsAuditedWith}
+use Rattle.acd_desk.specs.ArchiveAudits.{desk_part, archived_part, pair_fault, IsAuditedWith}
 use Rattle.acd_book.specs.BookReads.{ReadsIfOpen}
 use Rattle.acd_desk.specs.DeskState.{state_of}
 use Rattle.acd_desk.specs.DeskReads.{ReadDone}
@@ -27,13 +27,13 @@ returns-in-Ok-clause-audited g c =
 pub returns-in-Err-clause-read : goal.returns-in-Err-clause-read
 returns-in-Err-clause-read g c =
     subst (λ (x : AuditFault). ReadDone {A = ArchiveAudit} (state_of g.B.Book c.args.self.now) (state_of g.B.Book c.pair_failed.new.self) (desk_part (Err x)) (λ (k : Content) (found : ArchiveAudit). Unit {0})) (sym c.pair_failed.ensures.fault)
-    (subst (λ (d : _). ReadDone {A = ArchiveAudit} (state_of g.B.Book c.args.self.now) (state_of g.B.Book d) (desk_part (Err (audit_fault c.in-Err.fault))) (λ (k : Content) (found : ArchiveAudit). Unit {0})) (sym c.pair_failed.ensures.left)
+    (subst (λ (d : _). ReadDone {A = ArchiveAudit} (state_of g.B.Book c.args.self.now) (state_of g.B.Book d) (desk_part (Err (pair_fault c.in-Err.fault))) (λ (k : Content) (found : ArchiveAudit). Unit {0})) (sym c.pair_failed.ensures.left)
     (both_failed (g.A.Book.state c.args.archive.now) (g.A.Book.state c.audited.new.self.archive.now) (g.B.Book.state c.args.self.now.book) (g.B.Book.state c.audited.new.self.book.now) c.args.self.now.working c.in-Err.fault AuditsInOrder c.in-Err.ensures.read
     (sym c.has_failed.ensures ∙ c.if-has_failed.false)))
 
 pub returns-in-Err-clause-archive : goal.returns-in-Err-clause-archive
 returns-in-Err-clause-archive g c =
     let lent : c.archive-1.given.0 ≡ c.audited.new.self.archive.now = search rules in
-    subst (λ (x : _). ReadsIfOpen {A = ArchiveAudit} (g.A.Book.state c.args.archive.now) (g.A.Book.state x) (archive_part (Err c.pair_failed.result)) (λ (k : Content) (found : ArchiveAudit). Unit {0})) (sym lent)
-    (subst (λ (x : AuditFault). ReadsIfOpen {A = ArchiveAudit} (g.A.Book.state c.args.archive.now) (g.A.Book.state c.audited.new.self.archive.now) (archive_part (Err x)) (λ (k : Content) (found : ArchiveAudit). Unit {0})) (sym c.pair_failed.ensures.fault)
+    subst (λ (x : _). ReadsIfOpen {A = ArchiveAudit} (g.A.Book.state c.args.archive.now) (g.A.Book.state x) (archived_part (Err c.pair_failed.result)) (λ (k : Content) (found : ArchiveAudit). Unit {0})) (sym lent)
+    (subst (λ (x : AuditFault). ReadsIfOpen {A = ArchiveAudit} (g.A.Book.state c.args.archive.now) (g.A.Book.state c.audited.new.self.archive.now) (archived_part (Err x)) (λ (k : Content) (found : ArchiveAudit). Unit {0})) (sym c.pair_failed.ensures.fault)
     (archive_neither (g.A.Book.state c.args.archive.now) (g.A.Book.state c.audited.new.self.archive.now) (g.B.Book.state c.args.self.now.book) (g.B.Book.state c.audited.new.self.book.now) c.in-Err.fault AuditsInOrder c.in-Err.ensures.read))

@@ -1,5 +1,5 @@
 use Rattle.std.proofs.Common.{sym, subst, ◌∙◌}
-use Rattle.acd_desk.specs.Arrivals.{at}
+use Rattle.acd_desk.specs.Arrivals.{arrival_at}
 use Rattle.acd_desk.specs.DeskState.{state_of}
 use Rattle.acd_desk.specs.Clock.{Ticked}
 use Rattle.acd_desk.specs.DeskCalls.{Took}
@@ -14,7 +14,7 @@ returns-in-Err g c =
 pub returns-then-is_due : goal.returns-then-is_due
 returns-then-is_due g c =
     ticked c.args.moment (state_of g.B.Book c.args.self.now) (state_of g.B.Book c.bring_switch.new.self) (state_of g.B.Book c.take.new.self) c.take.result c.in_default.ensures (sym c.is_due.ensures ∙ c.if-is_due.true)
-    (subst (λ r. Took (state_of g.B.Book c.bring_switch.new.self) (at c.args.moment r) c.take.result (state_of g.B.Book c.take.new.self)) c.clock_tick.ensures c.take.ensures.took)
+    (subst (λ r. Took (state_of g.B.Book c.bring_switch.new.self) (arrival_at c.args.moment r) c.take.result (state_of g.B.Book c.take.new.self)) c.clock_tick.ensures c.take.ensures.took)
 
 pub returns-else-is_due : goal.returns-else-is_due
 returns-else-is_due g c =
