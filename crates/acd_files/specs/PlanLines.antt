@@ -1,5 +1,5 @@
 -- The lines of a plan, as whoever wrote it sees them.
-use Rattle.std.specs.Prelude.{ℕ, [], ◌∷◌, ◌++◌, length, Option, Some, None, ◌+◌, ◌/◌, ◌%◌, Bool, true, false, not, ◌&&◌, ◌||◌, nat_eq, nat_le, nat_lt, List, codes, if◌then◌else◌}
+use Rattle.std.specs.Prelude.{◌≡◌, ◌≤◌, ℕ, [], ◌∷◌, ◌++◌, length, take, take_while, flat_map, Option, Some, None, ◌+◌, ◌/◌, ◌%◌, Bool, true, false, not, ◌&&◌, ◌||◌, nat_eq, nat_le, nat_lt, List, codes, if◌then◌else◌}
 use Rattle.acd_files.specs.declared.plan_lines.Place.{Place}
 use Rattle.acd_reports.specs.declared.fault.PlanMember.{PlanMember}
 use Rattle.acd_reports.specs.declared.fault.PlanMember.TheVariants as member
@@ -20,9 +20,13 @@ ended_at place = record place { line = one_more place.line; is_begun = place.is_
 abbrev pub quoted_at : Place → Place
 quoted_at place = record (begun_at place) { is_quoted = not place.is_quoted }
 
+-- LF and CR end a line
+abbrev pub ends_line : ℕ → Bool
+ends_line byte = nat_eq byte 10 || nat_eq byte 13
+
 -- a byte stands there: CR or LF, a quote, or another
 abbrev pub byte_at : Place → ℕ → Place
-byte_at place byte = if nat_eq byte 10 || nat_eq byte 13 then ended_at place else (if nat_eq byte 34 then quoted_at place else begun_at place)
+byte_at place byte = if ends_line byte then ended_at place else (if nat_eq byte 34 then quoted_at place else begun_at place)
 
 -- the place after a byte: CR and LF together end one line
 abbrev pub place_after : Place → ℕ → Place
@@ -31,10 +35,6 @@ place_after place byte = if nat_eq byte 10 && nat_eq place.last 13 then record p
 -- a byte that is shown as it is
 abbrev pub is_printable : ℕ → Bool
 is_printable byte = nat_le 32 byte && nat_le byte 126
-
--- how many characters show a byte: itself, or \\x and two digits
-abbrev pub shown_width : ℕ → ℕ
-shown_width byte = if is_printable byte then 1 else 4
 
 -- a digit of a number to the base of 16
 abbrev pub hex_digit : ℕ → ℕ
@@ -46,7 +46,7 @@ shown_byte byte = if is_printable byte then byte ∷ [] else codes "\\x" ++ (hex
 
 -- so much is shown of a line, which ends before this byte, or there is no room for it
 abbrev pub is_shown_to : List ℕ → ℕ → Bool
-is_shown_to text byte = nat_eq byte 10 || (nat_eq byte 13 || nat_lt 60 (length text + shown_width byte))
+is_shown_to text byte = ends_line byte || nat_lt 60 (length text + length (shown_byte byte))
 
 -- the form of a member of a row
 abbrev pub form_text : PlanMember → List ℕ
@@ -69,11 +69,17 @@ first_place = record { line = 1; records = 0; is_begun = false; is_quoted = fals
 abbrev pub line_number : List ℕ → ℕ → Option ℕ
 line_number plan wanted = line_from first_place wanted plan
 
--- what is shown of a line, from a byte on: so much before
-unfoldable pub shown_from : List ℕ → List ℕ → List ℕ
-shown_from text [] = text
-shown_from text (byte ∷ rest) = if is_shown_to text byte then text else shown_from (text ++ shown_byte byte) rest
-
--- the first line of a plan
+-- the first line of a plan: the bytes before its first LF or CR
 abbrev pub first_line : List ℕ → List ℕ
-first_line plan = shown_from [] plan
+first_line plan = take_while (λ byte. not (ends_line byte)) plan
+
+-- so many bytes of a line, as they are shown
+abbrev pub shown : ℕ → List ℕ → List ℕ
+shown count line = flat_map shown_byte (take count line)
+
+-- this text shows a line from its beginning on, as far as 60 characters can
+pub record ShowsLine (line text : List ℕ) : Type 0 where
+  pub count : ℕ
+  pub shows : text ≡ shown count line
+  pub fits : length text ≤ 60
+  pub longest : (other : ℕ) → length (shown other line) ≤ 60 → length (shown other line) ≤ length text

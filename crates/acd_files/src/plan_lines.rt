@@ -1,7 +1,7 @@
 //! The lines of a plan as whoever wrote it sees them.
 
-ghost use Rattle.std.specs.Prelude.{◌≡◌, ◌<◌, ◌++◌, string_bytes, IfOk, OnOk};
-ghost use Rattle.acd_files.specs.PlanLines.{place_after, begun_at, is_printable, shown_width, hex_digit, shown_byte, is_shown_to, form_text, line_number, first_line};
+ghost use Rattle.std.specs.Prelude.{◌≡◌, ◌<◌, ◌++◌, length, string_bytes, IfOk, OnOk};
+ghost use Rattle.acd_files.specs.PlanLines.{place_after, begun_at, is_printable, hex_digit, shown_byte, is_shown_to, form_text, line_number, first_line, ShowsLine};
 
 use acd_reports::PlanMember;
 use std::alloc::{AllocError, Global};
@@ -87,7 +87,7 @@ fn is_plain(byte: u8) -> bool
 
 // How many characters show a byte.
 fn width(byte: u8) -> usize
-    ensures { result ≡ shown_width byte }
+    ensures { result ≡ length (shown_byte byte) }
 {
     if is_plain(byte) { 1 } else { 4 }
 }
@@ -123,9 +123,9 @@ fn ends_before(text: &String, byte: u8) -> bool
     byte == b'\n' || byte == b'\r' || text.len().saturating_add(width(byte)) > SHOWN
 }
 
-/// The first line of a plan, in ASCII, up to 60 characters.
+/// The first line of a plan in ASCII, as far as 60 characters can show it.
 pub fn first_line(alloc: Global, plan: &[u8]) -> Result<String, AllocError>
-    ensures { IfOk result (λ text. string_bytes text ≡ first_line plan.now) }
+    ensures { IfOk result (λ text. ShowsLine (first_line plan.now) (string_bytes text)) }
 {
     let mut text = String::new(alloc);
     for byte in plan {
