@@ -1,5 +1,11 @@
 -- What the bytes of a log say, before anything is opened.
-use Rattle.std.specs.Prelude.{◌≡◌, ◌⊎◌, ◌≤◌, ℕ, List, ◌++◌, codes, Option, String, string_bytes}
+use Rattle.std.specs.Prelude.{◌≡◌, ◌⊎◌, ◌≤◌, ℕ, List, ◌++◌, codes, Option, Result, Ok, Err, String, string_bytes}
+use Rattle.std.specs.Global.{Global}
+use Rattle.std.specs.IoError.{error_kind}
+use Rattle.std.specs.Path.{path_buf_bytes}
+use Rattle.std.specs.declared.io.Error.{Error}
+use Rattle.std.specs.declared.io.ErrorKind.TheVariants.{NotFound}
+use Rattle.std.specs.declared.path.buf.PathBuf.{PathBuf}
 use Rattle.acd_io.specs.Streams.{IsInput}
 use Rattle.acd_log.specs.declared.ending.Ending.{Ending}
 use Rattle.acd_log.specs.Ending.{IsDamaged, IsHeadless, IsEndingOf}
@@ -9,9 +15,14 @@ use Rattle.acd_files.specs.Files.{new_page, HoldsCommit}
 abbrev pub IsLogOf : {Z : Type 0} → List ℕ → String Z → Type 0
 IsLogOf file log = string_bytes log ≡ file ++ codes "-wal"
 
--- beside some file
-abbrev pub IsSomeLog : {Z : Type 0} → String Z → Type 0
-IsSomeLog log = (file : List ℕ) × IsLogOf file log
+-- this is the path of the log at a path, by the system's answer to what that path is without links: beside the answer or, where nothing is at the path, beside the path
+abbrev pub IsLogPathBy : {Z : Type 0} → Result (PathBuf Global) Error → List ℕ → String Z → Type 0
+IsLogPathBy (Ok real) path log = IsLogOf (path_buf_bytes real) log
+IsLogPathBy (Err error) path log = (error_kind error ≡ NotFound) × IsLogOf path log
+
+-- by some answer of the system
+abbrev pub IsSomeLogPath : {Z : Type 0} → List ℕ → String Z → Type 0
+IsSomeLogPath path log = (real : Result (PathBuf Global) Error) × IsLogPathBy real path log
 
 -- the log that the reader holds ends so
 abbrev pub IsEndingFrom : Option (List ℕ) → Ending → Type 0

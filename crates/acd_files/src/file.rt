@@ -4,9 +4,9 @@ ghost use Rattle.std.specs.Prelude.{◌≡◌, ◌⊎◌, ℕ, true, false, IsTr
 ghost use Rattle.sqlite.specs.Held.{IsNew};
 ghost use Rattle.sqlite_std_file.specs.File.{file_is_usable, IsFresh};
 ghost use Rattle.acd_files.specs.Connections.{IsShut};
-ghost use Rattle.acd_files.specs.Faults.{by_memory};
+ghost use Rattle.acd_files.specs.Faults.{by_memory, log_path_fault};
 ghost use Rattle.acd_files.specs.Files.{AreUnopened, IsOpenedIn};
-ghost use Rattle.acd_files.specs.Logs.{IsLogOf, IsSomeLog, IsSomeEnding};
+ghost use Rattle.acd_files.specs.Logs.{IsLogOf, IsLogPathBy, IsSomeLogPath, IsSomeEnding};
 ghost use Rattle.acd_files.specs.Connections.{IsLaidIn, IsOpenedFrom, LeavesUnopened};
 
 use crate::fault::{LookFault, OpeningFault, PathFault};
@@ -25,6 +25,7 @@ use std::alloc::{AllocError, Global};
 use std::hash::{BuildHasher, RandomState};
 use std::io;
 use std::io::IsTerminal;
+use std::path::PathBuf;
 
 /// The store of a file that held what `S` says.
 pub(crate) type StoreFrom<S> = FileStore<FileFrom<S>>;
@@ -55,17 +56,29 @@ fn log_beside(alloc: Global, file: &str) -> Result<String, AllocError>
     format!(in alloc; "{file}-wal")
 }
 
-/// The path of the log: a link's log is beside the file that it leads to. It looks for links alone.
-pub fn log_path<'a>(looks: Looks<'_>, path: &'a str) -> Result<String, LookFault<'a>>
-    ensures { IfOk result IsSomeLog }
+// The path of the log at a path, by the system's answer to what that path is without links: a link's log is beside the file
+// that it leads to. Where nothing is at the path, the log is beside the path.
+fn log_path_by<'a>(
+    alloc: Global,
+    path: &'a str,
+    real: io::Result<PathBuf>,
+) -> Result<String, LookFault<'a>>
+    ensures log { IfOk result (IsLogPathBy real path.now) }
+    ensures fault { IfErr result (λ fault. fault ≡ log_path_fault real path.entry) }
 {
-    match looks.real_path(path) {
-        Ok(real) => Ok(log_beside(looks.alloc(), real.as_str())?),
-        Err(error) if error.kind() == io::ErrorKind::NotFound => {
-            Ok(log_beside(looks.alloc(), path)?)
-        }
+    match real {
+        Ok(file) => Ok(log_beside(alloc, file.as_str())?),
+        Err(error) if error.kind() == io::ErrorKind::NotFound => Ok(log_beside(alloc, path)?),
         Err(error) => Err(LookFault::Path(disk_fault(error, path))),
     }
+}
+
+/// The path of the log at a path. It looks for links alone. Where they lead only the system can say, and no clause: what is
+/// proved is what follows from any answer of it, in `log_path_by`.
+pub fn log_path<'a>(looks: Looks<'_>, path: &'a str) -> Result<String, LookFault<'a>>
+    ensures { IfOk result (IsSomeLogPath path.now) }
+{
+    log_path_by(looks.alloc(), path, looks.real_path(path))
 }
 
 // The log at a path, opened to be read, where it is there.
