@@ -1,5 +1,5 @@
 -- The reads of a desk as functions of its content: a text, or none where there is no such thing.
-use Rattle.std.specs.Prelude.{◌≡◌, ℕ, ◌<◌, List, [], ◌∷◌, ◌++◌, length, map, filter, max, nat_lt, Bool, true, false, Option, Some, None, is_some, option_map, String, string_bytes, if◌then◌else◌}
+use Rattle.std.specs.Prelude.{◌≡◌, ℕ, List, [], ◌∷◌, ◌++◌, length, map, filter, max, nat_lt, Bool, true, false, Option, Some, None, is_some, option_map, String, string_bytes, if◌then◌else◌}
 use Rattle.std.specs.declared.cmp.Ordering.{Ordering}
 use Rattle.acd_terms.specs.Lists.{put_by}
 use Rattle.acd_terms.specs.Numbers.{Device, Agent, CallId, MonitorId, Moment, Stamp, EventNumber}
@@ -27,6 +27,8 @@ use Rattle.acd_reports.specs.QueueReport.{queue_report}
 use Rattle.acd_reports.specs.Export.{events_csv, records_text}
 use Rattle.acd_book.specs.declared.kept.Kept.{Kept}
 use Rattle.acd_book.specs.Content.{Content, events_after, records_after, events_of_monitor}
+use Rattle.acd_book.specs.Memory.{number_of_event}
+use Rattle.acd_book.specs.Order.{Rises}
 use Rattle.acd_desk.specs.SoundContent.{IsSound}
 use Rattle.acd_desk.specs.RequestPages.{requests_text}
 use Rattle.acd_desk.specs.declared.question.Question.{Question}
@@ -184,8 +186,7 @@ export_read c = Some (events_csv c.events)
 
 -- the events are in ascending number, each above the last number
 abbrev pub Rise : EventNumber → List Event → Type 0
-Rise last [] = Unit {0}
-Rise last (e ∷ es) = (last < e.number) × Rise e.number es
+Rise last events = Rises number_of_event last events
 
 -- those above a number
 abbrev pub above : List Event → EventNumber → List Event

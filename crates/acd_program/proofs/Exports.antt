@@ -5,10 +5,7 @@ use Rattle.sqlite.specs.State.{State}
 use Rattle.sqlite.specs.Files.{file_state}
 use Rattle.sqlite_disk.specs.declared.Disk.{Ghosts}
 use Rattle.sqlite_store.specs.declared.store.FileStore.{FileStore}
-use Rattle.acd_terms.specs.declared.event.Event.{Event}
 use Rattle.acd_book.specs.Content.{Content}
-use Rattle.acd_book.specs.Memory.{number_of_event}
-use Rattle.acd_book.specs.Order.{Rises}
 use Rattle.acd_book.specs.State.{BookState, Reads}
 use Rattle.acd_book.specs.declared.fault.BookFault.{BookFault}
 use Rattle.acd_book.specs.declared.fault.BookFault.TheVariants.{NoMemory}
@@ -51,11 +48,6 @@ ends_after {B = B} {S = S} Q a b d x f r one two is = read_nothing {A = B} {P = 
 -- there was no memory after a read
 pub no_memory_after : {A C : Type 0} {P : Content → A → Type 0} (Q : Content → C → Type 0) (a b : BookState) (x : A) (r : Result C BookFault) → Reads a b (Ok x) P → r ≡ Err NoMemory → ReadsIfOpen a b r Q
 no_memory_after {P = P} Q a b x r read is = read_no_memory {P = P} Q a b x r (by_read P a b (Ok x) read (λ c y h. h)) is
-
--- numbers that rise
-pub rise_of : (n : ℕ) (es : List Event) → Rises number_of_event n es → Rise n es
-rise_of n [] h = tt
-rise_of n (e ∷ es) h = (h.0, rise_of e.number es h.1)
 
 -- rows that are written after a text: with those above a place it has all above the number
 abbrev written_up_to : List ℕ → List ℕ → ℕ → ℕ → Content → Unit {0} → Type 0

@@ -1,5 +1,5 @@
 -- What newer requests make of the carried part, beside what they make of the whole archive.
-use Rattle.std.proofs.Common.{◌≡◌, ℕ, ◌<◌, ◌≤◌, List, [], ◌∷◌, ◌++◌, length, refl, sym, ap, ap₂, subst, ◌∙◌, arith, append_assoc, Bool, true, false, cond, Option, Some, None, is_some, option_map, true≢false}
+use Rattle.std.proofs.Common.{◌≡◌, ℕ, ◌<◌, ◌≤◌, List, [], ◌∷◌, ◌++◌, length, refl, sym, ap, ap₂, subst, ◌∙◌, arith, append_assoc, Bool, true, false, cond, Option, Some, None, is_some, option_map}
 use Rattle.std.proofs.lemmas.List.{append_cancel_left}
 use Rattle.acd_terms.specs.Lists.{Every}
 use Rattle.acd_terms.specs.declared.rows.Rows.{Rows}
@@ -15,7 +15,7 @@ use Rattle.acd_desk.specs.AnyContent.{led}
 use Rattle.acd_desk.specs.CarriedContent.{Archive, together, joined, NoneSentAgain}
 use Rattle.acd_desk.specs.WithArchive.{ComeBefore, IsCut, IsSoundWith, IsLedFrom}
 use Rattle.acd_desk.specs.AuditWith.{first_sent_again}
-use Rattle.acd_desk.proofs.Replays.Audits.{same_content}
+use Rattle.acd_desk.proofs.Replays.Audits.{none_of, same_content}
 use Rattle.acd_desk.proofs.Contents.OlderRecords.{goes_on, cut_again}
 use Rattle.acd_desk.proofs.Contents.AddedRecords.{Grows, led_grows, led_counted, all_new}
 use Rattle.acd_desk.proofs.Archives.LookUps.{none_front, only_front}
@@ -141,10 +141,6 @@ led_is_sound a c goes new =
 
 -- ---- the first that was sent again ----
 
-none_is : (o : Option Kept) → is_some o ≡ false → o ≡ None
-none_is None h = refl
-none_is (Some k) h = absurd (true≢false h)
-
 -- there is none
 pub first_none : (p : Archive) (newer : List Kept) → first_sent_again p newer ≡ None → NoneSentAgain p (arrivals_of newer)
 first_none p [] none = tt
@@ -154,7 +150,7 @@ first_none p (k ∷ newer) none =
     → NoneSentAgain p (arrivals_of (k ∷ newer)) in
     (elim (is_some (kept_of p.kept k.request.requester k.request.invoke)) as P [
       | true ↦ λ is same. absurd cc
-      | false ↦ λ is same. (none_is (kept_of p.kept k.request.requester k.request.invoke) is, first_none p newer same)
+      | false ↦ λ is same. (none_of (kept_of p.kept k.request.requester k.request.invoke) is, first_none p newer same)
     ]) refl none
 
 pub none_first : (p : Archive) (newer : List Kept) → NoneSentAgain p (arrivals_of newer) → first_sent_again p newer ≡ None

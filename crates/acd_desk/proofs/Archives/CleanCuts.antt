@@ -1,10 +1,9 @@
 -- Two records decide whether a cut leaves an event of a carried record in the archive.
-use Rattle.std.proofs.Common.{◌≡◌, ℕ, ◌+◌, ◌-◌, ◌<◌, ◌≤◌, Bool, true, false, nat_lt, List, [], ◌∷◌, ◌++◌, length, take, Some, None, refl, sym, ap, subst, ◌∙◌, arith, append_assoc, append-nil, ltb-true, ltb-false}
-use Rattle.std.proofs.Math.Nat.{le_refl}
+use Rattle.std.proofs.Common.{◌≡◌, ℕ, ◌+◌, ◌-◌, ◌<◌, ◌≤◌, Bool, true, false, nat_lt, List, [], ◌∷◌, ◌++◌, length, take, Some, None, refl, sym, ap, subst, ◌∙◌, arith, append_assoc, append-nil, ltb-true, ltb-false, le_refl, le_antisymm, lt_of_lt_of_le, sub-le}
 use Rattle.std.specs.Bool.{Decides}
 use Rattle.acd_terms.specs.Lists.{Every}
 use Rattle.acd_terms.specs.declared.event.Event.{Event}
-use Rattle.acd_lemmas.proofs.Lists.{every-append}
+use Rattle.acd_lemmas.proofs.Lists.{every-append, every_from}
 use Rattle.acd_book.specs.declared.kept.Kept.{Kept}
 use Rattle.acd_book.specs.Content.{Content, IsKeptAfter, GoOn, events_after}
 use Rattle.acd_book.specs.Memory.{stamp_of, number_of_event}
@@ -78,46 +77,33 @@ none_at_all n number last (x ∷ past) go is le low =
 
 positive : (es : List Event) (n : ℕ) → Rises number_of_event n es → Every (λ (x : Event). 0 < x.number) es
 positive [] n h = tt
-positive (e ∷ es) n h = (above n e.number h.0, positive es e.number h.1)
-  where
-    above : (n m : ℕ) → n < m → 0 < m
-    above n m h = omega (arith, h)
+positive (e ∷ es) n h = let here : n < e.number = h.0 in (omega (arith, here), positive es e.number h.1)
 
 -- ---- the two records ----
 
 abbrev IsEarlier : List Kept → Event → Type 0
 IsEarlier carried e = Every (λ (k : Kept). e.moment < k.moment) carried
 
-nothing_carried : (left : List Event) → Every (IsEarlier []) left
-nothing_carried [] = tt
-nothing_carried (e ∷ left) = (tt, nothing_carried left)
-
 pub clean_none : (a : Content) (stamp number : ℕ) → IsKeptAfter a.kept stamp None → IsCleanCut a stamp number
 clean_none a stamp number none past carried left reported kept_two events_two =
     let empty : carried ≡ [] = none_left stamp past carried kept_two.above (subst (λ (l : List Kept). IsKeptAfter l stamp None) kept_two.whole none) in
-    subst (λ (ks : List Kept). Every (IsEarlier ks) left) (sym empty) (nothing_carried left)
+    subst (λ (ks : List Kept). Every (IsEarlier ks) left) (sym empty) (every_from (IsEarlier []) left (λ e at. tt))
 
 earlier_all : (m : ℕ) (e : Event) (carried : List Kept) → e.moment < m → Every (λ (k : Kept). m ≤ k.moment) carried → IsEarlier carried e
 earlier_all m e [] lt h = tt
-earlier_all m e (k ∷ carried) lt h = (before e.moment m k.moment lt h.0, earlier_all m e carried lt h.1)
-  where
-    before : (a m n : ℕ) → a < m → m ≤ n → a < n
-    before a m n lt le = omega (arith, lt, le)
+earlier_all m e (k ∷ carried) lt h = (lt_of_lt_of_le lt h.0, earlier_all m e carried lt h.1)
 
 earlier_each : (m top : ℕ) (carried : List Kept) (left : List Event) → top < m → Every (λ (e : Event). e.moment ≤ top) left
     → Every (λ (k : Kept). m ≤ k.moment) carried → Every (IsEarlier carried) left
 earlier_each m top carried [] lt low h = tt
 earlier_each m top carried (e ∷ left) lt low h = (earlier_all m e carried (below e.moment top m low.0 lt) h, earlier_each m top carried left lt low.1 h)
 
-pred : (n : ℕ) → n - 1 ≤ n
-pred n = omega arith
-
 -- the event of the number is the last one left in the archive
 at_number : (number : ℕ) {es past : List Event} {e : Event} {rest left reported : List Event} → IsSplitAt number_of_event (number - 1) es past (e ∷ rest)
     → IsSplitAt number_of_event number es left reported → e.number ≡ number → past ++ e ∷ [] ≡ left
 at_number number {past = past} {e = e} {rest = rest} {left = left} {reported = reported} one two here =
     (split_once number_of_event number (past ++ e ∷ []) rest left reported (append_assoc past (e ∷ []) rest ∙ sym one.whole ∙ two.whole)
-    (every-append (λ (x : Event). x.number ≤ number) past (e ∷ []) (every_upto number_of_event (number - 1) number past (pred number) one.below)
+    (every-append (λ (x : Event). x.number ≤ number) past (e ∷ []) (every_upto number_of_event (number - 1) number past (sub-le number 1) one.below)
     (subst (λ (n : ℕ). n ≤ number) (sym here) (le_refl number), tt))
     two.below (subst (λ (n : ℕ). Rises number_of_event n rest) here one.above.1) two.above).0
 
@@ -126,7 +112,7 @@ beside_number : (number : ℕ) {es past : List Event} {e : Event} {rest left rep
     → IsSplitAt number_of_event number es left reported → number < e.number → past ≡ left
 beside_number number {past = past} {e = e} {rest = rest} {left = left} {reported = reported} one two above =
     (split_once number_of_event number past (e ∷ rest) left reported (sym one.whole ∙ two.whole)
-    (every_upto number_of_event (number - 1) number past (pred number) one.below) two.below (above, one.above.1) two.above).0
+    (every_upto number_of_event (number - 1) number past (sub-le number 1) one.below) two.below (above, one.above.1) two.above).0
 
 -- the events left in the archive, by the event that comes first above the number before
 clean_left : (a : Content) (number moment : ℕ) (past rest left reported : List Event) (carried : List Kept) → StandsInTime a → number ≤ a.rows.last_event
@@ -155,7 +141,7 @@ clean_left a number moment past (e ∷ rest) left reported carried stands within
       | false ↦ λ c. elim c as (λ c. nat_lt number e.number ≡ false → nat_lt e.number number ≡ c → Every (IsEarlier carried) left) [
         | true ↦ λ is other. absurd (too_low number e.number one.above.0 (ltb-true e.number number other))
         | false ↦ λ is other.
-            let here : e.number ≡ number = equal number e.number (ltb-false number e.number is) (ltb-false e.number number other) in
+            let here : e.number ≡ number = le_antisymm (ltb-false number e.number is) (ltb-false e.number number other) in
             subst (Every (IsEarlier carried)) (at_number number one two here)
             (earlier_each moment e.moment carried (past ++ e ∷ []) (before here)
             (last_most (λ (x : Event). x.moment) 0 past e rest (subst (Ascends (λ (x : Event). x.moment) 0) one.whole stands.events)) late)
@@ -165,9 +151,6 @@ clean_left a number moment past (e ∷ rest) left reported carried stands within
   where
     too_low : (n m : ℕ) → n - 1 < m → m < n → ⊥
     too_low n m lt less = omega (arith, lt, less)
-
-    equal : (n m : ℕ) → m ≤ n → n ≤ m → m ≡ n
-    equal n m le more = omega (arith, le, more)
 
 -- the event is left in the archive, and the record carried over
 before_left : (number : ℕ) (es past rest left reported : List Event) (k : Kept) (tail : List Kept) → IsSplitAt number_of_event (number - 1) es past rest

@@ -21,7 +21,7 @@ use Rattle.acd_desk.specs.KeyPlaces.{IsSeenKey}
 use Rattle.acd_desk.specs.Replay.{HasRoom, again, IsFirstOfKey, Matches}
 use Rattle.acd_desk.specs.WithArchive.{IsLedFrom}
 use Rattle.acd_desk.specs.AuditWith.{HoldsArchive, RunsOn}
-use Rattle.acd_desk.proofs.Replays.Audits.{rises_after, nothing_more, same_content, unkept_before}
+use Rattle.acd_desk.proofs.Replays.Audits.{rises_after, same_content, unkept_before}
 use Rattle.acd_desk.proofs.Contents.CountersBound.{counted_executed}
 use Rattle.acd_desk.proofs.Replays.ReplayStates.{none_of_new}
 use Rattle.acd_desk.proofs.Contents.AddedRecords.{Grows, after_cases, led_grows, led_append}
@@ -29,7 +29,7 @@ use Rattle.acd_desk.proofs.Contents.RunsOfAnyContent.{led_push}
 use Rattle.acd_desk.proofs.Archives.CarriedPart.{kept_whole, carried_low, carried_events_low, carried_rows, carried_counted, Newer, led_newer}
 use Rattle.acd_desk.proofs.Archives.LookUps.{none_front, none_rest, none_in_both, first_record}
 use Rattle.acd_desk.proofs.Contents.Runs.{executes}
-use Rattle.acd_book.proofs.SharedLists.{rises_append, split_once}
+use Rattle.acd_book.proofs.SharedLists.{none_first, rises_append, split_once}
 use Rattle.acd_desk.proofs.Contents.SoundRuns.{arrivals_append, length-arrivals}
 use Rattle.acd_desk.proofs.Contents.Steps.{step_stamp, step_event, step_numbers}
 
@@ -107,7 +107,7 @@ runs_next a c r k tail el s m room =
 pub runs_led : (a c r : Content) (el : List Event) (s : RunsOn a c r [] el) → events_after c.events r.rows.last_event 1 ≡ [] → c.rows ≡ r.rows
     → (goes : IsLedFrom a c) × (goes.newer ≡ s.newer) × (goes.left ≡ s.left)
 runs_led a c r el s none rows =
-    let no_event : el ≡ [] = nothing_more el (sym (read_newer a c r [] el 1 s) ∙ none) in
+    let no_event : el ≡ [] = none_first el (sym (read_newer a c r [] el 1 s) ∙ none) in
     let same : c ≡ r = same_content c r rows (s.events ∙ ap (λ (l : List Event). r.events ++ l) no_event ∙ append-nil r.events) (s.kept ∙ append-nil r.kept) in
     let goes : IsLedFrom a c
     = record { left = s.left; carried = s.carried; cut = s.cut; newer = s.newer; kept = ap (λ (x : Content). x.kept) same ∙ s.ran; made = same ∙ s.made } in

@@ -1,18 +1,12 @@
 -- The kept record of the least greater stamp.
 use Rattle.std.proofs.Common.{◌≡◌, ℕ, ◌<◌, ◌≤◌, List, [], ◌∷◌, ◌++◌, Some, None, refl, sym, ap, subst, arith, inl, inr, ◌⊎◌}
 use Rattle.acd_terms.specs.Lists.{Every, Among}
+use Rattle.acd_lemmas.proofs.Lists.{every_among}
 use Rattle.acd_book.specs.declared.kept.Kept.{Kept}
 use Rattle.acd_book.specs.Content.{IsKeptAfter}
 use Rattle.acd_book.specs.Memory.{stamp_of}
 use Rattle.acd_book.specs.Order.{Rises}
 use Rattle.acd_book.proofs.SharedLists.{every_back, not_both}
-
-among_every : {T : Type 0} (P : T → Type 0) (x : T) (xs : List T) → Every P xs → Among x xs → P x
-among_every P x [] h at = absurd at
-among_every P x (y ∷ ys) h at = elim at [
-  | inl same ↦ subst P (sym same) h.0
-  | inr rest ↦ among_every P x ys h.1 rest
-]
 
 among_cases : {T : Type 0} (x : T) (xs ys : List T) → Among x (xs ++ ys) → Among x xs ⊎ Among x ys
 among_cases x [] ys at = inr at
@@ -41,11 +35,11 @@ pub next_left : (n : ℕ) (past left : List Kept) (k : Kept) → Every (λ (othe
     → IsKeptAfter (past ++ left) n (Some k)
     → (tail : List Kept) × (left ≡ k ∷ tail)
 next_left n past [] k h rise found = elim (among_cases k past [] found.0) [
-  | inl here ↦ absurd (not_both n k.stamp found.1 (among_every (λ (other : Kept). other.stamp ≤ n) k past h here))
+  | inl here ↦ absurd (not_both n k.stamp found.1 (every_among (λ (other : Kept). other.stamp ≤ n) past k h here))
   | inr there ↦ absurd there
 ]
 next_left n past (x ∷ left) k h rise found = elim (among_cases k past (x ∷ left) found.0) [
-  | inl here ↦ absurd (not_both n k.stamp found.1 (among_every (λ (other : Kept). other.stamp ≤ n) k past h here))
+  | inl here ↦ absurd (not_both n k.stamp found.1 (every_among (λ (other : Kept). other.stamp ≤ n) past k h here))
   | inr there ↦ elim there [
     | inl same ↦ (left, ap (λ (y : Kept). y ∷ left) (sym same))
     | inr in_rest ↦ absurd (not_both x.stamp k.stamp (rises_above x.stamp k left rise.1 in_rest)

@@ -1,6 +1,5 @@
 -- What is left of a content whose oldest records are taken away, and its archive.
-use Rattle.std.proofs.Common.{◌≡◌, ℕ, ◌<◌, ◌≤◌, List, [], ◌∷◌, ◌++◌, filter, nat_lt, Bool, Some, refl, sym, ap, ap₂, subst, ◌∙◌, arith, append_assoc, option_map}
-use Rattle.std.proofs.Math.Nat.{le_refl}
+use Rattle.std.proofs.Common.{◌≡◌, ℕ, ◌<◌, ◌≤◌, List, [], ◌∷◌, ◌++◌, filter, nat_lt, Bool, Some, refl, sym, ap, ap₂, subst, ◌∙◌, append_assoc, option_map, le_refl, lt_trans}
 use Rattle.std.proofs.lemmas.List.Elements.{filter-append}
 use Rattle.acd_terms.specs.Lists.{Every}
 use Rattle.acd_terms.specs.declared.event.Event.{Event}
@@ -27,10 +26,7 @@ use Rattle.acd_book.proofs.SharedLists.{not_both, every_front, every_back, every
 above_each : {T : Type 0} (f : T → ℕ) (n : ℕ) (xs : List T) → Rises f n xs → Every (λ (x : T). n < f x) xs
 above_each f n [] h = tt
 above_each {T = T} f n (x ∷ xs) h =
-    (h.0, every_each (λ (y : T). f x < f y) (λ (y : T). n < f y) xs (λ y more. later n (f x) (f y) h.0 more) (above_each f (f x) xs h.1))
-  where
-    later : (a b c : ℕ) → a < b → b < c → a < c
-    later a b c one two = omega (arith, one, two)
+    (h.0, every_each (λ (y : T). f x < f y) (λ (y : T). n < f y) xs (λ y more. lt_trans h.0 more) (above_each f (f x) xs h.1))
 
 every_both : {T : Type 0} (P Q : T → Type 0) (xs : List T) → Every P xs → Every (λ (x : T). P x → Q x) xs → Every Q xs
 every_both P Q [] h more = tt

@@ -6,14 +6,11 @@ use Rattle.acd_terms.specs.declared.command.Arrival.{Arrival}
 use Rattle.acd_terms.specs.declared.rows.Limits.{Limits}
 use Rattle.acd_book.specs.declared.kept.Kept.{Kept}
 use Rattle.acd_book.specs.Content.{Content, empty_content, GoOn, IsCounted}
+use Rattle.acd_book.specs.Memory.{stamp_of, number_of_event}
 use Rattle.acd_desk.specs.AbstractDesk.{stepped, record_of, executed, run_from, desk_run, firsts}
 use Rattle.acd_desk.proofs.Contents.Steps.{step_stamp, step_numbers, step_event}
 use Rattle.acd_lemmas.proofs.Lists.{every-append}
-use Rattle.acd_book.proofs.EventsAbove.{events_raised}
-
-kept_raised : (m n : ℕ) (ks : List Kept) → m ≤ n → Every (λ (k : Kept). k.stamp ≤ m) ks → Every (λ (k : Kept). k.stamp ≤ n) ks
-kept_raised m n [] le h = tt
-kept_raised m n (k ∷ ks) le h = let here = h.0 in (omega (arith, le, here), kept_raised m n ks le h.1)
+use Rattle.acd_book.proofs.SharedLists.{every_upto}
 
 -- events numbered on from a number end within their count
 going_on : (n top : ℕ) (es : List Event) → GoOn n es → n + length es ≤ top → Every (λ (e : Event). e.number ≤ top) es
@@ -28,10 +25,10 @@ counted_executed c a h =
     let es : List Event = (stepped c.rows a).events in
     record {
       events = every-append (λ (e : Event). e.number ≤ (stepped c.rows a).rows.last_event) c.events es
-          (events_raised c.rows.last_event (stepped c.rows a).rows.last_event c.events (omega (arith, event)) h.events)
+          (every_upto number_of_event c.rows.last_event (stepped c.rows a).rows.last_event c.events (omega (arith, event)) h.events)
           (going_on c.rows.last_event (stepped c.rows a).rows.last_event es numbers (omega (arith, event)));
       kept = every-append (λ (k : Kept). k.stamp ≤ (stepped c.rows a).rows.last_stamp) c.kept (record_of c.rows a ∷ [])
-          (kept_raised c.rows.last_stamp (stepped c.rows a).rows.last_stamp c.kept (omega (arith, stamp)) h.kept)
+          (every_upto stamp_of c.rows.last_stamp (stepped c.rows a).rows.last_stamp c.kept (omega (arith, stamp)) h.kept)
           (omega (arith, stamp), tt);
     }
 

@@ -18,7 +18,7 @@ use Rattle.acd_desk.specs.AcceptedArrivals.{is_fault, accepted, answers_sent, ha
 use Rattle.acd_desk.specs.SoundContent.{arrivals_of, IsSound, ran_after, replies}
 use Rattle.acd_desk.proofs.Contents.Runs.{run-stamp, run-limits, run-found, firsts-room, has-distinct, after_firsts}
 use Rattle.acd_book.proofs.Keys.{key_itself}
-use Rattle.acd_lemmas.proofs.Bools.{or_yes}
+use Rattle.acd_lemmas.proofs.Bools.{or_no, or_yes}
 
 -- ---- a reply stays ----
 
@@ -97,17 +97,9 @@ accepted-push (b ∷ l) (u ∷ ts) a t same =
     let less : length l ≡ length ts = omega arith in
     ap (λ (s : List Arrival). cond (is_fault u) [] (b ∷ []) ++ s) (accepted-push l ts a t less) ∙ sym (append_assoc (cond (is_fault u) [] (b ∷ [])) (accepted l ts) (cond (is_fault t) [] (a ∷ [])))
 
-faulty_more : (b : Bool) → b ≡ true → (not b || false) ≡ false
-faulty_more true h = refl
-faulty_more false h = absurd (true≢false (sym h))
-
-or-false : (a b : Bool) → b ≡ false → (a || b) ≡ a
-or-false true b h = refl
-or-false false b h = h
-
 has_accepted-push : (ts : List Taken) (t : Taken) → is_fault t ≡ true → has_accepted (ts ++ t ∷ []) ≡ has_accepted ts
 has_accepted-push ts t bad =
-    list_any-append (λ (u : Taken). not (is_fault u)) ts (t ∷ []) ∙ or-false (has_accepted ts) (not (is_fault t) || false) (faulty_more (is_fault t) bad)
+    list_any-append (λ (u : Taken). not (is_fault u)) ts (t ∷ []) ∙ ap (λ (b : Bool). has_accepted ts || (not b || false)) bad ∙ or_no (has_accepted ts)
 
 -- an arrival that may be the last stays so after a fault
 pub maybe_stays : (l : List Arrival) (ts : List Taken) (a : Arrival) (t : Taken) → is_fault t ≡ true

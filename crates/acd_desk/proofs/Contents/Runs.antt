@@ -2,6 +2,7 @@
 use Rattle.std.proofs.Common.{◌≡◌, ℕ, ◌+◌, ◌<◌, ◌≤◌, List, [], ◌∷◌, ◌++◌, length, take, drop, refl, sym, ap, subst, ◌∙◌, arith, append_assoc, append-nil, Bool, true, false, cond, ◌||◌, nat_lt, Option, Some, None, is_some, take-append-drop, take_all, lt-ltb, ltb-true, ltb-false}
 use Rattle.std.specs.List.{list_any}
 use Rattle.std.specs.Option.{option_or}
+use Rattle.std.proofs.Math.Bool.{or_assoc}
 use Rattle.std.proofs.lemmas.List.{take-append-le}
 use Rattle.std.proofs.lemmas.List.Folds.{list_any-append, find-append}
 use Rattle.std.proofs.lemmas.Grind.{common_steps}
@@ -17,6 +18,7 @@ use Rattle.acd_desk.proofs.Contents.Steps.{step_limits, step_stamp}
 use Rattle.acd_desk.proofs.Contents.Keys.{same_itself}
 use Rattle.acd_book.proofs.Keys.{key_same, key_itself}
 use Rattle.acd_lemmas.proofs.Bools.{or_no}
+use Rattle.acd_lemmas.proofs.Lists.{any-find}
 
 -- ---- those whose key is new ----
 
@@ -60,9 +62,10 @@ has-distinct (x ∷ l) seen p q =
 
 -- ---- the run ----
 
-pub run-push : (c : Content) (l : List Arrival) (a : Arrival) → run_from c (l ++ a ∷ []) ≡ executed (run_from c l) a
-run-push c [] a = refl
-run-push c (x ∷ l) a = run-push (executed c x) l a
+-- in two parts
+pub run_in_two : (c : Content) (l m : List Arrival) → run_from c (l ++ m) ≡ run_from (run_from c l) m
+run_in_two c [] m = refl
+run_in_two c (a ∷ l) m = run_in_two (executed c a) l m
 
 pub run-limits : (l : List Arrival) (c : Content) → (run_from c l).rows.limits ≡ c.rows.limits
 run-limits [] c = refl
@@ -75,24 +78,16 @@ run-stamp (x ∷ l) c =
     let s = step_stamp c.rows x.moment x.request.command in
     omega (arith, e, s)
 
-some_any : (l : List Kept) (p : List ℕ) (q : ℕ) → is_some (kept_of l p q) ≡ list_any (λ (k : Kept). is_key p q k.request) l
-some_any [] p q = refl
-some_any (k ∷ l) p q = elim (is_key p q k.request) as (λ b. is_some (cond b (Some k) (kept_of l p q)) ≡ (b || list_any (λ (k : Kept). is_key p q k.request) l)) [ true ↦ refl | false ↦ some_any l p q ]
-
-or-assoc : (a b c : Bool) → ((a || b) || c) ≡ (a || (b || c))
-or-assoc true b c = refl
-or-assoc false b c = refl
-
 -- the records have the keys of the arrivals
 run_any : (l : List Arrival) (c : Content) (p : List ℕ) (q : ℕ) → list_any (λ (k : Kept). is_key p q k.request) (run_from c l).kept ≡ (list_any (λ (k : Kept). is_key p q k.request) c.kept || has_key l p q)
 run_any [] c p q = sym (or_no (list_any (λ (k : Kept). is_key p q k.request) c.kept))
 run_any (x ∷ l) c p q =
     run_any l (executed c x) p q
     ∙ ap (λ (b : Bool). b || has_key l p q) (list_any-append (λ (k : Kept). is_key p q k.request) c.kept (record_of c.rows x ∷ []) ∙ ap (λ (b : Bool). list_any (λ (k : Kept). is_key p q k.request) c.kept || b) (or_no (is_key p q x.request)))
-    ∙ or-assoc (list_any (λ (k : Kept). is_key p q k.request) c.kept) (is_key p q x.request) (has_key l p q)
+    ∙ or_assoc (list_any (λ (k : Kept). is_key p q k.request) c.kept) (is_key p q x.request) (has_key l p q)
 
 pub run-found : (n : Limits) (l : List Arrival) (p : List ℕ) (q : ℕ) → is_some (kept_of (run_from (empty_content n) l).kept p q) ≡ has_key l p q
-run-found n l p q = some_any (run_from (empty_content n) l).kept p q ∙ run_any l (empty_content n) p q
+run-found n l p q = sym (any-find (λ (k : Kept). is_key p q k.request) (run_from (empty_content n) l).kept) ∙ run_any l (empty_content n) p q
 
 -- ---- one more arrival ----
 
@@ -149,7 +144,7 @@ after_firsts n l a =
     = λ x. elim x as (λ x. (y : Bool) → is_some (kept_of c.kept p q) ≡ x → nat_lt c.rows.last_stamp c.rows.limits.requests ≡ y → P x y) [
       | true ↦ λ y old room. ap (run_from (empty_content n)) (sym (known n.requests l a (sym found ∙ old)))
       | false ↦ λ y. elim y as (λ y. is_some (kept_of c.kept p q) ≡ false → nat_lt c.rows.last_stamp c.rows.limits.requests ≡ y → P false y) [
-        | true ↦ λ new room. let lt : c.rows.last_stamp < c.rows.limits.requests = ltb-true c.rows.last_stamp c.rows.limits.requests room in sym (run-push (empty_content n) f a) ∙ ap (run_from (empty_content n)) (sym (new_key n.requests l a (omega (arith, lt, stamp, limit)) (sym found ∙ new)))
+        | true ↦ λ new room. let lt : c.rows.last_stamp < c.rows.limits.requests = ltb-true c.rows.last_stamp c.rows.limits.requests room in sym (run_in_two (empty_content n) f (a ∷ [])) ∙ ap (run_from (empty_content n)) (sym (new_key n.requests l a (omega (arith, lt, stamp, limit)) (sym found ∙ new)))
         | false ↦ λ new room. let le : c.rows.limits.requests ≤ c.rows.last_stamp = ltb-false c.rows.last_stamp c.rows.limits.requests room in ap (run_from (empty_content n)) (sym (full n.requests l a (omega (arith, le, stamp, limit))))
       ]
     ] in

@@ -99,7 +99,7 @@ fault_no_reply DeskFull h = refl
 fault_no_reply NoMemory h = refl
 fault_no_reply StoreFault h = refl
 
-reply_no_fault : (t : Taken) → is_reply t ≡ true → is_fault t ≡ false
+pub reply_no_fault : (t : Taken) → is_reply t ≡ true → is_fault t ≡ false
 reply_no_fault (Reply status body) h = refl
 reply_no_fault InvokeReused h = absurd (true≢false (sym h))
 reply_no_fault DeskFull h = absurd (true≢false (sym h))

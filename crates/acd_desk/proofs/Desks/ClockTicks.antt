@@ -25,7 +25,7 @@ use Rattle.acd_book.proofs.BookSteps.{no_step}
 use Rattle.acd_desk.specs.declared.fault.DeskFault.{DeskFault}
 use Rattle.acd_desk.specs.declared.fault.DeskFault.TheVariants as fault
 use Rattle.acd_desk.specs.declared.taken.Taken.{Taken}
-use Rattle.acd_desk.specs.declared.taken.Taken.TheVariants.{Reply, InvokeReused, DeskFull, NoMemory, StoreFault}
+use Rattle.acd_desk.specs.declared.taken.Taken.TheVariants.{DeskFull}
 use Rattle.acd_desk.specs.declared.working.LoadedSwitch.{LoadedSwitch}
 use Rattle.acd_desk.specs.declared.working.Working.{Working}
 use Rattle.acd_desk.specs.declared.working.Working.TheVariants.{Loaded, Unloaded, Failed}
@@ -42,6 +42,7 @@ use Rattle.acd_desk.specs.DeskReads.{ReadFailed}
 use Rattle.acd_desk.specs.Clock.{clock_requester, clock_tick, may_be_due, NoneDue, LeavesNone, Ticked}
 use Rattle.acd_desk.specs.LoadedDesk.{Brought, BringsNone}
 use Rattle.acd_desk.proofs.Desks.Calls.{after_reread}
+use Rattle.acd_desk.proofs.Desks.CallsInTurn.{reply_no_fault}
 use Rattle.acd_desk.proofs.Pages.ReadsDone.{read_rows, read_so, took_nothing}
 
 -- the text of the clock's requester is one
@@ -133,13 +134,6 @@ none_due moment old new b due = record {
       (read_rows old new b.rows b.reread b.loaded b.works);
 }
 
-reply_fine : (t : Taken) → is_reply t ≡ true → is_fault t ≡ false
-reply_fine (Reply status body) e = refl
-reply_fine InvokeReused e = absurd (cc (e))
-reply_fine DeskFull e = absurd (cc (e))
-reply_fine NoMemory e = absurd (cc (e))
-reply_fine StoreFault e = absurd (cc (e))
-
 -- a new key that got a reply was executed
 was_executed : (c : Content) (a : Arrival) (t : Taken) → IsNew c a.request → t ≡ answer_in (after c a) a.request → is_reply t ≡ true → after c a ≡ executed c a
 was_executed c a t new said replied = by (nat_lt c.rows.last_stamp c.rows.limits.requests) (is_after new)
@@ -177,7 +171,7 @@ ticked moment old mid new t b due took =
       due = λ fine clean sound step.
           ap (λ (c : Content). is_due_by c.rows moment) (sym (same clean sound)) ∙ ap (λ (s : Rows). is_due_by s moment) (rows fine clean sound step) ∙ due_rows mid.switch b.rows moment true b.loaded due;
       leaves = λ replied clean sound step is_new.
-          let fine = reply_fine t replied in
+          let fine = reply_no_fault t replied in
           let is = same clean sound in
           let said = took.sent fine clean (sound_then clean sound) (in_step clean sound step) in
           let done : after mid.book.content a ≡ executed mid.book.content a = was_executed mid.book.content a t (subst (λ (c : Content). IsNew c a.request) (sym is) is_new) said.0 replied in

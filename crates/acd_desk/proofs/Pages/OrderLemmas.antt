@@ -1,5 +1,5 @@
 -- The lists of a queue, by the sets that the tables lend.
-use Rattle.std.proofs.Common.{◌≡◌, ◌↔◌, ℕ, ◌≤◌, inl, inr, Bool, true, false, cond, List, [], ◌∷◌, ◌++◌, Option, Some, None, refl, ap, sym, ◌∙◌, subst, map, arith, length}
+use Rattle.std.proofs.Common.{◌≡◌, ◌↔◌, ℕ, ◌≤◌, inl, inr, Bool, true, cond, List, [], ◌∷◌, ◌++◌, Option, Some, None, refl, ap, sym, ◌∙◌, subst, map, arith, length}
 use Rattle.std.specs.Prelude.{◌==◌, ◌&&◌, filter, slice_get, is_some}
 use Rattle.std.specs.List.{AllByRecursion, filter_map, cons_option}
 use Rattle.std.specs.List.Sorted.{IsStrictlySortedBy}
@@ -20,11 +20,11 @@ use Rattle.acd_model.specs.Rules.First.{BreaksNoRule}
 use Rattle.acd_model.specs.Scans.{is_group, call_of, connection_of, connections_of, waiting_in, eligible_in, is_eligible}
 use Rattle.acd_model.specs.Choice.{waiting_pair, ready_pair}
 use Rattle.acd_model.specs.Rules.Calls.{parties_of}
-use Rattle.acd_lemmas.proofs.RuleFacts.{two_if}
 use Rattle.acd_lemmas.proofs.Lists.{is_eq_of, count_length, after_among, filter_among, any_some, ascending-put, ascending-filter, among-put, among-put_other, mapped_among, among_put, among-map}
 use Rattle.acd_lemmas.proofs.KeyedLists.{cmp_self}
 use Rattle.acd_lemmas.proofs.State.{order_same, connection_found}
 use Rattle.acd_laws.proofs.Rules.AllRuleTests.{rules_are_kept}
+use Rattle.acd_laws.proofs.Rules.RulesOfEnds.{two_le}
 use Rattle.acd_tables.specs.IndexedRows.{pair_cmp}
 use Rattle.acd_tables.proofs.ScansByIndex.{ascending-same, contained, exact_pair}
 use Rattle.acd_codec.specs.ReadTexts.{queue_text}
@@ -158,12 +158,8 @@ unfolding connections_of
 two_parties s rules call =
     let parties = (rules_are_kept s rules).parties call in
     let size = count_length (parties_of call) s.connections in
-    let most = two_most (is_some (call_of s call)) in
+    let most = two_le (is_some (call_of s call)) in
     omega (arith, parties, size, most)
-  where
-    two_most : (b : Bool) → two_if b ≤ 2
-    two_most true = omega arith
-    two_most false = omega arith
 
 -- its first and its second, if there are such, are all
 pub both_parties : {T : Type 0} (xs : List T) (first second : Option T) → length xs ≤ 2 → first ≡ slice_get xs 0 → second ≡ slice_get xs 1 → cons_option first [] ++ cons_option second [] ≡ xs

@@ -1,10 +1,15 @@
 -- Pages of events, one after the other, are all events.
-use Rattle.std.proofs.Common.{◌≡◌, ℕ, ◌-◌, ◌<◌, ◌≤◌, zero, suc, Bool, true, false, cond, List, [], ◌∷◌, ◌++◌, Option, Some, None, Ok, refl, ap, sym, ◌∙◌, subst, take, drop, length, arith, append_assoc}
+use Rattle.std.proofs.Common.{◌≡◌, ℕ, ◌-◌, ◌<◌, ◌≤◌, zero, suc, true, false, cond, List, [], ◌∷◌, ◌++◌, Option, Some, None, Ok, refl, ap, ap₂, sym, ◌∙◌, subst, take, drop, length, arith, append_assoc, le_refl, take-append-drop}
 use Rattle.std.specs.Prelude.{nat_lt, slice_get}
+use Rattle.std.proofs.lemmas.List.Elements.{filter-append}
 use Rattle.std.proofs.lemmas.Bool.Decides.{nat_tests}
 use Rattle.acd_terms.specs.declared.event.Event.{Event}
 use Rattle.acd_book.specs.Content.{Content, events_after}
 use Rattle.acd_book.specs.Memory.{number_of_event}
+use Rattle.acd_book.specs.ListOverlap.{IsSplitAt}
+use Rattle.acd_book.proofs.SharedLists.{split_at, none_above, all_above as all_are_above}
+use Rattle.acd_lemmas.proofs.Lists.{filter-filter}
+use Rattle.acd_lemmas.proofs.Numbers.{still_below}
 use Rattle.acd_desk.specs.Kinds.{all_above}
 use Rattle.acd_reports.proofs.ExportLemmas.{joined}
 use Rattle.acd_reports.specs.Export.{header_record, records_text, events_csv}
@@ -13,41 +18,21 @@ use Rattle.acd_desk.specs.DeskReads.{ReadDone}
 use Rattle.acd_desk.specs.ReadAnswers.{Rise, above, records_left}
 use Rattle.acd_desk.proofs.Pages.ReadsDone.{read_twice}
 
-pub rise_lower : (m n : ℕ) (es : List Event) → m ≤ n → Rise n es → Rise m es
-rise_lower m n [] le h = tt
-rise_lower m n (e ∷ es) le h = let here = h.0 in (omega (arith, le, here), h.1)
-
 pub is_above : (m : ℕ) (e : Event) → m < e.number → nat_lt m e.number ≡ true
 is_above m e lt = grind (arith, nat_tests)
 
 pub not_above : (m : ℕ) (e : Event) → e.number ≤ m → nat_lt m e.number ≡ false
 not_above m e le = grind (arith, nat_tests)
 
-above_is : (m : ℕ) (e : Event) → nat_lt m e.number ≡ true → m < e.number
-above_is m e h = grind (arith, nat_tests)
-
--- all of a rising list are above where it begins
-rise-above : (m : ℕ) (es : List Event) → Rise m es → above es m ≡ es
-rise-above m [] h = refl
-rise-above m (e ∷ es) h =
-    ap (λ b. cond b (e ∷ above es m) (above es m)) (is_above m e h.0)
-    ∙ ap (λ l. e ∷ l) (rise-above m es (rise_lower m e.number es (let here = h.0 in omega (arith, here)) h.1))
-
-rise-filter : (m n : ℕ) (es : List Event) → Rise m es → Rise m (above es n)
-rise-filter m n [] h = tt
-rise-filter m n (e ∷ es) h = by (nat_lt n e.number) (rise-filter e.number n es h.1)
-  where
-    by : (b : Bool) → Rise e.number (above es n) → Rise m (cond b (e ∷ above es n) (above es n))
-    by true more = (h.0, more)
-    by false more = rise_lower m e.number (above es n) (let here = h.0 in omega (arith, here)) more
-
-rises_above : (m n : ℕ) (es : List Event) → Rise m es → Rise n (above es n)
-rises_above m n [] h = tt
-rises_above m n (e ∷ es) h = by (nat_lt n e.number) refl (rise-filter e.number n es h.1) (rises_above e.number n es h.1)
-  where
-    by : (b : Bool) → nat_lt n e.number ≡ b → Rise e.number (above es n) → Rise n (above es n) → Rise n (cond b (e ∷ above es n) (above es n))
-    by true p here more = (above_is n e p, here)
-    by false p here more = more
+-- those above a number ascend from it
+rises_above : (n : ℕ) (es : List Event) → Rise 0 es → Rise n (above es n)
+rises_above n es h =
+    let two = split_at number_of_event 0 n es (omega arith) h in
+    let split : IsSplitAt number_of_event n es two.0 two.1 = two.2 in
+    let left_over : above es n ≡ two.1
+    = ap (λ l. above l n) split.whole ∙ filter-append (λ (e : Event). nat_lt n e.number) two.0 two.1
+    ∙ ap₂ (λ (a b : List Event). a ++ b) (none_above number_of_event n two.0 split.below) (all_are_above number_of_event n n two.1 (le_refl n) split.above) in
+    subst (Rise n) (sym left_over) split.above
 
 -- the number of the last event, or of the one before
 abbrev last_of : ℕ → List Event → ℕ
@@ -56,11 +41,11 @@ last_of m (e ∷ es) = last_of e.number es
 
 last-up : (m : ℕ) (es more : List Event) → Rise m (es ++ more) → m ≤ last_of m es
 last-up m [] more h = omega arith
-last-up m (e ∷ es) more h = let up = last-up e.number es more h.1 in let here = h.0 in omega (arith, up, here)
+last-up m (e ∷ es) more h = let up = last-up e.number es more h.1 in let here : m < e.number = h.0 in omega (arith, up, here)
 
 -- the second part follows the last event of the first
 after_last : (m : ℕ) (es more : List Event) → Rise m (es ++ more) → above (es ++ more) (last_of m es) ≡ more
-after_last m [] more h = rise-above m more h
+after_last m [] more h = all_are_above number_of_event m m more (le_refl m) h
 after_last m (e ∷ es) more h =
     ap (λ b. cond b (e ∷ above (es ++ more) (last_of e.number es)) (above (es ++ more) (last_of e.number es)))
     (not_above (last_of e.number es) e (last-up e.number es more h.1))
@@ -68,22 +53,8 @@ after_last m (e ∷ es) more h =
 
 -- those above a lower place have all of those above a place
 pub above_again : {T : Type 0} (f : T → ℕ) (m n : ℕ) (xs : List T) → m ≤ n → all_above f n (all_above f m xs) ≡ all_above f n xs
-above_again f m n [] le = refl
-above_again {T = T} f m n (x ∷ xs) le = by (nat_lt m (f x)) refl (nat_lt n (f x)) refl (above_again f m n xs le)
-  where
-    lower : (k : ℕ) → nat_lt m k ≡ false → nat_lt n k ≡ true → ⊥
-    lower k p q = grind (arith, nat_tests, le, p, q)
-
-    by : (a : Bool) → nat_lt m (f x) ≡ a → (b : Bool) → nat_lt n (f x) ≡ b → all_above f n (all_above f m xs) ≡ all_above f n xs
-        → all_above f n (cond a (x ∷ all_above f m xs) (all_above f m xs)) ≡ cond b (x ∷ all_above f n xs) (all_above f n xs)
-    by true p b q more = ap (λ v. cond v (x ∷ all_above f n (all_above f m xs)) (all_above f n (all_above f m xs))) q ∙ ap (λ l. cond b (x ∷ l) l) more
-    by false p true q more = absurd (lower (f x) p q)
-    by false p false q more = more
-
-pub split : {T : Type 0} (n : ℕ) (xs : List T) → take n xs ++ drop n xs ≡ xs
-split zero xs = refl
-split (suc n) [] = refl
-split (suc n) (x ∷ xs) = ap (λ l. x ∷ l) (split n xs)
+above_again {T = T} f m n xs le =
+    filter-filter (λ (x : T). nat_lt n (f x)) (λ (x : T). nat_lt m (f x)) (λ x. still_below m n (f x) le) xs
 
 last-at : (m : ℕ) (x : Event) (es : List Event) (e : Event) → slice_get (x ∷ es) (length es) ≡ Some e → last_of m (x ∷ es) ≡ e.number
 last-at m x [] e h = cc h
@@ -113,8 +84,8 @@ page-then n limit events e rise last =
     let all : List Event = above events n in
     let page : List Event = take limit all in
     let rest : List Event = drop limit all in
-    let whole : page ++ rest ≡ all = split limit all in
-    let rises : Rise n (page ++ rest) = subst (Rise n) (sym whole) (rises_above 0 n events rise) in
+    let whole : page ++ rest ≡ all = take-append-drop limit all in
+    let rises : Rise n (page ++ rest) = subst (Rise n) (sym whole) (rises_above n events rise) in
     let number : last_of n page ≡ e.number = last-number n page e last in
     let up : n ≤ e.number = subst (λ k. n ≤ k) number (last-up n page rest rises) in
     let rest_above : rest ≡ above events e.number
@@ -129,10 +100,6 @@ page-none n limit events some none = by limit (above events n) some none
     by zero l le h = absurd (omega (arith, le))
     by (suc k) [] le h = refl
     by (suc k) (x ∷ l) le h = absurd (cc h)
-
--- all are above 0
-pub above-nothing : (events : List Event) → Rise 0 events → above events 0 ≡ events
-above-nothing events h = rise-above 0 events h
 
 -- an export whose next page has no event is done
 pub export_ends : (text : List ℕ) (events page shown : List Event) (after limit : ℕ) → 1 ≤ limit → shown ≡ page
@@ -157,7 +124,9 @@ export_goes_on old more new events page shown after limit e same last is records
 -- an export begins with the header, and has all events left
 pub export_begins : (text : List ℕ) (events : List Event) → text ≡ header_record → Rise 0 events → text ++ records_text (above events 0) ≡ events_csv events
 unfolding events_csv
-export_begins text events is rise = ap (λ l. l ++ records_text (above events 0)) is ∙ ap (λ l. header_record ++ records_text l) (above-nothing events rise)
+export_begins text events is rise =
+    ap (λ l. l ++ records_text (above events 0)) is
+    ∙ ap (λ l. header_record ++ records_text l) (all_are_above number_of_event 0 0 events (le_refl 0) rise)
 
 -- one page more: with it, what is left makes the whole
 pub export_step : (old mid new : DeskState) (last : Option ℕ) (before after : List ℕ) (n : ℕ)

@@ -1,5 +1,6 @@
 -- A read of a desk, by its parts: what it leaves.
-use Rattle.std.proofs.Common.{◌≡◌, ◌↔◌, ℕ, Bool, true, false, List, Option, Some, None, Result, String, Ok, Err, IfOk, OnOk, IsErrOf, refl, sym, ap, subst, ◌∙◌, inl, inr, ◌⊎◌, true≢false}
+use Rattle.std.proofs.Common.{◌≡◌, ◌↔◌, ℕ, true, false, List, Option, Some, None, Result, String, Ok, Err, IfOk, OnOk, IsErrOf, refl, sym, ap, subst, ◌∙◌, inl, inr, ◌⊎◌, true≢false}
+use Rattle.std.proofs.lemmas.Bool.{false_from_ne_true}
 use Rattle.std.proofs.lemmas.Result.{IfOk-weaker, on_ok_weaker}
 use Rattle.std.specs.Borrow.{Bor}
 use Rattle.std.specs.Fn.{Once, FnOnceReturns, FnOnceReturnsAt}
@@ -34,13 +35,9 @@ use Rattle.acd_terms.proofs.Results.{ok_err, same_error}
 no_fault : {A : Type 0} → ◌≡◌ {A = Result A DeskFault} (Err NoMemory) (Err StoreFault) → ⊥
 no_fault h = cc
 
-not_failed : (b : Bool) → (b ≡ true → ⊥) → b ≡ false
-not_failed true h = absurd (h refl)
-not_failed false h = refl
-
 -- a desk that read works afterwards, unless it answers storeFault
 read_works : {A : Type 0} (old new : DeskState) (r : Result A DeskFault) (P : Finding A) → ReadDone old new r P → ¬ (IsErrOf r StoreFault) → new.failed ≡ false
-read_works old new r P read none = not_failed new.failed (λ failed. elim (read.desk.answers failed) [
+read_works old new r P read none = false_from_ne_true new.failed (λ failed. elim (read.desk.answers failed) [
   | inl before ↦ none (read.shut before)
   | inr now ↦ none now
 ])

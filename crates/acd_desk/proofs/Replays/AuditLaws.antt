@@ -1,6 +1,7 @@
 -- A content has one audit, which is Sound exactly where the content is sound.
-use Rattle.std.proofs.Common.{◌≡◌, ℕ, ◌+◌, ◌<◌, ◌≤◌, List, [], ◌∷◌, ◌++◌, length, take, drop, refl, sym, ap, subst, ◌∙◌, arith, append_assoc, append-nil, Bool, true, false, nat_lt, inl, inr, ltb-true, ltb-false, Ok}
+use Rattle.std.proofs.Common.{◌≡◌, ℕ, ◌+◌, ◌<◌, ◌≤◌, List, [], ◌∷◌, ◌++◌, length, take, drop, refl, sym, ap, subst, ◌∙◌, arith, append_assoc, append-nil, inl, inr, Ok}
 use Rattle.std.proofs.Math.Numerals.{lt-add-one}
+use Rattle.std.proofs.lemmas.Bool.{cases_order}
 use Rattle.std.proofs.lemmas.List.{take-append-drop, take-map, length-take-le}
 use Rattle.acd_terms.specs.declared.event.Event.{Event}
 use Rattle.acd_terms.specs.declared.command.Arrival.{Arrival}
@@ -16,15 +17,12 @@ use Rattle.acd_desk.specs.SoundContent.{arrivals_of, IsSound, raised_from}
 use Rattle.acd_desk.specs.Audit.{replayed, Agrees, IsFirstDifference, IsAudit}
 use Rattle.acd_desk.proofs.Contents.Steps.{step_numbers}
 use Rattle.acd_desk.proofs.Contents.CountersBound.{counted_executed}
+use Rattle.acd_desk.proofs.Contents.Runs.{run_in_two}
 use Rattle.acd_desk.proofs.Contents.SoundRuns.{New, new-distinct, distinct-new, new-take, kept-raised, length-raised, length-arrivals, firsts_same, sound_list}
 use Rattle.acd_desk.proofs.Replays.Audits.{begins}
 use Rattle.acd_book.proofs.SharedLists.{rises_append}
 
 -- ---- a run in two parts ----
-
-run_in_two : (c : Content) (l m : List Arrival) → run_from c (l ++ m) ≡ run_from (run_from c l) m
-run_in_two c [] m = refl
-run_in_two c (a ∷ l) m = run_in_two (executed c a) l m
 
 kept_more : (c : Content) (l : List Arrival) → (more : List Kept) × ((run_from c l).kept ≡ c.kept ++ more)
 kept_more c [] = ([], sym (append-nil c.kept))
@@ -94,30 +92,21 @@ pub one_audit : (c : Content) (a b : Audit) → IsAudit c a → IsAudit c b → 
 one_audit c Sound Sound h g = refl
 one_audit c Sound (Differs n) h g = absurd (sound_or_not c n h g)
 one_audit c (Differs n) Sound h g = absurd (sound_or_not c n g h)
-one_audit c (Differs n) (Differs m) h g =
-    let low : (b : Bool) → nat_lt n m ≡ b → m ≤ n
-    = λ b. elim b as (λ b. nat_lt n m ≡ b → m ≤ n) [
-      | true ↦ λ is. absurd (no_earlier c n m h g (ltb-true n m is))
-      | false ↦ λ is. ltb-false n m is
-    ] in
-    let high : (b : Bool) → nat_lt m n ≡ b → n ≤ m
-    = λ b. elim b as (λ b. nat_lt m n ≡ b → n ≤ m) [
-      | true ↦ λ is. absurd (no_earlier c m n g h (ltb-true m n is))
-      | false ↦ λ is. ltb-false m n is
-    ] in
-    ap Differs (both n m (low (nat_lt n m) refl) (high (nat_lt m n) refl))
-  where
-    both : (n m : ℕ) → m ≤ n → n ≤ m → n ≡ m
-    both n m le ge = omega (arith, le, ge)
+one_audit c (Differs n) (Differs m) h g = elim (cases_order n m) [
+  | inl same ↦ ap Differs same
+  | inr other ↦ elim other [
+    | inl before ↦ absurd (no_earlier c n m h g before)
+    | inr after ↦ absurd (no_earlier c m n g h after)
+  ]
+]
 
 -- ---- a sound content is in order ----
 
 pub going_rises : (last : ℕ) (es : List Event) → GoOn last es → Rises number_of_event last es
 going_rises last [] h = tt
-going_rises last (e ∷ es) h = (next last e.number h.0, subst (λ (n : ℕ). Rises number_of_event n es) (sym h.0) (going_rises (last + 1) es h.1))
-  where
-    next : (n m : ℕ) → m ≡ n + 1 → n < m
-    next n m is = omega (arith, is)
+going_rises last (e ∷ es) h =
+    let here : e.number ≡ last + 1 = h.0 in
+    (omega (arith, here), subst (λ (n : ℕ). Rises number_of_event n es) (sym here) (going_rises (last + 1) es h.1))
 
 pub zero_least : (n : ℕ) → 0 ≤ n
 zero_least n = omega arith

@@ -1,9 +1,9 @@
 -- A replay continues record by record, and ends where the content is sound or differs.
-use Rattle.std.proofs.Common.{◌≡◌, ℕ, ◌+◌, ◌<◌, ◌≤◌, List, [], ◌∷◌, ◌++◌, length, take, drop, refl, sym, ap, ap₂, subst, ◌∙◌, arith, append_assoc, append-nil, Bool, true, false, cond, nat_lt, find, Option, Some, None, is_some, option_map, inl, inr, true≢false, ltb-true, ltb-false}
+use Rattle.std.proofs.Common.{◌≡◌, ℕ, ◌+◌, ◌<◌, ◌≤◌, List, [], ◌∷◌, ◌++◌, length, take, drop, refl, sym, ap, ap₂, subst, ◌∙◌, arith, append_assoc, append-nil, Bool, true, false, cond, nat_lt, Option, Some, None, is_some, option_map, inl, inr, true≢false, ltb-true}
 use Rattle.std.specs.Option.{option_or}
 use Rattle.std.proofs.Math.Seq.{take-append_seam, take-append-add}
 use Rattle.std.proofs.lemmas.List.{map-append, length-append, append_cancel_left, take-append-drop}
-use Rattle.std.proofs.lemmas.List.Folds.{find-append}
+use Rattle.std.proofs.lemmas.Bool.{cases_lt}
 use Rattle.acd_terms.specs.Limits.{limits_fit}
 use Rattle.acd_terms.specs.Lists.{Every}
 use Rattle.acd_terms.specs.Rows.{empty_rows}
@@ -21,14 +21,14 @@ use Rattle.acd_desk.specs.SoundContent.{arrivals_of, IsSound}
 use Rattle.acd_desk.specs.Audit.{replayed, Agrees, AgreesBefore, IsFirstDifference}
 use Rattle.acd_desk.specs.Replay.{again, Splits, Replays, Matches, IsEnd}
 use Rattle.acd_desk.proofs.Archives.NextRecords.{none_left, next_left}
-use Rattle.acd_book.proofs.SharedLists.{not_both}
+use Rattle.acd_desk.proofs.Archives.LookUps.{looked_up, first_record}
+use Rattle.acd_book.proofs.SharedLists.{not_both, none_first}
+use Rattle.acd_lemmas.proofs.Lists.{every_among, find_among, some_is, head_is}
 use Rattle.acd_desk.proofs.Contents.Steps.{step_stamp, step_event, step_numbers}
 use Rattle.acd_desk.proofs.Contents.Runs.{run-limits, after_firsts, executes}
 use Rattle.acd_desk.proofs.Contents.CountersBound.{counted_run}
-use Rattle.acd_desk.proofs.Desks.Commits.{some_none}
 use Rattle.acd_desk.proofs.Contents.ContentLaws.{nothing_taken}
 use Rattle.acd_desk.proofs.Contents.SoundRuns.{run_sound}
-use Rattle.acd_book.proofs.Keys.{key_itself}
 use Rattle.acd_book.proofs.EventsAbove.{left_after}
 
 -- ---- lists in order ----
@@ -38,18 +38,6 @@ rises_after last [] left go rise = subst (λ (n : ℕ). Rises number_of_event n 
 rises_after last (e ∷ es) left go rise =
     let next : Rises number_of_event (last + 1) (es ++ left) = subst (λ (n : ℕ). Rises number_of_event n (es ++ left)) go.0 rise.1 in
     subst (λ (n : ℕ). Rises number_of_event n left) (omega arith) (rises_after (last + 1) es left go.1 next)
-
-every_find : (P : Kept → Type 0) (p : Kept → Bool) (xs : List Kept) (x : Kept) → Every P xs → find p xs ≡ Some x → P x
-every_find P p [] x h is = absurd (some_none x (sym is))
-every_find P p (y ∷ ys) x h is =
-    let Q : Bool → Type 0 = λ b. cond b (Some y) (find p ys) ≡ Some x → P x in
-    (elim (p y) as Q [
-      | true ↦ λ same. subst P (some_same y x same) h.0
-      | false ↦ λ rest. every_find P p ys x h.1 rest
-    ]) is
-  where
-    some_same : (a b : Kept) → Some a ≡ Some b → a ≡ b
-    some_same a b e = cc
 
 -- ---- one record more ----
 
@@ -74,9 +62,6 @@ grown r a k more =
     ] in
     let both = cases (is_some (kept_of r.kept a.request.requester a.request.invoke)) (nat_lt r.rows.last_stamp r.rows.limits.requests) more in
     (none_of (kept_of r.kept a.request.requester a.request.invoke) both.0, ltb-true r.rows.last_stamp r.rows.limits.requests both.1)
-
-first_same : (x y : Kept) → x ∷ [] ≡ y ∷ [] → x ≡ y
-first_same x y h = cc
 
 -- the beginning of a list that splits
 pub begins : {T : Type 0} (n : ℕ) (whole xs ys : List T) → whole ≡ xs ++ ys → length xs ≡ n → take n whole ≡ xs
@@ -135,16 +120,15 @@ agreed_matches c r k tail el s ag =
     let does : after r a ≡ executed r a = executes r a room.0 room.1 in
     let whole : replayed c (r.rows.last_stamp + 1) ≡ executed r a = next.1 ∙ does in
     let evs : List Event = (stepped r.rows a).events in
-    let mine : record_of r.rows a ≡ k = first_same (record_of r.rows a) k (append_cancel_left r.kept (record_of r.rows a ∷ []) (k ∷ []) (ap (λ (x : Content). x.kept) (sym does) ∙ more)) in
+    let mine : record_of r.rows a ≡ k
+    = head_is (record_of r.rows a) k [] [] (append_cancel_left r.kept (record_of r.rows a ∷ []) (k ∷ []) (ap (λ (x : Content). x.kept) (sym does) ∙ more)) in
     let reported : r.events ++ evs ≡ take (length (r.events ++ evs)) c.events = subst (λ (x : Content). x.events ≡ take (length x.events) c.events) whole ag.events in
     let seam : take (length (r.events ++ evs)) c.events ≡ r.events ++ take (length evs) el
     = ap₂ (λ (n : ℕ) (l : List Event). take n l) (length-append r.events evs) s.events ∙ take-append-add r.events el (length evs) in
     let left : evs ≡ take (length evs) el = append_cancel_left r.events evs (take (length evs) el) (reported ∙ seam) in
     let found : kept_of c.kept k.request.requester k.request.invoke ≡ Some k
     = ap (λ (l : List Kept). kept_of l k.request.requester k.request.invoke) s.kept
-    ∙ find-append (λ (x : Kept). is_key k.request.requester k.request.invoke x.request) r.kept (k ∷ tail)
-    ∙ ap (λ (o : Option Kept). option_or o (kept_of (k ∷ tail) k.request.requester k.request.invoke)) room.0
-    ∙ ap (λ (b : Bool). cond b (Some k) (kept_of tail k.request.requester k.request.invoke)) (key_itself k.request) in (
+    ∙ first_record r.kept tail k room.0 in (
       record {
         kept = sym mine;
         first = ap (option_map stamp_of) found;
@@ -160,22 +144,19 @@ unkept_before whole front tail k n is lows stamp first =
     let p : List ℕ = k.request.requester in
     let q : ℕ = k.request.invoke in
     let found : kept_of whole p q ≡ option_or (kept_of front p q) (kept_of (k ∷ tail) p q)
-    = ap (λ (l : List Kept). kept_of l p q) is ∙ find-append (λ (x : Kept). is_key p q x.request) front (k ∷ tail) in
+    = ap (λ (l : List Kept). kept_of l p q) is ∙ looked_up front (k ∷ tail) p q in
     let cases : (o : Option Kept) → kept_of front p q ≡ o → o ≡ None
     = λ o. elim o as (λ o. kept_of front p q ≡ o → o ≡ None) [
       | None ↦ λ is. refl
       | Some x ↦ λ is.
-          let low : x.stamp ≤ n = every_find (λ (y : Kept). y.stamp ≤ n) (λ (y : Kept). is_key p q y.request) front x lows is in
+          let low : x.stamp ≤ n = every_among (λ (y : Kept). y.stamp ≤ n) front x lows (find_among (λ (y : Kept). is_key p q y.request) front x is) in
           let holds : Some x.stamp ≡ Some k.stamp = ap (option_map stamp_of) (ap (λ (o : Option Kept). option_or o (kept_of (k ∷ tail) p q)) (sym is) ∙ sym found) ∙ first in
           absurd (clash x.stamp k.stamp n holds low stamp)
     ] in
     cases (kept_of front p q) refl
   where
-    some_number : (a b : ℕ) → Some a ≡ Some b → a ≡ b
-    some_number a b e = cc
-
     clash : (a b n : ℕ) → Some a ≡ Some b → a ≤ n → b ≡ n + 1 → ⊥
-    clash a b n e low is = let same = some_number a b e in omega (arith, same, low, is)
+    clash a b n e low is = let same = some_is a b e in omega (arith, same, low, is)
 
 unkept : (c r : Content) (k : Kept) (tail : List Kept) (el : List Event) → Splits c r (k ∷ tail) el → Matches c r.rows k → kept_of r.kept k.request.requester k.request.invoke ≡ None
 unkept c r k tail el s m = unkept_before c.kept r.kept tail k r.rows.last_stamp s.kept (split_counted c r (k ∷ tail) el s).kept (ap (λ (x : Kept). x.stamp) m.kept) m.first
@@ -210,20 +191,15 @@ splits_next c r k tail el s m room =
 -- each place up to the next agrees
 agrees_on : (c : Content) (n : ℕ) → AgreesBefore c n → Agrees c n → AgreesBefore c (n + 1)
 agrees_on c n before here m low high =
-    let cases : (b : Bool) → nat_lt m n ≡ b → Agrees c m
-    = λ b. elim b as (λ b. nat_lt m n ≡ b → Agrees c m) [
-      | true ↦ λ is. before m low (ltb-true m n is)
-      | false ↦ λ is. subst (Agrees c) (is_last m n high (ltb-false m n is)) here
-    ] in
-    cases (nat_lt m n) refl
+    elim (cases_lt m n) [
+      | inl lower ↦ before m low lower
+      | inr last ↦ subst (Agrees c) (is_last m n high last) here
+    ]
   where
     is_last : (m n : ℕ) → m < n + 1 → n ≤ m → n ≡ m
     is_last m n h le = omega (arith, h, le)
 
 -- ---- what a replay reads, and what it answers ----
-
-no_place : (m : ℕ) → 1 ≤ m → m < 1 → ⊥
-no_place m low high = omega (arith, low, high)
 
 pub starts_replay : (c : Content) → limits_fit c.rows.limits ≡ true → IsOrdered c → Replays c (empty_rows c.rows.limits)
 starts_replay c fits ordered = record {
@@ -240,7 +216,7 @@ starts_replay c fits ordered = record {
     events_rise = ordered.events;
   };
   rows = refl;
-  agrees = λ m low high. absurd (no_place m low high);
+  agrees = λ m low high. absurd (not_both m 1 high low);
 }
 
 -- the record that is left first is the next
@@ -300,9 +276,6 @@ a_place c r k tail el s =
     let size = s.size in
     omega (arith, long, whole, size)
 
-at_least_one : (n : ℕ) → 1 ≤ n + 1
-at_least_one n = omega arith
-
 -- it doesn't match, or no request is left for it
 replay_differs : (c : Content) (s : Rows) (k : Kept) → Replays c s → IsKeptAfter c.kept s.last_stamp (Some k)
     → (Matches c s k → s.last_stamp < c.rows.limits.requests → ⊥) → IsFirstDifference c (s.last_stamp + 1)
@@ -311,7 +284,7 @@ replay_differs c s k p found unmet =
     let splits : Splits c p.ran (k ∷ left.0) p.events_left = subst (λ (l : List Kept). Splits c p.ran l p.events_left) left.1 p.splits in
     subst (λ (x : Rows). IsFirstDifference c (x.last_stamp + 1)) (sym p.rows)
     (record {
-      place = at_least_one p.ran.rows.last_stamp;
+      place = omega arith;
       before = before_is c s p;
       differs = inl (
         a_place c p.ran k left.0 p.events_left splits,
@@ -329,13 +302,6 @@ replay_full c s k p found full =
     replay_differs c s k p found (λ m room. not_both s.last_stamp c.rows.limits.requests room
     (subst (λ (n : Limits). n.requests ≤ s.last_stamp) (ap (λ (x : Rows). x.limits) p.rows ∙ split_limits c p.ran p.kept_left p.events_left p.splits) full))
 
-pub nothing_more : (el : List Event) → take 1 el ≡ [] → el ≡ []
-nothing_more [] h = refl
-nothing_more (e ∷ es) h = absurd (not_empty e h)
-  where
-    not_empty : (e : Event) → e ∷ [] ≡ [] → ⊥
-    not_empty e h = cc
-
 pub same_content : (c r : Content) → c.rows ≡ r.rows → c.events ≡ r.events → c.kept ≡ r.kept → c ≡ r
 same_content c r e1 e2 e3 =
     let whole : Rows → List Event → List Kept → Content = λ x y z. record { rows = x; events = y; kept = z } in
@@ -343,7 +309,7 @@ same_content c r e1 e2 e3 =
 
 ends_sound : (c r : Content) (el : List Event) → limits_fit c.rows.limits ≡ true → Splits c r [] el → events_after c.events r.rows.last_event 1 ≡ [] → c.rows ≡ r.rows → IsSound c
 ends_sound c r el fits s none rows =
-    let no_event : el ≡ [] = nothing_more el (sym (read_left c r [] el 1 s) ∙ none) in
+    let no_event : el ≡ [] = none_first el (sym (read_left c r [] el 1 s) ∙ none) in
     let same : c ≡ r = same_content c r rows (s.events ∙ ap (λ (l : List Event). r.events ++ l) no_event ∙ append-nil r.events) (s.kept ∙ append-nil r.kept) in
     subst IsSound (sym (same ∙ s.is_run)) (run_sound c.rows.limits (arrivals_of r.kept) fits)
 
@@ -373,7 +339,7 @@ replay_rest c s p found unmet =
     let splits : Splits c p.ran [] p.events_left = subst (λ (l : List Kept). Splits c p.ran l p.events_left) (nothing_left c s p found) p.splits in
     subst (λ (x : Rows). IsFirstDifference c (x.last_stamp + 1)) (sym p.rows)
     (record {
-      place = at_least_one p.ran.rows.last_stamp;
+      place = omega arith;
       before = before_is c s p;
       differs = inr (
         all_places c p.ran p.events_left splits,

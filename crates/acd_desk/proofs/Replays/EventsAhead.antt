@@ -1,25 +1,19 @@
 -- Those above a place, found in a page that was read ahead.
-use Rattle.std.proofs.Common.{◌≡◌, ℕ, ◌<◌, ◌≤◌, zero, suc, Bool, true, false, cond, List, [], ◌∷◌, ◌++◌, inl, inr, refl, ap, sym, ◌∙◌, subst, take, drop, length, arith}
+use Rattle.std.proofs.Common.{◌≡◌, ℕ, ◌<◌, ◌≤◌, zero, suc, Bool, true, List, [], ◌∷◌, ◌++◌, inl, inr, refl, ap, sym, ◌∙◌, subst, take, drop, filter, length, arith, take-append-drop}
 use Rattle.std.specs.Prelude.{◌⊎◌, nat_lt}
+use Rattle.std.proofs.lemmas.Grind.{common_steps}
+use Rattle.std.proofs.lemmas.List.{take-append-le}
 use Rattle.std.proofs.lemmas.List.Elements.{filter-append}
+use Rattle.acd_terms.specs.Lists.{Every}
 use Rattle.acd_book.specs.Content.{Content}
 use Rattle.acd_desk.specs.Kinds.{Kind, all_above, first_above, page_above}
 use Rattle.acd_desk.specs.declared.page.Page.{Page}
 use Rattle.acd_desk.specs.Pages.{IsPage, Reaches}
-use Rattle.acd_desk.proofs.Pages.PageLemmas.{above_again, split}
-
-above_append : {T : Type 0} (f : T → ℕ) (n : ℕ) (xs ys : List T) → all_above f n (xs ++ ys) ≡ all_above f n xs ++ all_above f n ys
-above_append {T = T} f n xs ys = filter-append (λ (x : T). nat_lt n (f x)) xs ys
+use Rattle.acd_desk.proofs.Pages.PageLemmas.{above_again}
+use Rattle.acd_lemmas.proofs.Lists.{filter_all, filter_among, every_among, every_from, every-take}
 
 take_short : {T : Type 0} (n : ℕ) (xs : List T) → length (take n xs) < n → take n xs ≡ xs
-take_short zero xs h = absurd (omega (arith, h))
-take_short (suc n) [] h = refl
-take_short (suc n) (x ∷ xs) h = ap (λ l. x ∷ l) (take_short n xs (omega (arith, h)))
-
-take_front : {T : Type 0} (n : ℕ) (xs ys : List T) → n ≤ length xs → take n (xs ++ ys) ≡ take n xs
-take_front zero xs ys h = refl
-take_front (suc n) [] ys h = absurd (omega (arith, h))
-take_front (suc n) (x ∷ xs) ys h = ap (λ l. x ∷ l) (take_front n xs ys (omega (arith, h)))
+take_short n xs h = grind (arith, common_steps)
 
 take_less : {T : Type 0} (m n : ℕ) (xs : List T) → m ≤ n → take m (take n xs) ≡ take m xs
 take_less zero n xs h = refl
@@ -31,9 +25,10 @@ take_less (suc m) (suc n) (x ∷ xs) h = ap (λ l. x ∷ l) (take_less m n xs (o
 by_reach : {T : Type 0} (f : T → ℕ) (n count limit : ℕ) (all page : List T) → page ≡ take limit all → (length page < limit) ⊎ (count ≤ length (all_above f n page)) → first_above f n count page ≡ first_above f n count all
 by_reach {T = T} f n count limit all page is (inl short) =
     ap (first_above f n count) (is ∙ take_short limit all (subst (λ (l : List T). length l < limit) is short))
-by_reach f n count limit all page is (inr there) =
-    sym (take_front count (all_above f n page) (all_above f n (drop limit all)) there)
-    ∙ ap (take count) (sym (above_append f n page (drop limit all)) ∙ ap (all_above f n) (ap (λ l. l ++ drop limit all) is ∙ split limit all))
+by_reach {T = T} f n count limit all page is (inr there) =
+    sym (take-append-le count (all_above f n page) (all_above f n (drop limit all)) there)
+    ∙ ap (take count)
+    (sym (filter-append (λ (x : T). nat_lt n (f x)) page (drop limit all)) ∙ ap (all_above f n) (ap (λ l. l ++ drop limit all) is ∙ take-append-drop limit all))
 
 pub on_page : {T : Type 0} (kind : Kind T) (c : Content) (p : Page T) (n count : ℕ) → IsPage kind c p → Reaches kind p n count → first_above kind.place n count p.items.items ≡ page_above kind n count c
 on_page kind c p n count is reaches =
@@ -41,15 +36,11 @@ on_page kind c p n count is reaches =
 
 -- those above a place are above it
 still_above : {T : Type 0} (f : T → ℕ) (n : ℕ) (xs : List T) (k : ℕ) → all_above f n (first_above f n k xs) ≡ first_above f n k xs
-still_above f n [] zero = refl
-still_above f n [] (suc k) = refl
-still_above {T = T} f n (x ∷ xs) k = by (nat_lt n (f x)) refl k (still_above f n xs)
-  where
-    by : (b : Bool) → nat_lt n (f x) ≡ b → (k : ℕ) → ((k : ℕ) → all_above f n (first_above f n k xs) ≡ first_above f n k xs)
-        → all_above f n (take k (cond b (x ∷ all_above f n xs) (all_above f n xs))) ≡ take k (cond b (x ∷ all_above f n xs) (all_above f n xs))
-    by true p zero more = refl
-    by true p (suc k) more = ap (λ c. cond c (x ∷ all_above f n (first_above f n k xs)) (all_above f n (first_above f n k xs))) p ∙ ap (λ l. x ∷ l) (more k)
-    by false p k more = more k
+still_above {T = T} f n xs k =
+    let p : T → Bool = λ (x : T). nat_lt n (f x) in
+    let above : Every (λ (x : T). p x ≡ true) (first_above f n k xs)
+    = every-take (λ (x : T). p x ≡ true) k (filter p xs) (every_from (λ (x : T). p x ≡ true) (filter p xs) (λ x at. (filter_among p xs x at).1)) in
+    filter_all p (first_above f n k xs) (λ x. every_among (λ (x : T). p x ≡ true) (first_above f n k xs) x above)
 
 -- a page that begins after the place has the first of so many
 pub on_next_page : {T : Type 0} (kind : Kind T) (c : Content) (p : Page T) (n count : ℕ) → IsPage kind c p → p.above ≡ n → count ≤ p.limit → first_above kind.place n count p.items.items ≡ page_above kind n count c

@@ -1,6 +1,6 @@
 use Rattle.std.proofs.Common.{max, ap, ◌∙◌, rules}
 use Rattle.acd_book.proofs.ReadsAhead.{by_read, read_twice}
-use Rattle.acd_program.proofs.Exports.{ends_after, ends_read, rise_of}
+use Rattle.acd_program.proofs.Exports.{ends_after, ends_read}
 use Rattle.acd_program.proofs.export.add_events.Goals as goal
 
 pub returns-in_err-rows : goal.returns-in_err-rows
@@ -14,4 +14,4 @@ returns-in_err-add_rows g c =
 pub returns : goal.returns
 returns g c =
     read_twice _ (g.B.Book.state c.args.book.now) (g.B.Book.state c.rows.new.self) (g.B.Book.state c.add_rows.new.book) c.in_ok-rows.rows _ (by_read _ _ _ _ c.in_ok-rows.ensures (λ content x is. is)) c.in_ok-add_rows.ensures
-    (λ content is done writes ordered. record { rows = writes (rise_of 0 content.events ordered.events); number = c.max-table.ensures ∙ ap (λ r. max c.args.table.now.last r.last_event) is })
+    (λ content is done writes ordered. record { rows = writes ordered.events; number = c.max-table.ensures ∙ ap (λ r. max c.args.table.now.last r.last_event) is })
