@@ -4,7 +4,7 @@ use Rattle.std.specs.Io.KnownBytes.{Appends}
 use Rattle.sqlite_disk.specs.declared.Disk.{Ghosts}
 use Rattle.sqlite.specs.Files.{over_files, file_state}
 use Rattle.sqlite.specs.State.{State}
-use Rattle.acd_lines.specs.Lines.{Streams, Untouched, Output, output_of, output_between}
+use Rattle.acd_lines.specs.Lines.{Streams, Untouched, Output, output_of}
 use Rattle.acd_lines.specs.declared.fault.LinesFault.{LinesFault}
 use Rattle.acd_log.specs.declared.ending.Ending.{Ending}
 use Rattle.acd_io.specs.SentBytes.{Begins}
@@ -177,24 +177,16 @@ module _ {D : Type 0} (disk : Ghosts D) (IsFresh : Bool → D → Type 0) where
   -- or over a desk in memory, where no file was named
   abbrev pub InputLeft : {Name : Type 0} → Option Name → Bool → Bool → Streams → Fault → Type 0
   InputLeft None reads ends io fault = (why : LinesFault) × (fault ≡ ended_by.Work (lines_fault why)) × MemoryLeft reads io why
-  InputLeft (Some file) reads ends io fault = (file_lines reads ends io).Left fault
+  InputLeft (Some file) reads ends io fault = LeftIn (Untouched io) (LinesLeft reads ends io) fault
 
   abbrev pub input : {Name : Type 0} → Option Name → Bool × Bool → Streams → ToDo Status Fault
   input named asked io = record { Done = InputAnswered disk IsFresh named asked.0 asked.1 io; Left = InputLeft named asked.0 asked.1 io }
 
-  -- the service that a task asks for
-  abbrev pub task_service : Address → Span → Streams → Option (List ℕ) → Option (List ℕ) → ToDo (Unit {0}) Fault
-  task_service address span io old_errors new_errors = file_service (record { span = span; address = address; said = output_of io; errors = output_between old_errors new_errors })
-
-  -- and the standby
-  abbrev pub task_standby : Address → Span → Streams → Option (List ℕ) → Option (List ℕ) → ToDo (Unit {0}) Fault
-  task_standby address span io old_errors new_errors = file_standby (record { address = address; span = span }) io (output_between old_errors new_errors)
-
   -- The task was done, from what was read to what was written, to what was printed on the stream of errors, and to the exit status.
   abbrev pub TaskDone : Task → Streams → Option (List ℕ) → Option (List ℕ) → Status → Type 0
   TaskDone (Lines file reads ends) io old_errors new_errors status = InputAnswered disk IsFresh file reads ends io status
-  TaskDone (Serve file address span) io old_errors new_errors status = (task_service address span io old_errors new_errors).Done tt × (status ≡ Success)
-  TaskDone (Standby file address step patience) io old_errors new_errors status = (task_standby address (endless step patience) io old_errors new_errors).Done tt × (status ≡ Success)
+  TaskDone (Serve file address span) io old_errors new_errors status = ServeDoneIn disk IsFresh span old_errors new_errors × (status ≡ Success)
+  TaskDone (Standby file address step patience) io old_errors new_errors status = StandbyDoneIn disk IsFresh (endless step patience) address io old_errors new_errors × (status ≡ Success)
   TaskDone (Import file plan) io old_errors new_errors status = ImportedIn disk IsFresh io.old_output io.new_output status
   TaskDone (Read file (kind.Import requests)) io old_errors new_errors status = InFile disk IsFresh (λ old new. ImportsOver requests.now old io.old_output io.new_output new) false × (status ≡ Success)
   TaskDone (Read file (kind.Print printout)) io old_errors new_errors status =
@@ -208,15 +200,17 @@ module _ {D : Type 0} (disk : Ghosts D) (IsFresh : Bool → D → Type 0) where
   -- A fault ended the task, from what was read to what was written, and to what was printed on the stream of errors before the fault itself was. No other task but lines and a standby reads, and
   -- none but a service and a standby prints anything there.
   abbrev pub TaskEnded : Task → Streams → Option (List ℕ) → Option (List ℕ) → Fault → Type 0
-  TaskEnded (Lines file reads ends) io old_errors new_errors fault = (new_errors ≡ old_errors) × (input file (reads, ends) io).Left fault
-  TaskEnded (Serve file address span) io old_errors new_errors fault = io.unread × (task_service address span io old_errors new_errors).Left fault
-  TaskEnded (Standby file address step patience) io old_errors new_errors fault = (task_standby address (endless step patience) io old_errors new_errors).Left fault
+  TaskEnded (Lines file reads ends) io old_errors new_errors fault = (new_errors ≡ old_errors) × InputLeft file reads ends io fault
+  TaskEnded (Serve file address span) io old_errors new_errors fault =
+      io.unread × LeftIn (io.unwritten × (new_errors ≡ old_errors)) (ServiceLeft span address io.old_output io.new_output old_errors new_errors) fault
+  TaskEnded (Standby file address step patience) io old_errors new_errors fault =
+      LeftIn (Untouched io × (new_errors ≡ old_errors)) (StandbyLeft (endless step patience) address io old_errors new_errors) fault
   TaskEnded (Import file plan) io old_errors new_errors fault = io.unread × (new_errors ≡ old_errors) × (file_import (output_of io)).Left fault
-  TaskEnded (Read file work) io old_errors new_errors fault = io.unread × (new_errors ≡ old_errors) × (file_work false work (output_of io)).Left fault
+  TaskEnded (Read file work) io old_errors new_errors fault = io.unread × (new_errors ≡ old_errors) × LeftIn io.unwritten (λ why conn. WorkLeft false work conn io.old_output io.new_output) fault
   TaskEnded (AuditWithArchive file archive counts whole) io old_errors new_errors fault = io.unread × (new_errors ≡ old_errors) × (audit_with_archive counts whole (output_of io)).Left fault
   TaskEnded (Prune file archive retention quiet) io old_errors new_errors fault = io.unread × (new_errors ≡ old_errors) × (prune quiet (output_of io)).Left fault
   TaskEnded (ExportWithArchives file archives) io old_errors new_errors fault = io.unread × (new_errors ≡ old_errors) × (export_with_archives (length archives.now) (output_of io)).Left fault
-  TaskEnded (AuditWhole file counts) io old_errors new_errors fault = io.unread × (new_errors ≡ old_errors) × (whole_audit counts (output_of io)).Left fault
+  TaskEnded (AuditWhole file counts) io old_errors new_errors fault = io.unread × (new_errors ≡ old_errors) × LeftIn io.unwritten (IsAuditLeft counts io.old_output io.new_output) fault
 
   -- both
   abbrev pub to_do : Task → Streams → Output → ToDo Status Fault
