@@ -3,8 +3,11 @@ import contextlib
 import os
 import pty
 import resource
+import signal
 import subprocess
 import tempfile
+import threading
+import time
 from pathlib import Path
 from typing import NamedTuple
 
@@ -61,13 +64,24 @@ def growths_in(faults):
     return int(faults.rsplit("growths ", 1)[1])
 
 
-def at_a_terminal(*words, given=""):
-    """The status, and what a run says on standard error where that is a terminal, without the CR of each line."""
+def halted(process):
+    """Lets a process go on for a tenth of a second at a time, and halts it for more than one in between."""
+    while process.poll() is None:
+        time.sleep(0.1)
+        process.send_signal(signal.SIGSTOP)
+        time.sleep(1.2)
+        process.send_signal(signal.SIGCONT)
+
+
+def at_a_terminal(*words, given="", halts=False):
+    """The status, and what a run says on standard error where that is a terminal, without the CR of each line. With `halts` it takes seconds whatever it does."""
     ours, theirs = pty.openpty()
     done = subprocess.Popen([*map(str, words)], stdin=subprocess.PIPE, stdout=subprocess.DEVNULL, stderr=theirs)
     os.close(theirs)
     done.stdin.write(given.encode())
     done.stdin.close()
+    if halts:
+        threading.Thread(target=halted, args=(done,)).start()
     said = b""
     while True:
         try:
