@@ -23,12 +23,12 @@ def everywhere(old, new):
 # What is done to which files (each a file, a text that stands there once, and what takes its place), which names come, which go, and what it says where it can't follow.
 CASES = [
     ("a definition renamed, and all who use it", everywhere("ran_after", "run_behind"), {"run_behind"}, {"ran_after"}, None),
-    ("a definition renamed alone", [(STANDS, "abbrev pub ran_after : ", "abbrev pub run_behind : "), (STANDS, "ran_after start list = run", "run_behind start list = run")], None, None, "ran_after"),
+    ("a definition renamed alone", [(STANDS, "abbrev pub ran_after : ", "abbrev pub run_behind : "), (STANDS, "ran_after start list = desk_run", "run_behind start list = desk_run")], None, None, "ran_after"),
     ("a root that is there twice", [(FOUND, "", "\nabbrev pub TaskEnded : Finding → Type 0\nTaskEnded found = ⊤\n")], None, None, "TaskEnded"),
     ("a definition that nothing uses", [(STANDS, "", EXTRA)], set(), set(), None),
     ("one that a field uses", [(STANDS, "", EXTRA), (STANDS, FITS, FITS.replace("c.rows", "(extra c).rows"))], {"extra"}, set(), None),
     ("one that an earlier field hides", [(STANDS, "", EXTRA), (STANDS, FITS, f"  pub extra : Content\n{FITS.replace('c.rows', 'extra.rows')}")], set(), set(), None),
-    ("one that a parameter hides", [(STANDS, "", EXTRA), (STANDS, "ran_after start list = run start.rows.limits (arrivals_of start.kept ++ list)", "ran_after extra list = run extra.rows.limits (arrivals_of extra.kept ++ list)")], set(), set(), None),
+    ("one that a parameter hides", [(STANDS, "", EXTRA), (STANDS, "ran_after start list = desk_run start.rows.limits (arrivals_of start.kept ++ list)", "ran_after extra list = desk_run extra.rows.limits (arrivals_of extra.kept ++ list)")], set(), set(), None),
     ("one that a λ hides", [(STANDS, "", EXTRA), (STANDS, ARRIVALS, ARRIVALS.replace("(k : Kept)", "(extra : Kept)").replace("k.m", "extra.m").replace("k.r", "extra.r"))], set(), set(), None),
     ("one behind a λ that hides it", [(STANDS, "", EXTRA), (STANDS, FITS, f"  pub fits : ((λ (extra : Content). extra) (extra c)).rows ≡ c.rows\n{FITS.replace('pub fits', 'pub again')}")], {"extra"}, set(), None),
     ("one that a `let` hides", [(STANDS, "", EXTRA), (STANDS, FITS, FITS.replace("limits_fit c.rows", "let extra = c in limits_fit extra.rows"))], set(), set(), None),

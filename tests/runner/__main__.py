@@ -109,7 +109,7 @@ def chosen(words: list[str], jobs: list[Job]) -> list[Job]:
 
 
 def run_shape(options: argparse.Namespace, total: Total) -> bool:
-    jobs = one("count-shape", "proof/count-shape"), one("believed", "proof/believed", "--check"), one("cuts", "proof/cut-edits", "--check")
+    jobs = one("count-shape", "proof/count-shape"), one("believed", "proof/believed", "--check"), one("names", "proof/believed", "--try"), one("cuts", "proof/cut-edits", "--check")
     return all(run([job], total) for job in jobs)
 
 
