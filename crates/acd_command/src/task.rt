@@ -16,7 +16,7 @@ use std::convert::AsStr;
 use std::time::Duration;
 
 /// The text that `acd --version` prints after the program's name: the version, and the toolchain that proved it.
-const VERSION: &str = "1.21 (rattle-kit-13f)";
+const VERSION: &str = "1.22 (rattle-kit-13f)";
 
 const FILE: &str = "file";
 
