@@ -127,8 +127,15 @@ class Names:
         made, file, start, old = [], "", 0, ""
         texts: dict[str, str] = {}
         body, mark, cut = text.partition(MARK)
+        outside = False
         for line in body.split("\n"):
             key, _, said = line.partition(": ")
+            if key == "file":
+                # crates.txt, which has names of crates alone
+                outside = said.startswith("../")
+            if outside:
+                made.append(line)
+                continue
             if key == "file":
                 file = f"crates/{crate}/{said.strip()}"
                 texts.setdefault(file, self.tree.files[file])
