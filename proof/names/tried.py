@@ -3,11 +3,11 @@ import re
 
 from antt import Unclear
 
-STANDS, FIRSTS = "crates/acd_desk/specs/SoundContent.antt", "crates/acd_desk/specs/AbstractDesk.antt"
+STANDS, FIRSTS = "crates/acd_desk/specs/Contents/SoundContent.antt", "crates/acd_desk/specs/Contents/AbstractDesk.antt"
 LIMITS, WORKING = "crates/acd_terms/specs/Limits.antt", "crates/acd_desk/src/working.rt"
 READING, LIB = "crates/acd_codec/specs/RequestReading.antt", "crates/acd_terms/src/lib.rt"
 COMMAND, CODEC_TEXTS = "crates/acd_terms/src/command.rt", "crates/acd_codec/specs/RequestTexts.antt"
-FOUND = "crates/acd_program/specs/AuditFindings.antt"
+FOUND = "crates/acd_program/specs/Commands/AuditFindings.antt"
 FITS = "  pub fits : limits_fit c.rows.limits ≡ true\n"
 USE = "use Rattle.acd_terms.specs.Limits.{limits_fit}\n"
 ARRIVALS = "arrivals_of kept = map (λ (k : Kept). record { moment = k.moment; request = k.request }) kept\n"
@@ -43,11 +43,11 @@ CASES = [
     ("one by its module under another name", [(STANDS, USE, "use Rattle.acd_terms.specs.Limits as extra\n"), (STANDS, FITS, FITS.replace("limits_fit", "extra.limits_fit"))], set(), set(), None),
     ("one by its whole path", [(STANDS, USE, ""), (STANDS, FITS, FITS.replace("limits_fit", "Rattle.acd_terms.specs.Limits.limits_fit"))], set(), set(), None),
     ("one through a name of the header", [(STANDS, USE, "use Rattle.acd_terms.specs.Limits as extra\nuse extra.{limits_fit}\n")], set(), set(), None),
-    ("one that another file passes on", [(STANDS, USE, "use Rattle.acd_desk.specs.AbstractDesk.{limits_fit}\n"), (FIRSTS, "use ", "pub use Rattle.acd_terms.specs.Limits.{limits_fit}\nuse ")], set(), set(), None),
-    ("one that another file passes on under another name", [(STANDS, USE, "use Rattle.acd_desk.specs.AbstractDesk.{extra as limits_fit}\n"), (FIRSTS, "use ", "pub use Rattle.acd_terms.specs.Limits.{limits_fit as extra}\nuse ")], set(), set(), None),
-    ("one that another file has, and doesn't pass on", [(STANDS, USE, "use Rattle.acd_desk.specs.AbstractDesk.{limits_fit}\n"), (FIRSTS, "use ", "use Rattle.acd_terms.specs.Limits.{limits_fit}\nuse ")], None, None, "limits_fit"),
-    ("a name that a child brings by a glob", [("crates/acd_desk/specs/SoundContent/More.antt", "", "use Rattle.acd_book.specs.Content.{Content}\n" + EXTRA), (STANDS, USE, USE + "mod More\nuse More.*\n"), (STANDS, FITS, FITS.replace("c.rows", "(extra c).rows"))], {"extra"}, set(), None),
-    ("a glob's name that the file's own covers", [("crates/acd_desk/specs/SoundContent/More.antt", "", "use Rattle.acd_book.specs.Content.{Content}\n\nabbrev pub IsSound : Content → Content\nIsSound c = c\n"), (STANDS, USE, USE + "mod More\nuse More.*\n")], set(), set(), None),
+    ("one that another file passes on", [(STANDS, USE, "use Rattle.acd_desk.specs.Contents.AbstractDesk.{limits_fit}\n"), (FIRSTS, "use ", "pub use Rattle.acd_terms.specs.Limits.{limits_fit}\nuse ")], set(), set(), None),
+    ("one that another file passes on under another name", [(STANDS, USE, "use Rattle.acd_desk.specs.Contents.AbstractDesk.{extra as limits_fit}\n"), (FIRSTS, "use ", "pub use Rattle.acd_terms.specs.Limits.{limits_fit as extra}\nuse ")], set(), set(), None),
+    ("one that another file has, and doesn't pass on", [(STANDS, USE, "use Rattle.acd_desk.specs.Contents.AbstractDesk.{limits_fit}\n"), (FIRSTS, "use ", "use Rattle.acd_terms.specs.Limits.{limits_fit}\nuse ")], None, None, "limits_fit"),
+    ("a name that a child brings by a glob", [("crates/acd_desk/specs/Contents/SoundContent/More.antt", "", "use Rattle.acd_book.specs.Content.{Content}\n" + EXTRA), (STANDS, USE, USE + "mod More\nuse More.*\n"), (STANDS, FITS, FITS.replace("c.rows", "(extra c).rows"))], {"extra"}, set(), None),
+    ("a glob's name that the file's own covers", [("crates/acd_desk/specs/Contents/SoundContent/More.antt", "", "use Rattle.acd_book.specs.Content.{Content}\n\nabbrev pub IsSound : Content → Content\nIsSound c = c\n"), (STANDS, USE, USE + "mod More\nuse More.*\n")], set(), set(), None),
     ("a name that isn't bound", [(STANDS, FITS, FITS.replace("c.rows", "(extra c).rows"))], None, None, "extra is bound nowhere"),
     ("a variant brought in under another name", [(CODEC_TEXTS, "use Rattle.acd_codec.specs.declared.member.Member.TheVariants as m\n", "use Rattle.acd_codec.specs.declared.member.Member.TheVariants as extra\n"), (CODEC_TEXTS, r"\bm\.(?=[A-Z])", "extra.")], set(), set(), None),
     ("a type of src/ under another name", [(WORKING, "use acd_switch::{RowFault, Switch};", "use acd_switch::{RowFault, Switch as Inner};"), (WORKING, "pub(crate) switch: Box<Switch>,", "pub(crate) switch: Box<Inner>,")], set(), set(), None),

@@ -1,8 +1,8 @@
 //! Answers in text.
 
 ghost use Rattle.std.specs.Prelude.{◌≡◌};
-ghost use Rattle.acd_desk.specs.Arrivals.{arrival_at};
-ghost use Rattle.acd_desk.specs.AnswerTexts.{said, IsRejection, IsSaid, DeskSays};
+ghost use Rattle.acd_desk.specs.Contents.Arrivals.{arrival_at};
+ghost use Rattle.acd_desk.specs.Reads.AnswerTexts.{said, IsRejection, IsSaid, DeskSays};
 
 use crate::desk::Desk;
 use crate::fault::DeskFault;
@@ -21,7 +21,7 @@ pub enum AnswerText {
 
 impl AnswerText {
     ghost use Rattle.std.specs.Prelude.{◌≡◌};
-    ghost use Rattle.acd_desk.specs.AnswerTexts.{said, fixed_said, malformed_said, found_said, seen_text};
+    ghost use Rattle.acd_desk.specs.Reads.AnswerTexts.{said, fixed_said, malformed_said, found_said, seen_text};
 
     /// An answer that is the same for all. It takes no memory.
     pub fn fixed(answer: FixedAnswer) -> AnswerText

@@ -1,11 +1,11 @@
 //! The audit of a desk: its book's content, against the replay of its kept requests.
 
-ghost use Rattle.acd_desk.specs.DeskState.{book_of};
-ghost use Rattle.acd_desk.specs.DeskReads.{DeskRead};
-ghost use Rattle.acd_desk.specs.Audit.{IsAudited, FindsSound};
+ghost use Rattle.acd_desk.specs.Desks.DeskState.{book_of};
+ghost use Rattle.acd_desk.specs.Reads.DeskReads.{DeskRead};
+ghost use Rattle.acd_desk.specs.Audits.Audit.{IsAudited, FindsSound};
 ghost use Rattle.acd_book.specs.BookReads.{Anything, MayRead};
 ghost use Rattle.std.specs.Prelude.{◌≡◌};
-ghost use Rattle.acd_desk.specs.ArchiveAudits.{desk_part, archived_part, pair_fault, left_by_pair, IsAuditedWith};
+ghost use Rattle.acd_desk.specs.Audits.ArchiveAudits.{desk_part, archived_part, pair_fault, left_by_pair, IsAuditedWith};
 
 use crate::desk::Desk;
 use crate::fault::DeskFault;

@@ -1,9 +1,9 @@
 //! The desk's own clock: its tick, and when that is handed in.
 
 ghost use Rattle.std.specs.Prelude.{◌≡◌, ◌++◌, codes, decimal};
-ghost use Rattle.acd_desk.specs.DeskState.{state_of};
-ghost use Rattle.acd_desk.specs.Clock.{clock_requester, clock_tick, may_be_due, DeskLooked};
-ghost use Rattle.acd_desk.specs.LoadedDesk.{DeskBrings};
+ghost use Rattle.acd_desk.specs.Desks.DeskState.{state_of};
+ghost use Rattle.acd_desk.specs.Desks.Clock.{clock_requester, clock_tick, may_be_due, DeskLooked};
+ghost use Rattle.acd_desk.specs.Desks.LoadedDesk.{DeskBrings};
 
 use crate::desk::Desk;
 use crate::fault::DeskFault;

@@ -1,14 +1,14 @@
 //! A desk over a book.
 
 ghost use Rattle.std.specs.Prelude.{◌≡◌, [], ◌∷◌, OnOk, OnErr, IfOk};
-ghost use Rattle.acd_desk.specs.Arrivals.{arrival_at};
-ghost use Rattle.acd_desk.specs.DeskState.{state_of, book_of, with_switch};
+ghost use Rattle.acd_desk.specs.Contents.Arrivals.{arrival_at};
+ghost use Rattle.acd_desk.specs.Desks.DeskState.{state_of, book_of, with_switch};
 ghost use Rattle.acd_terms.specs.Lists.{Every};
-ghost use Rattle.acd_desk.specs.DeskCalls.{TookNew, DeskTook, DeskRan, HasFailed, EndsIn, IsStoreFault};
-ghost use Rattle.acd_desk.specs.DeskReads.{TakesSwitch};
-ghost use Rattle.acd_desk.specs.Faults.{answer_to, fault_of, left_by};
-ghost use Rattle.acd_desk.specs.Opening.{Opens};
-ghost use Rattle.acd_desk.specs.Replies.{answer_of};
+ghost use Rattle.acd_desk.specs.Desks.DeskCalls.{TookNew, DeskTook, DeskRan, HasFailed, EndsIn, IsStoreFault};
+ghost use Rattle.acd_desk.specs.Reads.DeskReads.{TakesSwitch};
+ghost use Rattle.acd_desk.specs.Desks.Faults.{answer_to, fault_of, left_by};
+ghost use Rattle.acd_desk.specs.Desks.Opening.{Opens};
+ghost use Rattle.acd_desk.specs.Contents.Replies.{answer_of};
 
 use crate::executing::{executed, loaded};
 use crate::fault::DeskFault;

@@ -2,10 +2,10 @@
 
 ghost use Rattle.std.specs.Prelude.{◌≡◌, IfOk, IfErr};
 ghost use Rattle.acd_model.specs.Rules.First.{BreaksNoRule};
-ghost use Rattle.acd_desk.specs.Arrivals.{arrival_at};
-ghost use Rattle.acd_desk.specs.AbstractDesk.{kept_at};
-ghost use Rattle.acd_desk.specs.PreparedCommit.{HasExecuted};
-ghost use Rattle.acd_desk.specs.Replay.{HasRoom};
+ghost use Rattle.acd_desk.specs.Contents.Arrivals.{arrival_at};
+ghost use Rattle.acd_desk.specs.Contents.AbstractDesk.{kept_at};
+ghost use Rattle.acd_desk.specs.Desks.PreparedCommit.{HasExecuted};
+ghost use Rattle.acd_desk.specs.Audits.Replay.{HasRoom};
 
 use crate::working::LoadedSwitch;
 use acd_book::{BookFault, Kept, Text};

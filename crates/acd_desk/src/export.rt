@@ -1,8 +1,8 @@
 //! The export of a desk's events, read page by page.
 
 ghost use Rattle.acd_book.specs.BookReads.{Anything};
-ghost use Rattle.acd_desk.specs.DeskReads.{DeskRead};
-ghost use Rattle.acd_desk.specs.ReadAnswers.{WritesPage, IsExport};
+ghost use Rattle.acd_desk.specs.Reads.DeskReads.{DeskRead};
+ghost use Rattle.acd_desk.specs.Reads.ReadAnswers.{WritesPage, IsExport};
 
 use crate::desk::Desk;
 use crate::fault::DeskFault;

@@ -7,7 +7,7 @@ ghost use Rattle.acd_model.specs.Rules.Occupied.{rings_from};
 ghost use Rattle.acd_model.specs.Scans.{connection_of};
 ghost use Rattle.acd_tables.specs.IndexedRows.{is_ringing, pair_cmp};
 ghost use Rattle.acd_reports.specs.QueueReport.{group_state};
-ghost use Rattle.acd_desk.specs.GroupStates.{first_of, lesser_number, queued_of};
+ghost use Rattle.acd_desk.specs.Reads.GroupStates.{first_of, lesser_number, queued_of};
 
 use acd_reports::GroupState;
 use acd_tables::Tables;

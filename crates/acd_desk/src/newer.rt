@@ -3,9 +3,9 @@
 ghost use Rattle.std.specs.Prelude.{◌≡◌, ◌+◌, IfOk};
 ghost use Rattle.acd_book.specs.State.{BookFinds};
 ghost use Rattle.acd_book.specs.BookReads.{MayRead};
-ghost use Rattle.acd_desk.specs.Pairs.{BorrowsSame, BothRead, by_opening};
-ghost use Rattle.acd_desk.specs.Replay.{HasRoom};
-ghost use Rattle.acd_desk.specs.ReplayWith.{is_kept, IsSwitchOf, Notes, first_of_both, with_first, PlaysWith, StepsOnWith, answer_at_end, IsStepWith, CountsOneWith, AuditsFrom, AuditsInOrder};
+ghost use Rattle.acd_desk.specs.Audits.Pairs.{BorrowsSame, BothRead, by_opening};
+ghost use Rattle.acd_desk.specs.Audits.Replay.{HasRoom};
+ghost use Rattle.acd_desk.specs.Audits.ReplayWith.{is_kept, IsSwitchOf, Notes, first_of_both, with_first, PlaysWith, StepsOnWith, answer_at_end, IsStepWith, CountsOneWith, AuditsFrom, AuditsInOrder};
 
 use crate::audit::ArchiveAudit;
 use crate::open_fault::OpenFault;

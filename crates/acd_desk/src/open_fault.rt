@@ -21,7 +21,7 @@ pub enum OpenFault {
 
 impl From<BookFault> for OpenFault {
     ghost use Rattle.std.specs.Prelude.{◌≡◌};
-    ghost use Rattle.acd_desk.specs.Opening.{by_book};
+    ghost use Rattle.acd_desk.specs.Desks.Opening.{by_book};
 
     ghost from_gives = { λ fault made. made ≡ by_book fault };
 
@@ -35,7 +35,7 @@ impl From<BookFault> for OpenFault {
 
 impl From<RowFault> for OpenFault {
     ghost use Rattle.std.specs.Prelude.{◌≡◌};
-    ghost use Rattle.acd_desk.specs.Opening.{by_rows};
+    ghost use Rattle.acd_desk.specs.Desks.Opening.{by_rows};
 
     ghost from_gives = { λ fault made. made ≡ by_rows fault };
 

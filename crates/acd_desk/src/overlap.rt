@@ -6,9 +6,9 @@ ghost use Rattle.acd_book.specs.Content.{Content};
 ghost use Rattle.acd_book.specs.State.{BookReads};
 ghost use Rattle.acd_book.specs.BookReads.{Anything, IfOrdered, MayRead};
 ghost use Rattle.acd_book.specs.ListOverlap.{cut_before};
-ghost use Rattle.acd_desk.specs.Kinds.{listed};
-ghost use Rattle.acd_desk.specs.Pairs.{BorrowsSame, BothRead};
-ghost use Rattle.acd_desk.specs.Overlap.{IsCutAt, IsCutOf, IsBefore, DecidesCleanCut, IsNextOf, ArePagesOf, ReadsNext, FindsOther, FindsMoment, FindsAbove, FindsPlace, earlier};
+ghost use Rattle.acd_desk.specs.Reads.Kinds.{listed};
+ghost use Rattle.acd_desk.specs.Audits.Pairs.{BorrowsSame, BothRead};
+ghost use Rattle.acd_desk.specs.Audits.Overlap.{IsCutAt, IsCutOf, IsBefore, DecidesCleanCut, IsNextOf, ArePagesOf, ReadsNext, FindsOther, FindsMoment, FindsAbove, FindsPlace, earlier};
 
 use crate::page::Page;
 use crate::pair::{Pair, PairFault, of_archive, of_current};

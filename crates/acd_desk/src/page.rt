@@ -3,8 +3,8 @@
 ghost use Rattle.std.specs.Prelude.{◌≡◌, ◌≤◌, length, true, IfOk};
 ghost use Rattle.acd_book.specs.Content.{Content, events_after};
 ghost use Rattle.acd_book.specs.State.{BookReads};
-ghost use Rattle.acd_desk.specs.Kinds.{all_above, first_above, listed};
-ghost use Rattle.acd_desk.specs.Pages.{IsPage, Reaches, Extends, GivesEvents};
+ghost use Rattle.acd_desk.specs.Reads.Kinds.{all_above, first_above, listed};
+ghost use Rattle.acd_desk.specs.Reads.Pages.{IsPage, Reaches, Extends, GivesEvents};
 ghost use Rattle.acd_book.specs.BookReads.{MayRead};
 
 use crate::placed::Placed;

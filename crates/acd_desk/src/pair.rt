@@ -1,7 +1,7 @@
 //! An archive and the book that continues it, and what reads of both answer.
 
 ghost use Rattle.std.specs.Prelude.{◌≡◌};
-ghost use Rattle.acd_desk.specs.Pairs.{of_current, of_archive, of_opening};
+ghost use Rattle.acd_desk.specs.Audits.Pairs.{of_current, of_archive, of_opening};
 
 use crate::open_fault::OpenFault;
 use acd_book::{Book, BookFault};

@@ -3,7 +3,7 @@
 ghost use Rattle.std.specs.Prelude.{◌≡◌};
 ghost use Rattle.std.specs.Bool.{Decides};
 ghost use Rattle.acd_book.specs.State.{BookLists};
-ghost use Rattle.acd_desk.specs.Kinds.{Kind, page_above};
+ghost use Rattle.acd_desk.specs.Reads.Kinds.{Kind, page_above};
 
 use acd_book::{Book, BookFault, Kept};
 use acd_terms::Event;
@@ -28,7 +28,7 @@ pub(crate) trait Placed: Drop {
 }
 
 impl Placed for Kept {
-    ghost use Rattle.acd_desk.specs.Kinds.{by_stamp};
+    ghost use Rattle.acd_desk.specs.Reads.Kinds.{by_stamp};
 
     ghost kind = { by_stamp };
 
@@ -50,7 +50,7 @@ impl Placed for Kept {
 }
 
 impl Placed for Event {
-    ghost use Rattle.acd_desk.specs.Kinds.{by_number};
+    ghost use Rattle.acd_desk.specs.Reads.Kinds.{by_number};
 
     ghost kind = { by_number };
 

@@ -29,7 +29,7 @@ pub enum Question {
 
 impl Question {
     ghost use Rattle.std.specs.Prelude.{◌≡◌};
-    ghost use Rattle.acd_desk.specs.ReadAnswers.{is_plain};
+    ghost use Rattle.acd_desk.specs.Reads.ReadAnswers.{is_plain};
 
     /// Whether the answer is plain text, as a report is, and not JSON.
     pub fn is_plain(&self) -> bool

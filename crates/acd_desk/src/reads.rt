@@ -5,9 +5,9 @@ ghost use Rattle.std.specs.Fn.{FnOnceTakesAt};
 ghost use Rattle.acd_terms.specs.declared.rows.Rows.{Rows};
 ghost use Rattle.acd_model.specs.Rules.First.{BreaksNoRule};
 ghost use Rattle.acd_book.specs.Content.{events_page, monitor_page};
-ghost use Rattle.acd_desk.specs.DeskState.{state_of};
-ghost use Rattle.acd_desk.specs.DeskReads.{MadeBy, DeskRead, DeskFinds, DeskLists, DeskReadText};
-ghost use Rattle.acd_desk.specs.ReadAnswers.{text_read, agent_read, call_read, device_read, queue_read, report_read, snapshot_read, page_read, events_read, history_read, monitor_read, page_size, requests_page, requests_read, question_read, last_event_for, CountsKept};
+ghost use Rattle.acd_desk.specs.Desks.DeskState.{state_of};
+ghost use Rattle.acd_desk.specs.Reads.DeskReads.{MadeBy, DeskRead, DeskFinds, DeskLists, DeskReadText};
+ghost use Rattle.acd_desk.specs.Reads.ReadAnswers.{text_read, agent_read, call_read, device_read, queue_read, report_read, snapshot_read, page_read, events_read, history_read, monitor_read, page_size, requests_page, requests_read, question_read, last_event_for, CountsKept};
 
 use crate::desk::Desk;
 use crate::fault::DeskFault;

@@ -8,11 +8,11 @@ ghost use Rattle.acd_book.specs.State.{BookReads};
 ghost use Rattle.acd_terms.specs.Limits.{limits_fit};
 ghost use Rattle.acd_terms.specs.Rows.{empty_rows};
 ghost use Rattle.acd_model.specs.Rules.First.{BreaksNoRule};
-ghost use Rattle.acd_desk.specs.AbstractDesk.{stepped};
-ghost use Rattle.acd_desk.specs.Audit.{IsAudit};
-ghost use Rattle.acd_desk.specs.Pages.{IsPageOf};
+ghost use Rattle.acd_desk.specs.Contents.AbstractDesk.{stepped};
+ghost use Rattle.acd_desk.specs.Audits.Audit.{IsAudit};
+ghost use Rattle.acd_desk.specs.Reads.Pages.{IsPageOf};
 ghost use Rattle.acd_book.specs.BookReads.{MayRead, BookDecides, IfOrdered};
-ghost use Rattle.acd_desk.specs.Replay.{HasRoom, again, IsFirstOfKey, IsFirstWith, DecidesFirst, DecidesNext, DecidesKnown, Matches, IsEnd, BeginsReplay, BeginsEmpty, Plays, StepsOn, IsStep, CountsOne, IsAll};
+ghost use Rattle.acd_desk.specs.Audits.Replay.{HasRoom, again, IsFirstOfKey, IsFirstWith, DecidesFirst, DecidesNext, DecidesKnown, Matches, IsEnd, BeginsReplay, BeginsEmpty, Plays, StepsOn, IsStep, CountsOne, IsAll};
 
 use crate::audit::Audit;
 use crate::executing::executed;

@@ -2,7 +2,7 @@
 
 ghost use Rattle.std.specs.Prelude.{◌≡◌, codes, IfOk, OnOk, string_bytes};
 ghost use Rattle.std.specs.List.{join_by};
-ghost use Rattle.acd_desk.specs.RequestPages.{executed_text, further_texts, requests_text, Writes};
+ghost use Rattle.acd_desk.specs.Reads.RequestPages.{executed_text, further_texts, requests_text, Writes};
 
 use acd_book::Kept;
 use acd_codec::request_text;
@@ -10,7 +10,7 @@ use std::alloc::{AllocError, Global};
 use std::fmt::Write;
 
 // Writes a request, with its reply as it is kept.
-#[tactic(auto, unfolding(crate::specs::RequestPages::executed_text))]
+#[tactic(auto, unfolding(crate::specs::Reads::RequestPages::executed_text))]
 fn put_executed(alloc: Global, page: &mut String, kept: &Kept) -> Result<(), AllocError>
     ensures { OnOk result (Writes page.old page.new (executed_text kept.now)) }
 {
@@ -51,7 +51,7 @@ fn put_all(alloc: Global, page: &mut String, kept: &[Kept]) -> Result<(), AllocE
 }
 
 /// The text of these requests, beside the stamp of the last one of all.
-#[tactic(auto, unfolding(crate::specs::RequestPages::requests_text))]
+#[tactic(auto, unfolding(crate::specs::Reads::RequestPages::requests_text))]
 pub(crate) fn requests_text(alloc: Global, kept: &[Kept], last: u64) -> Result<String, AllocError>
     ensures { IfOk result (λ s. string_bytes s ≡ requests_text kept.now last) }
 {

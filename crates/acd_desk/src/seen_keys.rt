@@ -2,7 +2,7 @@
 
 ghost use Rattle.std.specs.Prelude.{◌≡◌};
 ghost use Rattle.acd_terms.specs.declared.command.Request.{Request as Asked};
-ghost use Rattle.acd_desk.specs.KeyPlaces.{place_of, place_from, is_seen_key, IsSeenKey};
+ghost use Rattle.acd_desk.specs.Contents.KeyPlaces.{place_of, place_from, is_seen_key, IsSeenKey};
 
 use acd_terms::Request;
 use std::alloc::{AllocError, Global};
@@ -50,7 +50,7 @@ impl SeenKeys {
 }
 
 // The place of a request's key.
-#[tactic(auto, unfolding(crate::specs::KeyPlaces::place_of))]
+#[tactic(auto, unfolding(crate::specs::Contents::KeyPlaces::place_of))]
 fn place_of(request: &Request) -> usize
     ensures { result ≡ place_of request.now }
 {

@@ -1,7 +1,7 @@
 //! A whole session over a book: it is opened, run and closed.
 
 ghost use Rattle.std.specs.Prelude.{◌≡◌, IfOk, IfErr};
-ghost use Rattle.acd_desk.specs.Session.{RanOver, RefusedOver, LeavesContent};
+ghost use Rattle.acd_desk.specs.Desks.Session.{RanOver, RefusedOver, LeavesContent};
 
 use crate::desk::Desk;
 use crate::open_fault::OpenFault;

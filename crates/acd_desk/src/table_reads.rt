@@ -6,7 +6,7 @@ ghost use Rattle.std.specs.List.Sorted.{IsStrictlySortedBy};
 ghost use Rattle.acd_model.specs.Scans.{connections_of};
 ghost use Rattle.acd_model.specs.Rules.First.{BreaksNoRule};
 ghost use Rattle.acd_tables.specs.IndexedRows.{pair_cmp};
-ghost use Rattle.acd_desk.specs.ReadAnswers.{text_read, agent_read, call_read, station_at, planned_at, device_read, connections_of_device, queue_read, report_read, live_call, snapshot_of, snapshot_read};
+ghost use Rattle.acd_desk.specs.Reads.ReadAnswers.{text_read, agent_read, call_read, station_at, planned_at, device_read, connections_of_device, queue_read, report_read, live_call, snapshot_of, snapshot_read};
 
 use crate::group_states::group_states;
 use acd_codec::{
@@ -219,7 +219,7 @@ fn stations_in(
     Ok(seen)
 }
 
-#[tactic(auto, unfolding(crate::specs::ReadAnswers::snapshot_of))]
+#[tactic(auto, unfolding(crate::specs::Reads::ReadAnswers::snapshot_of))]
 fn snapshot_of(alloc: Global, tables: &Tables) -> Result<Snapshot, AllocError>
     requires { BreaksNoRule tables.now }
     ensures { IfOk result (λ s. s ≡ snapshot_of tables.now) }

@@ -20,7 +20,7 @@ pub enum Taken {
 
 impl From<DeskFault> for Taken {
     ghost use Rattle.std.specs.Prelude.{◌≡◌};
-    ghost use Rattle.acd_desk.specs.Faults.{taken_by};
+    ghost use Rattle.acd_desk.specs.Desks.Faults.{taken_by};
 
     ghost from_gives = { λ fault taken. taken ≡ taken_by fault };
 

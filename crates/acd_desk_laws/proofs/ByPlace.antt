@@ -10,8 +10,8 @@ use Rattle.acd_book.specs.declared.kept.Kept.{Kept}
 use Rattle.acd_book.specs.Content.{Content, empty_content, is_key, kept_of}
 use Rattle.acd_desk.specs.declared.taken.Taken.{Taken}
 use Rattle.acd_desk.specs.declared.taken.Taken.TheVariants.{Reply, InvokeReused}
-use Rattle.acd_desk.specs.AbstractDesk.{has_key, distinct_from, firsts, record_of, executed, run_from, desk_run}
-use Rattle.acd_desk.specs.Replies.{same_request, answer_of, reply_to, StandTogether, StandsFirst, IsEarlier, IsReplyAt, first_arrival, repeat, reused, full}
+use Rattle.acd_desk.specs.Contents.AbstractDesk.{has_key, distinct_from, firsts, record_of, executed, run_from, desk_run}
+use Rattle.acd_desk.specs.Contents.Replies.{same_request, answer_of, reply_to, StandTogether, StandsFirst, IsEarlier, IsReplyAt, first_arrival, repeat, reused, full}
 use Rattle.acd_desk.proofs.Contents.Keys.{same_itself}
 use Rattle.acd_desk.proofs.Contents.Runs.{has-push}
 use Rattle.acd_desk.proofs.Contents.SoundRuns.{New, distinct-new}

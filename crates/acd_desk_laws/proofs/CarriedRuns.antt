@@ -10,16 +10,16 @@ use Rattle.acd_book.specs.declared.book.Book.{Ghosts}
 use Rattle.acd_book.specs.Content.{Content, IsCounted}
 use Rattle.acd_desk.specs.declared.taken.Taken.{Taken}
 use Rattle.acd_desk.specs.declared.taken.Taken.TheVariants.{Reply, InvokeReused, DeskFull, NoMemory, StoreFault}
-use Rattle.acd_desk.specs.AcceptedArrivals.{is_fault, has_accepted, accepted, maybe_last}
-use Rattle.acd_desk.specs.SoundContent.{IsSound, ran_after, StopsAt}
-use Rattle.acd_desk.specs.AnyContent.{led, StopsFrom, IsAsTogether}
-use Rattle.acd_desk.specs.CarriedContent.{Archive, together, IsNewTo, NoneSentAgain, joined}
+use Rattle.acd_desk.specs.Contents.AcceptedArrivals.{is_fault, has_accepted, accepted, maybe_last}
+use Rattle.acd_desk.specs.Contents.SoundContent.{IsSound, ran_after, StopsAt}
+use Rattle.acd_desk.specs.Contents.AnyContent.{led, StopsFrom, IsAsTogether}
+use Rattle.acd_desk.specs.Contents.CarriedContent.{Archive, together, IsNewTo, NoneSentAgain, joined}
 use Rattle.acd_desk_laws.specs.CarriedLaws.{IsRunOfAll, CarriedRuns}
 use Rattle.acd_desk.proofs.Contents.RunsOfAnyContent.{sound_led, sound_answers}
 use Rattle.acd_desk.proofs.Contents.SoundRuns.{ran_sound, stop_sound}
 use Rattle.acd_desk.proofs.Contents.ContentLaws.{sound_keeps_laws, sound_rules}
 use Rattle.acd_desk.proofs.Contents.OlderRecords.{counted_alone, goes_on, cut_again}
-use Rattle.acd_desk.specs.Pruning.{IsGone}
+use Rattle.acd_desk.specs.Contents.Pruning.{IsGone}
 use Rattle.acd_desk_laws.specs.PruneLaws.{IsCarriedFurther}
 
 pub run_of_all : (p : Archive) (c : Content) (list : List Arrival) → IsSound (together p c) → NoneSentAgain p list → IsRunOfAll p c list

@@ -8,8 +8,8 @@ use Rattle.acd_terms.specs.declared.rows.Limits.{Limits}
 use Rattle.acd_terms.specs.declared.command.Arrival.{Arrival}
 use Rattle.acd_terms.specs.declared.command.Request.{Request}
 use Rattle.acd_book.specs.Content.{Content, is_key, empty_content}
-use Rattle.acd_desk.specs.AbstractDesk.{has_key, distinct_from, firsts, desk_run, run_from}
-use Rattle.acd_desk.specs.Replies.{answer_in, reply_to}
+use Rattle.acd_desk.specs.Contents.AbstractDesk.{has_key, distinct_from, firsts, desk_run, run_from}
+use Rattle.acd_desk.specs.Contents.Replies.{answer_in, reply_to}
 use Rattle.acd_desk_laws.specs.Feeding.{IsFed, nothing, part}
 use Rattle.acd_desk.proofs.Contents.Runs.{distinct-push, has-push}
 use Rattle.acd_desk.proofs.Contents.LongerLists.{reply_stays, has_within}

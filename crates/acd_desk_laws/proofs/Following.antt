@@ -20,10 +20,10 @@ use Rattle.acd_lemmas.proofs.State.{group_among, group_key}
 use Rattle.acd_laws.proofs.Watched.ReportedState.{after-append}
 use Rattle.acd_laws.proofs.Watched.WatchedRuns.{step_keeps_watched, entry_number}
 use Rattle.acd_book.specs.Content.{Content, GoOn, IsCounted, kept_of}
-use Rattle.acd_desk.specs.AbstractDesk.{stepped, executed}
-use Rattle.acd_desk.specs.Replies as replies
-use Rattle.acd_desk.specs.SoundContent.{IsSound, ran_after}
-use Rattle.acd_desk.specs.ReadAnswers.{above}
+use Rattle.acd_desk.specs.Contents.AbstractDesk.{stepped, executed}
+use Rattle.acd_desk.specs.Contents.Replies as replies
+use Rattle.acd_desk.specs.Contents.SoundContent.{IsSound, ran_after}
+use Rattle.acd_desk.specs.Reads.ReadAnswers.{above}
 use Rattle.acd_desk_laws.specs.Following.{shown_at, figures_shown, IsCallBefore, LeadsBy, SnapshotLeadsOn}
 use Rattle.acd_desk.proofs.Contents.ContentLaws.{sound_keeps_laws, sound_keeps_figures, sound_rules, sound_reports_no_more, sound_counted}
 use Rattle.acd_desk_laws.proofs.RecastEvents.{is_held, history, watched_recast, no_more_recast, last_none, held_place}

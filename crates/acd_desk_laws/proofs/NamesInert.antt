@@ -15,8 +15,8 @@ use Rattle.acd_book.specs.declared.kept.Kept.{Kept}
 use Rattle.acd_book.specs.Content.{Content, empty_content, committed, is_key, kept_of}
 use Rattle.acd_desk.specs.declared.taken.Taken.{Taken}
 use Rattle.acd_desk.specs.declared.taken.Taken.TheVariants.{Reply, InvokeReused, DeskFull}
-use Rattle.acd_desk.specs.AbstractDesk.{has_key, distinct_from, firsts, kept_at, record_of, executed, run_from, desk_run}
-use Rattle.acd_desk.specs.Replies.{same_request, answer_of, reply_to}
+use Rattle.acd_desk.specs.Contents.AbstractDesk.{has_key, distinct_from, firsts, kept_at, record_of, executed, run_from, desk_run}
+use Rattle.acd_desk.specs.Contents.Replies.{same_request, answer_of, reply_to}
 use Rattle.acd_desk_laws.specs.NameLaws.{unnamed_request, unnamed_arrival, unnamed_kept, HasOneRequestAKey, answers, SameArrivalsButNames, ContentIgnoresNames, AnswersIgnoreNames}
 use Rattle.acd_desk.proofs.Contents.Keys.{same_itself}
 

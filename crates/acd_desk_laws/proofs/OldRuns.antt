@@ -26,8 +26,8 @@ use Rattle.acd_model.specs.Step.{Stepped, step, step_by, executed_moment, next_s
 use Rattle.acd_model.specs.declared.moves.Move.{Move}
 use Rattle.acd_book.specs.declared.kept.Kept.{Kept}
 use Rattle.acd_book.specs.Content.{Content, empty_content, committed}
-use Rattle.acd_desk.specs.AbstractDesk.{firsts, kept_at, executed, run_from}
-use Rattle.acd_desk.specs.SoundContent.{arrivals_of, IsSound}
+use Rattle.acd_desk.specs.Contents.AbstractDesk.{firsts, kept_at, executed, run_from}
+use Rattle.acd_desk.specs.Contents.SoundContent.{arrivals_of, IsSound}
 use Rattle.acd_desk_laws.specs.OldStep.{old_log_on_at, old_log_on, old_set_agent_state, old_serve, old_step_at, old_step}
 use Rattle.acd_desk_laws.specs.OldSound.{old_executed, old_run_from, IsOldRequested, IsOldCommand, IsOldSound}
 use Rattle.acd_desk_laws.proofs.OldStates.{just_one, IsOldState, empty_is_old, moved_is_old, serve_old, step_is_old}

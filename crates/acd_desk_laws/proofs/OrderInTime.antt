@@ -18,10 +18,10 @@ use Rattle.acd_book.specs.declared.kept.Kept.{Kept}
 use Rattle.acd_book.specs.Content.{Content, empty_content, GoOn}
 use Rattle.acd_book.specs.Memory.{stamp_of, number_of_event}
 use Rattle.acd_book.specs.Order.{IsOrdered}
-use Rattle.acd_desk.specs.AbstractDesk.{stepped, record_of, executed, run_from, firsts}
-use Rattle.acd_desk.specs.SoundContent.{IsSound, arrivals_of}
-use Rattle.acd_desk.specs.CarriedContent.{Archive, together}
-use Rattle.acd_desk.specs.AuditWith.{Ascends, StandsInTime}
+use Rattle.acd_desk.specs.Contents.AbstractDesk.{stepped, record_of, executed, run_from, firsts}
+use Rattle.acd_desk.specs.Contents.SoundContent.{IsSound, arrivals_of}
+use Rattle.acd_desk.specs.Contents.CarriedContent.{Archive, together}
+use Rattle.acd_desk.specs.Audits.AuditWith.{Ascends, StandsInTime}
 use Rattle.acd_desk.proofs.Replays.AuditLaws.{sound_ordered, zero_least}
 use Rattle.acd_desk.proofs.Contents.OlderRecords.{counted_alone}
 use Rattle.acd_desk.proofs.Archives.CleanCuts.{ascends_lower, ascends_back}

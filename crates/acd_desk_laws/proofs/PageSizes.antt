@@ -16,10 +16,10 @@ use Rattle.acd_lemmas.proofs.Lists.{every-append, every-take, every-filter}
 use Rattle.acd_laws.proofs.Rules.RulesAll.{step_keeps_rules, run_keeps_rules, rules_bound}
 use Rattle.acd_book.specs.declared.kept.Kept.{Kept}
 use Rattle.acd_book.specs.Content.{Content, empty_content}
-use Rattle.acd_desk.specs.AbstractDesk.{stepped, record_of, executed, run_from}
-use Rattle.acd_desk.specs.SoundContent.{arrivals_of}
-use Rattle.acd_desk.specs.RequestPages.{executed_text, further_texts, requests_text}
-use Rattle.acd_desk.specs.ReadAnswers.{requests_size, requests_page}
+use Rattle.acd_desk.specs.Contents.AbstractDesk.{stepped, record_of, executed, run_from}
+use Rattle.acd_desk.specs.Contents.SoundContent.{arrivals_of}
+use Rattle.acd_desk.specs.Reads.RequestPages.{executed_text, further_texts, requests_text}
+use Rattle.acd_desk.specs.Reads.ReadAnswers.{requests_size, requests_page}
 use Rattle.acd_desk_laws.specs.PageSizes.{IsReplied, IsFormed, longest_page, PagesAreShort, SoundIsReplied}
 use Rattle.acd_desk_laws.proofs.Outcomes.{step_outcome}
 use Rattle.acd_desk.proofs.Contents.SoundRuns.{sound_list, length-arrivals}

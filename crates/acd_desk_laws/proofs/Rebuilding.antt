@@ -8,10 +8,10 @@ use Rattle.acd_book.specs.declared.kept.Kept.{Kept}
 use Rattle.acd_book.specs.Content.{Content, empty_content, kept_of}
 use Rattle.acd_book.specs.Memory.{is_numbered, stamp_of}
 use Rattle.acd_book.proofs.NumberedLists.{first, above, numbered-push}
-use Rattle.acd_desk.specs.AbstractDesk.{record_of, executed, firsts, run_from, desk_run}
-use Rattle.acd_desk.specs.Replies.{after}
-use Rattle.acd_desk.specs.SoundContent.{arrivals_of, IsSound, ran_after}
-use Rattle.acd_desk.specs.ReadAnswers.{requests_size, requests_page}
+use Rattle.acd_desk.specs.Contents.AbstractDesk.{record_of, executed, firsts, run_from, desk_run}
+use Rattle.acd_desk.specs.Contents.Replies.{after}
+use Rattle.acd_desk.specs.Contents.SoundContent.{arrivals_of, IsSound, ran_after}
+use Rattle.acd_desk.specs.Reads.ReadAnswers.{requests_size, requests_page}
 use Rattle.acd_desk_laws.specs.Rebuilding.{last_read, IsReadInPages, nothing, page, IsAllRead, made_of, PagesRebuild}
 use Rattle.acd_desk.proofs.Replays.AuditLaws.{sound_agrees}
 use Rattle.acd_desk.proofs.Contents.LongerLists.{ran_none, ran_push}

@@ -2,9 +2,9 @@
 use Rattle.std.proofs.Common.{List, sym, ap, subst, ◌∙◌}
 use Rattle.acd_terms.specs.declared.command.Arrival.{Arrival}
 use Rattle.acd_book.specs.Content.{Content}
-use Rattle.acd_desk.specs.SoundContent.{arrivals_of, IsSound}
-use Rattle.acd_desk.specs.CarriedContent.{Archive, together, joined, NoneSentAgain}
-use Rattle.acd_desk.specs.WithArchive.{IsSoundWith}
+use Rattle.acd_desk.specs.Contents.SoundContent.{arrivals_of, IsSound}
+use Rattle.acd_desk.specs.Contents.CarriedContent.{Archive, together, joined, NoneSentAgain}
+use Rattle.acd_desk.specs.Contents.WithArchive.{IsSoundWith}
 use Rattle.acd_desk.proofs.Contents.RunsOfAnyContent.{sound_led}
 use Rattle.acd_desk.proofs.Contents.SoundRuns.{ran_sound}
 use Rattle.acd_desk.proofs.Contents.OlderRecords.{cut_again}

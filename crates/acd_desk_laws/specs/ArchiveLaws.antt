@@ -1,9 +1,9 @@
 -- Laws of a content that continues its archive.
 use Rattle.acd_book.specs.Content.{Content}
-use Rattle.acd_desk.specs.SoundContent.{arrivals_of, IsSound}
-use Rattle.acd_desk.specs.CarriedContent.{Archive, together, joined, NoneSentAgain}
-use Rattle.acd_desk.specs.WithArchive.{IsLedFrom, IsSoundWith}
-use Rattle.acd_desk.specs.AuditWith.{StandsInTime}
+use Rattle.acd_desk.specs.Contents.SoundContent.{arrivals_of, IsSound}
+use Rattle.acd_desk.specs.Contents.CarriedContent.{Archive, together, joined, NoneSentAgain}
+use Rattle.acd_desk.specs.Contents.WithArchive.{IsLedFrom, IsSoundWith}
+use Rattle.acd_desk.specs.Audits.AuditWith.{StandsInTime}
 
 -- a content that is sound with its archive is what its newer requests make of the carried part
 abbrev pub SoundIsLed : Type 0

@@ -3,8 +3,8 @@ use Rattle.std.specs.Prelude.{◌≡◌, ℕ, ◌≤◌, length}
 use Rattle.acd_book.specs.Content.{Content}
 use Rattle.acd_book.specs.Order.{IsOrdered}
 use Rattle.acd_desk.specs.declared.audit.Audit.{Audit}
-use Rattle.acd_desk.specs.SoundContent.{IsSound}
-use Rattle.acd_desk.specs.Audit.{Agrees, IsAudit}
+use Rattle.acd_desk.specs.Contents.SoundContent.{IsSound}
+use Rattle.acd_desk.specs.Audits.Audit.{Agrees, IsAudit}
 
 -- no content has two audits, so that of a sound one is Sound, and no other has that
 abbrev pub HasOneAudit : Type 0

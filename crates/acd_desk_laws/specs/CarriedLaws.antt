@@ -6,11 +6,11 @@ use Rattle.acd_book.specs.declared.book.Book.{Ghosts}
 use Rattle.acd_book.specs.Content.{Content, IsCounted}
 use Rattle.acd_book.specs.State.{BookState}
 use Rattle.acd_desk.specs.declared.taken.Taken.{Taken}
-use Rattle.acd_desk.specs.AcceptedArrivals.{accepted, maybe_last, answers_sent}
-use Rattle.acd_desk.specs.SoundContent.{IsSound, ran_after, replies, StopsAt}
+use Rattle.acd_desk.specs.Contents.AcceptedArrivals.{accepted, maybe_last, answers_sent}
+use Rattle.acd_desk.specs.Contents.SoundContent.{IsSound, ran_after, replies, StopsAt}
 use Rattle.acd_desk.specs.Laws.{KeepsLaws}
-use Rattle.acd_desk.specs.AnyContent.{led, answers_to, Leads, IsAsTogether}
-use Rattle.acd_desk.specs.CarriedContent.{Archive, together, NoneSentAgain, IsCutAgain}
+use Rattle.acd_desk.specs.Contents.AnyContent.{led, answers_to, Leads, IsAsTogether}
+use Rattle.acd_desk.specs.Contents.CarriedContent.{Archive, together, NoneSentAgain, IsCutAgain}
 
 abbrev pub CarriedGoesOn : Type 0
 CarriedGoesOn = (p : Archive) (c : Content) (list : List Arrival) → NoneSentAgain p list → IsAsTogether p c list

@@ -4,11 +4,11 @@ use Rattle.acd_terms.specs.Limits.{limits_fit}
 use Rattle.acd_terms.specs.declared.rows.Limits.{Limits}
 use Rattle.acd_terms.specs.declared.command.Arrival.{Arrival}
 use Rattle.acd_book.specs.Content.{Content, empty_content}
-use Rattle.acd_desk.specs.AbstractDesk.{firsts, desk_run}
-use Rattle.acd_desk.specs.Replies.{reply_to, IsReplyAt, after}
-use Rattle.acd_desk.specs.SoundContent.{arrivals_of, IsSound, ran_after, raised_from}
+use Rattle.acd_desk.specs.Contents.AbstractDesk.{firsts, desk_run}
+use Rattle.acd_desk.specs.Contents.Replies.{reply_to, IsReplyAt, after}
+use Rattle.acd_desk.specs.Contents.SoundContent.{arrivals_of, IsSound, ran_after, raised_from}
 use Rattle.acd_desk.specs.Laws.{KeepsLaws}
-use Rattle.acd_desk.specs.ReadAnswers.{Rise}
+use Rattle.acd_desk.specs.Reads.ReadAnswers.{Rise}
 
 -- one more arrival leads from the run of a list to the run of the longer list
 abbrev pub OneMoreArrival : Type 0

@@ -2,8 +2,8 @@
 use Rattle.std.specs.Prelude.{◌≡◌, ℕ, ◌+◌, ◌<◌, ◌≤◌, max, List, [], ◌∷◌, ◌++◌, length, take, drop}
 use Rattle.acd_terms.specs.declared.rows.Limits.{Limits}
 use Rattle.acd_terms.specs.declared.command.Arrival.{Arrival}
-use Rattle.acd_desk.specs.AbstractDesk.{firsts, desk_run}
-use Rattle.acd_desk.specs.Replies.{reply_to}
+use Rattle.acd_desk.specs.Contents.AbstractDesk.{firsts, desk_run}
+use Rattle.acd_desk.specs.Contents.Replies.{reply_to}
 
 -- the arrivals by parts of the log, one after the other: each begins at the place that was reached, or at an earlier one
 pub data IsFed (log : List Arrival) : ℕ → List Arrival → Type 0 where

@@ -14,8 +14,8 @@ use Rattle.acd_model.specs.EventReports.{known_after, connection_reported, seat_
 use Rattle.acd_model.specs.Watcher.{is_external_caller, state_at, seat_of, HasPlace}
 use Rattle.acd_model.specs.Services.{no_figures}
 use Rattle.acd_book.specs.Content.{Content}
-use Rattle.acd_desk.specs.SoundContent.{IsSound, ran_after}
-use Rattle.acd_desk.specs.ReadAnswers.{above}
+use Rattle.acd_desk.specs.Contents.SoundContent.{IsSound, ran_after}
+use Rattle.acd_desk.specs.Reads.ReadAnswers.{above}
 
 -- a snapshot shows a connection's state; it shows no external caller's, since no event reports one
 abbrev pub shown_at : Rows → CallId → Device → Option ConnectionState

@@ -8,8 +8,8 @@ use Rattle.acd_laws.specs.NameLaws.{unnamed_command, SameRowsButNames}
 use Rattle.acd_book.specs.declared.kept.Kept.{Kept}
 use Rattle.acd_book.specs.Content.{Content, is_key}
 use Rattle.acd_desk.specs.declared.taken.Taken.{Taken}
-use Rattle.acd_desk.specs.AbstractDesk.{desk_run}
-use Rattle.acd_desk.specs.Replies.{reply_to}
+use Rattle.acd_desk.specs.Contents.AbstractDesk.{desk_run}
+use Rattle.acd_desk.specs.Contents.Replies.{reply_to}
 
 -- with the name of its command removed
 abbrev pub unnamed_request : Request → Request

@@ -14,8 +14,8 @@ use Rattle.acd_terms.specs.declared.command.Command.TheVariants.{SetAgentState, 
 use Rattle.acd_model.specs.Step.{Stepped, executed_moment, next_stamp}
 use Rattle.acd_book.specs.declared.kept.Kept.{Kept}
 use Rattle.acd_book.specs.Content.{Content, empty_content, committed}
-use Rattle.acd_desk.specs.AbstractDesk.{distinct_from, firsts, kept_at}
-use Rattle.acd_desk.specs.SoundContent.{arrivals_of, IsSound}
+use Rattle.acd_desk.specs.Contents.AbstractDesk.{distinct_from, firsts, kept_at}
+use Rattle.acd_desk.specs.Contents.SoundContent.{arrivals_of, IsSound}
 use Rattle.acd_desk_laws.specs.OldStep.{old_step}
 
 abbrev pub old_stepped : Rows → Arrival → Stepped

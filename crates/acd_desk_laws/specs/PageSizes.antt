@@ -8,8 +8,8 @@ use Rattle.acd_codec.specs.RequestForms.{IsSerial, IsRequest}
 use Rattle.acd_codec.specs.ReplyTexts.{outcome_status, reply_text}
 use Rattle.acd_book.specs.declared.kept.Kept.{Kept}
 use Rattle.acd_book.specs.Content.{Content}
-use Rattle.acd_desk.specs.SoundContent.{IsSound}
-use Rattle.acd_desk.specs.ReadAnswers.{requests_read}
+use Rattle.acd_desk.specs.Contents.SoundContent.{IsSound}
+use Rattle.acd_desk.specs.Reads.ReadAnswers.{requests_read}
 
 -- its number is that of a call or a monitor
 abbrev pub IsOutcome : Outcome → Type 0

@@ -2,11 +2,11 @@
 use Rattle.std.specs.Prelude.{◌≡◌, ℕ}
 use Rattle.acd_book.specs.Content.{Content}
 use Rattle.acd_book.specs.PrunedContent.{pruned}
-use Rattle.acd_desk.specs.SoundContent.{IsSound}
-use Rattle.acd_desk.specs.CarriedContent.{Archive, together, joined}
-use Rattle.acd_desk.specs.WithArchive.{IsSoundWith, IsLedFrom}
-use Rattle.acd_desk.specs.AuditWith.{StandsInTime, HoldsArchive, IsSentAgain}
-use Rattle.acd_desk.specs.Pruning.{IsGone, IsPlace, StaysLed}
+use Rattle.acd_desk.specs.Contents.SoundContent.{IsSound}
+use Rattle.acd_desk.specs.Contents.CarriedContent.{Archive, together, joined}
+use Rattle.acd_desk.specs.Contents.WithArchive.{IsSoundWith, IsLedFrom}
+use Rattle.acd_desk.specs.Audits.AuditWith.{StandsInTime, HoldsArchive, IsSentAgain}
+use Rattle.acd_desk.specs.Contents.Pruning.{IsGone, IsPlace, StaysLed}
 
 -- a content that its newer requests make of the carried part begins with the archive's last records
 abbrev pub LedHoldsArchive : Type 0

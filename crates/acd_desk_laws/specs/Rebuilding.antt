@@ -4,9 +4,9 @@ use Rattle.acd_terms.specs.declared.rows.Limits.{Limits}
 use Rattle.acd_terms.specs.declared.command.Arrival.{Arrival}
 use Rattle.acd_book.specs.declared.kept.Kept.{Kept}
 use Rattle.acd_book.specs.Content.{Content}
-use Rattle.acd_desk.specs.AbstractDesk.{desk_run}
-use Rattle.acd_desk.specs.SoundContent.{arrivals_of, IsSound, ran_after}
-use Rattle.acd_desk.specs.ReadAnswers.{requests_page}
+use Rattle.acd_desk.specs.Contents.AbstractDesk.{desk_run}
+use Rattle.acd_desk.specs.Contents.SoundContent.{arrivals_of, IsSound, ran_after}
+use Rattle.acd_desk.specs.Reads.ReadAnswers.{requests_page}
 
 -- the stamp of the last request that was read, or 0 where none was
 abbrev pub last_read : List Kept → ℕ

@@ -4,14 +4,14 @@ use Rattle.std.proofs.lemmas.List.{map-append}
 use Rattle.acd_terms.specs.declared.command.Arrival.{Arrival}
 use Rattle.acd_book.specs.Content.{Content}
 use Rattle.acd_desk.specs.declared.taken.Taken.{Taken}
-use Rattle.acd_desk.specs.Arrivals.{arrival_at}
-use Rattle.acd_desk.specs.DeskState.{DeskState}
-use Rattle.acd_desk.specs.ArrivalsAndReads.{Attended}
+use Rattle.acd_desk.specs.Contents.Arrivals.{arrival_at}
+use Rattle.acd_desk.specs.Desks.DeskState.{DeskState}
+use Rattle.acd_desk.specs.Desks.ArrivalsAndReads.{Attended}
 use Rattle.acd_desk.proofs.Desks.CallsInTurn.{Settles, ran_nothing, attended_ran, attended_more, attended_read}
 use Rattle.acd_http.specs.declared.web_request.WebRequest.{WebRequest}
 use Rattle.acd_http.specs.declared.web_request.WebRequest.TheVariants as ask
 use Rattle.acd_http.specs.declared.exchanging.ExchangeFault.TheVariants.{Truncated, Read, Write, NoMemory}
-use Rattle.acd_desk.specs.ReadAnswers.{question_read}
+use Rattle.acd_desk.specs.Reads.ReadAnswers.{question_read}
 use Rattle.acd_http.specs.Exchange.{AnswersAsked}
 use Rattle.acd_http.specs.ConnectionsInTurn.{Outcome, AnsweredOne, AnsweredEach}
 use Rattle.acd_http.specs.ConnectionRequests.{posted, posted_by, all_posted, LeadsToTheRun}

@@ -2,8 +2,8 @@
 use Rattle.std.proofs.Common.{◌≡◌, ℕ, List, [], ◌++◌, Bool, cond, length, Result, Ok, Err, IfErr, inl, inr, refl, sym, ap, ◌∙◌, subst}
 use Rattle.std.specs.Io.KnownBytes.{Appends}
 use Rattle.acd_codec.specs.declared.fault.FixedAnswer.TheVariants as fixed
-use Rattle.acd_desk.specs.DeskCalls.{DeskState}
-use Rattle.acd_desk.specs.AnswerTexts.{said}
+use Rattle.acd_desk.specs.Desks.DeskCalls.{DeskState}
+use Rattle.acd_desk.specs.Reads.AnswerTexts.{said}
 use Rattle.acd_io.specs.SentBytes.{Breaks, WasSent}
 use Rattle.acd_lines.specs.Lines.{Streams}
 use Rattle.acd_http.specs.declared.web_request.WebRequest.{WebRequest}

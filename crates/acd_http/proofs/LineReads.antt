@@ -4,15 +4,15 @@ use Rattle.std.proofs.lemmas.List.{map-append}
 use Rattle.acd_terms.specs.declared.command.Arrival.{Arrival}
 use Rattle.acd_book.specs.Content.{Content}
 use Rattle.acd_desk.specs.declared.taken.Taken.{Taken}
-use Rattle.acd_desk.specs.Arrivals.{arrival_at}
-use Rattle.acd_desk.specs.DeskCalls.{DeskState}
+use Rattle.acd_desk.specs.Contents.Arrivals.{arrival_at}
+use Rattle.acd_desk.specs.Desks.DeskCalls.{DeskState}
 use Rattle.acd_desk.proofs.Contents.RunsOfAnyContent.{sound_led}
-use Rattle.acd_desk.specs.ArrivalsAndReads.{Attended}
+use Rattle.acd_desk.specs.Desks.ArrivalsAndReads.{Attended}
 use Rattle.acd_desk.proofs.Desks.CallsInTurn.{Settles, ran_nothing, attended_ran, attended_more, attended_read}
-use Rattle.acd_desk.specs.DeskReads.{ReadDone}
-use Rattle.acd_desk.specs.ReadAnswers.{text_read, question_read, is_plain}
+use Rattle.acd_desk.specs.Reads.DeskReads.{ReadDone}
+use Rattle.acd_desk.specs.Reads.ReadAnswers.{text_read, question_read, is_plain}
 use Rattle.acd_desk.specs.declared.question.Question.{Question}
-use Rattle.acd_desk.specs.AnswerTexts.{seen_text}
+use Rattle.acd_desk.specs.Reads.AnswerTexts.{seen_text}
 use Rattle.acd_desk.specs.declared.answer_text.AnswerText.{AnswerText}
 use Rattle.acd_desk.specs.declared.fault.DeskFault.{DeskFault}
 use Rattle.acd_desk.specs.declared.fault.DeskFault.TheVariants as fault

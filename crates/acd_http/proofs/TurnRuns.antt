@@ -2,10 +2,10 @@
 use Rattle.std.proofs.Common.{ℕ, Bool, List, [], ◌∷◌, ◌++◌, map, Option, Some, None, refl, subst}
 use Rattle.acd_terms.specs.declared.command.Arrival.{Arrival}
 use Rattle.acd_desk.specs.declared.taken.Taken.{Taken}
-use Rattle.acd_desk.specs.Arrivals.{arrival_at}
-use Rattle.acd_desk.specs.Clock.{clock_tick, Looked}
-use Rattle.acd_desk.specs.DeskState.{DeskState}
-use Rattle.acd_desk.specs.ArrivalsAndReads.{Attended}
+use Rattle.acd_desk.specs.Contents.Arrivals.{arrival_at}
+use Rattle.acd_desk.specs.Desks.Clock.{clock_tick, Looked}
+use Rattle.acd_desk.specs.Desks.DeskState.{DeskState}
+use Rattle.acd_desk.specs.Desks.ArrivalsAndReads.{Attended}
 use Rattle.acd_desk.proofs.Desks.CallsInTurn.{Settles, ran_nothing, attended_ran, attended_more, attended_read}
 use Rattle.acd_http.specs.Turns.{ServiceTurn, answered, looked, Turned, TurnedEach}
 use Rattle.acd_http.specs.TurnRequests.{ticked, handed_by, all_handed, TurnsLeadToTheRun}

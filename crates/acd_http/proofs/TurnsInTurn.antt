@@ -3,7 +3,7 @@ use Rattle.std.proofs.Common.{◌≡◌, true, false, true≢false, ℕ, ◌+◌
 use Rattle.std.proofs.KnownBytes.{Appends-nil}
 use Rattle.std.specs.Prelude.{unwrap_or, is_some}
 use Rattle.acd_desk.specs.declared.taken.Taken.{Taken}
-use Rattle.acd_desk.specs.DeskCalls.{DeskState}
+use Rattle.acd_desk.specs.Desks.DeskCalls.{DeskState}
 use Rattle.acd_io.specs.declared.sending.Stopped.{Stopped}
 use Rattle.acd_io.specs.SentBytes.{WasSent}
 use Rattle.acd_lines.specs.Lines.{Output}

@@ -1,6 +1,6 @@
 -- An exchange is a connection's.
 use Rattle.std.proofs.Common.{ℕ, Ok, Err}
-use Rattle.acd_desk.specs.DeskCalls.{DeskState}
+use Rattle.acd_desk.specs.Desks.DeskCalls.{DeskState}
 use Rattle.acd_lines.specs.Lines.{Streams}
 use Rattle.acd_http.specs.declared.exchanging.ExchangeFault.TheVariants.{Truncated, Read, Write, NoMemory}
 use Rattle.acd_http.specs.Exchange.{ExchangeDone}

@@ -3,7 +3,7 @@ use Rattle.std.specs.Prelude.{◌≡◌, ◌⊎◌, ℕ, suc, length, true, fals
 use Rattle.std.specs.Borrow.{MutBor}
 use Rattle.acd_book.specs.declared.book.Book.{Ghosts}
 use Rattle.acd_desk.specs.declared.desk.Desk.{Desk}
-use Rattle.acd_desk.specs.DeskCalls.{DeskState, state_of}
+use Rattle.acd_desk.specs.Desks.DeskCalls.{DeskState, state_of}
 use Rattle.acd_io.specs.declared.sending.Stopped.{Stopped}
 use Rattle.acd_io.specs.SentBytes.{WasSent}
 use Rattle.acd_lines.specs.Lines.{Output}

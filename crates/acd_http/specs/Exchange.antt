@@ -10,11 +10,11 @@ use Rattle.acd_desk.specs.declared.desk.Desk.{Desk}
 use Rattle.acd_desk.specs.declared.fault.DeskFault.{DeskFault}
 use Rattle.acd_desk.specs.declared.taken.Taken.{Taken}
 use Rattle.acd_desk.specs.declared.question.Question.{Question}
-use Rattle.acd_desk.specs.AnswerTexts.{Said, said, fixed_said, taken_said, found_said}
-use Rattle.acd_desk.specs.Arrivals.{arrival_at}
-use Rattle.acd_desk.specs.DeskCalls.{DeskState, state_of, Took, Ran}
-use Rattle.acd_desk.specs.DeskReads.{ReadDone}
-use Rattle.acd_desk.specs.ReadAnswers.{question_read, is_plain}
+use Rattle.acd_desk.specs.Reads.AnswerTexts.{Said, said, fixed_said, taken_said, found_said}
+use Rattle.acd_desk.specs.Contents.Arrivals.{arrival_at}
+use Rattle.acd_desk.specs.Desks.DeskCalls.{DeskState, state_of, Took, Ran}
+use Rattle.acd_desk.specs.Reads.DeskReads.{ReadDone}
+use Rattle.acd_desk.specs.Reads.ReadAnswers.{question_read, is_plain}
 use Rattle.std.specs.Io.KnownBytes.{Appends}
 use Rattle.acd_io.specs.Streams.{IsInput}
 use Rattle.acd_io.specs.SentBytes.{Breaks}

@@ -10,17 +10,17 @@ use Rattle.acd_book.specs.State.{IfHonest}
 use Rattle.acd_desk.specs.declared.desk.Desk.{Desk}
 use Rattle.acd_desk.specs.declared.fault.DeskFault.{DeskFault}
 use Rattle.acd_desk.specs.declared.taken.Taken.{Taken}
-use Rattle.acd_desk.specs.Arrivals.{arrival_at}
-use Rattle.acd_desk.specs.AcceptedArrivals.{accepted}
-use Rattle.acd_desk.specs.SoundContent.{ran_after}
-use Rattle.acd_desk.specs.AnyContent.{led}
-use Rattle.acd_desk.specs.DeskState.{InStep}
-use Rattle.acd_desk.specs.DeskCalls.{DeskState, state_of, IfStarted}
-use Rattle.acd_desk.specs.ArrivalsAndReads.{Attended}
-use Rattle.acd_desk.specs.ReadAnswers.{question_read, is_plain}
+use Rattle.acd_desk.specs.Contents.Arrivals.{arrival_at}
+use Rattle.acd_desk.specs.Contents.AcceptedArrivals.{accepted}
+use Rattle.acd_desk.specs.Contents.SoundContent.{ran_after}
+use Rattle.acd_desk.specs.Contents.AnyContent.{led}
+use Rattle.acd_desk.specs.Desks.DeskState.{InStep}
+use Rattle.acd_desk.specs.Desks.DeskCalls.{DeskState, state_of, IfStarted}
+use Rattle.acd_desk.specs.Desks.ArrivalsAndReads.{Attended}
+use Rattle.acd_desk.specs.Reads.ReadAnswers.{question_read, is_plain}
 use Rattle.acd_desk.specs.declared.question.Question.{Question}
 use Rattle.acd_desk.specs.declared.answer_text.AnswerText.{AnswerText}
-use Rattle.acd_desk.specs.AnswerTexts.{found_said}
+use Rattle.acd_desk.specs.Reads.AnswerTexts.{found_said}
 use Rattle.acd_lines.specs.Input.{Line, no_moment, too_long, faulty, arrival, request_read, line_asked, text_of_line}
 use Rattle.acd_lines.specs.Answers.{Answers, line_text, answered_text, fixed_line}
 use Rattle.acd_lines.specs.Lines.{Manner}

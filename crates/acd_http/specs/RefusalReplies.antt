@@ -1,7 +1,7 @@
 -- The answer to a request that the desk doesn't see.
 use Rattle.std.specs.Prelude.{ℕ, List, ◌++◌, codes, Option, Some, None}
 use Rattle.acd_codec.specs.declared.fault.FixedAnswer.TheVariants as fixed
-use Rattle.acd_desk.specs.AnswerTexts.{Said, fixed_said, malformed_said}
+use Rattle.acd_desk.specs.Reads.AnswerTexts.{Said, fixed_said, malformed_said}
 use Rattle.acd_http.specs.declared.refused.Part.{Part}
 use Rattle.acd_http.specs.declared.refused.Part.TheVariants.{Head, Host, ContentLength, After}
 use Rattle.acd_http.specs.declared.refused.Allow.{Allow}

@@ -2,10 +2,10 @@
 use Rattle.std.specs.Prelude.{ℕ, Bool, List, [], ◌∷◌, ◌++◌, Option, Some, None, map}
 use Rattle.acd_terms.specs.declared.command.Arrival.{Arrival}
 use Rattle.acd_desk.specs.declared.taken.Taken.{Taken}
-use Rattle.acd_desk.specs.Arrivals.{arrival_at}
-use Rattle.acd_desk.specs.Clock.{clock_tick}
-use Rattle.acd_desk.specs.DeskState.{DeskState}
-use Rattle.acd_desk.specs.ArrivalsAndReads.{Attended}
+use Rattle.acd_desk.specs.Contents.Arrivals.{arrival_at}
+use Rattle.acd_desk.specs.Desks.Clock.{clock_tick}
+use Rattle.acd_desk.specs.Desks.DeskState.{DeskState}
+use Rattle.acd_desk.specs.Desks.ArrivalsAndReads.{Attended}
 use Rattle.acd_http.specs.ConnectionRequests.{posted_by}
 use Rattle.acd_http.specs.Turns.{ServiceTurn, answered, looked, Turned, TurnedEach}
 

@@ -6,11 +6,11 @@ use Rattle.acd_book.specs.declared.book.Book.{Ghosts}
 use Rattle.acd_desk.specs.declared.desk.Desk.{Desk}
 use Rattle.acd_desk.specs.declared.taken.Taken.{Taken}
 use Rattle.acd_desk.specs.declared.taken.Taken.TheVariants.{Reply, InvokeReused, DeskFull, NoMemory, StoreFault}
-use Rattle.acd_desk.specs.DeskCalls.{DeskState, state_of}
+use Rattle.acd_desk.specs.Desks.DeskCalls.{DeskState, state_of}
 use Rattle.acd_io.specs.declared.sending.Stopped.{Stopped}
 use Rattle.acd_io.specs.SentBytes.{WasSent}
 use Rattle.acd_lines.specs.Lines.{Output}
-use Rattle.acd_desk.specs.Clock.{Looked, DeskLooked}
+use Rattle.acd_desk.specs.Desks.Clock.{Looked, DeskLooked}
 use Rattle.acd_http.specs.declared.serving.Span.{Span}
 use Rattle.acd_http.specs.declared.watch.Watch.{Watch}
 use Rattle.acd_http.specs.ConnectionsInTurn.{Outcome, PrintsText, outcome_line, AnsweredOne}

@@ -1,6 +1,6 @@
 //! The reply to what was asked.
 
-ghost use Rattle.acd_desk.specs.AnswerTexts.{said};
+ghost use Rattle.acd_desk.specs.Reads.AnswerTexts.{said};
 ghost use Rattle.acd_http.specs.declared.web_request.WebRequest.{WebRequest};
 ghost use Rattle.acd_http.specs.Exchange.{json_reply, fixed_reply, refused_reply, RepliesAs, RepliesWith, Answered};
 

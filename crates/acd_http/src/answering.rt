@@ -1,6 +1,6 @@
 //! One connection, answered.
 
-ghost use Rattle.acd_desk.specs.DeskCalls.{state_of};
+ghost use Rattle.acd_desk.specs.Desks.DeskCalls.{state_of};
 ghost use Rattle.acd_http.specs.ConnectionsInTurn.{AnsweredOne};
 
 use crate::exchanging::{ExchangeFault, exchange};

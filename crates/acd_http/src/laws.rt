@@ -1,6 +1,6 @@
 //! Laws of the definitions. Each law is the contract of a function with an empty body.
 
-ghost use Rattle.acd_desk.specs.DeskState.{state_of};
+ghost use Rattle.acd_desk.specs.Desks.DeskState.{state_of};
 ghost use Rattle.acd_http.specs.Laws.{AsksOneThing, AsksByABeginning, PhrasesAreCanonical};
 ghost use Rattle.acd_http.specs.ConnectionRequests.{LeadsToTheRun};
 ghost use Rattle.acd_http.specs.TurnRequests.{TurnsLeadToTheRun};

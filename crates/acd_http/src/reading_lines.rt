@@ -1,7 +1,7 @@
 //! Lines that ask what a GET asks, beside those that ask for a service.
 
 ghost use Rattle.std.specs.Prelude.{◌≡◌, IfOk, Ok, Some, string_bytes};
-ghost use Rattle.acd_desk.specs.AnswerTexts.{seen_text};
+ghost use Rattle.acd_desk.specs.Reads.AnswerTexts.{seen_text};
 ghost use Rattle.acd_lines.specs.Lines.{DoneBy, streamed};
 ghost use Rattle.acd_http.specs.Lookups.{target_looked};
 ghost use Rattle.acd_http.specs.LinesWithReads.{is_read, as_json, SaysFound, AnswersReadWith, by_reads};
@@ -106,7 +106,7 @@ impl RequestsAndReads {
 
 impl<B: Book> Answering<B> for RequestsAndReads {
     ghost use Rattle.std.specs.Prelude.{refl};
-    ghost use Rattle.acd_desk.specs.DeskCalls.{state_of};
+    ghost use Rattle.acd_desk.specs.Desks.DeskCalls.{state_of};
     ghost use Rattle.acd_lines.specs.Input.{no_moment, too_long};
     ghost use Rattle.acd_http.specs.LinesWithReads.{ReadingLine, plain, text_asked, ReadingAnswers};
 

@@ -1,7 +1,7 @@
 //! The reply to a read.
 
 ghost use Rattle.std.specs.Prelude.{◌≡◌};
-ghost use Rattle.acd_desk.specs.AnswerTexts.{seen_text};
+ghost use Rattle.acd_desk.specs.Reads.AnswerTexts.{seen_text};
 ghost use Rattle.acd_http.specs.Exchange.{kind_found, found_reply, RepliesAs, RepliesToRead};
 
 use crate::answer::Reply;

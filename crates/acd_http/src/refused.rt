@@ -66,7 +66,7 @@ pub enum Refused {
 
 impl Refused {
     ghost use Rattle.std.specs.Prelude.{◌≡◌, None};
-    ghost use Rattle.acd_desk.specs.AnswerTexts.{said};
+    ghost use Rattle.acd_desk.specs.Reads.AnswerTexts.{said};
     ghost use Rattle.acd_http.specs.RefusalReplies.{refused_said, refused_allow};
 
     /// The answer. It takes no memory.

@@ -2,7 +2,7 @@
 
 ghost use Rattle.std.specs.Prelude.{◌≡◌, true, false, None, IfSome, IfNone};
 ghost use Rattle.acd_io.specs.SentBytes.{Sends};
-ghost use Rattle.acd_desk.specs.DeskCalls.{state_of};
+ghost use Rattle.acd_desk.specs.Desks.DeskCalls.{state_of};
 ghost use Rattle.acd_lines.specs.Lines.{written};
 ghost use Rattle.acd_http.specs.ConnectionsInTurn.{AnsweredOne};
 ghost use Rattle.acd_http.specs.RouteMemory.{IfServed, IfUnrouted};

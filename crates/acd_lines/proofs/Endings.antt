@@ -1,7 +1,7 @@
 -- How answering lines ended, by what was answered.
 use Rattle.std.proofs.Common.{◌≡◌, ℕ, Bool, true, List, Result, Ok, Err, IsErrAnd, sym, subst, ◌∙◌, true≢false}
 use Rattle.std.specs.Io.KnownBytes.{Appends}
-use Rattle.acd_desk.specs.DeskCalls.{DeskState}
+use Rattle.acd_desk.specs.Desks.DeskCalls.{DeskState}
 use Rattle.acd_io.specs.SentBytes.{Begins}
 use Rattle.acd_lines.specs.declared.fault.LinesFault.{LinesFault}
 use Rattle.acd_lines.specs.declared.fault.LinesFault.TheVariants.{Read, Write, NoMemory}

@@ -7,8 +7,8 @@ use Rattle.std.specs.Io.KnownBytes.{Appends}
 use Rattle.acd_terms.specs.declared.command.Request.{Request}
 use Rattle.acd_terms.specs.declared.command.Arrival.{Arrival}
 use Rattle.acd_desk.specs.declared.taken.Taken.{Taken}
-use Rattle.acd_desk.specs.Arrivals.{arrival_at}
-use Rattle.acd_desk.specs.DeskCalls.{DeskState, Ran}
+use Rattle.acd_desk.specs.Contents.Arrivals.{arrival_at}
+use Rattle.acd_desk.specs.Desks.DeskCalls.{DeskState, Ran}
 use Rattle.acd_desk.proofs.Desks.CallsInTurn.{Settles, ran_nothing, ran_more}
 use Rattle.acd_lines.specs.Input.{arrival}
 use Rattle.acd_lines.specs.Answers.{Answers, taken_line}

@@ -7,9 +7,9 @@ use Rattle.acd_codec.specs.declared.fault.FixedAnswer.{FixedAnswer}
 use Rattle.acd_codec.specs.declared.fault.FixedAnswer.TheVariants as fixed
 use Rattle.acd_desk.specs.declared.taken.Taken.{Taken}
 use Rattle.acd_desk.specs.declared.answer_text.AnswerText.{AnswerText}
-use Rattle.acd_desk.specs.AnswerTexts.{Said, said, fixed_said, malformed_said, taken_said}
-use Rattle.acd_desk.specs.Arrivals.{arrival_at}
-use Rattle.acd_desk.specs.DeskCalls.{DeskState, Took}
+use Rattle.acd_desk.specs.Reads.AnswerTexts.{Said, said, fixed_said, malformed_said, taken_said}
+use Rattle.acd_desk.specs.Contents.Arrivals.{arrival_at}
+use Rattle.acd_desk.specs.Desks.DeskCalls.{DeskState, Took}
 use Rattle.acd_lines.specs.Input.{Line, no_moment, too_long, faulty, arrival}
 
 -- status, space, body, line feed

@@ -8,7 +8,7 @@ use Rattle.acd_terms.specs.declared.command.Request.{Request}
 use Rattle.acd_terms.specs.declared.command.Arrival.{Arrival}
 use Rattle.acd_codec.specs.declared.member.Member.{Member}
 use Rattle.acd_codec.specs.RequestReading.{reads_as}
-use Rattle.acd_desk.specs.Arrivals.{arrival_at}
+use Rattle.acd_desk.specs.Contents.Arrivals.{arrival_at}
 
 -- x is put before the first piece
 abbrev pub onto : ℕ → List (List ℕ) → List (List ℕ)

@@ -10,8 +10,8 @@ use Rattle.acd_terms.specs.declared.command.Arrival.{Arrival}
 use Rattle.acd_book.specs.declared.book.Book.{Ghosts}
 use Rattle.acd_desk.specs.declared.desk.Desk.{Desk}
 use Rattle.acd_desk.specs.declared.taken.Taken.{Taken}
-use Rattle.acd_desk.specs.Arrivals.{arrival_at}
-use Rattle.acd_desk.specs.DeskCalls.{DeskRan, DeskState, state_of}
+use Rattle.acd_desk.specs.Contents.Arrivals.{arrival_at}
+use Rattle.acd_desk.specs.Desks.DeskCalls.{DeskRan, DeskState, state_of}
 use Rattle.acd_lines.specs.declared.fault.LinesFault.{LinesFault}
 use Rattle.acd_lines.specs.declared.fault.LinesFault.TheVariants.{Read, Write, NoMemory}
 use Rattle.acd_lines.specs.Input.{cut, lines_of, arrivals_in}

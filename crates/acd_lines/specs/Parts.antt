@@ -5,7 +5,7 @@ use Rattle.std.specs.Io.BufRead.{ends_with_byte, strip_last}
 use Rattle.acd_terms.specs.declared.command.Request.{Request}
 use Rattle.acd_terms.specs.declared.command.Arrival.{Arrival}
 use Rattle.acd_desk.specs.declared.taken.Taken.{Taken}
-use Rattle.acd_desk.specs.DeskCalls.{DeskState, Ran}
+use Rattle.acd_desk.specs.Desks.DeskCalls.{DeskState, Ran}
 use Rattle.acd_lines.specs.Input.{has_none, text_of_line, cut}
 use Rattle.acd_io.specs.declared.sending.Stopped.{Stopped}
 use Rattle.acd_io.specs.SentBytes.{Passes, Breaks}

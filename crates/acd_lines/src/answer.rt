@@ -1,6 +1,6 @@
 //! The answer to one line.
 
-ghost use Rattle.acd_desk.specs.DeskCalls.{state_of};
+ghost use Rattle.acd_desk.specs.Desks.DeskCalls.{state_of};
 ghost use Rattle.acd_lines.specs.Input.{request_read, arrival};
 ghost use Rattle.acd_lines.specs.Answers.{AnsweredBy};
 

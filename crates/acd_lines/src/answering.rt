@@ -77,7 +77,7 @@ impl Requests {
 
 impl<B: Book> Answering<B> for Requests {
     ghost use Rattle.std.specs.Prelude.{refl};
-    ghost use Rattle.acd_desk.specs.DeskCalls.{state_of};
+    ghost use Rattle.acd_desk.specs.Desks.DeskCalls.{state_of};
     ghost use Rattle.acd_lines.specs.Input.{Line, no_moment, too_long, request_read};
     ghost use Rattle.acd_lines.specs.Answers.{Answers};
 

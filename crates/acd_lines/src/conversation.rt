@@ -2,7 +2,7 @@
 
 ghost use Rattle.std.specs.Prelude.{◌≡◌, ◌<◌, [], length, OnOk};
 ghost use Rattle.std.specs.Io.BufRead.{strip_last};
-ghost use Rattle.acd_desk.specs.DeskCalls.{state_of};
+ghost use Rattle.acd_desk.specs.Desks.DeskCalls.{state_of};
 ghost use Rattle.acd_lines.specs.Answers.{answered_text};
 ghost use Rattle.acd_lines.specs.Conversing.{over_replies, turn, KeepsEnds, IsBegun, heard};
 ghost use Rattle.acd_lines.specs.WaitingBytes.{outgoing, Pushed, Flushed};

@@ -1,15 +1,5 @@
 pub mod Faults
 pub mod Statuses
-pub mod AuditFindings
-pub mod Work
-pub mod InFiles
-pub mod WithArchive
-pub mod Pruning
-pub mod ArchiveExport
-pub mod Tasks
-pub mod Ended
-pub mod TasksEnded
-pub mod FileTasks
-pub mod HostTasks
+pub mod Commands
+pub mod Archives
 pub mod Reasons
-pub mod EachOnce

@@ -2,11 +2,11 @@
 //! come.
 
 ghost use Rattle.std.specs.Prelude.{◌≡◌, IfOk};
-ghost use Rattle.acd_desk.specs.ArchiveAudits.{desk_part, archived_part};
+ghost use Rattle.acd_desk.specs.Audits.ArchiveAudits.{desk_part, archived_part};
 ghost use Rattle.acd_book.specs.BookReads.{Anything, MayRead};
-ghost use Rattle.acd_desk.specs.DeskReads.{DeskRead};
-ghost use Rattle.acd_program.specs.WithArchive.{uncounted_with, counted_with, FindsWith};
-ghost use Rattle.acd_program.specs.AuditFindings.{AuditsDesk, HasCount};
+ghost use Rattle.acd_desk.specs.Reads.DeskReads.{DeskRead};
+ghost use Rattle.acd_program.specs.Archives.WithArchive.{uncounted_with, counted_with, FindsWith};
+ghost use Rattle.acd_program.specs.Commands.AuditFindings.{AuditsDesk, HasCount};
 
 use crate::progress::ProgressLine;
 use acd_book::Book;

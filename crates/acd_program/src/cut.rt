@@ -5,8 +5,8 @@ ghost use Rattle.std.specs.Prelude.{◌≤◌};
 ghost use Rattle.std.specs.Bool.{Decides};
 ghost use Rattle.acd_book.specs.State.{BookReads};
 ghost use Rattle.acd_book.specs.BookReads.{Anything, MayRead};
-ghost use Rattle.acd_desk.specs.Overlap.{DecidesCleanCut, IsBefore};
-ghost use Rattle.acd_program.specs.Pruning.{DecidesPlace};
+ghost use Rattle.acd_desk.specs.Audits.Overlap.{DecidesCleanCut, IsBefore};
+ghost use Rattle.acd_program.specs.Archives.Pruning.{DecidesPlace};
 
 use crate::outcome::Cut;
 use acd_book::{Book, BookFault, Kept};

@@ -2,14 +2,14 @@
 
 ghost use Rattle.std.specs.Prelude.{◌≡◌, false, [], IfOk, unwrap_or};
 ghost use Rattle.sqlite.specs.Held.{state};
-ghost use Rattle.acd_desk.specs.DeskReads.{DeskRead};
-ghost use Rattle.acd_desk.specs.ReadAnswers.{text_read};
+ghost use Rattle.acd_desk.specs.Reads.DeskReads.{DeskRead};
+ghost use Rattle.acd_desk.specs.Reads.ReadAnswers.{text_read};
 ghost use Rattle.acd_sessions.specs.Over.{OnlyAsked};
-ghost use Rattle.acd_program.specs.Ended.{OnlyReads, plan_over, work_over, work_in};
+ghost use Rattle.acd_program.specs.Commands.Ended.{OnlyReads, plan_over, work_over, work_in};
 ghost use Rattle.acd_lines.specs.Lines.{written};
 ghost use Rattle.acd_sessions.specs.Over.{Unserved};
 ghost use Rattle.acd_sessions.specs.ToDo.{EndedWith};
-ghost use Rattle.acd_program.specs.Work.{text_left, status_left, IsPrintoutOf, PrintsOver, AuditsBook};
+ghost use Rattle.acd_program.specs.Commands.Work.{text_left, status_left, IsPrintoutOf, PrintsOver, AuditsBook};
 
 use crate::auditing::{Finding, audited};
 use crate::outcome::Pruning;

@@ -4,11 +4,11 @@ ghost use Rattle.std.specs.Prelude.{◌≡◌, false, length, IfOk, IfErr};
 ghost use Rattle.sqlite.specs.Held.{state};
 ghost use Rattle.sqlite_std_file.specs.File.{IsFresh};
 ghost use Rattle.acd_book.specs.BookReads.{MayRead, IfOrdered};
-ghost use Rattle.acd_desk.specs.ReadAnswers.{WritesPage};
-ghost use Rattle.acd_program.specs.ArchiveExport.{WritesRows, AddsEvents, AddsOver, AddsIn, IsNewTable, LeavesArchives, LeavesExport};
-ghost use Rattle.acd_program.specs.HostTasks.{AddsHostArchive, AddsHostArchives, IsExport};
+ghost use Rattle.acd_desk.specs.Reads.ReadAnswers.{WritesPage};
+ghost use Rattle.acd_program.specs.Archives.ArchiveExport.{WritesRows, AddsEvents, AddsOver, AddsIn, IsNewTable, LeavesArchives, LeavesExport};
+ghost use Rattle.acd_program.specs.Commands.HostTasks.{AddsHostArchive, AddsHostArchives, IsExport};
 ghost use Rattle.acd_sessions.specs.Over.{database, Unserved};
-ghost use Rattle.acd_program.specs.WithArchive.{IsShutWith, LeavesArchive};
+ghost use Rattle.acd_program.specs.Archives.WithArchive.{IsShutWith, LeavesArchive};
 
 use crate::fault::{ArchiveFault, Fault};
 use crate::with_archive::found_and_closed;

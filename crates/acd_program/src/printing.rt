@@ -2,10 +2,10 @@
 
 ghost use Rattle.std.specs.Prelude.{◌≡◌, OnOk, OnErr, IfOk};
 ghost use Rattle.acd_io.specs.SentBytes.{Sends};
-ghost use Rattle.acd_program.specs.AuditFindings.{sound_line, counted_line, again_line, again_counted_line, finding_line, cut_line, nothing_line, pruning_line};
+ghost use Rattle.acd_program.specs.Commands.AuditFindings.{sound_line, counted_line, again_line, again_counted_line, finding_line, cut_line, nothing_line, pruning_line};
 ghost use Rattle.acd_lines.specs.Lines.{output};
 ghost use Rattle.acd_program.specs.Statuses.{sound_status, again_status, finding_status, pruning_status};
-ghost use Rattle.acd_program.specs.Work.{text_left, status_left, PrintsAll, PrintsPart};
+ghost use Rattle.acd_program.specs.Commands.Work.{text_left, status_left, PrintsAll, PrintsPart};
 
 use crate::auditing::Finding;
 use crate::desk::Done;

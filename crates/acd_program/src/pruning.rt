@@ -4,13 +4,13 @@ ghost use Rattle.std.specs.Prelude.{◌≡◌, false, IfOk, IfErr};
 ghost use Rattle.sqlite.specs.Held.{state};
 ghost use Rattle.sqlite_std_file.specs.File.{IsFresh};
 ghost use Rattle.acd_sqlbook.specs.View.{book_seen};
-ghost use Rattle.acd_desk.specs.Pairs.{book_call};
+ghost use Rattle.acd_desk.specs.Audits.Pairs.{book_call};
 ghost use Rattle.acd_sessions.specs.Over.{OnlyAsked};
-ghost use Rattle.acd_program.specs.FileTasks.{AsksToPrune, prune_over};
+ghost use Rattle.acd_program.specs.Commands.FileTasks.{AsksToPrune, prune_over};
 ghost use Rattle.acd_sessions.specs.Over.{database, Unserved};
-ghost use Rattle.acd_program.specs.Pruning.{is_well, goes_on, asking, lent, deciding, CarriesOut, IsPruningInOrder, PlansOver, PlansIn};
+ghost use Rattle.acd_program.specs.Archives.Pruning.{is_well, goes_on, asking, lent, deciding, CarriesOut, IsPruningInOrder, PlansOver, PlansIn};
 ghost use Rattle.acd_sessions.specs.ToDo.{Ended, EndedWith};
-ghost use Rattle.acd_program.specs.WithArchive.{IsFindingInOrder, IsShutWith, LeavesBeside};
+ghost use Rattle.acd_program.specs.Archives.WithArchive.{IsFindingInOrder, IsShutWith, LeavesBeside};
 
 use crate::auditing::{Finding, audited_with_archive};
 use crate::cut::{find_cut, is_place};

@@ -3,16 +3,16 @@
 ghost use Rattle.std.specs.Prelude.{◌≡◌, ◌≤◌, false, length, map, IfOk, IfErr};
 ghost use Rattle.clap.specs.Words.{kind_of};
 ghost use Rattle.acd_command.specs.CommandLine.{IsRefused};
-ghost use Rattle.acd_program.specs.Ended.{then_closed, work_on};
-ghost use Rattle.acd_program.specs.FileTasks.{ExitsTask, DoneOrHelp, FaultEnded};
+ghost use Rattle.acd_program.specs.Commands.Ended.{then_closed, work_on};
+ghost use Rattle.acd_program.specs.Commands.FileTasks.{ExitsTask, DoneOrHelp, FaultEnded};
 ghost use Rattle.acd_lines.specs.Lines.{written, streamed, AreUntouched};
 ghost use Rattle.acd_sessions.specs.Serving.{service};
 ghost use Rattle.acd_sessions.specs.Sessions.{memory_lines};
 ghost use Rattle.acd_program.specs.Statuses.{EndsUnasked, IfDone, fault_exit, PrintsAtMostFaults, PrintsOnSuccess, UntouchedElsewhere};
-ghost use Rattle.acd_program.specs.Tasks.{IsReadEnding};
-ghost use Rattle.acd_program.specs.HostTasks.{host_audit, host_export, host_import, host_lines, host_prune, host_service, host_standby, host_task, host_whole_audit, host_work, intake};
+ghost use Rattle.acd_program.specs.Commands.Tasks.{IsReadEnding};
+ghost use Rattle.acd_program.specs.Commands.HostTasks.{host_audit, host_export, host_import, host_lines, host_prune, host_service, host_standby, host_task, host_whole_audit, host_work, intake};
 ghost use Rattle.acd_sessions.specs.ToDo.{Ended};
-ghost use Rattle.acd_program.specs.Work.{printing};
+ghost use Rattle.acd_program.specs.Commands.Work.{printing};
 
 use crate::desk::{Done, over_database};
 use crate::export::{Starts, UnknownStarts, table_over};

@@ -3,11 +3,11 @@
 ghost use Rattle.std.specs.Prelude.{◌≡◌, false, Ok, IfOk, IfErr};
 ghost use Rattle.sqlite.specs.Held.{state};
 ghost use Rattle.sqlite_std_file.specs.File.{IsFresh};
-ghost use Rattle.acd_desk.specs.DeskState.{state_of};
-ghost use Rattle.acd_program.specs.FileTasks.{AsksWithArchive, AuditsWith, AuditsDatabase};
-ghost use Rattle.acd_program.specs.WithArchive.{AsksIn, AsksOver, IsShutWith, LeavesArchive, LeavesBeside};
+ghost use Rattle.acd_desk.specs.Desks.DeskState.{state_of};
+ghost use Rattle.acd_program.specs.Commands.FileTasks.{AsksWithArchive, AuditsWith, AuditsDatabase};
+ghost use Rattle.acd_program.specs.Archives.WithArchive.{AsksIn, AsksOver, IsShutWith, LeavesArchive, LeavesBeside};
 ghost use Rattle.acd_sessions.specs.Over.{OnlyAsked};
-ghost use Rattle.acd_program.specs.AuditFindings.{HasCount};
+ghost use Rattle.acd_program.specs.Commands.AuditFindings.{HasCount};
 ghost use Rattle.acd_sessions.specs.Over.{database, Unserved};
 
 use crate::auditing::{Finding, audited_with_archive};

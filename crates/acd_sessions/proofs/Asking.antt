@@ -2,11 +2,11 @@
 use Rattle.std.proofs.Common.{Result}
 use Rattle.acd_book.specs.Content.{Content}
 use Rattle.acd_book.specs.State.{BookState}
-use Rattle.acd_desk.specs.DeskState.{DeskState}
+use Rattle.acd_desk.specs.Desks.DeskState.{DeskState}
 use Rattle.acd_desk.specs.declared.fault.DeskFault.{DeskFault}
 use Rattle.acd_desk.specs.declared.open_fault.OpenFault.{OpenFault}
-use Rattle.acd_desk.specs.Opening.{Opened, Refused}
-use Rattle.acd_desk.specs.DeskReads.{ReadDone}
+use Rattle.acd_desk.specs.Desks.Opening.{Opened, Refused}
+use Rattle.acd_desk.specs.Reads.DeskReads.{ReadDone}
 use Rattle.acd_sessions.specs.Over.{OnlyAsked}
 
 -- nothing was asked of it where it makes no desk

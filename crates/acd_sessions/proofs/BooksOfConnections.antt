@@ -10,7 +10,7 @@ use Rattle.sqlite_trees.specs.Tree.{Trees}
 use Rattle.acd_book.specs.Order.{IsOrdered}
 use Rattle.acd_sql_columns.specs.Transactions.{IsBook}
 use Rattle.acd_desk.specs.declared.open_fault.OpenFault.{OpenFault}
-use Rattle.acd_desk.specs.Opening.{Refused}
+use Rattle.acd_desk.specs.Desks.Opening.{Refused}
 use Rattle.acd_sql_columns.specs.Schema.{no_schema}
 use Rattle.acd_sqlbook.specs.declared.cache.Cache.{Cache}
 use Rattle.acd_sqlbook.specs.Caches.{IsBlank, followed}

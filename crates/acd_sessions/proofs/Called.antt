@@ -8,15 +8,15 @@ use Rattle.acd_book.specs.Content.{Content}
 use Rattle.acd_book.specs.State.{BookState, BookStep}
 use Rattle.acd_sql_columns.specs.InTables.{content_of}
 use Rattle.acd_sql_columns.specs.Transactions.{IsBook}
-use Rattle.acd_sql_columns.proofs.RowsOfRecords.{decoded}
-use Rattle.acd_sql_columns.proofs.TransactionEnds.{is_book}
+use Rattle.acd_sql_columns.proofs.Rows.RowsOfRecords.{decoded}
+use Rattle.acd_sql_columns.proofs.Writes.TransactionEnds.{is_book}
 use Rattle.acd_sqlbook.specs.Caches.{SoundWith}
 use Rattle.acd_sqlbook.specs.State.{book_state}
 use Rattle.acd_sqlbook.specs.declared.cache.Cache.{Cache}
 use Rattle.acd_desk.specs.declared.taken.Taken.{Taken}
-use Rattle.acd_desk.specs.AnyContent.{Leads}
-use Rattle.acd_desk.specs.DeskCalls.{HoldsRun}
-use Rattle.acd_desk.specs.Session.{Session}
+use Rattle.acd_desk.specs.Contents.AnyContent.{Leads}
+use Rattle.acd_desk.specs.Desks.DeskCalls.{HoldsRun}
+use Rattle.acd_desk.specs.Desks.Session.{Session}
 use Rattle.acd_sessions.specs.Over.{LeavesBooks}
 
 abbrev pub called : BookState → Type 0 → BookState

@@ -4,7 +4,7 @@ use Rattle.std.specs.Io.KnownBytes.{Appends}
 use Rattle.acd_book.specs.Content.{Content}
 use Rattle.acd_book.specs.State.{unfailing}
 use Rattle.acd_desk.specs.declared.desk.Desk.{Desk}
-use Rattle.acd_desk.specs.DeskState.{DeskState, state_of}
+use Rattle.acd_desk.specs.Desks.DeskState.{DeskState, state_of}
 use Rattle.acd_terms.proofs.Results.{ok_err, same_error}
 use Rattle.acd_lines.specs.Laws.{RequestsRun}
 use Rattle.acd_lines.specs.Answers.{Answers}

@@ -13,13 +13,13 @@ use Rattle.acd_sqlbook.specs.View.{BookView, book_seen}
 use Rattle.acd_desk.specs.declared.desk.Desk.{Desk}
 use Rattle.acd_desk.specs.declared.fault.DeskFault.{DeskFault}
 use Rattle.acd_desk.specs.declared.taken.Taken.{Taken}
-use Rattle.acd_desk.specs.CarriedContent.{together}
-use Rattle.acd_desk.specs.Clock.{Looked}
-use Rattle.acd_desk.specs.Opening.{Opened}
-use Rattle.acd_desk.specs.DeskCalls.{DeskStep, EndsUp, Ran, Took}
-use Rattle.acd_desk.specs.DeskState.{DeskState, Starts, state_of, switch_of, is_failed}
-use Rattle.acd_desk.specs.SoundContent.{IsSound}
-use Rattle.acd_desk.specs.DeskReads.{ReadDone}
+use Rattle.acd_desk.specs.Contents.CarriedContent.{together}
+use Rattle.acd_desk.specs.Desks.Clock.{Looked}
+use Rattle.acd_desk.specs.Desks.Opening.{Opened}
+use Rattle.acd_desk.specs.Desks.DeskCalls.{DeskStep, EndsUp, Ran, Took}
+use Rattle.acd_desk.specs.Desks.DeskState.{DeskState, Starts, state_of, switch_of, is_failed}
+use Rattle.acd_desk.specs.Contents.SoundContent.{IsSound}
+use Rattle.acd_desk.specs.Reads.DeskReads.{ReadDone}
 use Rattle.acd_lines.specs.Answers.{Answers}
 use Rattle.acd_lines.specs.Input.{Line, no_moment, too_long, faulty, arrival, text_of_line}
 use Rattle.acd_lines.specs.Lines.{LinesAnswered, FirstLines, Streams, LinesDone, EndedBy}

@@ -11,9 +11,9 @@ use Rattle.acd_book.specs.declared.book.Book as book
 use Rattle.acd_book.specs.State.{BookState}
 use Rattle.acd_sqlbook.specs.View.{BookView, book_seen}
 use Rattle.acd_desk.specs.declared.desk.Desk.{Desk}
-use Rattle.acd_desk.specs.Opening.{Opened}
-use Rattle.acd_desk.specs.DeskCalls.{IsFault}
-use Rattle.acd_desk.specs.DeskState.{DeskState, state_of}
+use Rattle.acd_desk.specs.Desks.Opening.{Opened}
+use Rattle.acd_desk.specs.Desks.DeskCalls.{IsFault}
+use Rattle.acd_desk.specs.Desks.DeskState.{DeskState, state_of}
 use Rattle.acd_io.specs.SentBytes.{Begins}
 use Rattle.acd_terms.proofs.Results.{ok_err, same_error}
 use Rattle.acd_lines.specs.Laws.{RequestsRun}

@@ -6,15 +6,15 @@ use Rattle.acd_terms.specs.declared.command.Arrival.{Arrival}
 use Rattle.acd_book.specs.Content.{Content, HasRisen}
 use Rattle.acd_book.specs.State.{BookState}
 use Rattle.acd_desk.specs.declared.taken.Taken.{Taken}
-use Rattle.acd_desk.specs.AcceptedArrivals.{accepted, answers_sent}
-use Rattle.acd_desk.specs.SoundContent.{IsSound, replies}
-use Rattle.acd_desk.specs.CarriedContent.{no_archive}
-use Rattle.acd_desk.specs.DeskState.{DeskState, state_of}
+use Rattle.acd_desk.specs.Contents.AcceptedArrivals.{accepted, answers_sent}
+use Rattle.acd_desk.specs.Contents.SoundContent.{IsSound, replies}
+use Rattle.acd_desk.specs.Contents.CarriedContent.{no_archive}
+use Rattle.acd_desk.specs.Desks.DeskState.{DeskState, state_of}
 use Rattle.acd_desk.specs.declared.desk.Desk.{Desk}
-use Rattle.acd_desk.specs.Opening.{Opened, Refused}
+use Rattle.acd_desk.specs.Desks.Opening.{Opened, Refused}
 use Rattle.acd_desk.specs.declared.open_fault.OpenFault.TheVariants.{Rows}
 use Rattle.acd_terms.specs.declared.rows.Rule.{Rule}
-use Rattle.acd_desk.specs.DeskCalls.{Ran}
+use Rattle.acd_desk.specs.Desks.DeskCalls.{Ran}
 use Rattle.acd_desk.proofs.Contents.ContentLaws.{empty_sound}
 use Rattle.acd_io.specs.Streams.{IsInput}
 use Rattle.acd_sessions.specs.MemoryAnswers.{nothing, in_memory, IsNewDesk, AnsweredFromNothing}

@@ -12,13 +12,13 @@ use Rattle.acd_sqlbook.specs.Caches.{followed}
 use Rattle.acd_sqlbook.specs.State.{book_state}
 use Rattle.acd_desk.specs.declared.taken.Taken.{Taken}
 use Rattle.acd_desk.specs.declared.taken.Taken.TheVariants.{StoreFault}
-use Rattle.acd_desk.specs.AcceptedArrivals.{accepted, maybe_last, answers_sent}
-use Rattle.acd_desk.specs.DeskState.{DeskState}
-use Rattle.acd_desk.specs.SoundContent.{IsSound, replies, StopsAt}
-use Rattle.acd_desk.specs.Opening.{Opened}
-use Rattle.acd_desk.specs.DeskCalls.{Ran, IsFault, HoldsRun}
-use Rattle.acd_desk.specs.Session.{Session}
-use Rattle.acd_desk.specs.AnyContent.{Leads}
+use Rattle.acd_desk.specs.Contents.AcceptedArrivals.{accepted, maybe_last, answers_sent}
+use Rattle.acd_desk.specs.Desks.DeskState.{DeskState}
+use Rattle.acd_desk.specs.Contents.SoundContent.{IsSound, replies, StopsAt}
+use Rattle.acd_desk.specs.Desks.Opening.{Opened}
+use Rattle.acd_desk.specs.Desks.DeskCalls.{Ran, IsFault, HoldsRun}
+use Rattle.acd_desk.specs.Desks.Session.{Session}
+use Rattle.acd_desk.specs.Contents.AnyContent.{Leads}
 use Rattle.acd_desk.proofs.Desks.Sessions.{session_ran}
 use Rattle.acd_lines.specs.Lines.{LinesAnswered, ArrivalsAnswered}
 use Rattle.acd_lines.proofs.WeakerAnswers.{arrivals_so}

@@ -60,9 +60,9 @@ use Rattle.sqlite_wal.proofs.LogLemmas.{SeenMayStay}
 use Rattle.sqlite_wal.proofs.RecoveryLemmas.{recovers_once as raw_once}
 use Rattle.sqlite.specs.Opening.{HoldsIn}
 use Rattle.acd_book.specs.Content.{Content}
-use Rattle.acd_desk.specs.CarriedContent.{Archive, together}
-use Rattle.acd_desk.specs.SoundContent.{IsSound}
-use Rattle.acd_desk.specs.Opening.{Opens}
+use Rattle.acd_desk.specs.Contents.CarriedContent.{Archive, together}
+use Rattle.acd_desk.specs.Contents.SoundContent.{IsSound}
+use Rattle.acd_desk.specs.Desks.Opening.{Opens}
 use Rattle.acd_sql_columns.specs.AnyRows.{has_meta}
 use Rattle.acd_sql_columns.specs.Schema.{book_schema, no_schema}
 use Rattle.acd_sql_columns.specs.InTables.{content_of}

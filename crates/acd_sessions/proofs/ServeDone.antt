@@ -7,7 +7,7 @@ use Rattle.sqlite.specs.Held.{Held, state}
 use Rattle.sqlite_trees.specs.Tree.{Trees}
 use Rattle.sqlite_trees.specs.declared.store.Store.{Ghosts}
 use Rattle.acd_sqlbook.specs.View.{BookView, book_seen}
-use Rattle.acd_desk.specs.DeskState.{DeskState, state_of}
+use Rattle.acd_desk.specs.Desks.DeskState.{DeskState, state_of}
 use Rattle.acd_io.specs.SentBytes.{Begins, WasSent}
 use Rattle.acd_io.proofs.Sends.{begins_so}
 use Rattle.acd_http.specs.declared.serving.Span.{Span}

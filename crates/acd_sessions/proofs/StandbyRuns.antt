@@ -9,10 +9,10 @@ use Rattle.acd_terms.proofs.Results.{ok_err}
 use Rattle.acd_terms.specs.declared.command.Arrival.{Arrival}
 use Rattle.acd_sqlbook.specs.View.{BookView, book_seen}
 use Rattle.acd_desk.specs.declared.taken.Taken.{Taken}
-use Rattle.acd_desk.specs.Arrivals.{arrival_at}
-use Rattle.acd_desk.specs.ArrivalsAndReads.{Attended}
-use Rattle.acd_desk.specs.Clock.{clock_tick, Looked}
-use Rattle.acd_desk.specs.DeskState.{DeskState, state_of}
+use Rattle.acd_desk.specs.Contents.Arrivals.{arrival_at}
+use Rattle.acd_desk.specs.Desks.ArrivalsAndReads.{Attended}
+use Rattle.acd_desk.specs.Desks.Clock.{clock_tick, Looked}
+use Rattle.acd_desk.specs.Desks.DeskState.{DeskState, state_of}
 use Rattle.acd_desk.proofs.Desks.CallsInTurn.{Settles, attended_more, attended_read}
 use Rattle.acd_lines.specs.Lines.{Streams, streams, LinesDone, EndedBy, Output}
 use Rattle.acd_lines.specs.declared.fault.LinesFault.{LinesFault}

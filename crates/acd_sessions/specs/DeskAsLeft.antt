@@ -7,8 +7,8 @@ use Rattle.acd_terms.specs.declared.rows.Rows.{Rows}
 use Rattle.acd_book.specs.Content.{Content}
 use Rattle.acd_book.specs.State.{BookState, unfailing}
 use Rattle.acd_sql_columns.specs.Schema.{no_schema}
-use Rattle.acd_desk.specs.Opening.{Opened}
-use Rattle.acd_desk.specs.DeskState.{DeskState}
+use Rattle.acd_desk.specs.Desks.Opening.{Opened}
+use Rattle.acd_desk.specs.Desks.DeskState.{DeskState}
 use Rattle.acd_sessions.specs.MemoryAnswers.{IsNewDesk}
 use Rattle.acd_sessions.specs.Over.{held, unmade, left, Database, HadTables, LeavesBooks}
 

@@ -8,8 +8,8 @@ use Rattle.acd_book.specs.Content.{Content}
 use Rattle.acd_book.specs.State.{BookState}
 use Rattle.acd_sqlbook.specs.View.{BookView, book_seen}
 use Rattle.acd_desk.specs.declared.desk.Desk.{Desk}
-use Rattle.acd_desk.specs.Opening.{Opened}
-use Rattle.acd_desk.specs.DeskState.{state_of}
+use Rattle.acd_desk.specs.Desks.Opening.{Opened}
+use Rattle.acd_desk.specs.Desks.DeskState.{state_of}
 use Rattle.acd_sessions.specs.MemoryAnswers.{in_memory, IsNewDesk}
 use Rattle.acd_sessions.specs.ConnectionBook.{IsTaken}
 

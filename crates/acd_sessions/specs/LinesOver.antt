@@ -11,8 +11,8 @@ use Rattle.acd_book.specs.State.{BookState}
 use Rattle.acd_sqlbook.specs.View.{BookView}
 use Rattle.acd_desk.specs.declared.desk.Desk.{Desk}
 use Rattle.acd_desk.specs.declared.open_fault.OpenFault.{OpenFault}
-use Rattle.acd_desk.specs.Opening.{Refused}
-use Rattle.acd_desk.specs.DeskState.{DeskState, state_of}
+use Rattle.acd_desk.specs.Desks.Opening.{Refused}
+use Rattle.acd_desk.specs.Desks.DeskState.{DeskState, state_of}
 use Rattle.acd_lines.specs.Answers.{Answers}
 use Rattle.acd_lines.specs.Input.{line_of}
 use Rattle.acd_lines.specs.Lines.{LinesAnswered, AllLines, Streams, Untouched, Manner, LinesDone}

@@ -9,9 +9,9 @@ use Rattle.acd_book.specs.State.{unfailing}
 use Rattle.acd_book.specs.declared.book.Book.{Ghosts}
 use Rattle.acd_desk.specs.declared.taken.Taken.{Taken}
 use Rattle.acd_desk.specs.declared.taken.Taken.TheVariants.{StoreFault}
-use Rattle.acd_desk.specs.AcceptedArrivals.{accepted, answers_sent}
-use Rattle.acd_desk.specs.SoundContent.{replies}
-use Rattle.acd_desk.specs.DeskState.{DeskState, Starts}
+use Rattle.acd_desk.specs.Contents.AcceptedArrivals.{accepted, answers_sent}
+use Rattle.acd_desk.specs.Contents.SoundContent.{replies}
+use Rattle.acd_desk.specs.Desks.DeskState.{DeskState, Starts}
 use Rattle.acd_lines.specs.Lines.{LinesAnswered, AllLines, ArrivalsAnswered}
 
 -- nothing was executed, under the greatest limits

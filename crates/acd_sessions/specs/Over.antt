@@ -17,8 +17,8 @@ use Rattle.acd_sql_columns.specs.Transactions.{IsBook}
 use Rattle.acd_sql_schema.specs.Migration.{IsMigration}
 use Rattle.acd_desk.specs.declared.taken.Taken.{Taken}
 use Rattle.acd_desk.specs.declared.taken.Taken.TheVariants.{StoreFault}
-use Rattle.acd_desk.specs.DeskCalls.{IsFault}
-use Rattle.acd_desk.specs.Session.{Session}
+use Rattle.acd_desk.specs.Desks.DeskCalls.{IsFault}
+use Rattle.acd_desk.specs.Desks.Session.{Session}
 use Rattle.acd_lines.specs.Lines.{LinesAnswered, AllLines, ArrivalsAnswered, Streams}
 use Rattle.acd_sessions.specs.MemoryAnswers.{nothing}
 

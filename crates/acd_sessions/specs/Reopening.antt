@@ -19,10 +19,10 @@ use Rattle.sqlite.specs.State.{HasCleanDisk}
 use Rattle.sqlite.specs.declared.error.Error.{Error}
 use Rattle.sqlite.specs.declared.file.Leftover.{Leftover}
 use Rattle.acd_book.specs.Content.{Content}
-use Rattle.acd_desk.specs.CarriedContent.{Archive, together}
-use Rattle.acd_desk.specs.Opening.{IsNoRule, Opens}
-use Rattle.acd_desk.specs.DeskState.{switch_of}
-use Rattle.acd_desk.specs.SoundContent.{IsSound}
+use Rattle.acd_desk.specs.Contents.CarriedContent.{Archive, together}
+use Rattle.acd_desk.specs.Desks.Opening.{IsNoRule, Opens}
+use Rattle.acd_desk.specs.Desks.DeskState.{switch_of}
+use Rattle.acd_desk.specs.Contents.SoundContent.{IsSound}
 use Rattle.acd_desk.specs.declared.desk.Desk.{Desk}
 use Rattle.acd_desk.specs.declared.open_fault.OpenFault.{OpenFault}
 use Rattle.acd_sql_columns.specs.InTables.{content_of}

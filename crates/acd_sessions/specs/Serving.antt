@@ -10,8 +10,8 @@ use Rattle.acd_book.specs.declared.book.Book.{Ghosts}
 use Rattle.acd_book.specs.State.{BookState}
 use Rattle.acd_desk.specs.declared.desk.Desk.{Desk}
 use Rattle.acd_desk.specs.declared.open_fault.OpenFault.{OpenFault}
-use Rattle.acd_desk.specs.Opening.{Refused}
-use Rattle.acd_desk.specs.DeskState.{DeskState, state_of}
+use Rattle.acd_desk.specs.Desks.Opening.{Refused}
+use Rattle.acd_desk.specs.Desks.DeskState.{DeskState, state_of}
 use Rattle.acd_io.specs.SentBytes.{Begins}
 use Rattle.acd_http.specs.declared.serving.Span.{Span}
 use Rattle.acd_http.specs.Turns.{TurnsUntil, ServiceTurn, turn_lines}

@@ -11,7 +11,7 @@ use Rattle.acd_lines.specs.Lines.{LinesAnswered, FirstLines, ArrivalsAnswered, S
 use Rattle.acd_lines.specs.declared.fault.LinesFault.{LinesFault}
 use Rattle.acd_lines.specs.declared.fault.LinesFault.TheVariants.{NoMemory}
 use Rattle.acd_desk.specs.declared.desk.Desk.{Desk}
-use Rattle.acd_desk.specs.DeskState.{DeskState, state_of}
+use Rattle.acd_desk.specs.Desks.DeskState.{DeskState, state_of}
 use Rattle.acd_sqlbook.specs.View.{BookView}
 use Rattle.acd_sessions.specs.MemoryAnswers.{in_memory, AnsweredFromNothing, AnswersAll}
 use Rattle.acd_sessions.specs.Faults.{lines_fault}

@@ -4,7 +4,7 @@ ghost use Rattle.sqlite_std_file.specs.File.{IsFresh};
 ghost use Rattle.acd_sessions.specs.Reopening.{BooksMakeDesks, ClosedOpens, FreshAreSynced, LeftOpens};
 ghost use Rattle.acd_sessions.specs.Sessions.{LinesAreSessions, LinesAreFromNothing};
 ghost use Rattle.acd_sessions.specs.Standby.{StandbyLeadsToTheRun};
-ghost use Rattle.acd_desk.specs.DeskState.{state_of};
+ghost use Rattle.acd_desk.specs.Desks.DeskState.{state_of};
 
 use acd_book::{Book, MemoryBook};
 use acd_http::laws::reads_answer_by_the_run;

@@ -1,7 +1,7 @@
 //! A desk in memory, whose replies last as long as the program runs.
 
 ghost use Rattle.std.specs.Prelude.{IfOk};
-ghost use Rattle.acd_desk.specs.DeskCalls.{state_of};
+ghost use Rattle.acd_desk.specs.Desks.DeskCalls.{state_of};
 ghost use Rattle.acd_sessions.specs.MemoryAnswers.{in_memory, IsNewDesk};
 ghost use Rattle.acd_lines.specs.Questions.{TakesTurns};
 ghost use Rattle.acd_sessions.specs.LinesOver.{LinesInMemory};

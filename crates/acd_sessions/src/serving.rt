@@ -2,7 +2,7 @@
 
 ghost use Rattle.std.specs.Prelude.{◌≡◌, false};
 ghost use Rattle.acd_io.specs.SentBytes.{Sends};
-ghost use Rattle.acd_desk.specs.DeskState.{state_of};
+ghost use Rattle.acd_desk.specs.Desks.DeskState.{state_of};
 ghost use Rattle.acd_sessions.specs.Faults.{desk_result};
 ghost use Rattle.acd_lines.specs.Lines.{written};
 ghost use Rattle.acd_sessions.specs.Serving.{ends_failed, listening_line, service, ListensBy, ServesBy, ServesOver, ServesIn};

@@ -1,7 +1,7 @@
 //! Lines over a book, from the opening of its desk to the end.
 
 ghost use Rattle.std.specs.Prelude.{◌≡◌, ◌&&◌, false, OnOk};
-ghost use Rattle.acd_desk.specs.DeskState.{state_of};
+ghost use Rattle.acd_desk.specs.Desks.DeskState.{state_of};
 ghost use Rattle.acd_lines.specs.Questions.{by_questions};
 ghost use Rattle.acd_sessions.specs.Faults.{desk_result};
 ghost use Rattle.acd_sessions.specs.LinesOver.{LinesLeaveDesk, LinesLeaveBook};

@@ -55,21 +55,21 @@ use Rattle.acd_sql_columns.specs.Schema.{Layout, further_columns, table_of, tabl
 use Rattle.acd_sql_columns.specs.Schema as schema
 use Rattle.acd_sql_columns.specs.Tables.{groups, stations, agents, calls, connections, monitors, events, kept, group_priority, agent_groups}
 use Rattle.acd_sql_columns.specs.Values.{id_value, cells}
-use Rattle.acd_sql_columns.proofs.AgentGroups.{groups_heaped}
-use Rattle.acd_sql_columns.proofs.QueryAnswers.{columns}
-use Rattle.acd_sql_columns.proofs.Connections.{connections_heaped}
-use Rattle.acd_sql_columns.proofs.RowsOfRecords.{old_in, with_all, ordered, from_order, to_order}
-use Rattle.acd_sql_columns.proofs.DescribedTable.{Described, tree_is, good, headed, shows_values}
-use Rattle.acd_sql_columns.proofs.CompositeKeyed.{Heaped, key_columns, has_twin, no_twin, starts, agreed, heap_tree}
-use Rattle.acd_sql_columns.proofs.CompositeKeys.{one_number, by_both_total, like_tied, key_met, met_key}
-use Rattle.acd_sql_columns.proofs.KeyedRows.{id_cmp, id_tied}
-use Rattle.acd_sql_columns.proofs.Listings.{begun, version_begins}
-use Rattle.acd_sql_columns.proofs.QueryResults.{mapped_all, ascending_of, rising_of}
-use Rattle.acd_sql_columns.proofs.ValuesInRange.{row_is, null_is, whole_stored}
-use Rattle.acd_sql_columns.proofs.Records.{counters_stored}
-use Rattle.acd_sql_columns.proofs.RejoinedRows.{parts_rejoined, further_rejoined, groups_right, group_parts_rejoined, priorities_rejoined}
-use Rattle.acd_sql_columns.proofs.Scans.{showing, each}
-use Rattle.acd_sql_columns.proofs.TablesDescribed.{priorities_described, groups_described, stations_described, agents_described, calls_described, monitors_described, events_described, kept_described}
+use Rattle.acd_sql_columns.proofs.FileTables.AgentGroups.{groups_heaped}
+use Rattle.acd_sql_columns.proofs.Results.QueryAnswers.{columns}
+use Rattle.acd_sql_columns.proofs.FileTables.Connections.{connections_heaped}
+use Rattle.acd_sql_columns.proofs.Rows.RowsOfRecords.{old_in, with_all, ordered, from_order, to_order}
+use Rattle.acd_sql_columns.proofs.FileTables.DescribedTable.{Described, tree_is, good, headed, shows_values}
+use Rattle.acd_sql_columns.proofs.FileTables.CompositeKeyed.{Heaped, key_columns, has_twin, no_twin, starts, agreed, heap_tree}
+use Rattle.acd_sql_columns.proofs.OneTable.CompositeKeys.{one_number, by_both_total, like_tied, key_met, met_key}
+use Rattle.acd_sql_columns.proofs.OneTable.KeyedRows.{id_cmp, id_tied}
+use Rattle.acd_sql_columns.proofs.OneTable.Listings.{begun, version_begins}
+use Rattle.acd_sql_columns.proofs.FileTables.QueryResults.{mapped_all, ascending_of, rising_of}
+use Rattle.acd_sql_columns.proofs.Rows.ValuesInRange.{row_is, null_is, whole_stored}
+use Rattle.acd_sql_columns.proofs.Rows.Records.{counters_stored}
+use Rattle.acd_sql_columns.proofs.Rows.RejoinedRows.{parts_rejoined, further_rejoined, groups_right, group_parts_rejoined, priorities_rejoined}
+use Rattle.acd_sql_columns.proofs.OneTable.Scans.{showing, each}
+use Rattle.acd_sql_columns.proofs.FileTables.TablesDescribed.{priorities_described, groups_described, stations_described, agents_described, calls_described, monitors_described, events_described, kept_described}
 use Rattle.acd_sql_schema.proofs.Places.{Beside, NoneBefore, none_beside, all_beside, longer}
 use Rattle.acd_lemmas.proofs.Numbers.{same_number}
 use Rattle.acd_lemmas.proofs.KeyedLists.{eqb_self}

@@ -33,7 +33,7 @@ use Rattle.sqlite.specs.State.{shows_rows, text_of}
 use Rattle.acd_sql_columns.specs.SchemaSteps.{MakesTable, create_command, statement_of}
 use Rattle.acd_sql_statements.specs.StoreFailures.{IsUnreadText, IsEnding, Refuses, at_once}
 use Rattle.acd_sql_statements.proofs.ReadTexts.{within}
-use Rattle.acd_sql_columns.proofs.QueryAnswers.{text_tied}
+use Rattle.acd_sql_columns.proofs.Results.QueryAnswers.{text_tied}
 use Rattle.acd_terms.proofs.Texts.{utf8_ascii}
 
 abbrev pub is_ascii : ℕ → Bool

@@ -12,7 +12,7 @@ use Rattle.sqlite.specs.Effect.{Database}
 use Rattle.sqlite.specs.State.{State, Writes, Executes}
 use Rattle.sqlite.proofs.Callers.{runs_as}
 use Rattle.acd_sql_columns.specs.SchemaSteps.{MakesTable, Builds, HasRows}
-use Rattle.acd_sql_columns.proofs.Statements.{went, same_value}
+use Rattle.acd_sql_columns.proofs.Writes.Statements.{went, same_value}
 
 -- the kept rows are those that were there, and the last table's come after them
 all_rows : (old new : Trees) (ts : List Table) (rows : List (List Row)) (t : Table) → AllByRecursion (λ u. new u.tree ≡ old u.tree) ts → HasRows old ts rows

@@ -37,11 +37,11 @@ use Rattle.acd_sql_columns.specs.Content.{IsIn, version_number}
 use Rattle.acd_sql_columns.specs.Schema.{old_schema, book_schema}
 use Rattle.acd_sql_columns.specs.Schema as schema
 use Rattle.acd_sql_columns.specs.DatabaseView.{HasDatabase, Sees, HasLooked}
-use Rattle.acd_sql_columns.proofs.KeyedRows.{apart}
-use Rattle.acd_sql_columns.proofs.QueryResults.{mapped_all, moved_all}
-use Rattle.acd_sql_columns.proofs.Listings.{version_begins}
+use Rattle.acd_sql_columns.proofs.OneTable.KeyedRows.{apart}
+use Rattle.acd_sql_columns.proofs.FileTables.QueryResults.{mapped_all, moved_all}
+use Rattle.acd_sql_columns.proofs.OneTable.Listings.{version_begins}
 use Rattle.acd_sql_schema.proofs.LogPages.{page_is, log_found}
-use Rattle.acd_sql_columns.proofs.SnapshotReads.{sees_on, sees_fail, sees_then}
+use Rattle.acd_sql_columns.proofs.Results.SnapshotReads.{sees_on, sees_fail, sees_then}
 use Rattle.acd_lemmas.proofs.Numbers.{same_number}
 
 -- ---- rows

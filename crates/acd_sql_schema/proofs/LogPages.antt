@@ -33,10 +33,10 @@ use Rattle.acd_sql_columns.specs.declared.tables.Version.TheVariants as version
 use Rattle.acd_sql_columns.specs.Content.{tree_of, IsIn}
 use Rattle.acd_sql_columns.specs.Values.{option_in, ◌>>=◌, whole_at}
 use Rattle.acd_sql_columns.specs.Ranges.{event_in, event_number, kept_in, kept_stamp}
-use Rattle.acd_sql_columns.proofs.KeyedRows.{by_key}
-use Rattle.acd_sql_columns.proofs.QueryResults.{bad_among, numbers_ascend}
+use Rattle.acd_sql_columns.proofs.OneTable.KeyedRows.{by_key}
+use Rattle.acd_sql_columns.proofs.FileTables.QueryResults.{bad_among, numbers_ascend}
 use Rattle.acd_sql_statements.proofs.ListsByItem.{at}
-use Rattle.acd_sql_columns.proofs.EventRows.{event_stored, kept_stored}
+use Rattle.acd_sql_columns.proofs.Rows.EventRows.{event_stored, kept_stored}
 
 above : (m n : ℕ) → nat_cmp m n ≡ Less → nat_lt m n ≡ true
 above m n h = grind (arith, nat_tests)

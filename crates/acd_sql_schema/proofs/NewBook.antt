@@ -10,8 +10,8 @@ use Rattle.acd_sql_columns.specs.Content.{with_part}
 use Rattle.acd_sql_columns.specs.InRange.{IsGoodMeta}
 use Rattle.acd_sql_columns.specs.Relations.{relations_of}
 use Rattle.acd_sql_columns.specs.Transactions.{HoldsContent, HoldsGood, HoldsUncommitted, IsBook}
-use Rattle.acd_sql_columns.proofs.TransactionEnds.{holds_committed}
-use Rattle.acd_sql_columns.proofs.KeptInRange.{empty_in_range}
+use Rattle.acd_sql_columns.proofs.Writes.TransactionEnds.{holds_committed}
+use Rattle.acd_sql_columns.proofs.Rows.KeptInRange.{empty_in_range}
 use Rattle.acd_sql_schema.specs.Creation.{MayMake, start_of}
 
 module _ (limits : Limits) where

@@ -28,10 +28,10 @@ use Rattle.acd_sql_columns.specs.Rows.{agent_row, group_row, priority_row, prior
 use Rattle.acd_sql_columns.specs.Ranges.{priority_of_row}
 use Rattle.acd_sql_columns.specs.Tables.{agent_groups}
 use Rattle.acd_sql_columns.specs.Values.{◌>>=◌, id_value, device_at, priority_at}
-use Rattle.acd_sql_columns.proofs.RowsOfRecords.{from_order, heap_back}
-use Rattle.acd_sql_columns.proofs.CompositeKeys.{by_both_total}
-use Rattle.acd_sql_columns.proofs.RejoinedRows.{by_rank}
-use Rattle.acd_sql_columns.proofs.Records.{group_back, priority_back, agent_back, further_back}
+use Rattle.acd_sql_columns.proofs.Rows.RowsOfRecords.{from_order, heap_back}
+use Rattle.acd_sql_columns.proofs.OneTable.CompositeKeys.{by_both_total}
+use Rattle.acd_sql_columns.proofs.Rows.RejoinedRows.{by_rank}
+use Rattle.acd_sql_columns.proofs.Rows.Records.{group_back, priority_back, agent_back, further_back}
 use Rattle.acd_sql_schema.specs.Inspection.{ArePlaced}
 
 -- ---- pairs in their order

@@ -11,7 +11,7 @@ use Rattle.sqlite.specs.State.{State, HasCleanDisk}
 use Rattle.sqlite.specs.declared.error.Error.{Error}
 use Rattle.acd_sql_columns.specs.Transactions.{RanStatement}
 use Rattle.acd_sql_columns.specs.SchemaSteps.{MakesTable, Builds}
-use Rattle.acd_sql_columns.proofs.TransactionEnds.{works_on}
+use Rattle.acd_sql_columns.proofs.Writes.TransactionEnds.{works_on}
 use Rattle.acd_sql_statements.specs.StoreFailures.{FailsToWrite}
 use Rattle.acd_sql_statements.specs.InTransaction.{RunsText}
 use Rattle.acd_sql_schema.specs.Creation.{FailsToMake, MakesTables, stage}

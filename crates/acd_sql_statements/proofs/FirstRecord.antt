@@ -17,7 +17,7 @@ use Rattle.acd_sql_columns.specs.Transactions.{HoldsContent}
 use Rattle.acd_sql_columns.specs.ReadResults.{Finds}
 use Rattle.acd_sql_columns.specs.Ranges.{monitor_of_row}
 use Rattle.acd_sql_statements.proofs.ReadsInTurn.{finds_on, finds_after}
-use Rattle.acd_sql_columns.proofs.Records.{monitor_exact}
+use Rattle.acd_sql_columns.proofs.Rows.Records.{monitor_exact}
 use Rattle.acd_lemmas.proofs.Lists.{head_is, every-take, every-filter}
 
 module _ {R : Type 0} (in_row : Row → Option R) (values : R → Row) (IsGood : R → Type 0)

@@ -15,10 +15,10 @@ use Rattle.acd_sql_columns.specs.declared.tables.Table.TheVariants as table
 use Rattle.acd_sql_columns.specs.Transactions.{HoldsUncommitted}
 use Rattle.acd_sql_columns.specs.ReadResults.{Finds}
 use Rattle.acd_sql_columns.specs.Relations.{Relations, pair_order, group_part, agent_part, further_in, priorities_in, joined_group, joined_agent, all_put}
-use Rattle.acd_sql_columns.proofs.Common.{ChangesEach}
-use Rattle.acd_sql_columns.proofs.RowsOfRecords.{groups_rise, agents_rise}
-use Rattle.acd_sql_columns.proofs.JoinedRecords.{groups_joined, agents_joined}
-use Rattle.acd_sql_columns.proofs.Listings.{stored}
+use Rattle.acd_sql_columns.proofs.Writes.Common.{ChangesEach}
+use Rattle.acd_sql_columns.proofs.Rows.RowsOfRecords.{groups_rise, agents_rise}
+use Rattle.acd_sql_columns.proofs.Rows.JoinedRecords.{groups_joined, agents_joined}
+use Rattle.acd_sql_columns.proofs.OneTable.Listings.{stored}
 use Rattle.acd_lemmas.proofs.Lists.{take-push, map-push}
 
 -- ---- the result

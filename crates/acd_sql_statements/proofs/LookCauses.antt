@@ -11,10 +11,10 @@ use Rattle.sqlite.specs.State.{State, HasCleanDisk, Survives, FailsToQuery, Quer
 use Rattle.acd_sql_columns.specs.declared.tables.Table.{Table}
 use Rattle.acd_sql_columns.specs.AnyRows.{is_good, is_good_in, rows_in}
 use Rattle.acd_sql_columns.specs.DatabaseView.{HasDatabase, Sees}
-use Rattle.acd_sql_columns.proofs.QueryResults.{bad_among}
-use Rattle.acd_sql_columns.proofs.Queries.{probe_text}
-use Rattle.acd_sql_columns.proofs.SnapshotReads.{sees_fail}
-use Rattle.acd_sql_columns.proofs.TableQueries.{finds_good}
+use Rattle.acd_sql_columns.proofs.FileTables.QueryResults.{bad_among}
+use Rattle.acd_sql_columns.proofs.Results.Queries.{probe_text}
+use Rattle.acd_sql_columns.proofs.Results.SnapshotReads.{sees_fail}
+use Rattle.acd_sql_columns.proofs.FileTables.TableQueries.{finds_good}
 use Rattle.acd_sql_statements.specs.StoreFailures.{IsMemory}
 use Rattle.acd_sql_statements.specs.ReadFailures.{FailsToShow, FailsToDecode, RefusesToShow}
 use Rattle.acd_sql_statements.specs.Looks.{HasLookCause, FailsToLook}

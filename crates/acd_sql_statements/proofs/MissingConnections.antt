@@ -23,12 +23,12 @@ use Rattle.acd_sql_columns.specs.Rows.{connection_values}
 use Rattle.acd_sql_columns.specs.Schema.{book_schema}
 use Rattle.acd_sql_columns.specs.Tables.{connections}
 use Rattle.acd_sql_columns.specs.declared.texts.TheConstants.{UPDATE_CONNECTION}
-use Rattle.acd_sql_columns.proofs.Common.{inert}
-use Rattle.acd_sql_columns.proofs.Connections.{connections_heaped}
-use Rattle.acd_sql_columns.proofs.CompositeKeyed.{by_two, columns_given, of_two}
-use Rattle.acd_sql_columns.proofs.Scans.{scan, showing, passing}
-use Rattle.acd_sql_columns.proofs.Statements.{inert_works}
-use Rattle.acd_sql_columns.proofs.Updates.{Updating, updated}
+use Rattle.acd_sql_columns.proofs.Writes.Common.{inert}
+use Rattle.acd_sql_columns.proofs.FileTables.Connections.{connections_heaped}
+use Rattle.acd_sql_columns.proofs.FileTables.CompositeKeyed.{by_two, columns_given, of_two}
+use Rattle.acd_sql_columns.proofs.OneTable.Scans.{scan, showing, passing}
+use Rattle.acd_sql_columns.proofs.Writes.Statements.{inert_works}
+use Rattle.acd_sql_columns.proofs.Writes.Updates.{Updating, updated}
 use Rattle.acd_sql_statements.specs.WriteRefusals.{HasNoConnection}
 
 updates : command_of (understood book_schema UPDATE_CONNECTION.now) ≡ Update connections.place (record {

@@ -17,9 +17,9 @@ use Rattle.acd_sql_columns.specs.ReadResults.{Finds}
 use Rattle.acd_sql_columns.specs.Relations.{group_part, agent_part, further_in, joined_agent}
 use Rattle.acd_sql_columns.specs.Rows.{group_values, agent_values}
 use Rattle.acd_sql_columns.specs.Tables.{groups, agents}
-use Rattle.acd_sql_columns.proofs.RowsOfRecords.{agents_rise}
-use Rattle.acd_sql_columns.proofs.JoinedRecords.{agents_joined}
-use Rattle.acd_sql_columns.proofs.Listings.{stored}
+use Rattle.acd_sql_columns.proofs.Rows.RowsOfRecords.{agents_rise}
+use Rattle.acd_sql_columns.proofs.Rows.JoinedRecords.{agents_joined}
+use Rattle.acd_sql_columns.proofs.OneTable.Listings.{stored}
 use Rattle.acd_sql_statements.specs.StoreFailures.{IsMemory}
 use Rattle.acd_sql_columns.specs.InRange.{IsInRange}
 use Rattle.acd_sql_statements.specs.ReadFailures.{HasStray, HasTableValues, FailsToRead, HasReadCause, HasReadCauseIf}

@@ -32,9 +32,9 @@ use Rattle.acd_sql_columns.specs.Transactions.{HoldsContent, Quiet}
 use Rattle.acd_sql_columns.specs.ReadResults.{Finds}
 use Rattle.acd_sql_columns.specs.Relations.{meta_of}
 use Rattle.acd_sql_columns.specs.Rows.{meta_shown}
-use Rattle.acd_sql_columns.proofs.Listings.{schema_is}
-use Rattle.acd_sql_columns.proofs.QueryResults.{bad_among}
-use Rattle.acd_sql_columns.proofs.Queries.{probe_text, probe_plain}
+use Rattle.acd_sql_columns.proofs.OneTable.Listings.{schema_is}
+use Rattle.acd_sql_columns.proofs.FileTables.QueryResults.{bad_among}
+use Rattle.acd_sql_columns.proofs.Results.Queries.{probe_text, probe_plain}
 use Rattle.acd_sql_columns.specs.InRange.{IsInRange, values_of, is_good_table}
 use Rattle.acd_sql_statements.specs.StoreFailures.{IsMemory}
 use Rattle.acd_sql_statements.specs.ReadFailures.{HasReadCauseIf, Spares, IsUnanswered, RefusesToShow, FailsToShow, IsAnswered, FailsToRead, HasReadCause}

@@ -22,7 +22,7 @@ use Rattle.sqlite.specs.Clock.{timed}
 use Rattle.sqlite.specs.Effect.{Database}
 use Rattle.sqlite.specs.Listing.{understood, reads_listing, IsSourceOf}
 use Rattle.acd_sql_columns.specs.Schema.{book_schema, meta, tables_1, table_of, added_in_2, with_later}
-use Rattle.acd_sql_columns.proofs.Listings.{begun, book_begins, whole_begins}
+use Rattle.acd_sql_columns.proofs.OneTable.Listings.{begun, book_begins, whole_begins}
 use Rattle.acd_sql_columns.specs.Values.{id_value}
 use Rattle.acd_sql_columns.specs.declared.texts.TheConstants.{SELECT_META, SELECT_GROUPS, SELECT_GROUP_PRIORITY, SELECT_STATIONS, SELECT_AGENTS, SELECT_AGENT_GROUPS, SELECT_CALLS, SELECT_CONNECTIONS, SELECT_MONITORS, SELECT_MONITOR, SELECT_KEPT_OF_REQUEST, SELECT_KEPT_AFTER, SELECT_EVENTS_AFTER, SELECT_EVENTS_AT_DEVICE, SELECT_LOW_EVENT, SELECT_LOW_KEPT, SELECT_STANDING_AGENT_GROUPS, SELECT_STANDING_CONNECTIONS, SELECT_VERSION}
 use Rattle.acd_sql_statements.specs.StoreFailures.{IsUnreadText}

@@ -11,12 +11,12 @@ use Rattle.acd_sql_columns.specs.Relations.{Relations}
 use Rattle.acd_sql_columns.specs.Rows.{connection_values}
 use Rattle.acd_sql_columns.specs.Schema.{book_schema}
 use Rattle.acd_sql_columns.specs.declared.texts.TheConstants.{UPDATE_CONNECTION}
-use Rattle.acd_sql_columns.proofs.Connections.{after_none}
-use Rattle.acd_sql_columns.proofs.Common.{inert}
-use Rattle.acd_sql_columns.proofs.DescribedTable.{Described, Updates, by_first, columns_given}
-use Rattle.acd_sql_columns.proofs.Statements.{inert_works}
-use Rattle.acd_sql_columns.proofs.Updates.{Updating}
-use Rattle.acd_sql_columns.proofs.Sets.{set_none}
+use Rattle.acd_sql_columns.proofs.FileTables.Connections.{after_none}
+use Rattle.acd_sql_columns.proofs.Writes.Common.{inert}
+use Rattle.acd_sql_columns.proofs.FileTables.DescribedTable.{Described, Updates, by_first, columns_given}
+use Rattle.acd_sql_columns.proofs.Writes.Statements.{inert_works}
+use Rattle.acd_sql_columns.proofs.Writes.Updates.{Updating}
+use Rattle.acd_sql_columns.proofs.Writes.Sets.{set_none}
 use Rattle.acd_sql_statements.specs.StoreFailures.{FailsToWrite}
 use Rattle.acd_sql_statements.specs.WriteRefusals.{RefusesOn, FailsToLeave, HasWriteCause}
 use Rattle.acd_sql_statements.proofs.Failures.{failed_after}

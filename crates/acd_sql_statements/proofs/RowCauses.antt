@@ -26,7 +26,7 @@ use Rattle.acd_sql_statements.specs.ReadFailures.{FailsToDecode, HasFitting, Fai
 use Rattle.acd_sql_statements.proofs.ReadCauses.{cause_on, bad_row}
 use Rattle.acd_sql_statements.proofs.Pages.{greatest, least_of_large}
 use Rattle.acd_lemmas.proofs.Numbers.{below_is}
-use Rattle.acd_sql_columns.proofs.QueryResults.{of_filter}
+use Rattle.acd_sql_columns.proofs.FileTables.QueryResults.{of_filter}
 
 -- ---- lists
 

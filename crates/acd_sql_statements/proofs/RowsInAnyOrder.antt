@@ -19,8 +19,8 @@ use Rattle.acd_sql_columns.specs.Ranges.{further_of_row}
 use Rattle.acd_sql_columns.specs.Relations.{groups_beside, is_after, are_after, are_of_groups}
 use Rattle.acd_sql_columns.specs.Rows.{group_values, priority_values, agent_values, further_values}
 use Rattle.acd_sql_columns.specs.DatabaseView.{Sees}
-use Rattle.acd_sql_columns.proofs.Records.{group_back, priority_back, agent_back, further_back, further_stored}
-use Rattle.acd_sql_columns.proofs.SnapshotReads.{sees_on, sees_then}
+use Rattle.acd_sql_columns.proofs.Rows.Records.{group_back, priority_back, agent_back, further_back, further_stored}
+use Rattle.acd_sql_columns.proofs.Results.SnapshotReads.{sees_on, sees_then}
 use Rattle.acd_lemmas.proofs.Lists.{head_is, tail_is}
 
 -- ---- lists in another order

@@ -25,11 +25,11 @@ use Rattle.acd_sql_columns.specs.Relations.{Relations}
 use Rattle.acd_sql_columns.specs.Rows.{event_row}
 use Rattle.acd_sql_columns.specs.Schema.{book_schema, table_of}
 use Rattle.acd_sql_columns.specs.Schema as schema
-use Rattle.acd_sql_columns.proofs.Common.{run, inert}
-use Rattle.acd_sql_columns.proofs.Frames.{holds_replaced}
-use Rattle.acd_sql_columns.proofs.KeyedRows.{by_key, by_key_total, puts}
-use Rattle.acd_sql_columns.proofs.Statements.{Insertion, insertion_edit, inserted, replaces, inert_works}
-use Rattle.acd_sql_columns.proofs.TablesDescribed.{events_described}
+use Rattle.acd_sql_columns.proofs.Writes.Common.{run, inert}
+use Rattle.acd_sql_columns.proofs.Writes.Frames.{holds_replaced}
+use Rattle.acd_sql_columns.proofs.OneTable.KeyedRows.{by_key, by_key_total, puts}
+use Rattle.acd_sql_columns.proofs.Writes.Statements.{Insertion, insertion_edit, inserted, replaces, inert_works}
+use Rattle.acd_sql_columns.proofs.FileTables.TablesDescribed.{events_described}
 use Rattle.acd_sql_statements.specs.SeveralEvents.{several_values, several_text, with_all_events}
 use Rattle.acd_sql_statements.specs.declared.several.TheConstants.{INSERT_TWO_EVENTS, INSERT_THREE_EVENTS, INSERT_FOUR_EVENTS}
 

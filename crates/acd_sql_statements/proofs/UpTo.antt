@@ -8,8 +8,8 @@ use Rattle.acd_sql_columns.specs.Relations.{Relations}
 use Rattle.acd_sql_columns.specs.Tables.{events, kept}
 use Rattle.acd_sql_columns.specs.Transactions.{HoldsUncommitted}
 use Rattle.acd_sql_columns.specs.Values.{id_value}
-use Rattle.acd_sql_columns.proofs.TablesDescribed.{events_described, kept_described}
-use Rattle.acd_sql_columns.proofs.UpTo.{cleared_in, events_clears, kept_clears}
+use Rattle.acd_sql_columns.proofs.FileTables.TablesDescribed.{events_described, kept_described}
+use Rattle.acd_sql_columns.proofs.FileTables.UpTo.{cleared_in, events_clears, kept_clears}
 use Rattle.acd_sql_statements.specs.UpTo.{text_up_to, without_up_to}
 
 pub removed_up_to : (l : Log) (number : ℕ) (r : Relations) (old new : State) (count : ℕ) → HoldsUncommitted old r

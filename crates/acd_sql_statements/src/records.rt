@@ -34,7 +34,7 @@ impl Stored for GroupRow {
         decode::group_of_row(row)
     }
 
-    ghost use Rattle.acd_sql_columns.proofs.TablesDescribed.{groups_described};
+    ghost use Rattle.acd_sql_columns.proofs.FileTables.TablesDescribed.{groups_described};
 
     ghost described = { groups_described };
 
@@ -63,7 +63,7 @@ impl Stored for GroupPriority {
         decode::priority_of_row(row)
     }
 
-    ghost use Rattle.acd_sql_columns.proofs.TablesDescribed.{priorities_described};
+    ghost use Rattle.acd_sql_columns.proofs.FileTables.TablesDescribed.{priorities_described};
 
     ghost described = { priorities_described };
 
@@ -92,7 +92,7 @@ impl Stored for StationRecord {
         decode::station_of_row(row)
     }
 
-    ghost use Rattle.acd_sql_columns.proofs.TablesDescribed.{stations_described};
+    ghost use Rattle.acd_sql_columns.proofs.FileTables.TablesDescribed.{stations_described};
 
     ghost described = { stations_described };
 
@@ -121,7 +121,7 @@ impl Stored for AgentRow {
         decode::agent_of_row(row)
     }
 
-    ghost use Rattle.acd_sql_columns.proofs.TablesDescribed.{agents_described};
+    ghost use Rattle.acd_sql_columns.proofs.FileTables.TablesDescribed.{agents_described};
 
     ghost described = { agents_described };
 
@@ -150,7 +150,7 @@ impl Stored for CallRecord {
         decode::call_in(row)
     }
 
-    ghost use Rattle.acd_sql_columns.proofs.TablesDescribed.{calls_described};
+    ghost use Rattle.acd_sql_columns.proofs.FileTables.TablesDescribed.{calls_described};
 
     ghost described = { calls_described };
 
@@ -179,7 +179,7 @@ impl Stored for MonitorRecord {
         decode::monitor_of_row(row)
     }
 
-    ghost use Rattle.acd_sql_columns.proofs.TablesDescribed.{monitors_described};
+    ghost use Rattle.acd_sql_columns.proofs.FileTables.TablesDescribed.{monitors_described};
 
     ghost described = { monitors_described };
 

@@ -26,7 +26,7 @@ pub trait Stored: Drop {
     fn decode(row: &Row) -> Option<Self>
         ensures { result ≡ descr.in_row row.now };
 
-    ghost use Rattle.acd_sql_columns.proofs.DescribedTable.{Described};
+    ghost use Rattle.acd_sql_columns.proofs.FileTables.DescribedTable.{Described};
 
     ghost described: { Described descr };
 

@@ -36,9 +36,9 @@ use Rattle.acd_sqlbook.specs.State.{IsSoundState, book_state}
 use Rattle.acd_book.specs.State.{BookState}
 use Rattle.acd_sqlbook.proofs.BookStates.{Settles, Stays}
 use Rattle.acd_sqlbook.proofs.FailureCauses.{never_limited}
-use Rattle.acd_sql_columns.proofs.RowsOfRecords.{decoded, decoded_as}
-use Rattle.acd_sql_columns.proofs.TransactionEnds.{holds_still, is_book}
-use Rattle.acd_sql_columns.proofs.Frames.{none_heaped}
+use Rattle.acd_sql_columns.proofs.Rows.RowsOfRecords.{decoded, decoded_as}
+use Rattle.acd_sql_columns.proofs.Writes.TransactionEnds.{holds_still, is_book}
+use Rattle.acd_sql_columns.proofs.Writes.Frames.{none_heaped}
 use Rattle.acd_sql_schema.proofs.Contents.{content_in, canonical_in, canonical_by_store}
 use Rattle.acd_sqlbook.proofs.AscendingContent.{stored_ordered}
 

@@ -19,9 +19,9 @@ use Rattle.acd_sql_columns.specs.Fields.{read_whole}
 use Rattle.acd_sql_columns.specs.Ranges.{event_from, event_in, kept_in}
 use Rattle.acd_sql_columns.specs.Rows.{event_fields, event_made, event_values, kept_values}
 use Rattle.acd_sql_schema.proofs.Contents.{each_good, of_mapped}
-use Rattle.acd_sql_columns.proofs.KeyedRows.{by_key}
-use Rattle.acd_sql_columns.proofs.QueryResults.{all_so}
-use Rattle.acd_sql_columns.proofs.ValuesInRange.{bound, guarded}
+use Rattle.acd_sql_columns.proofs.OneTable.KeyedRows.{by_key}
+use Rattle.acd_sql_columns.proofs.FileTables.QueryResults.{all_so}
+use Rattle.acd_sql_columns.proofs.Rows.ValuesInRange.{bound, guarded}
 use Rattle.acd_lemmas.proofs.Numbers.{less_is}
 use Rattle.acd_lemmas.proofs.Lists.{some_is, some_from}
 

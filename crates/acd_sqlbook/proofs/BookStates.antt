@@ -24,8 +24,8 @@ use Rattle.acd_sql_columns.specs.declared.meta.Meta.{Meta}
 use Rattle.acd_sql_columns.specs.Transactions.{HoldsContent, IsBook}
 use Rattle.acd_sqlbook.specs.State.{IsSoundState, IsNewBook, book_state, book_result, failures_after}
 use Rattle.acd_sqlbook.proofs.CommitWrites.{commit_is}
-use Rattle.acd_sql_columns.proofs.RowsOfRecords.{decoded}
-use Rattle.acd_sql_columns.proofs.TransactionEnds.{is_book}
+use Rattle.acd_sql_columns.proofs.Rows.RowsOfRecords.{decoded}
+use Rattle.acd_sql_columns.proofs.Writes.TransactionEnds.{is_book}
 
 -- ---- the laws of a store, of its state
 

@@ -15,7 +15,7 @@ use Rattle.acd_book.specs.declared.kept.Kept.{Kept}
 use Rattle.acd_sql_columns.specs.declared.meta.Meta.{Meta}
 use Rattle.acd_sql_columns.specs.InRange.{IsInRange, IsGoodMeta, IsGoodGroup, IsGoodStation, IsGoodAgent, IsGoodCall, IsGoodConnection, IsGoodMonitor, IsGoodEvent, IsGoodKept}
 use Rattle.acd_sql_columns.specs.Transactions.{HoldsGood}
-use Rattle.acd_sql_columns.proofs.KeptInRange.{AllGood, goods, in_range}
+use Rattle.acd_sql_columns.proofs.Rows.KeptInRange.{AllGood, goods, in_range}
 use Rattle.acd_sqlbook.specs.Commit.{IsGoodChange, MakesOfEach, MakesTablesOfEach, applied, content_with_event, with_events, with_kept, with_meta}
 
 -- ---- of each record

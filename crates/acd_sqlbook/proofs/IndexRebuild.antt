@@ -16,7 +16,7 @@ use Rattle.acd_book.specs.Order.{Rises}
 use Rattle.acd_book.specs.MonitorIndexes.{WatchesAfter}
 use Rattle.acd_sql_columns.specs.Transactions.{Quiet, NoStop}
 use Rattle.acd_sql_columns.specs.ReadResults.{Finds}
-use Rattle.acd_sql_columns.proofs.RecordsOfRows.{found_none}
+use Rattle.acd_sql_columns.proofs.Rows.RecordsOfRows.{found_none}
 use Rattle.acd_sql_statements.specs.EventsByNumber.{IsOpenIfClean}
 use Rattle.acd_sql_statements.proofs.ReadsInTurn.{quiet_still, finds_after, chained, broken, finds_on, finds_so}
 use Rattle.acd_sqlbook.specs.Calls.{HasRead}

@@ -13,9 +13,9 @@ use Rattle.acd_sql_columns.specs.InRange.{IsInRange, IsGoodEvent, IsGoodKept}
 use Rattle.acd_sql_columns.specs.InTables.{content_of}
 use Rattle.acd_sql_columns.specs.Relations.{Relations, relations_of}
 use Rattle.acd_sql_columns.specs.Transactions.{HoldsGood, HoldsUncommitted, Quiet, NoStop}
-use Rattle.acd_sql_columns.proofs.KeptInRange.{AllGood, goods, in_range}
+use Rattle.acd_sql_columns.proofs.Rows.KeptInRange.{AllGood, goods, in_range}
 use Rattle.acd_sql_statements.specs.ReadFailures.{FailsToRead, HasReadCause}
-use Rattle.acd_sql_columns.proofs.Common.{ChangesEach}
+use Rattle.acd_sql_columns.proofs.Writes.Common.{ChangesEach}
 use Rattle.acd_sqlbook.specs.Calls.{HasRead, HasReplaced}
 use Rattle.acd_sqlbook.specs.Causes.{StoreCause, prune, unfit, refused}
 use Rattle.acd_sqlbook.specs.Commit.{MakesOfEach}

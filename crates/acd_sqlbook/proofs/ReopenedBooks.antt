@@ -48,11 +48,11 @@ use Rattle.acd_sql_columns.specs.Schema.{book_schema}
 use Rattle.acd_sql_columns.specs.Tables.{agent_groups}
 use Rattle.acd_sql_columns.specs.Transactions.{IsBook}
 use Rattle.acd_sql_columns.specs.Values.{id_value, whole_at}
-use Rattle.acd_sql_columns.proofs.RowsOfRecords.{agents_rise, decoded}
-use Rattle.acd_sql_columns.proofs.CompositeKeys.{by_both_total}
-use Rattle.acd_sql_columns.proofs.JoinedRecords.{beside_each}
-use Rattle.acd_sql_columns.proofs.Members.{Differ, AreApart, apart_under, same_members}
-use Rattle.acd_sql_columns.proofs.Records.{group_back, priority_back, agent_back, further_back}
+use Rattle.acd_sql_columns.proofs.Rows.RowsOfRecords.{agents_rise, decoded}
+use Rattle.acd_sql_columns.proofs.OneTable.CompositeKeys.{by_both_total}
+use Rattle.acd_sql_columns.proofs.Rows.JoinedRecords.{beside_each}
+use Rattle.acd_sql_columns.proofs.OneTable.Members.{Differ, AreApart, apart_under, same_members}
+use Rattle.acd_sql_columns.proofs.Rows.Records.{group_back, priority_back, agent_back, further_back}
 use Rattle.acd_sql_schema.specs.declared.fault.AdoptFault.{AdoptFault}
 use Rattle.acd_sql_schema.specs.declared.fault.AdoptFault.TheVariants.{WrongVersion, BadRow, NoMemory, Store}
 use Rattle.acd_sql_schema.specs.declared.fault.Found.{Found}

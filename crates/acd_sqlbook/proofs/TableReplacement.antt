@@ -18,7 +18,7 @@ use Rattle.acd_sqlbook.specs.Calls.{HasRead, HasReplaced, ChangesLeadTo}
 use Rattle.acd_sqlbook.specs.Commit.{made_by}
 use Rattle.acd_sql_columns.specs.Relations.{meta_of}
 use Rattle.acd_sql_columns.specs.Transactions.{HoldsContent}
-use Rattle.acd_sql_columns.proofs.RowsOfRecords.{groups_rise, agents_rise}
+use Rattle.acd_sql_columns.proofs.Rows.RowsOfRecords.{groups_rise, agents_rise}
 use Rattle.acd_sql_differences.specs.ChangeOrder.{rows_differences}
 use Rattle.acd_sql_differences.specs.Transition.{HasTables}
 use Rattle.acd_sqlbook.proofs.CommitWrites.{rows_made}

@@ -26,11 +26,11 @@ use Rattle.acd_sql_columns.specs.Tables.{stations, calls, monitors}
 use Rattle.acd_sql_statements.specs.SeveralEvents.{with_all_events}
 use Rattle.acd_sql_statements.specs.StatementEffects.{with_put, without}
 use Rattle.acd_sql_columns.specs.Transactions.{HoldsUncommitted}
-use Rattle.acd_sql_columns.proofs.RowsOfRecords.{groups_rise, agents_rise}
-use Rattle.acd_sql_columns.proofs.JoinedRecords.{further_put, agents_put, priority_put, groups_put}
+use Rattle.acd_sql_columns.proofs.Rows.RowsOfRecords.{groups_rise, agents_rise}
+use Rattle.acd_sql_columns.proofs.Rows.JoinedRecords.{further_put, agents_put, priority_put, groups_put}
 use Rattle.acd_lemmas.proofs.RuleTests.{ascending_from}
 use Rattle.acd_sqlbook.specs.WriteChoice.{IsNextPart}
-use Rattle.acd_sql_columns.proofs.Common.{ChangesEach}
+use Rattle.acd_sql_columns.proofs.Writes.Common.{ChangesEach}
 use Rattle.acd_sqlbook.specs.Commit.{applied, content_with_event, with_events, MakesTablesOfEach}
 
 -- a fold that takes the first of the list first takes the last one last

@@ -10,12 +10,12 @@ use Rattle.acd_desk.specs.declared.fault.DeskFault.TheVariants.{NoMemory}
 use Rattle.acd_desk.specs.declared.working.Working.{Working}
 use Rattle.acd_desk.specs.declared.pair.PairFault.{PairFault}
 use Rattle.acd_desk.specs.declared.pair.PairFault.TheVariants as pair
-use Rattle.acd_desk.specs.ArchiveAudits.{desk_part, archived_part, pair_fault, left_by_pair, IsAuditedWith}
-use Rattle.acd_desk.specs.Pairs.{ReadsBoth}
-use Rattle.acd_desk.specs.Faults.{fault_of, left_by}
-use Rattle.acd_desk.specs.DeskState.{switch_of, is_failed, Mirrors}
-use Rattle.acd_desk.specs.DeskReads.{ReadDone}
-use Rattle.acd_desk.specs.ReplayWith.{AuditsInOrder}
+use Rattle.acd_desk.specs.Audits.ArchiveAudits.{desk_part, archived_part, pair_fault, left_by_pair, IsAuditedWith}
+use Rattle.acd_desk.specs.Audits.Pairs.{ReadsBoth}
+use Rattle.acd_desk.specs.Desks.Faults.{fault_of, left_by}
+use Rattle.acd_desk.specs.Desks.DeskState.{switch_of, is_failed, Mirrors}
+use Rattle.acd_desk.specs.Reads.DeskReads.{ReadDone}
+use Rattle.acd_desk.specs.Audits.ReplayWith.{AuditsInOrder}
 use Rattle.acd_book.specs.BookReads.{Anything, ReadsIfOpen}
 use Rattle.acd_desk.proofs.Desks.DeskSteps.{works}
 use Rattle.acd_desk.proofs.Pages.ReadsDone.{stands, without_memory, store_failed}

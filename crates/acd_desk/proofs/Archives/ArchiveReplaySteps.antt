@@ -21,15 +21,15 @@ use Rattle.acd_desk.specs.declared.overlap.Cut.{Cut}
 use Rattle.acd_desk.specs.declared.pair.PairFault.{PairFault}
 use Rattle.acd_desk.specs.declared.replay.Replay.{Replay}
 use Rattle.acd_desk.specs.declared.working.LoadedSwitch.{LoadedSwitch}
-use Rattle.acd_desk.specs.CarriedContent.{Archive}
-use Rattle.acd_desk.specs.AbstractDesk.{stepped, executed}
-use Rattle.acd_desk.specs.KeyPlaces.{IsSeenKey}
-use Rattle.acd_desk.specs.Replay.{HasRoom, again, rows_of, IsEnd, IsAll, IsFirstOfKey, Matches, Knows, Plays, IsReplayed, StepsOn}
-use Rattle.acd_desk.specs.WithArchive.{IsLedFrom}
-use Rattle.acd_desk.specs.AuditWith.{HoldsArchive, RunsOn, RunsTo, first_sent_again, IsDifferenceWith, IsAuditWith}
-use Rattle.acd_desk.specs.Overlap.{AreInOrder, IsLast, FindsPlace}
-use Rattle.acd_desk.specs.Pages.{IsPageOf}
-use Rattle.acd_desk.specs.ReplayWith.{newer_rows, IsSwitchOf, KnowsWith, Notes, first_of_both, with_first, GoesWith, BeginsWith, IsReplayedWith, IsStepWith, CountsOneWith, PlaysWith, StepsOnWith, sound_or, answer_at_end, AuditsFrom, AuditsInOrder}
+use Rattle.acd_desk.specs.Contents.CarriedContent.{Archive}
+use Rattle.acd_desk.specs.Contents.AbstractDesk.{stepped, executed}
+use Rattle.acd_desk.specs.Contents.KeyPlaces.{IsSeenKey}
+use Rattle.acd_desk.specs.Audits.Replay.{HasRoom, again, rows_of, IsEnd, IsAll, IsFirstOfKey, Matches, Knows, Plays, IsReplayed, StepsOn}
+use Rattle.acd_desk.specs.Contents.WithArchive.{IsLedFrom}
+use Rattle.acd_desk.specs.Audits.AuditWith.{HoldsArchive, RunsOn, RunsTo, first_sent_again, IsDifferenceWith, IsAuditWith}
+use Rattle.acd_desk.specs.Audits.Overlap.{AreInOrder, IsLast, FindsPlace}
+use Rattle.acd_desk.specs.Reads.Pages.{IsPageOf}
+use Rattle.acd_desk.specs.Audits.ReplayWith.{newer_rows, IsSwitchOf, KnowsWith, Notes, first_of_both, with_first, GoesWith, BeginsWith, IsReplayedWith, IsStepWith, CountsOneWith, PlaysWith, StepsOnWith, sound_or, answer_at_end, AuditsFrom, AuditsInOrder}
 use Rattle.acd_desk.proofs.Replays.AuditSteps.{counts_one}
 use Rattle.acd_desk.proofs.Replays.Audits.{none_of}
 use Rattle.acd_desk.proofs.Archives.BothReads.{Books, FindingOfBoth, OfArchive, OfCurrent, ReadsFrom, both_known, both_as, both_ok, both_and, both_then}

@@ -9,8 +9,8 @@ use Rattle.acd_desk.specs.declared.open_fault.OpenFault.{OpenFault}
 use Rattle.acd_desk.specs.declared.open_fault.OpenFault.TheVariants as open_fault
 use Rattle.acd_desk.specs.declared.pair.PairFault.{PairFault}
 use Rattle.acd_desk.specs.declared.pair.PairFault.TheVariants.{Current, Archive}
-use Rattle.acd_desk.specs.Opening.{by_book}
-use Rattle.acd_desk.specs.Pairs.{of_current, of_archive, of_opening, by_opening, current_part, archive_part, ReadsBoth}
+use Rattle.acd_desk.specs.Desks.Opening.{by_book}
+use Rattle.acd_desk.specs.Audits.Pairs.{of_current, of_archive, of_opening, by_opening, current_part, archive_part, ReadsBoth}
 use Rattle.acd_book.specs.BookReads.{Anything, ReadsIfOpen}
 use Rattle.acd_book.proofs.ReadsAhead.{known, by_read, read_ok, read_nothing, read_twice, none_alone, read_more}
 use Rattle.acd_book.proofs.ReadsInTurn.{Finding}

@@ -10,11 +10,11 @@ use Rattle.acd_book.specs.declared.kept.Kept.{Kept}
 use Rattle.acd_book.specs.Content.{Content, kept_of, IsCounted}
 use Rattle.acd_book.specs.Memory.{stamp_of, number_of_event}
 use Rattle.acd_book.specs.Order.{Rises}
-use Rattle.acd_desk.specs.SoundContent.{arrivals_of}
-use Rattle.acd_desk.specs.AnyContent.{led}
-use Rattle.acd_desk.specs.CarriedContent.{Archive, together, joined, NoneSentAgain}
-use Rattle.acd_desk.specs.WithArchive.{ComeBefore, IsCut, IsSoundWith, IsLedFrom}
-use Rattle.acd_desk.specs.AuditWith.{first_sent_again}
+use Rattle.acd_desk.specs.Contents.SoundContent.{arrivals_of}
+use Rattle.acd_desk.specs.Contents.AnyContent.{led}
+use Rattle.acd_desk.specs.Contents.CarriedContent.{Archive, together, joined, NoneSentAgain}
+use Rattle.acd_desk.specs.Contents.WithArchive.{ComeBefore, IsCut, IsSoundWith, IsLedFrom}
+use Rattle.acd_desk.specs.Audits.AuditWith.{first_sent_again}
 use Rattle.acd_desk.proofs.Replays.Audits.{none_of, same_content}
 use Rattle.acd_desk.proofs.Contents.OlderRecords.{goes_on, cut_again}
 use Rattle.acd_desk.proofs.Contents.AddedRecords.{Grows, led_grows, led_counted, all_new}

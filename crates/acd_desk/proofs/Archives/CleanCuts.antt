@@ -9,8 +9,8 @@ use Rattle.acd_book.specs.Content.{Content, IsKeptAfter, GoOn, events_after}
 use Rattle.acd_book.specs.Memory.{stamp_of, number_of_event}
 use Rattle.acd_book.specs.Order.{Rises}
 use Rattle.acd_book.specs.ListOverlap.{IsSplitAt}
-use Rattle.acd_desk.specs.AuditWith.{Ascends, StandsInTime}
-use Rattle.acd_desk.specs.Overlap.{IsCleanCut, IsBefore}
+use Rattle.acd_desk.specs.Audits.AuditWith.{Ascends, StandsInTime}
+use Rattle.acd_desk.specs.Audits.Overlap.{IsCleanCut, IsBefore}
 use Rattle.acd_desk.proofs.Archives.NextRecords.{none_left, next_left as next_record}
 use Rattle.acd_book.proofs.SharedLists.{within, below, cons_not_nil, every_front, every_back, every_upto, split_at, split_once, next_left}
 

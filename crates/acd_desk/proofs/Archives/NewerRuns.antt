@@ -13,14 +13,14 @@ use Rattle.acd_book.specs.Memory.{stamp_of, number_of_event}
 use Rattle.acd_book.specs.Order.{Rises}
 use Rattle.acd_book.proofs.EventsAbove.{left_after}
 use Rattle.acd_desk.specs.declared.seen_keys.SeenKeys.{SeenKeys}
-use Rattle.acd_desk.specs.AbstractDesk.{stepped, record_of, executed}
-use Rattle.acd_desk.specs.Replies.{after}
-use Rattle.acd_desk.specs.SoundContent.{arrivals_of}
-use Rattle.acd_desk.specs.AnyContent.{led}
-use Rattle.acd_desk.specs.KeyPlaces.{IsSeenKey}
-use Rattle.acd_desk.specs.Replay.{HasRoom, again, IsFirstOfKey, Matches}
-use Rattle.acd_desk.specs.WithArchive.{IsLedFrom}
-use Rattle.acd_desk.specs.AuditWith.{HoldsArchive, RunsOn}
+use Rattle.acd_desk.specs.Contents.AbstractDesk.{stepped, record_of, executed}
+use Rattle.acd_desk.specs.Contents.Replies.{after}
+use Rattle.acd_desk.specs.Contents.SoundContent.{arrivals_of}
+use Rattle.acd_desk.specs.Contents.AnyContent.{led}
+use Rattle.acd_desk.specs.Contents.KeyPlaces.{IsSeenKey}
+use Rattle.acd_desk.specs.Audits.Replay.{HasRoom, again, IsFirstOfKey, Matches}
+use Rattle.acd_desk.specs.Contents.WithArchive.{IsLedFrom}
+use Rattle.acd_desk.specs.Audits.AuditWith.{HoldsArchive, RunsOn}
 use Rattle.acd_desk.proofs.Replays.Audits.{rises_after, same_content, unkept_before}
 use Rattle.acd_desk.proofs.Contents.CountersBound.{counted_executed}
 use Rattle.acd_desk.proofs.Replays.ReplayStates.{none_of_new}

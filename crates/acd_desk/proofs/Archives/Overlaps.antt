@@ -16,13 +16,13 @@ use Rattle.acd_desk.specs.declared.overlap.Next.{Next}
 use Rattle.acd_desk.specs.declared.overlap.Next.TheVariants.{Same, Other, Over}
 use Rattle.acd_desk.specs.declared.overlap.Pages.{Pages}
 use Rattle.acd_desk.specs.declared.pair.PairFault.{PairFault}
-use Rattle.acd_desk.specs.Kinds.{Kind, by_stamp, by_number, first_above, page_above}
-use Rattle.acd_desk.specs.Pages.{Extends}
+use Rattle.acd_desk.specs.Reads.Kinds.{Kind, by_stamp, by_number, first_above, page_above}
+use Rattle.acd_desk.specs.Reads.Pages.{Extends}
 use Rattle.acd_book.specs.ListOverlap.{IsSplitAt, BeginsWithin, cut_before}
-use Rattle.acd_desk.specs.CarriedContent.{Archive}
+use Rattle.acd_desk.specs.Contents.CarriedContent.{Archive}
 use Rattle.acd_lemmas.proofs.Lists.{head_is}
-use Rattle.acd_desk.specs.AuditWith.{HoldsArchive}
-use Rattle.acd_desk.specs.Overlap.{AreInOrder, cut_stamp, cut_number, KeepsArchive, ReportsArchive, IsNextOf, ArePagesOf, ReadsNext, IsOther, IsOtherUpTo, StandAbove, IsCleanCut, DecidesCleanCut, IsCutOf, earlier, FindsOther, FindsMoment, FindsAbove, FindsPlace}
+use Rattle.acd_desk.specs.Audits.AuditWith.{HoldsArchive}
+use Rattle.acd_desk.specs.Audits.Overlap.{AreInOrder, cut_stamp, cut_number, KeepsArchive, ReportsArchive, IsNextOf, ArePagesOf, ReadsNext, IsOther, IsOtherUpTo, StandAbove, IsCleanCut, DecidesCleanCut, IsCutOf, earlier, FindsOther, FindsMoment, FindsAbove, FindsPlace}
 use Rattle.acd_book.specs.BookReads.{Anything, IfOrdered, ReadsIfOpen}
 use Rattle.acd_book.proofs.ReadsInTurn.{Finding}
 use Rattle.acd_desk.proofs.Archives.BothReads.{Books, FindingOfBoth, OfArchive, OfCurrent, AndThen, ReadsFrom, both_known, both_as, both_ok, both_then}

@@ -9,12 +9,12 @@ use Rattle.acd_book.specs.Content.{Content}
 use Rattle.acd_book.specs.Memory.{stamp_of, number_of_event}
 use Rattle.acd_book.specs.Order.{Rises}
 use Rattle.acd_book.specs.PrunedContent.{pruned}
-use Rattle.acd_desk.specs.CarriedContent.{Archive, together}
+use Rattle.acd_desk.specs.Contents.CarriedContent.{Archive, together}
 use Rattle.acd_book.specs.ListOverlap.{IsSplitAt}
-use Rattle.acd_desk.specs.WithArchive.{ComeBefore, IsCut, IsSoundWith, IsLedFrom}
-use Rattle.acd_desk.specs.AuditWith.{StandsInTime, HoldsArchive, first_sent_again, IsSentAgain}
-use Rattle.acd_desk.specs.Overlap.{IsCleanCut}
-use Rattle.acd_desk.specs.Pruning.{IsPlace, IsGone, StaysLed}
+use Rattle.acd_desk.specs.Contents.WithArchive.{ComeBefore, IsCut, IsSoundWith, IsLedFrom}
+use Rattle.acd_desk.specs.Audits.AuditWith.{StandsInTime, HoldsArchive, first_sent_again, IsSentAgain}
+use Rattle.acd_desk.specs.Audits.Overlap.{IsCleanCut}
+use Rattle.acd_desk.specs.Contents.Pruning.{IsPlace, IsGone, StaysLed}
 use Rattle.acd_desk.proofs.Replays.AuditLaws.{zero_least}
 use Rattle.acd_desk.proofs.Replays.Audits.{same_content}
 use Rattle.acd_desk.proofs.Archives.CarriedPart.{kept_whole, events_whole, sound_is_led, sent_again_unsound, cut_without, sound_without, led_without}

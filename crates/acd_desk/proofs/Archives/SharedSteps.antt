@@ -3,8 +3,8 @@ use Rattle.std.proofs.Common.{◌≡◌, ℕ, ◌+◌, ◌<◌, ◌≤◌, List,
 use Rattle.acd_book.specs.Order.{Rises}
 use Rattle.acd_book.specs.ListOverlap.{BeginsWithin}
 use Rattle.acd_desk.specs.declared.overlap.Next.TheVariants.{Same, Over}
-use Rattle.acd_desk.specs.Kinds.{first_above}
-use Rattle.acd_desk.specs.Overlap.{Differ, IsNextOf}
+use Rattle.acd_desk.specs.Reads.Kinds.{first_above}
+use Rattle.acd_desk.specs.Audits.Overlap.{Differ, IsNextOf}
 use Rattle.acd_book.proofs.SharedLists.{Shares, archived_left, begins_left, current_left, first_is, none_first, not_both, other_next, same_next, shares_all}
 
 abbrev pub next_above : {T : Type 0} → (T → ℕ) → ℕ → List T → List T

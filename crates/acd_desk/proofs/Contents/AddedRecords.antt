@@ -11,9 +11,9 @@ use Rattle.acd_book.specs.declared.kept.Kept.{Kept}
 use Rattle.acd_book.specs.Content.{Content, kept_of, IsCounted}
 use Rattle.acd_book.specs.Memory.{stamp_of, number_of_event}
 use Rattle.acd_book.specs.Order.{Rises}
-use Rattle.acd_desk.specs.AbstractDesk.{stepped, record_of, executed}
-use Rattle.acd_desk.specs.Replies.{after}
-use Rattle.acd_desk.specs.AnyContent.{led}
+use Rattle.acd_desk.specs.Contents.AbstractDesk.{stepped, record_of, executed}
+use Rattle.acd_desk.specs.Contents.Replies.{after}
+use Rattle.acd_desk.specs.Contents.AnyContent.{led}
 use Rattle.acd_desk.proofs.Replays.AuditLaws.{going_rises, zero_least}
 use Rattle.acd_desk.proofs.Replays.Audits.{none_of}
 use Rattle.acd_desk.proofs.Contents.CountersBound.{counted_executed}

@@ -2,9 +2,9 @@
 use Rattle.acd_book.specs.Content.{Content}
 use Rattle.acd_book.specs.Memory.{number_of_event}
 use Rattle.acd_book.proofs.SharedLists.{rises_back}
-use Rattle.acd_desk.specs.SoundContent.{IsSound}
-use Rattle.acd_desk.specs.CarriedContent.{Archive, together}
-use Rattle.acd_desk.specs.ReadAnswers.{Rise}
+use Rattle.acd_desk.specs.Contents.SoundContent.{IsSound}
+use Rattle.acd_desk.specs.Contents.CarriedContent.{Archive, together}
+use Rattle.acd_desk.specs.Reads.ReadAnswers.{Rise}
 use Rattle.acd_desk.proofs.Replays.AuditLaws.{sound_ordered}
 
 pub sound_rises : (c : Content) → IsSound c → Rise 0 c.events

@@ -27,10 +27,10 @@ use Rattle.acd_laws.proofs.Figures.FigureCounts.{run_keeps_figures, figures_kept
 use Rattle.acd_laws.proofs.Rules.RulesAll.{run_keeps_rules}
 use Rattle.acd_book.specs.declared.kept.Kept.{Kept}
 use Rattle.acd_book.specs.Content.{Content, empty_content, IsCounted}
-use Rattle.acd_desk.specs.AbstractDesk.{executed, record_of, run_from}
-use Rattle.acd_desk.specs.SoundContent.{arrivals_of, IsSound, commands_of}
+use Rattle.acd_desk.specs.Contents.AbstractDesk.{executed, record_of, run_from}
+use Rattle.acd_desk.specs.Contents.SoundContent.{arrivals_of, IsSound, commands_of}
 use Rattle.acd_desk.specs.Laws.{KeepsLaws}
-use Rattle.acd_desk.specs.Replies.{after}
+use Rattle.acd_desk.specs.Contents.Replies.{after}
 use Rattle.acd_desk.proofs.Contents.SoundRuns.{sound_list, ran_sound}
 use Rattle.acd_desk.proofs.Contents.CountersBound.{counted_run}
 use Rattle.acd_desk.proofs.Contents.Steps.{step_stamp}

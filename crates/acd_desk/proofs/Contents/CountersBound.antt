@@ -7,7 +7,7 @@ use Rattle.acd_terms.specs.declared.rows.Limits.{Limits}
 use Rattle.acd_book.specs.declared.kept.Kept.{Kept}
 use Rattle.acd_book.specs.Content.{Content, empty_content, GoOn, IsCounted}
 use Rattle.acd_book.specs.Memory.{stamp_of, number_of_event}
-use Rattle.acd_desk.specs.AbstractDesk.{stepped, record_of, executed, run_from, desk_run, firsts}
+use Rattle.acd_desk.specs.Contents.AbstractDesk.{stepped, record_of, executed, run_from, desk_run, firsts}
 use Rattle.acd_desk.proofs.Contents.Steps.{step_stamp, step_numbers, step_event}
 use Rattle.acd_lemmas.proofs.Lists.{every-append}
 use Rattle.acd_book.proofs.SharedLists.{every_upto}

@@ -2,7 +2,7 @@
 use Rattle.std.proofs.Common.{◌≡◌, true}
 use Rattle.acd_terms.specs.declared.command.Request.{Request}
 use Rattle.acd_terms.specs.contracts.command.RequestEq.TheImpl.Laws.{laws-law}
-use Rattle.acd_desk.specs.Replies.{same_request}
+use Rattle.acd_desk.specs.Contents.Replies.{same_request}
 
 -- a request is the same as itself
 pub same_itself : (r : Request) → same_request r r ≡ true

@@ -11,11 +11,11 @@ use Rattle.acd_terms.specs.declared.command.Arrival.{Arrival}
 use Rattle.acd_book.specs.declared.kept.Kept.{Kept}
 use Rattle.acd_book.specs.Content.{Content, empty_content, is_key, kept_of}
 use Rattle.acd_desk.specs.declared.taken.Taken.{Taken}
-use Rattle.acd_desk.specs.AbstractDesk.{has_key, firsts, record_of, executed, desk_run}
-use Rattle.acd_desk.specs.Replies.{answer_of, answer_in, reply_to, after}
+use Rattle.acd_desk.specs.Contents.AbstractDesk.{has_key, firsts, record_of, executed, desk_run}
+use Rattle.acd_desk.specs.Contents.Replies.{answer_of, answer_in, reply_to, after}
 use Rattle.acd_desk.specs.declared.taken.Taken.TheVariants.{Reply, InvokeReused, DeskFull, NoMemory, StoreFault}
-use Rattle.acd_desk.specs.AcceptedArrivals.{is_fault, accepted, answers_sent, has_accepted, maybe_last}
-use Rattle.acd_desk.specs.SoundContent.{arrivals_of, IsSound, ran_after, replies}
+use Rattle.acd_desk.specs.Contents.AcceptedArrivals.{is_fault, accepted, answers_sent, has_accepted, maybe_last}
+use Rattle.acd_desk.specs.Contents.SoundContent.{arrivals_of, IsSound, ran_after, replies}
 use Rattle.acd_desk.proofs.Contents.Runs.{run-stamp, run-limits, run-found, firsts-room, has-distinct, after_firsts}
 use Rattle.acd_book.proofs.Keys.{key_itself}
 use Rattle.acd_lemmas.proofs.Bools.{or_no, or_yes}

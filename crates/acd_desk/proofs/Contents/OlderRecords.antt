@@ -7,11 +7,11 @@ use Rattle.acd_terms.specs.declared.event.Event.{Event}
 use Rattle.acd_book.specs.declared.kept.Kept.{Kept}
 use Rattle.acd_book.specs.Content.{Content, is_key, kept_of, IsCounted}
 use Rattle.acd_desk.specs.declared.taken.Taken.{Taken}
-use Rattle.acd_desk.specs.AbstractDesk.{stepped, record_of, executed}
-use Rattle.acd_desk.specs.Replies.{answer_of, answer_in, after}
-use Rattle.acd_desk.specs.SoundContent.{IsSound}
-use Rattle.acd_desk.specs.AnyContent.{led, answers_to, IsAsTogether}
-use Rattle.acd_desk.specs.CarriedContent.{Archive, together, joined, IsNewTo, NoneSentAgain, IsCutAgain}
+use Rattle.acd_desk.specs.Contents.AbstractDesk.{stepped, record_of, executed}
+use Rattle.acd_desk.specs.Contents.Replies.{answer_of, answer_in, after}
+use Rattle.acd_desk.specs.Contents.SoundContent.{IsSound}
+use Rattle.acd_desk.specs.Contents.AnyContent.{led, answers_to, IsAsTogether}
+use Rattle.acd_desk.specs.Contents.CarriedContent.{Archive, together, joined, IsNewTo, NoneSentAgain, IsCutAgain}
 use Rattle.acd_book.proofs.SharedLists.{every_back}
 use Rattle.acd_desk.proofs.Contents.ContentLaws.{sound_counted}
 

@@ -12,8 +12,8 @@ use Rattle.acd_terms.specs.declared.command.Arrival.{Arrival}
 use Rattle.acd_book.specs.declared.kept.Kept.{Kept}
 use Rattle.acd_book.specs.Content.{Content, empty_content, is_key, kept_of}
 use Rattle.acd_desk.specs.declared.taken.Taken.TheVariants.{Reply, InvokeReused}
-use Rattle.acd_desk.specs.AbstractDesk.{has_key, distinct_from, firsts, record_of, executed, run_from, desk_run}
-use Rattle.acd_desk.specs.Replies.{answer_of, answer_in, after}
+use Rattle.acd_desk.specs.Contents.AbstractDesk.{has_key, distinct_from, firsts, record_of, executed, run_from, desk_run}
+use Rattle.acd_desk.specs.Contents.Replies.{answer_of, answer_in, after}
 use Rattle.acd_desk.proofs.Contents.Steps.{step_limits, step_stamp}
 use Rattle.acd_desk.proofs.Contents.Keys.{same_itself}
 use Rattle.acd_book.proofs.Keys.{key_same, key_itself}

@@ -4,10 +4,10 @@ use Rattle.std.specs.List.{Contains}
 use Rattle.acd_terms.specs.declared.command.Arrival.{Arrival}
 use Rattle.acd_book.specs.Content.{Content}
 use Rattle.acd_desk.specs.declared.taken.Taken.{Taken}
-use Rattle.acd_desk.specs.Replies.{answer_in, after}
-use Rattle.acd_desk.specs.AcceptedArrivals.{is_fault, answers_sent}
-use Rattle.acd_desk.specs.SoundContent.{IsSound, ran_after, replies, StopsAt}
-use Rattle.acd_desk.specs.AnyContent.{led, answers_to, StopsFrom}
+use Rattle.acd_desk.specs.Contents.Replies.{answer_in, after}
+use Rattle.acd_desk.specs.Contents.AcceptedArrivals.{is_fault, answers_sent}
+use Rattle.acd_desk.specs.Contents.SoundContent.{IsSound, ran_after, replies, StopsAt}
+use Rattle.acd_desk.specs.Contents.AnyContent.{led, answers_to, StopsFrom}
 use Rattle.acd_desk.proofs.Contents.LongerLists.{ran_none, ran_push, replies_push, sent-push}
 
 -- ---- one more ----

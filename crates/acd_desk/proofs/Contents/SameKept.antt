@@ -4,7 +4,7 @@ use Rattle.std.specs.Bool.{Decides}
 use Rattle.acd_book.specs.declared.kept.Kept.{Kept}
 use Rattle.acd_book.specs.contracts.kept.KeptPartialEq.TheImpl as kept
 use Rattle.acd_book.specs.contracts.kept.KeptEq.TheImpl.Laws as kept_laws
-use Rattle.acd_desk.specs.Replies.{same_request}
+use Rattle.acd_desk.specs.Contents.Replies.{same_request}
 use Rattle.acd_lemmas.proofs.EqualParts.{two, numbers}
 use Rattle.acd_desk.proofs.Contents.SameRequests.{same_true}
 

@@ -3,7 +3,7 @@ use Rattle.std.proofs.Common.{◌≡◌, ℕ, true, List, sym, ap, ◌∙◌, eq
 use Rattle.std.specs.Cmp.Lexicographic.{same_text}
 use Rattle.acd_terms.specs.declared.command.Command.{Command}
 use Rattle.acd_terms.specs.declared.command.Request.{Request}
-use Rattle.acd_desk.specs.Replies.{same_request}
+use Rattle.acd_desk.specs.Contents.Replies.{same_request}
 use Rattle.acd_lemmas.proofs.EqualParts.{two}
 use Rattle.acd_lemmas.proofs.SameCommands.{same_command}
 

@@ -8,8 +8,8 @@ use Rattle.acd_terms.specs.declared.command.Arrival.{Arrival}
 use Rattle.acd_model.specs.Step.{Stepped, executed_moment}
 use Rattle.acd_book.specs.declared.kept.Kept.{Kept}
 use Rattle.acd_book.specs.Content.{Content, empty_content, is_key}
-use Rattle.acd_desk.specs.AbstractDesk.{has_key, distinct_from, firsts, kept_at, record_of, executed, run_from, desk_run}
-use Rattle.acd_desk.specs.SoundContent.{arrivals_of, IsSound, ran_after, raised_from, StopsAt}
+use Rattle.acd_desk.specs.Contents.AbstractDesk.{has_key, distinct_from, firsts, kept_at, record_of, executed, run_from, desk_run}
+use Rattle.acd_desk.specs.Contents.SoundContent.{arrivals_of, IsSound, ran_after, raised_from, StopsAt}
 use Rattle.acd_desk.proofs.Contents.Steps.{step_raised, raised_again}
 use Rattle.acd_desk.proofs.Contents.Runs.{has-push, run-limits}
 use Rattle.acd_book.proofs.Keys.{key_same}

@@ -7,11 +7,11 @@ use Rattle.acd_book.specs.Content.{Content, IsCounted}
 use Rattle.acd_book.specs.State.{BookState, BookStep, Reads}
 use Rattle.acd_book.proofs.BookSteps.{no_step, step_so, step_then}
 use Rattle.acd_desk.specs.declared.taken.Taken.{Taken}
-use Rattle.acd_desk.specs.Replies.{answer_in, after}
-use Rattle.acd_desk.specs.DeskState.{DeskState, InStep, with_new_key}
-use Rattle.acd_desk.specs.DeskCalls.{Took}
-use Rattle.acd_desk.specs.BookReads.{Reread}
-use Rattle.acd_desk.specs.SoundContent.{IsNew}
+use Rattle.acd_desk.specs.Contents.Replies.{answer_in, after}
+use Rattle.acd_desk.specs.Desks.DeskState.{DeskState, InStep, with_new_key}
+use Rattle.acd_desk.specs.Desks.DeskCalls.{Took}
+use Rattle.acd_desk.specs.Reads.BookReads.{Reread}
+use Rattle.acd_desk.specs.Contents.SoundContent.{IsNew}
 use Rattle.acd_desk.proofs.Desks.DeskSteps.{rereads, desk_then}
 use Rattle.acd_terms.proofs.Results.{ok_err}
 

@@ -8,15 +8,15 @@ use Rattle.acd_book.specs.Content.{Content, Within}
 use Rattle.acd_book.proofs.BookSteps.{no_step, step_so, step_then}
 use Rattle.acd_desk.specs.declared.taken.Taken.{Taken}
 use Rattle.acd_desk.specs.declared.taken.Taken.TheVariants.{Reply, InvokeReused, DeskFull, NoMemory, StoreFault}
-use Rattle.acd_desk.specs.Replies.{answer_in, after}
-use Rattle.acd_desk.specs.AcceptedArrivals.{is_fault, is_rejection, is_reply, accepted, maybe_last}
-use Rattle.acd_desk.specs.SoundContent.{IsSound, ran_after}
-use Rattle.acd_desk.specs.AnyContent.{led, answers_to, StopsFrom, Leads}
-use Rattle.acd_desk.specs.DeskState.{DeskState, InStep, Starts}
-use Rattle.acd_desk.specs.DeskCalls.{WasUnloaded, EndsIn, IsFault, EndsUp, Took, Ran}
-use Rattle.acd_desk.specs.ArrivalsAndReads.{Attended}
-use Rattle.acd_desk.specs.DeskReads.{ReadDone}
-use Rattle.acd_desk.specs.AnswerTexts.{Said, IsSaid, SaysOf}
+use Rattle.acd_desk.specs.Contents.Replies.{answer_in, after}
+use Rattle.acd_desk.specs.Contents.AcceptedArrivals.{is_fault, is_rejection, is_reply, accepted, maybe_last}
+use Rattle.acd_desk.specs.Contents.SoundContent.{IsSound, ran_after}
+use Rattle.acd_desk.specs.Contents.AnyContent.{led, answers_to, StopsFrom, Leads}
+use Rattle.acd_desk.specs.Desks.DeskState.{DeskState, InStep, Starts}
+use Rattle.acd_desk.specs.Desks.DeskCalls.{WasUnloaded, EndsIn, IsFault, EndsUp, Took, Ran}
+use Rattle.acd_desk.specs.Desks.ArrivalsAndReads.{Attended}
+use Rattle.acd_desk.specs.Reads.DeskReads.{ReadDone}
+use Rattle.acd_desk.specs.Reads.AnswerTexts.{Said, IsSaid, SaysOf}
 use Rattle.acd_desk.specs.declared.fault.DeskFault.{DeskFault}
 use Rattle.acd_desk.proofs.Desks.DeskSteps.{desk_so, desk_then}
 use Rattle.acd_desk.proofs.Contents.LongerLists.{ran_none, accepted-push, maybe_stays, maybe_this}

@@ -29,18 +29,18 @@ use Rattle.acd_desk.specs.declared.taken.Taken.TheVariants.{DeskFull}
 use Rattle.acd_desk.specs.declared.working.LoadedSwitch.{LoadedSwitch}
 use Rattle.acd_desk.specs.declared.working.Working.{Working}
 use Rattle.acd_desk.specs.declared.working.Working.TheVariants.{Loaded, Unloaded, Failed}
-use Rattle.acd_desk.specs.AcceptedArrivals.{is_fault, is_reply}
-use Rattle.acd_desk.specs.Arrivals.{arrival_at}
-use Rattle.acd_desk.specs.Faults.{taken_by}
-use Rattle.acd_desk.specs.AbstractDesk.{executed}
-use Rattle.acd_desk.specs.Replies.{answer_of, answer_in, after}
-use Rattle.acd_desk.specs.SoundContent.{IsNew}
-use Rattle.acd_desk.specs.DeskState.{DeskState, InStep, Mirrors, switch_of, is_failed, holding}
-use Rattle.acd_desk.specs.DeskCalls.{Took}
-use Rattle.acd_desk.specs.BookReads.{Reread}
-use Rattle.acd_desk.specs.DeskReads.{ReadFailed}
-use Rattle.acd_desk.specs.Clock.{clock_requester, clock_tick, may_be_due, NoneDue, LeavesNone, Ticked}
-use Rattle.acd_desk.specs.LoadedDesk.{Brought, BringsNone}
+use Rattle.acd_desk.specs.Contents.AcceptedArrivals.{is_fault, is_reply}
+use Rattle.acd_desk.specs.Contents.Arrivals.{arrival_at}
+use Rattle.acd_desk.specs.Desks.Faults.{taken_by}
+use Rattle.acd_desk.specs.Contents.AbstractDesk.{executed}
+use Rattle.acd_desk.specs.Contents.Replies.{answer_of, answer_in, after}
+use Rattle.acd_desk.specs.Contents.SoundContent.{IsNew}
+use Rattle.acd_desk.specs.Desks.DeskState.{DeskState, InStep, Mirrors, switch_of, is_failed, holding}
+use Rattle.acd_desk.specs.Desks.DeskCalls.{Took}
+use Rattle.acd_desk.specs.Reads.BookReads.{Reread}
+use Rattle.acd_desk.specs.Reads.DeskReads.{ReadFailed}
+use Rattle.acd_desk.specs.Desks.Clock.{clock_requester, clock_tick, may_be_due, NoneDue, LeavesNone, Ticked}
+use Rattle.acd_desk.specs.Desks.LoadedDesk.{Brought, BringsNone}
 use Rattle.acd_desk.proofs.Desks.Calls.{after_reread}
 use Rattle.acd_desk.proofs.Desks.CallsInTurn.{reply_no_fault}
 use Rattle.acd_desk.proofs.Pages.ReadsDone.{read_rows, read_so, took_nothing}

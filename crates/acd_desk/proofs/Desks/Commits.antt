@@ -11,11 +11,11 @@ use Rattle.acd_book.specs.declared.kept.Kept.{Kept}
 use Rattle.acd_model.specs.Changes.{rows_made}
 use Rattle.acd_model.specs.declared.moves.Change.{Change}
 use Rattle.acd_book.specs.Content.{Content, committed, committed_by, kept_of, rows_by, GoOn, IsCounted, Follows, FollowsBy}
-use Rattle.acd_desk.specs.SoundContent.{IsNew}
-use Rattle.acd_desk.specs.PreparedCommit.{Prepared}
-use Rattle.acd_desk.specs.AbstractDesk.{stepped, kept_at, record_of, executed}
+use Rattle.acd_desk.specs.Contents.SoundContent.{IsNew}
+use Rattle.acd_desk.specs.Desks.PreparedCommit.{Prepared}
+use Rattle.acd_desk.specs.Contents.AbstractDesk.{stepped, kept_at, record_of, executed}
 use Rattle.acd_desk.specs.declared.taken.Taken.TheVariants.{Reply}
-use Rattle.acd_desk.specs.Replies.{answer_in, after}
+use Rattle.acd_desk.specs.Contents.Replies.{answer_in, after}
 use Rattle.acd_desk.proofs.Contents.Steps.{step_limits, step_stamp, step_numbers, step_event}
 use Rattle.acd_desk.proofs.Contents.Runs.{executes, answers_new}
 use Rattle.acd_desk.proofs.Contents.CountersBound.{counted_executed}

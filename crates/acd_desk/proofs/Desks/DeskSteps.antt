@@ -1,9 +1,9 @@
 -- Steps of a desk, one after the other.
 use Rattle.std.proofs.Common.{◌≡◌, ◌⊎◌, Bool, true, false, refl, sym, ◌∙◌, arith, inl, inr, true≢false}
 use Rattle.acd_book.specs.State.{IfHonest, BookStep}
-use Rattle.acd_desk.specs.DeskState.{DeskState, InStep}
-use Rattle.acd_desk.specs.DeskCalls.{DeskStep, IsCause, IsDeceived}
-use Rattle.acd_desk.specs.BookReads.{Reread}
+use Rattle.acd_desk.specs.Desks.DeskState.{DeskState, InStep}
+use Rattle.acd_desk.specs.Desks.DeskCalls.{DeskStep, IsCause, IsDeceived}
+use Rattle.acd_desk.specs.Reads.BookReads.{Reread}
 
 -- a desk that works after it
 pub works : {F U : Type 0} (old new : DeskState) → ¬ F → old.failed ≡ false → new.failed ≡ false → IfHonest old.book new.book (InStep old → InStep new) → DeskStep F U old new

@@ -10,11 +10,11 @@ use Rattle.acd_book.proofs.BookSteps.{step_so}
 use Rattle.acd_desk.specs.declared.taken.Taken.{Taken}
 use Rattle.acd_desk.specs.declared.taken.Taken.TheVariants.{NoMemory, StoreFault}
 use Rattle.acd_desk.specs.declared.working.Working.{Working}
-use Rattle.acd_desk.specs.Faults.{answer_to, left_by}
-use Rattle.acd_desk.specs.Replies.{after}
-use Rattle.acd_desk.specs.AcceptedArrivals.{is_fault}
-use Rattle.acd_desk.specs.DeskState.{DeskState, switch_of, is_failed, Mirrors, InStep}
-use Rattle.acd_desk.specs.DeskCalls.{DeskStep, IsCause, IsDeceived, Took}
+use Rattle.acd_desk.specs.Desks.Faults.{answer_to, left_by}
+use Rattle.acd_desk.specs.Contents.Replies.{after}
+use Rattle.acd_desk.specs.Contents.AcceptedArrivals.{is_fault}
+use Rattle.acd_desk.specs.Desks.DeskState.{DeskState, switch_of, is_failed, Mirrors, InStep}
+use Rattle.acd_desk.specs.Desks.DeskCalls.{DeskStep, IsCause, IsDeceived, Took}
 use Rattle.acd_desk.proofs.Desks.DeskSteps.{works, fails}
 use Rattle.acd_desk.proofs.Desks.CallsInTurn.{no_store}
 

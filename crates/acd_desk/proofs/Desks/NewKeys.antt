@@ -13,10 +13,10 @@ use Rattle.acd_book.specs.declared.fault.BookFault.TheVariants as faults
 use Rattle.acd_book.proofs.BookSteps.{no_step}
 use Rattle.acd_desk.specs.declared.taken.Taken.TheVariants.{Reply, NoMemory, StoreFault}
 use Rattle.acd_desk.specs.declared.working.Working.TheVariants.{Unloaded}
-use Rattle.acd_desk.specs.Faults.{answer_to, left_by}
-use Rattle.acd_desk.specs.PreparedCommit.{Prepared}
-use Rattle.acd_desk.specs.DeskState.{DeskState, switch_of, is_failed, holding, Mirrors, with_new_key}
-use Rattle.acd_desk.specs.DeskCalls.{Took}
+use Rattle.acd_desk.specs.Desks.Faults.{answer_to, left_by}
+use Rattle.acd_desk.specs.Desks.PreparedCommit.{Prepared}
+use Rattle.acd_desk.specs.Desks.DeskState.{DeskState, switch_of, is_failed, holding, Mirrors, with_new_key}
+use Rattle.acd_desk.specs.Desks.DeskCalls.{Took}
 use Rattle.acd_terms.proofs.Results.{ok_err}
 use Rattle.acd_desk.proofs.Desks.Calls.{step_new}
 use Rattle.acd_desk.proofs.Desks.DeskSteps.{works}

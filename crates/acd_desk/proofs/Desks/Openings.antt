@@ -11,10 +11,10 @@ use Rattle.acd_switch.specs.declared.row_fault.RowFault.{RowFault}
 use Rattle.acd_switch.specs.declared.row_fault.RowFault.TheVariants as row
 use Rattle.acd_desk.specs.declared.open_fault.OpenFault.{OpenFault}
 use Rattle.acd_desk.specs.declared.open_fault.OpenFault.TheVariants as fault
-use Rattle.acd_desk.specs.SoundContent.{IsSound}
-use Rattle.acd_desk.specs.CarriedContent.{together}
-use Rattle.acd_desk.specs.DeskState.{InStep}
-use Rattle.acd_desk.specs.Opening.{by_rows, Opened, Refused}
+use Rattle.acd_desk.specs.Contents.SoundContent.{IsSound}
+use Rattle.acd_desk.specs.Contents.CarriedContent.{together}
+use Rattle.acd_desk.specs.Desks.DeskState.{InStep}
+use Rattle.acd_desk.specs.Desks.Opening.{by_rows, Opened, Refused}
 use Rattle.acd_terms.proofs.Results.{ok_err}
 use Rattle.acd_desk.proofs.Desks.Commits.{some_none}
 use Rattle.acd_desk.proofs.Contents.ContentLaws.{sound_rules}

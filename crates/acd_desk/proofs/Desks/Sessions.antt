@@ -5,14 +5,14 @@ use Rattle.acd_book.specs.Content.{Content, HasRisen}
 use Rattle.acd_book.specs.State.{BookState}
 use Rattle.acd_book.proofs.BookSteps.{step_then}
 use Rattle.acd_desk.specs.declared.taken.Taken.{Taken}
-use Rattle.acd_desk.specs.AcceptedArrivals.{accepted, maybe_last, answers_sent}
-use Rattle.acd_desk.specs.SoundContent.{IsSound, replies, StopsAt}
-use Rattle.acd_desk.specs.AnyContent.{Leads}
-use Rattle.acd_desk.specs.CarriedContent.{no_archive}
-use Rattle.acd_desk.specs.DeskState.{DeskState, Starts}
-use Rattle.acd_desk.specs.Opening.{Opened}
-use Rattle.acd_desk.specs.DeskCalls.{Ran, EndsIn, EndsUp, HoldsRun}
-use Rattle.acd_desk.specs.Session.{Session, IsLastAccepted}
+use Rattle.acd_desk.specs.Contents.AcceptedArrivals.{accepted, maybe_last, answers_sent}
+use Rattle.acd_desk.specs.Contents.SoundContent.{IsSound, replies, StopsAt}
+use Rattle.acd_desk.specs.Contents.AnyContent.{Leads}
+use Rattle.acd_desk.specs.Contents.CarriedContent.{no_archive}
+use Rattle.acd_desk.specs.Desks.DeskState.{DeskState, Starts}
+use Rattle.acd_desk.specs.Desks.Opening.{Opened}
+use Rattle.acd_desk.specs.Desks.DeskCalls.{Ran, EndsIn, EndsUp, HoldsRun}
+use Rattle.acd_desk.specs.Desks.Session.{Session, IsLastAccepted}
 
 ends_up : (s : DeskState) (ts : List Taken) → s.book.is_open → IsLastAccepted ts → EndsUp s ts
 ends_up s [] opened last = opened

@@ -24,8 +24,8 @@ use Rattle.acd_tables.proofs.ScansByIndex.{exact_pair}
 use Rattle.acd_terms.specs.declared.record.GroupRecord.{GroupRecord}
 use Rattle.acd_reports.specs.declared.queues.GroupState.{GroupState}
 use Rattle.acd_reports.specs.QueueReport.{first_queued, ringing_from}
-use Rattle.acd_desk.specs.GroupStates.{first_of, lesser_number, queued_of}
-use Rattle.acd_desk.specs.ReadAnswers.{in_order, by_place, queue_in}
+use Rattle.acd_desk.specs.Reads.GroupStates.{first_of, lesser_number, queued_of}
+use Rattle.acd_desk.specs.Reads.ReadAnswers.{in_order, by_place, queue_in}
 use Rattle.acd_desk.proofs.Pages.OrderLemmas.{Apart, by_key, ordered_among, waiting_apart}
 use Rattle.std.proofs.lemmas.List.{length-map}
 

@@ -28,7 +28,7 @@ use Rattle.acd_laws.proofs.Rules.RulesOfEnds.{two_le}
 use Rattle.acd_tables.specs.IndexedRows.{pair_cmp}
 use Rattle.acd_tables.proofs.ScansByIndex.{ascending-same, contained, exact_pair}
 use Rattle.acd_codec.specs.ReadTexts.{queue_text}
-use Rattle.acd_desk.specs.ReadAnswers.{in_order, by_place, by_ready_pair, queue_in, ready_in, queue_read}
+use Rattle.acd_desk.specs.Reads.ReadAnswers.{in_order, by_place, by_ready_pair, queue_in, ready_in, queue_read}
 
 pub pair_total : IsTotalOrder pair_cmp
 pair_total = then_total (on_total (λ (p : ℕ × ℕ). p.0) nat_cmp_total) (on_total (λ (p : ℕ × ℕ). p.1) nat_cmp_total)

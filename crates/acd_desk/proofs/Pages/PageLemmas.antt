@@ -10,12 +10,12 @@ use Rattle.acd_book.specs.ListOverlap.{IsSplitAt}
 use Rattle.acd_book.proofs.SharedLists.{split_at, none_above, all_above as all_are_above}
 use Rattle.acd_lemmas.proofs.Lists.{filter-filter}
 use Rattle.acd_lemmas.proofs.Numbers.{still_below}
-use Rattle.acd_desk.specs.Kinds.{all_above}
+use Rattle.acd_desk.specs.Reads.Kinds.{all_above}
 use Rattle.acd_reports.proofs.ExportLemmas.{joined}
 use Rattle.acd_reports.specs.Export.{header_record, records_text, events_csv}
-use Rattle.acd_desk.specs.DeskState.{DeskState}
-use Rattle.acd_desk.specs.DeskReads.{ReadDone}
-use Rattle.acd_desk.specs.ReadAnswers.{Rise, above, records_left}
+use Rattle.acd_desk.specs.Desks.DeskState.{DeskState}
+use Rattle.acd_desk.specs.Reads.DeskReads.{ReadDone}
+use Rattle.acd_desk.specs.Reads.ReadAnswers.{Rise, above, records_left}
 use Rattle.acd_desk.proofs.Pages.ReadsDone.{read_twice}
 
 pub is_above : (m : ℕ) (e : Event) → m < e.number → nat_lt m e.number ≡ true

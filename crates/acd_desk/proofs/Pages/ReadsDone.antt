@@ -19,14 +19,14 @@ use Rattle.acd_desk.specs.declared.fault.DeskFault.TheVariants.{NoMemory, StoreF
 use Rattle.acd_desk.specs.declared.taken.Taken.TheVariants as taken
 use Rattle.acd_desk.specs.declared.working.Working.{Working}
 use Rattle.acd_desk.specs.declared.working.Working.TheVariants.{Unloaded}
-use Rattle.acd_desk.specs.Faults.{fault_of, taken_by, left_by}
-use Rattle.acd_desk.specs.AcceptedArrivals.{is_fault}
-use Rattle.acd_desk.specs.DeskState.{DeskState, InStep, switch_of, is_failed, Mirrors}
-use Rattle.acd_desk.specs.DeskCalls.{IsCause, IsDeceived, Took}
-use Rattle.acd_desk.specs.BookReads.{Reread}
-use Rattle.acd_desk.specs.DeskReads.{ReadDone, ReadFailed}
-use Rattle.acd_desk.specs.ReadAnswers.{text_read}
-use Rattle.acd_desk.specs.AnswerTexts.{seen_text}
+use Rattle.acd_desk.specs.Desks.Faults.{fault_of, taken_by, left_by}
+use Rattle.acd_desk.specs.Contents.AcceptedArrivals.{is_fault}
+use Rattle.acd_desk.specs.Desks.DeskState.{DeskState, InStep, switch_of, is_failed, Mirrors}
+use Rattle.acd_desk.specs.Desks.DeskCalls.{IsCause, IsDeceived, Took}
+use Rattle.acd_desk.specs.Reads.BookReads.{Reread}
+use Rattle.acd_desk.specs.Reads.DeskReads.{ReadDone, ReadFailed}
+use Rattle.acd_desk.specs.Reads.ReadAnswers.{text_read}
+use Rattle.acd_desk.specs.Reads.AnswerTexts.{seen_text}
 use Rattle.acd_desk.proofs.Desks.DeskSteps.{works, fails, rereads, desk_so, desk_then}
 use Rattle.acd_desk.proofs.Desks.FaultyCalls.{took_fault}
 use Rattle.acd_desk.proofs.Desks.CallsInTurn.{no_store}

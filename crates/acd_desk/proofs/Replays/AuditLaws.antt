@@ -12,9 +12,9 @@ use Rattle.acd_book.specs.Order.{Rises, IsOrdered}
 use Rattle.acd_book.specs.State.{BookState, Reads}
 use Rattle.acd_desk.specs.declared.audit.Audit.{Audit}
 use Rattle.acd_desk.specs.declared.audit.Audit.TheVariants.{Sound, Differs}
-use Rattle.acd_desk.specs.AbstractDesk.{stepped, record_of, executed, firsts, run_from, desk_run}
-use Rattle.acd_desk.specs.SoundContent.{arrivals_of, IsSound, raised_from}
-use Rattle.acd_desk.specs.Audit.{replayed, Agrees, IsFirstDifference, IsAudit}
+use Rattle.acd_desk.specs.Contents.AbstractDesk.{stepped, record_of, executed, firsts, run_from, desk_run}
+use Rattle.acd_desk.specs.Contents.SoundContent.{arrivals_of, IsSound, raised_from}
+use Rattle.acd_desk.specs.Audits.Audit.{replayed, Agrees, IsFirstDifference, IsAudit}
 use Rattle.acd_desk.proofs.Contents.Steps.{step_numbers}
 use Rattle.acd_desk.proofs.Contents.CountersBound.{counted_executed}
 use Rattle.acd_desk.proofs.Contents.Runs.{run_in_two}

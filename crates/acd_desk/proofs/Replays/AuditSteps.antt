@@ -15,12 +15,12 @@ use Rattle.acd_desk.specs.declared.audit.Audit.TheVariants.{Sound, Differs}
 use Rattle.acd_desk.specs.declared.replay.Replay.{Replay}
 use Rattle.acd_desk.specs.declared.replay.Step.{Step}
 use Rattle.acd_desk.specs.declared.replay.Step.TheVariants as step
-use Rattle.acd_desk.specs.Audit.{IsFirstDifference, IsAudit}
-use Rattle.acd_desk.specs.AbstractDesk.{stepped}
-use Rattle.acd_desk.specs.KeyPlaces.{IsSeenKey}
-use Rattle.acd_desk.specs.Pages.{IsPageOf}
+use Rattle.acd_desk.specs.Audits.Audit.{IsFirstDifference, IsAudit}
+use Rattle.acd_desk.specs.Contents.AbstractDesk.{stepped}
+use Rattle.acd_desk.specs.Contents.KeyPlaces.{IsSeenKey}
+use Rattle.acd_desk.specs.Reads.Pages.{IsPageOf}
 use Rattle.acd_book.specs.BookReads.{IfOrdered, ReadsIfOpen}
-use Rattle.acd_desk.specs.Replay.{again, rows_of, Replays, Goes, IsEnd, BeginsReplay, IsReplayed, IsStep, CountsOne, IsAll, Plays, StepsOn}
+use Rattle.acd_desk.specs.Audits.Replay.{again, rows_of, Replays, Goes, IsEnd, BeginsReplay, IsReplayed, IsStep, CountsOne, IsAll, Plays, StepsOn}
 use Rattle.acd_desk.proofs.Replays.Audits.{starts_replay, replay_unlike, replay_full, replay_sound, replay_rest}
 use Rattle.acd_desk.proofs.Replays.ReplayStates.{knows_next, goes_next}
 use Rattle.acd_desk.proofs.Contents.Steps.{step_stamp, step_limits}

@@ -15,11 +15,11 @@ use Rattle.acd_book.specs.declared.kept.Kept.{Kept}
 use Rattle.acd_book.specs.Content.{Content, empty_content, kept_of, is_key, events_after, IsKeptAfter, IsCounted, GoOn}
 use Rattle.acd_book.specs.Memory.{stamp_of, number_of_event}
 use Rattle.acd_book.specs.Order.{Rises, IsOrdered}
-use Rattle.acd_desk.specs.AbstractDesk.{stepped, record_of, executed, run_from, desk_run, firsts}
-use Rattle.acd_desk.specs.Replies.{after}
-use Rattle.acd_desk.specs.SoundContent.{arrivals_of, IsSound}
-use Rattle.acd_desk.specs.Audit.{replayed, Agrees, AgreesBefore, IsFirstDifference}
-use Rattle.acd_desk.specs.Replay.{again, Splits, Replays, Matches, IsEnd}
+use Rattle.acd_desk.specs.Contents.AbstractDesk.{stepped, record_of, executed, run_from, desk_run, firsts}
+use Rattle.acd_desk.specs.Contents.Replies.{after}
+use Rattle.acd_desk.specs.Contents.SoundContent.{arrivals_of, IsSound}
+use Rattle.acd_desk.specs.Audits.Audit.{replayed, Agrees, AgreesBefore, IsFirstDifference}
+use Rattle.acd_desk.specs.Audits.Replay.{again, Splits, Replays, Matches, IsEnd}
 use Rattle.acd_desk.proofs.Archives.NextRecords.{none_left, next_left}
 use Rattle.acd_desk.proofs.Archives.LookUps.{looked_up, first_record}
 use Rattle.acd_book.proofs.SharedLists.{not_both, none_first}

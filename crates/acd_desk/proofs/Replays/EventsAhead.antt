@@ -6,9 +6,9 @@ use Rattle.std.proofs.lemmas.List.{take-append-le}
 use Rattle.std.proofs.lemmas.List.Elements.{filter-append}
 use Rattle.acd_terms.specs.Lists.{Every}
 use Rattle.acd_book.specs.Content.{Content}
-use Rattle.acd_desk.specs.Kinds.{Kind, all_above, first_above, page_above}
+use Rattle.acd_desk.specs.Reads.Kinds.{Kind, all_above, first_above, page_above}
 use Rattle.acd_desk.specs.declared.page.Page.{Page}
-use Rattle.acd_desk.specs.Pages.{IsPage, Reaches}
+use Rattle.acd_desk.specs.Reads.Pages.{IsPage, Reaches}
 use Rattle.acd_desk.proofs.Pages.PageLemmas.{above_again}
 use Rattle.acd_lemmas.proofs.Lists.{filter_all, filter_among, every_among, every_from, every-take}
 

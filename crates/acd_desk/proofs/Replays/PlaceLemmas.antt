@@ -3,7 +3,7 @@ use Rattle.std.proofs.Common.{◌≡◌, ℕ, zero, suc, ◌<◌, ◌≤◌, Boo
 use Rattle.std.proofs.lemmas.List.{get_or_default}
 use Rattle.std.proofs.Math.ListN.{get_or-eq_default}
 use Rattle.acd_terms.specs.declared.command.Request.{Request}
-use Rattle.acd_desk.specs.KeyPlaces.{place_from, place_of}
+use Rattle.acd_desk.specs.Contents.KeyPlaces.{place_from, place_of}
 
 pub seen_within : (xs : List Bool) (p : ℕ) (x : Bool) → p < length xs → x ≡ slice_index_or xs p x → x ≡ slice_index_or xs p true
 seen_within xs p x inside is = is ∙ get_or_default xs p x true inside

@@ -8,10 +8,10 @@ use Rattle.acd_book.specs.Content.{Content, events_after}
 use Rattle.acd_desk.specs.declared.seen_keys.SeenKeys.{SeenKeys}
 use Rattle.acd_desk.specs.declared.page.Page.{Page}
 use Rattle.acd_desk.specs.declared.replay.Replay.{Replay}
-use Rattle.acd_desk.specs.AbstractDesk.{stepped, record_of}
-use Rattle.acd_desk.specs.KeyPlaces.{IsSeenKey}
-use Rattle.acd_desk.specs.Pages.{IsPageOf}
-use Rattle.acd_desk.specs.Replay.{again, rows_of, IsFirstOfKey, IsFirstWith, Matches, FindsFirst, Knows}
+use Rattle.acd_desk.specs.Contents.AbstractDesk.{stepped, record_of}
+use Rattle.acd_desk.specs.Contents.KeyPlaces.{IsSeenKey}
+use Rattle.acd_desk.specs.Reads.Pages.{IsPageOf}
+use Rattle.acd_desk.specs.Audits.Replay.{again, rows_of, IsFirstOfKey, IsFirstWith, Matches, FindsFirst, Knows}
 
 -- a key that wasn't seen is new
 pub unseen_new : (c : Content) (keys : SeenKeys) (k : Kept) → ¬ IsSeenKey keys k.request → FindsFirst c keys k → Decides true (IsFirstOfKey c k)

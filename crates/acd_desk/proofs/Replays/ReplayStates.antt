@@ -11,9 +11,9 @@ use Rattle.acd_book.specs.Memory.{stamp_of}
 use Rattle.acd_book.proofs.Keys.{key_itself, key_same}
 use Rattle.acd_desk.specs.declared.seen_keys.SeenKeys.{SeenKeys}
 use Rattle.acd_desk.specs.declared.replay.Replay.{Replay}
-use Rattle.acd_desk.specs.AbstractDesk.{stepped}
-use Rattle.acd_desk.specs.KeyPlaces.{IsSeenKey}
-use Rattle.acd_desk.specs.Replay.{again, rows_of, Splits, Replays, IsFirstOfKey, Matches, Knows, Goes, GoesOn}
+use Rattle.acd_desk.specs.Contents.AbstractDesk.{stepped}
+use Rattle.acd_desk.specs.Contents.KeyPlaces.{IsSeenKey}
+use Rattle.acd_desk.specs.Audits.Replay.{again, rows_of, Splits, Replays, IsFirstOfKey, Matches, Knows, Goes, GoesOn}
 use Rattle.acd_desk.proofs.Replays.Audits.{begins, left_is, replayed_next, replay_goes_on}
 use Rattle.acd_desk.proofs.Replays.PlaceLemmas.{same_place}
 use Rattle.acd_desk.proofs.Contents.Steps.{step_stamp}

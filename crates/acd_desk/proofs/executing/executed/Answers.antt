@@ -1,5 +1,5 @@
 use Rattle.std.proofs.Common.{rules}
-use Rattle.acd_desk.specs.Arrivals.{arrival_at}
+use Rattle.acd_desk.specs.Contents.Arrivals.{arrival_at}
 use Rattle.acd_desk.proofs.Desks.Commits.{prepares}
 use Rattle.acd_desk.proofs.executing.executed.Goals as goal
 

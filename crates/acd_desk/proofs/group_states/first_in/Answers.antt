@@ -1,7 +1,7 @@
 use Rattle.std.proofs.Common.{◌≡◌, ℕ, List, ◌∷◌, Option, rules, ap, sym, ◌∙◌}
 use Rattle.std.specs.List.{filter_map}
 use Rattle.acd_model.specs.Scans.{connection_of}
-use Rattle.acd_desk.specs.GroupStates.{first_of, lesser_number, queued_of}
+use Rattle.acd_desk.specs.Reads.GroupStates.{first_of, lesser_number, queued_of}
 use Rattle.acd_desk.proofs.Pages.GroupLines.{least_with, lesser_join}
 use Rattle.acd_desk.proofs.group_states.first_in.Goals as goal
 

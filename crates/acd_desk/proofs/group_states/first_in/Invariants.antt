@@ -1,5 +1,5 @@
 use Rattle.std.proofs.Common.{◌≡◌}
-use Rattle.acd_desk.specs.GroupStates.{first_of, lesser_number}
+use Rattle.acd_desk.specs.Reads.GroupStates.{first_of, lesser_number}
 use Rattle.acd_desk.proofs.group_states.first_in.Given as goal
 
 abbrev pub invariant-loop-call : goal.invariant-loop-call

@@ -7,10 +7,10 @@ use Rattle.acd_switch.specs.declared.row_fault.RowFault.{RowFault}
 use Rattle.acd_switch.specs.declared.row_fault.RowFault.TheVariants as row
 use Rattle.acd_desk.specs.declared.open_fault.OpenFault.{OpenFault}
 use Rattle.acd_desk.specs.declared.working.LoadedSwitch.{LoadedSwitch}
-use Rattle.acd_desk.specs.Opening.{by_book, by_rows}
+use Rattle.acd_desk.specs.Desks.Opening.{by_book, by_rows}
 use Rattle.acd_book.specs.BookReads.{ReadsIfOpen}
-use Rattle.acd_desk.specs.Pairs.{by_opening}
-use Rattle.acd_desk.specs.ReplayWith.{IsSwitchOf}
+use Rattle.acd_desk.specs.Audits.Pairs.{by_opening}
+use Rattle.acd_desk.specs.Audits.ReplayWith.{IsSwitchOf}
 use Rattle.acd_book.proofs.ReadsAhead.{by_read, read_ok, read_nothing, read_no_memory}
 use Rattle.acd_desk.proofs.newer.archive_switch.Goals as goal
 

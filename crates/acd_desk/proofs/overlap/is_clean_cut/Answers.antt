@@ -2,8 +2,8 @@ use Rattle.std.proofs.Common.{◌≤◌, ◌∙◌, Bool, true, Option, refl, su
 use Rattle.std.specs.Bool.{Decides}
 use Rattle.acd_book.specs.declared.kept.Kept.{Kept}
 use Rattle.acd_book.specs.Content.{Content, IsKeptAfter}
-use Rattle.acd_desk.specs.AuditWith.{StandsInTime}
-use Rattle.acd_desk.specs.Overlap.{IsCleanCut}
+use Rattle.acd_desk.specs.Audits.AuditWith.{StandsInTime}
+use Rattle.acd_desk.specs.Audits.Overlap.{IsCleanCut}
 use Rattle.acd_desk.proofs.Archives.CleanCuts.{clean_none, clean_decided}
 use Rattle.acd_book.proofs.ReadsInTurn.{then_ok, then_read_ok}
 use Rattle.acd_desk.proofs.overlap.is_clean_cut.Goals as goal

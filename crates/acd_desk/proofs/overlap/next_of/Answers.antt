@@ -1,6 +1,6 @@
 use Rattle.std.proofs.Common.{rules, inl, [], ◌≡◌, ◌∷◌, ◌∙◌, ap, sym}
 use Rattle.acd_book.proofs.SharedLists.{cons_not_nil}
-use Rattle.acd_desk.specs.Kinds.{listed}
+use Rattle.acd_desk.specs.Reads.Kinds.{listed}
 use Rattle.acd_desk.proofs.Archives.Overlaps.{firsts_differ}
 use Rattle.acd_desk.proofs.overlap.next_of.Goals as goal
 

@@ -1,5 +1,5 @@
 use Rattle.std.proofs.Common.{◌≡◌, ◌≤◌, ◌++◌, drop, take, length, vec_len}
-use Rattle.acd_desk.specs.ReadAnswers.{above}
+use Rattle.acd_desk.specs.Reads.ReadAnswers.{above}
 use Rattle.acd_desk.proofs.page.first_after.Given as goal
 
 abbrev pub invariant-loop-event : goal.invariant-loop-event

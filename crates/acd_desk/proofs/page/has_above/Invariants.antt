@@ -1,5 +1,5 @@
 use Rattle.std.proofs.Common.{◌≡◌, ◌+◌, drop, length}
-use Rattle.acd_desk.specs.Kinds.{all_above}
+use Rattle.acd_desk.specs.Reads.Kinds.{all_above}
 use Rattle.acd_desk.proofs.page.has_above.Given as goal
 
 abbrev pub invariant-loop-item : goal.invariant-loop-item

@@ -1,6 +1,6 @@
 use Rattle.std.proofs.Common.{◌≡◌, ◌+◌, ◌≤◌, ℕ, ap, subst, ◌∙◌, arith}
 use Rattle.acd_terms.specs.declared.rows.Limits.{Limits}
-use Rattle.acd_desk.specs.Replay.{CountsOne}
+use Rattle.acd_desk.specs.Audits.Replay.{CountsOne}
 use Rattle.acd_desk.proofs.Replays.AuditSteps.{seen_more, seen_all, seen_rest}
 use Rattle.acd_desk.proofs.replay.audited.Goals as goal
 

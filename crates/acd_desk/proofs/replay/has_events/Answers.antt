@@ -1,7 +1,7 @@
 use Rattle.std.proofs.Common.{rules, ◌≡◌, Bool, length}
 use Rattle.std.specs.Bool.{Decides}
 use Rattle.acd_book.specs.Content.{Content, events_after}
-use Rattle.acd_desk.specs.Pages.{IsPageOf}
+use Rattle.acd_desk.specs.Reads.Pages.{IsPageOf}
 use Rattle.acd_desk.proofs.Replays.RecordComparisons.{events_decided}
 use Rattle.acd_book.proofs.ReadsAhead.{read_ok, read_nothing}
 use Rattle.acd_desk.proofs.replay.has_events.Goals as goal

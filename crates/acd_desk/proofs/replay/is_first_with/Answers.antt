@@ -1,5 +1,5 @@
 use Rattle.std.proofs.Common.{rules, false}
-use Rattle.acd_desk.specs.Replay.{DecidesKnown, IsFirstWith}
+use Rattle.acd_desk.specs.Audits.Replay.{DecidesKnown, IsFirstWith}
 use Rattle.acd_desk.proofs.Replays.RecordComparisons.{other_key, same_events}
 use Rattle.acd_book.proofs.ReadsAhead.{read_ok, read_nothing, read_twice}
 use Rattle.acd_desk.proofs.replay.is_first_with.Goals as goal

@@ -1,7 +1,7 @@
 use Rattle.std.proofs.Common.{Bool, true, sym, ◌∙◌, true≢false}
 use Rattle.std.specs.Bool.{Decides}
 use Rattle.acd_book.specs.Content.{Content}
-use Rattle.acd_desk.specs.Replay.{IsFirstOfKey, FindsFirst}
+use Rattle.acd_desk.specs.Audits.Replay.{IsFirstOfKey, FindsFirst}
 use Rattle.acd_desk.proofs.Replays.RecordComparisons.{unseen_new}
 use Rattle.acd_book.proofs.ReadsAhead.{known, by_read}
 use Rattle.acd_desk.proofs.replay.is_new_key.Goals as goal

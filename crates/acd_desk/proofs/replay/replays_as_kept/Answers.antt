@@ -1,6 +1,6 @@
 use Rattle.std.proofs.Common.{rules, false, ◌∙◌}
 use Rattle.acd_book.specs.Content.{Content}
-use Rattle.acd_desk.specs.Replay.{DecidesKnown, Matches}
+use Rattle.acd_desk.specs.Audits.Replay.{DecidesKnown, Matches}
 use Rattle.acd_desk.proofs.Replays.RecordComparisons.{matches_decided, other_record}
 use Rattle.acd_book.proofs.ReadsAhead.{known, none_alone, read_more}
 use Rattle.acd_desk.proofs.replay.replays_as_kept.Goals as goal

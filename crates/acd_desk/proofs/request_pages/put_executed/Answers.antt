@@ -1,4 +1,4 @@
-use Rattle.acd_desk.specs.RequestPages.{executed_text}
+use Rattle.acd_desk.specs.Reads.RequestPages.{executed_text}
 use Rattle.acd_desk.proofs.request_pages.put_executed.Goals as goal
 
 pub returns : goal.returns

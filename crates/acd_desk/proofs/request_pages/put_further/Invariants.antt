@@ -1,5 +1,5 @@
 use Rattle.std.proofs.Common.{◌≡◌, ◌++◌, string_bytes, drop}
-use Rattle.acd_desk.specs.RequestPages.{further_texts}
+use Rattle.acd_desk.specs.Reads.RequestPages.{further_texts}
 use Rattle.acd_desk.proofs.request_pages.put_further.Given as goal
 
 abbrev pub invariant-loop-next : goal.invariant-loop-next

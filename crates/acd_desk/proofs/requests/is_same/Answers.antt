@@ -1,6 +1,6 @@
 use Rattle.std.proofs.Common.{◌∙◌, ap, sym}
 use Rattle.acd_terms.specs.declared.command.Request.{Request}
-use Rattle.acd_desk.specs.Replies.{same_request}
+use Rattle.acd_desk.specs.Contents.Replies.{same_request}
 use Rattle.acd_desk.proofs.Contents.Keys.{same_itself}
 use Rattle.acd_desk.proofs.Contents.SameRequests.{same_true}
 use Rattle.acd_desk.proofs.requests.is_same.Goals as goal

@@ -1,5 +1,5 @@
 use Rattle.std.proofs.Common.{◌≡◌, ◌<◌, ◌^◌, drop}
-use Rattle.acd_desk.specs.KeyPlaces.{place_from}
+use Rattle.acd_desk.specs.Contents.KeyPlaces.{place_from}
 use Rattle.acd_desk.proofs.seen_keys.place_from.Given as goal
 
 abbrev pub invariant-loop-byte : goal.invariant-loop-byte

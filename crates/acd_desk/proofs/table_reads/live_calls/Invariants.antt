@@ -1,5 +1,5 @@
 use Rattle.std.proofs.Common.{◌≡◌, ◌++◌, map, drop}
-use Rattle.acd_desk.specs.ReadAnswers.{live_call}
+use Rattle.acd_desk.specs.Reads.ReadAnswers.{live_call}
 use Rattle.acd_desk.proofs.table_reads.live_calls.Given as goal
 
 abbrev pub invariant-loop-call : goal.invariant-loop-call

@@ -2,7 +2,7 @@ use Rattle.std.proofs.Common.{◌+◌, List, [], ◌∷◌, ◌++◌, drop, get_
 use Rattle.std.proofs.lemmas.List.{at_drop_more}
 use Rattle.acd_terms.specs.declared.record.StationRecord.{StationRecord}
 use Rattle.acd_codec.specs.declared.read_texts.PlannedStation.{PlannedStation}
-use Rattle.acd_desk.specs.ReadAnswers.{station_at}
+use Rattle.acd_desk.specs.Reads.ReadAnswers.{station_at}
 use Rattle.acd_desk.proofs.table_reads.stations_in.Goals as goal
 
 pub loop-station-preserved : goal.loop-station-preserved

@@ -1,5 +1,5 @@
 use Rattle.std.proofs.Common.{◌≡◌, ◌++◌, map, drop}
-use Rattle.acd_desk.specs.ReadAnswers.{station_at}
+use Rattle.acd_desk.specs.Reads.ReadAnswers.{station_at}
 use Rattle.acd_desk.proofs.table_reads.stations_in.Given as goal
 
 abbrev pub invariant-loop-station : goal.invariant-loop-station

@@ -1,4 +1,4 @@
-use Rattle.acd_desk.specs.DeskCalls.{state_of}
+use Rattle.acd_desk.specs.Desks.DeskCalls.{state_of}
 use Rattle.acd_http.proofs.Visits.{answered_by}
 use Rattle.acd_http.proofs.answering.exchange_with.Goals as goal
 

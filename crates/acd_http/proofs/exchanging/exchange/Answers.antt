@@ -1,5 +1,5 @@
 use Rattle.std.proofs.Common.{sym, subst}
-use Rattle.acd_desk.specs.DeskCalls.{state_of}
+use Rattle.acd_desk.specs.Desks.DeskCalls.{state_of}
 use Rattle.acd_lines.specs.Lines.{streams}
 use Rattle.acd_http.specs.Exchange.{Answered}
 use Rattle.acd_http.proofs.Exchanges.{reply_sent, unseen_sent}

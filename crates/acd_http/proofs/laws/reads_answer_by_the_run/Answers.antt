@@ -1,4 +1,4 @@
-use Rattle.acd_desk.specs.DeskState.{state_of}
+use Rattle.acd_desk.specs.Desks.DeskState.{state_of}
 use Rattle.acd_http.proofs.LineReads.{lines_lead_to_the_run, reads_answer_by_the_content, reads_answer_by_the_run}
 use Rattle.acd_http.proofs.laws.reads_answer_by_the_run.Goals as goal
 

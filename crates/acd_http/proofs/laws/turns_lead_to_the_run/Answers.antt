@@ -1,4 +1,4 @@
-use Rattle.acd_desk.specs.DeskState.{state_of}
+use Rattle.acd_desk.specs.Desks.DeskState.{state_of}
 use Rattle.acd_http.proofs.TurnRuns.{turns_lead}
 use Rattle.acd_http.proofs.laws.turns_lead_to_the_run.Goals as goal
 

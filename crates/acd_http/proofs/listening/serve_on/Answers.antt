@@ -1,4 +1,4 @@
-use Rattle.acd_desk.specs.DeskCalls.{state_of}
+use Rattle.acd_desk.specs.Desks.DeskCalls.{state_of}
 use Rattle.acd_http.proofs.TurnsInTurn.{serves_all}
 use Rattle.acd_http.proofs.listening.serve_on.Goals as goal
 

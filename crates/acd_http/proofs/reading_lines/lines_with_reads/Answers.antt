@@ -1,5 +1,5 @@
 use Rattle.std.proofs.Common.{refl}
-use Rattle.acd_desk.specs.DeskCalls.{state_of}
+use Rattle.acd_desk.specs.Desks.DeskCalls.{state_of}
 use Rattle.acd_lines.specs.Input.{line_asked, no_moment, too_long}
 use Rattle.acd_lines.specs.Lines.{streams}
 use Rattle.acd_lines.specs.declared.fault.LinesFault.TheVariants.{NoMemory}

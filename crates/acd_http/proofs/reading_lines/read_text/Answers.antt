@@ -1,4 +1,4 @@
-use Rattle.acd_desk.specs.DeskCalls.{state_of}
+use Rattle.acd_desk.specs.Desks.DeskCalls.{state_of}
 use Rattle.acd_http.proofs.LineReads.{answers_look}
 use Rattle.acd_http.proofs.reading_lines.read_text.Goals as goal
 

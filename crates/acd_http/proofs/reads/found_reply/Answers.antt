@@ -1,7 +1,7 @@
 use Rattle.std.proofs.Common.{ap, ◌∙◌}
-use Rattle.acd_desk.specs.DeskCalls.{state_of}
-use Rattle.acd_desk.specs.AnswerTexts.{seen_text}
-use Rattle.acd_desk.specs.ReadAnswers.{question_read}
+use Rattle.acd_desk.specs.Desks.DeskCalls.{state_of}
+use Rattle.acd_desk.specs.Reads.AnswerTexts.{seen_text}
+use Rattle.acd_desk.specs.Reads.ReadAnswers.{question_read}
 use Rattle.acd_desk.proofs.Pages.ReadsDone.{read_seen}
 use Rattle.acd_http.specs.declared.reply.Kind.{Kind}
 use Rattle.acd_http.specs.Exchange.{found_reply}

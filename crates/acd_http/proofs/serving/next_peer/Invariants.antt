@@ -1,6 +1,6 @@
 use Rattle.std.specs.Prelude.{is_some}
 use Rattle.std.specs.Option.{is_none}
-use Rattle.acd_desk.specs.DeskCalls.{state_of}
+use Rattle.acd_desk.specs.Desks.DeskCalls.{state_of}
 use Rattle.acd_lines.specs.Lines.{output}
 use Rattle.acd_http.specs.Turns.{AddsLooks}
 use Rattle.acd_http.proofs.serving.next_peer.Given as goal

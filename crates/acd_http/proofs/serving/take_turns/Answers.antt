@@ -1,5 +1,5 @@
 use Rattle.std.proofs.Common.{◌+◌, Result, is_none, is_some, refl, subst, sym}
-use Rattle.acd_desk.specs.DeskCalls.{state_of}
+use Rattle.acd_desk.specs.Desks.DeskCalls.{state_of}
 use Rattle.acd_io.specs.declared.sending.Stopped.{Stopped}
 use Rattle.acd_io.specs.SentBytes.{WasSent}
 use Rattle.acd_lines.specs.Lines.{output}

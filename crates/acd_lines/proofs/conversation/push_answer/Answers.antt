@@ -1,6 +1,6 @@
 use Rattle.std.proofs.Common.{◌≡◌, ℕ, List, [], ◌∷◌, ◌++◌, refl, sym, ap, ◌∙◌, decimal}
 use Rattle.acd_lines.specs.Answers.{line_text}
-use Rattle.acd_desk.specs.AnswerTexts.{Said, said}
+use Rattle.acd_desk.specs.Reads.AnswerTexts.{Said, said}
 use Rattle.acd_io.proofs.Sends.{breaks_same, passes_same, breaks_more, breaks_then, passes_then, stopped, so_of}
 use Rattle.acd_lines.proofs.conversation.push_answer.Goals as goal
 

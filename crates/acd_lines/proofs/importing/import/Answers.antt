@@ -1,6 +1,6 @@
 use Rattle.std.proofs.Common.{List, sym, subst, take, ◌+◌}
 use Rattle.acd_terms.specs.declared.command.Request.{Request}
-use Rattle.acd_desk.specs.DeskCalls.{state_of}
+use Rattle.acd_desk.specs.Desks.DeskCalls.{state_of}
 use Rattle.acd_lines.specs.Answers.{answered_text}
 use Rattle.acd_lines.specs.Parts.{Imports}
 use Rattle.acd_io.proofs.Sends.{stopped}

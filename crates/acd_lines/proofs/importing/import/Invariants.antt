@@ -1,5 +1,5 @@
 use Rattle.std.proofs.Common.{take}
-use Rattle.acd_desk.specs.DeskCalls.{state_of}
+use Rattle.acd_desk.specs.Desks.DeskCalls.{state_of}
 use Rattle.acd_lines.specs.Parts.{Imports}
 use Rattle.acd_lines.proofs.importing.import.Given as goal
 

@@ -1,4 +1,4 @@
-use Rattle.acd_desk.specs.DeskCalls.{state_of}
+use Rattle.acd_desk.specs.Desks.DeskCalls.{state_of}
 use Rattle.acd_lines.proofs.RunsInTurn.{run_in_turn}
 use Rattle.acd_lines.proofs.laws.requests_run.Goals as goal
 

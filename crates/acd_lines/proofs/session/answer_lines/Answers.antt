@@ -1,5 +1,5 @@
 use Rattle.std.proofs.Common.{refl, sym, subst, ◌∙◌}
-use Rattle.acd_desk.specs.DeskCalls.{state_of}
+use Rattle.acd_desk.specs.Desks.DeskCalls.{state_of}
 use Rattle.acd_lines.specs.Lines.{LinesDone, streams}
 use Rattle.acd_lines.specs.Questions.{question, TakesTurns}
 use Rattle.acd_lines.proofs.BoundedLines.{front_decides}

@@ -1,5 +1,5 @@
 use Rattle.std.proofs.Common.{true}
-use Rattle.acd_desk.specs.DeskCalls.{state_of}
+use Rattle.acd_desk.specs.Desks.DeskCalls.{state_of}
 use Rattle.acd_lines.specs.Answers.{Answers}
 use Rattle.acd_lines.specs.Input.{line_of}
 use Rattle.acd_lines.specs.Lines.{RunInTurn, streams}

@@ -1,6 +1,6 @@
 use Rattle.std.proofs.Common.{ℕ, rules}
 use Rattle.acd_program.specs.declared.outcome.Cut.{Cut}
-use Rattle.acd_program.proofs.ReadsOn.{fault_first, fault_on, read_on}
+use Rattle.acd_program.proofs.Archives.ReadsOn.{fault_first, fault_on, read_on}
 use Rattle.acd_program.proofs.cut.cut_at.Goals as goal
 
 pub returns-in_err-at_once : goal.returns-in_err-at_once

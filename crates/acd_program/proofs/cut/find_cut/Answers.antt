@@ -1,6 +1,6 @@
 use Rattle.std.proofs.Common.{ℕ, Option, rules}
 use Rattle.acd_program.specs.declared.outcome.Cut.{Cut}
-use Rattle.acd_program.proofs.ReadsOn.{fault_any, fault_on, read_any, read_on}
+use Rattle.acd_program.proofs.Archives.ReadsOn.{fault_any, fault_on, read_any, read_on}
 use Rattle.acd_terms.specs.declared.rows.Rows.{Rows}
 use Rattle.acd_program.proofs.cut.find_cut.Goals as goal
 

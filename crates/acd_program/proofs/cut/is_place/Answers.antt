@@ -1,7 +1,7 @@
 use Rattle.std.proofs.Common.{Bool, false}
-use Rattle.acd_program.specs.Pruning.{DecidesPlace}
+use Rattle.acd_program.specs.Archives.Pruning.{DecidesPlace}
 use Rattle.acd_book.proofs.ReadsInTurn.{then_ok, then_read}
-use Rattle.acd_program.proofs.ReadsOn.{no_place, place_decided}
+use Rattle.acd_program.proofs.Archives.ReadsOn.{no_place, place_decided}
 use Rattle.acd_program.proofs.cut.is_place.Goals as goal
 
 pub returns-then-not-is_within : goal.returns-then-not-is_within

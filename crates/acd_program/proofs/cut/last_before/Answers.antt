@@ -1,6 +1,6 @@
 use Rattle.std.proofs.Common.{ℕ, Option, rules}
 use Rattle.acd_program.specs.declared.cut.Mark.{Mark}
-use Rattle.acd_program.proofs.ReadsOn.{fault_on, left_alone, read_on, read_so}
+use Rattle.acd_program.proofs.Archives.ReadsOn.{fault_on, left_alone, read_on, read_so}
 use Rattle.acd_program.proofs.cut.last_before.Goals as goal
 
 pub loop-init : goal.loop-init

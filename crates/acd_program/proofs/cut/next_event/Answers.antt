@@ -1,6 +1,6 @@
 use Rattle.std.proofs.Common.{Option, rules}
 use Rattle.acd_program.specs.declared.cut.Mark.{Mark}
-use Rattle.acd_program.proofs.ReadsOn.{fault_any, read_any}
+use Rattle.acd_program.proofs.Archives.ReadsOn.{fault_any, read_any}
 use Rattle.acd_program.proofs.cut.next_event.Goals as goal
 
 pub returns : goal.returns

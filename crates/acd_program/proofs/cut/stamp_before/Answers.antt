@@ -1,6 +1,6 @@
 use Rattle.std.proofs.Common.{ℕ, Option, rules}
 use Rattle.acd_program.specs.declared.cut.Mark.{Mark}
-use Rattle.acd_program.proofs.ReadsOn.{fault_first, read_with}
+use Rattle.acd_program.proofs.Archives.ReadsOn.{fault_first, read_with}
 use Rattle.acd_program.proofs.cut.stamp_before.Goals as goal
 
 pub returns-in_err-next : goal.returns-in_err-next

@@ -1,6 +1,6 @@
 use Rattle.std.proofs.Common.{refl, sym, subst}
-use Rattle.acd_program.specs.Work.{WasAsked, IsFindingIfOrdered}
-use Rattle.acd_program.proofs.BookReads.{audited_by}
+use Rattle.acd_program.specs.Commands.Work.{WasAsked, IsFindingIfOrdered}
+use Rattle.acd_program.proofs.Commands.BookReads.{audited_by}
 use Rattle.acd_sessions.specs.Over.{OnlyAsked}
 use Rattle.acd_sessions.proofs.Asking.{only_refused, only_read}
 use Rattle.acd_program.proofs.desk.audit.Goals as goal

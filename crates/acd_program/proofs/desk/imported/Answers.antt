@@ -1,10 +1,10 @@
 use Rattle.std.proofs.Common.{inl, inr, refl, sym, subst}
-use Rattle.acd_desk.specs.DeskState.{state_of}
-use Rattle.acd_program.specs.Ended.{IsBegunPlan}
-use Rattle.acd_program.specs.Work.{ImportsOver}
+use Rattle.acd_desk.specs.Desks.DeskState.{state_of}
+use Rattle.acd_program.specs.Commands.Ended.{IsBegunPlan}
+use Rattle.acd_program.specs.Commands.Work.{ImportsOver}
 use Rattle.acd_sessions.proofs.Asking.{only_refused}
-use Rattle.acd_program.proofs.Ended.{begun_by}
-use Rattle.acd_program.proofs.Works.{imports_over}
+use Rattle.acd_program.proofs.Commands.Ended.{begun_by}
+use Rattle.acd_program.proofs.Commands.Works.{imports_over}
 use Rattle.acd_program.proofs.desk.imported.Goals as goal
 
 pub returns-in-Ok-import-clause-result : goal.returns-in-Ok-import-clause-result

@@ -1,7 +1,7 @@
 use Rattle.std.proofs.Common.{inl, refl, sym, subst, MatchResult}
 use Rattle.std.proofs.lemmas.Result.{IfOk-weaker}
-use Rattle.acd_program.specs.Ended.{StoppedOver}
-use Rattle.acd_program.specs.Work.{IsFindingIfOrdered, WorkDone}
+use Rattle.acd_program.specs.Commands.Ended.{StoppedOver}
+use Rattle.acd_program.specs.Commands.Work.{IsFindingIfOrdered, WorkDone}
 use Rattle.acd_command.specs.declared.asked.Work.{Work}
 use Rattle.acd_files.proofs.Ends.{match_of, match_with}
 use Rattle.acd_program.proofs.desk.over_book.Goals as goal

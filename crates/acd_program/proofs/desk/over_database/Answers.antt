@@ -3,14 +3,14 @@ use Rattle.sqlite.specs.Held.{state}
 use Rattle.acd_book.specs.State.{BookState}
 use Rattle.acd_sqlbook.specs.Caches.{followed}
 use Rattle.acd_sqlbook.specs.State.{book_state}
-use Rattle.acd_program.specs.Ended.{WorkStopped}
-use Rattle.acd_program.specs.AuditFindings.{IsFindingOf}
+use Rattle.acd_program.specs.Commands.Ended.{WorkStopped}
+use Rattle.acd_program.specs.Commands.AuditFindings.{IsFindingOf}
 use Rattle.acd_sessions.specs.Over.{OverConnection, Unserved}
-use Rattle.acd_program.specs.Work.{WorkDone}
-use Rattle.acd_program.proofs.Ended.{stopped_in}
+use Rattle.acd_program.specs.Commands.Work.{WorkDone}
+use Rattle.acd_program.proofs.Commands.Ended.{stopped_in}
 use Rattle.acd_files.proofs.Ends.{match_so}
 use Rattle.acd_sessions.proofs.BooksOfConnections.{unserved_asked}
-use Rattle.acd_program.proofs.Works.{database_done}
+use Rattle.acd_program.proofs.Commands.Works.{database_done}
 use Rattle.acd_program.proofs.desk.over_database.Goals as goal
 
 pub returns-in-Err-clause-result : goal.returns-in-Err-clause-result

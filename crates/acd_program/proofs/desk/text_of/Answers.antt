@@ -1,14 +1,14 @@
 use Rattle.std.proofs.Common.{◌≡◌, Some, sym, subst}
 use Rattle.acd_book.specs.Content.{Content}
-use Rattle.acd_desk.specs.DeskState.{state_of}
-use Rattle.acd_desk.specs.SoundContent.{IsSound}
-use Rattle.acd_desk.specs.CarriedContent.{Archive, together}
-use Rattle.acd_desk.specs.DeskReads.{ReadDone}
-use Rattle.acd_desk.specs.ReadAnswers.{text_read}
+use Rattle.acd_desk.specs.Desks.DeskState.{state_of}
+use Rattle.acd_desk.specs.Contents.SoundContent.{IsSound}
+use Rattle.acd_desk.specs.Contents.CarriedContent.{Archive, together}
+use Rattle.acd_desk.specs.Reads.DeskReads.{ReadDone}
+use Rattle.acd_desk.specs.Reads.ReadAnswers.{text_read}
 use Rattle.acd_desk.proofs.Pages.ReadsDone.{read_follows}
 use Rattle.acd_command.specs.declared.asked.Printout.{Printout}
-use Rattle.acd_program.specs.Work.{printout_text}
-use Rattle.acd_program.proofs.Works.{export_text}
+use Rattle.acd_program.specs.Commands.Work.{printout_text}
+use Rattle.acd_program.proofs.Commands.Works.{export_text}
 use Rattle.acd_program.proofs.desk.text_of.Goals as goal
 
 pub returns-in-Export : goal.returns-in-Export

@@ -2,10 +2,10 @@ use Rattle.std.proofs.Common.{false, sym, subst}
 use Rattle.sqlite.specs.Held.{state}
 use Rattle.acd_sqlbook.specs.Caches.{followed}
 use Rattle.acd_sqlbook.specs.State.{book_state}
-use Rattle.acd_program.specs.ArchiveExport.{IsAdded}
+use Rattle.acd_program.specs.Archives.ArchiveExport.{IsAdded}
 use Rattle.acd_sessions.specs.Over.{OverConnection, Unserved}
-use Rattle.acd_program.proofs.AuditsWithArchive.{unserved_untouched}
-use Rattle.acd_program.proofs.Exports.{added_over, table_read}
+use Rattle.acd_program.proofs.Archives.AuditsWithArchive.{unserved_untouched}
+use Rattle.acd_program.proofs.Archives.Exports.{added_over, table_read}
 use Rattle.acd_sessions.proofs.BooksOfConnections.{unserved_asked}
 use Rattle.acd_program.proofs.export.add_archived.Goals as goal
 

@@ -1,6 +1,6 @@
 use Rattle.std.proofs.Common.{refl}
 use Rattle.sqlite_std_file.specs.File.{IsFresh}
-use Rattle.acd_program.proofs.Exports.{archive_more, archives_all}
+use Rattle.acd_program.proofs.Archives.Exports.{archive_more, archives_all}
 use Rattle.acd_program.proofs.export.add_archives.Goals as goal
 
 pub loop-archive-init : goal.loop-archive-init

@@ -3,7 +3,7 @@ use Rattle.sqlite_disk.specs.contracts.modelled.ModelledDisk.TheImpl.{ghosts as 
 use Rattle.sqlite_std_file.specs.contracts.host.Host.{the_row as host}
 use Rattle.sqlite_std_file.specs.contracts.host.HostCalls.TheImpl.{ghosts as calls, dict as given}
 use Rattle.sqlite_std_file.specs.File.{IsFresh}
-use Rattle.acd_program.specs.ArchiveExport.{AddsArchives}
+use Rattle.acd_program.specs.Archives.ArchiveExport.{AddsArchives}
 use Rattle.acd_program.proofs.export.add_archives.Given as goal
 
 abbrev pub invariant-loop-archive : goal.invariant-loop-archive

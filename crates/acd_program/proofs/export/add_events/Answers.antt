@@ -1,6 +1,6 @@
 use Rattle.std.proofs.Common.{max, ap, ◌∙◌, rules}
 use Rattle.acd_book.proofs.ReadsAhead.{by_read, read_twice}
-use Rattle.acd_program.proofs.Exports.{ends_after, ends_read}
+use Rattle.acd_program.proofs.Archives.Exports.{ends_after, ends_read}
 use Rattle.acd_program.proofs.export.add_events.Goals as goal
 
 pub returns-in_err-rows : goal.returns-in_err-rows

@@ -1,5 +1,5 @@
 use Rattle.std.proofs.lemmas.Result.{IfOk-weaker}
-use Rattle.acd_program.proofs.Exports.{added_in}
+use Rattle.acd_program.proofs.Archives.Exports.{added_in}
 use Rattle.acd_program.proofs.export.add_files.Goals as goal
 
 pub returns-clause-added : goal.returns-clause-added

@@ -2,7 +2,7 @@ use Rattle.std.proofs.Common.{Some, None, refl, ap, sym, ◌∙◌, rules, strin
 use Rattle.acd_reports.specs.Export.{records_text}
 use Rattle.acd_desk.proofs.Pages.PageLemmas.{export_ends, export_goes_on}
 use Rattle.acd_book.proofs.ReadsAhead.{by_read, read_ok}
-use Rattle.acd_program.proofs.Exports.{ends_read, no_memory_after}
+use Rattle.acd_program.proofs.Archives.Exports.{ends_read, no_memory_after}
 use Rattle.acd_program.proofs.export.add_page.Goals as goal
 
 pub returns-in_err-events : goal.returns-in_err-events

@@ -1,6 +1,6 @@
 use Rattle.std.proofs.Common.{refl, rules, string_bytes}
 use Rattle.acd_book.proofs.ReadsAhead.{known, read_no_memory}
-use Rattle.acd_program.proofs.Exports.{ends_after, rows_end, rows_on}
+use Rattle.acd_program.proofs.Archives.Exports.{ends_after, rows_end, rows_on}
 use Rattle.acd_program.proofs.export.add_rows.Goals as goal
 
 pub loop-init : goal.loop-init

@@ -2,7 +2,7 @@ use Rattle.std.proofs.Common.{◌≡◌, ◌++◌, Ok, string_bytes}
 use Rattle.acd_book.specs.Content.{Content}
 use Rattle.acd_reports.specs.Export.{records_text}
 use Rattle.acd_book.specs.BookReads.{ReadsIfOpen}
-use Rattle.acd_desk.specs.ReadAnswers.{Rise, above}
+use Rattle.acd_desk.specs.Reads.ReadAnswers.{Rise, above}
 use Rattle.acd_program.proofs.export.add_rows.Given as goal
 
 abbrev pub invariant-loop : goal.invariant-loop

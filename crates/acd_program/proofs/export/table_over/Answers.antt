@@ -1,6 +1,6 @@
 use Rattle.sqlite.specs.Held.{state}
 use Rattle.acd_files.proofs.Ends.{if_is_ok}
-use Rattle.acd_program.proofs.Exports.{unserved_left}
+use Rattle.acd_program.proofs.Archives.Exports.{unserved_left}
 use Rattle.acd_program.proofs.export.table_over.Goals as goal
 
 pub returns-in-Err-clause-kept : goal.returns-in-Err-clause-kept

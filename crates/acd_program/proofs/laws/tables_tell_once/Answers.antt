@@ -1,4 +1,4 @@
-use Rattle.acd_program.proofs.EachOnce.{tables_tell_once}
+use Rattle.acd_program.proofs.Archives.EachOnce.{tables_tell_once}
 use Rattle.acd_program.proofs.laws.tables_tell_once.Goals as goal
 
 pub returns : goal.returns

@@ -1,7 +1,7 @@
 use Rattle.std.proofs.Common.{◌++◌, ◌∷◌, []}
 use Rattle.std.specs.Prelude.{codes, decimal}
 use Rattle.acd_io.proofs.Sends.{sent_after, sent_first}
-use Rattle.acd_program.specs.AuditFindings.{again_line}
+use Rattle.acd_program.specs.Commands.AuditFindings.{again_line}
 use Rattle.acd_program.proofs.printing.send_again_counted.Goals as goal
 
 pub returns-in_err-send_again : goal.returns-in_err-send_again

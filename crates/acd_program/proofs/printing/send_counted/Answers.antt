@@ -3,7 +3,7 @@ use Rattle.std.specs.Prelude.{codes, decimal}
 use Rattle.std.specs.Io.KnownBytes.{Appends}
 use Rattle.acd_io.specs.SentBytes.{Breaks}
 use Rattle.acd_io.proofs.Sends.{sent_after, sent_first}
-use Rattle.acd_program.specs.AuditFindings.{sound_line}
+use Rattle.acd_program.specs.Commands.AuditFindings.{sound_line}
 use Rattle.acd_program.proofs.printing.send_counted.Goals as goal
 
 pub returns-in_err-send : goal.returns-in_err-send

@@ -1,10 +1,10 @@
 use Rattle.std.proofs.Common.{sym, subst}
 use Rattle.acd_sessions.specs.Over.{OnlyAsked}
-use Rattle.acd_program.specs.Pruning.{AskedBoth}
-use Rattle.acd_program.specs.WithArchive.{IsFindingInOrder}
+use Rattle.acd_program.specs.Archives.Pruning.{AskedBoth}
+use Rattle.acd_program.specs.Archives.WithArchive.{IsFindingInOrder}
 use Rattle.acd_sessions.proofs.Asking.{only_left, only_refused, only_read}
-use Rattle.acd_program.proofs.Prunes.{audited_both}
-use Rattle.acd_program.proofs.ReadsOn.{only_if}
+use Rattle.acd_program.proofs.Archives.Prunes.{audited_both}
+use Rattle.acd_program.proofs.Archives.ReadsOn.{only_if}
 use Rattle.acd_program.proofs.pruning.audited_beside.Goals as goal
 
 pub returns-in-Err : goal.returns-in-Err

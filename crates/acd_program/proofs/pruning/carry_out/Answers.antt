@@ -1,7 +1,7 @@
 use Rattle.std.proofs.Common.{Ok, refl, sym, subst}
 use Rattle.acd_sqlbook.specs.View.{book_seen}
-use Rattle.acd_program.specs.Pruning.{CarriesOut}
-use Rattle.acd_program.proofs.ReadsOn.{left_alone}
+use Rattle.acd_program.specs.Archives.Pruning.{CarriesOut}
+use Rattle.acd_program.proofs.Archives.ReadsOn.{left_alone}
 use Rattle.acd_program.proofs.pruning.carry_out.Goals as goal
 
 pub returns-in-Refused : goal.returns-in-Refused

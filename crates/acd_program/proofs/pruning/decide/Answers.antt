@@ -1,8 +1,8 @@
 use Rattle.std.proofs.Common.{sym, ◌∙◌}
 use Rattle.acd_sessions.proofs.Asking.{only_left}
 use Rattle.acd_files.proofs.Ends.{match_from}
-use Rattle.acd_program.proofs.Prunes.{decided_refused, decided_nothing, decided_cut}
-use Rattle.acd_program.proofs.ReadsOn.{left_by, left_if, only_by, only_if, only_then}
+use Rattle.acd_program.proofs.Archives.Prunes.{decided_refused, decided_nothing, decided_cut}
+use Rattle.acd_program.proofs.Archives.ReadsOn.{left_by, left_if, only_by, only_if, only_then}
 use Rattle.acd_program.proofs.pruning.decide.Goals as goal
 
 pub returns-then-not-goes_on : goal.returns-then-not-goes_on

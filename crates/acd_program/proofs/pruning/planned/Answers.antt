@@ -1,5 +1,5 @@
 use Rattle.acd_files.proofs.Ends.{match_is_err, match_is_ok, match_so}
-use Rattle.acd_program.proofs.Prunes.{asked_decided, only_decided}
+use Rattle.acd_program.proofs.Archives.Prunes.{asked_decided, only_decided}
 use Rattle.acd_program.proofs.pruning.planned.Goals as goal
 
 pub returns-in-Ok : goal.returns-in-Ok

@@ -1,6 +1,6 @@
 use Rattle.std.proofs.lemmas.Result.{IfOk-weaker}
-use Rattle.acd_desk.specs.Pairs.{book_call}
-use Rattle.acd_program.proofs.Prunes.{were_in}
+use Rattle.acd_desk.specs.Audits.Pairs.{book_call}
+use Rattle.acd_program.proofs.Archives.Prunes.{were_in}
 use Rattle.acd_program.proofs.pruning.planned_in.Goals as goal
 
 pub returns-clause-asked : goal.returns-clause-asked

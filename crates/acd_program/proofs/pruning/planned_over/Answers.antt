@@ -3,11 +3,11 @@ use Rattle.sqlite.specs.Held.{state}
 use Rattle.acd_sqlbook.specs.Caches.{followed}
 use Rattle.acd_sqlbook.specs.State.{book_state}
 use Rattle.acd_sessions.specs.Over.{database, Unserved}
-use Rattle.acd_program.specs.Pruning.{IsPruningInOrder, PlansOver}
-use Rattle.acd_desk.specs.Pairs.{book_call}
+use Rattle.acd_program.specs.Archives.Pruning.{IsPruningInOrder, PlansOver}
+use Rattle.acd_desk.specs.Audits.Pairs.{book_call}
 use Rattle.acd_sessions.proofs.Asking.{only_left}
-use Rattle.acd_program.proofs.AuditsWithArchive.{unserved_untouched}
-use Rattle.acd_program.proofs.Prunes.{only_ended, plans_over}
+use Rattle.acd_program.proofs.Archives.AuditsWithArchive.{unserved_untouched}
+use Rattle.acd_program.proofs.Archives.Prunes.{only_ended, plans_over}
 use Rattle.acd_sessions.proofs.BooksOfConnections.{unserved_asked}
 use Rattle.acd_program.proofs.pruning.planned_over.Goals as goal
 

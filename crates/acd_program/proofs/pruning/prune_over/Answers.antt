@@ -4,7 +4,7 @@ use Rattle.sqlite_std_file.specs.File.{IsFresh}
 use Rattle.acd_sqlbook.specs.Caches.{followed}
 use Rattle.acd_sqlbook.specs.State.{book_state}
 use Rattle.acd_files.proofs.Ends.{if_is_err, if_is_ok}
-use Rattle.acd_program.proofs.Prunes.{left_in, pruned_in, unpruned_in}
+use Rattle.acd_program.proofs.Archives.Prunes.{left_in, pruned_in, unpruned_in}
 use Rattle.acd_sessions.proofs.BooksOfConnections.{unserved_asked}
 use Rattle.acd_program.proofs.pruning.prune_over.Goals as goal
 

@@ -1,6 +1,6 @@
 use Rattle.sqlite_std_file.specs.File.{IsFresh}
 use Rattle.acd_lines.specs.Lines.{streams}
-use Rattle.acd_program.proofs.Inputs.{memory_input, memory_fault, file_input, file_fault}
+use Rattle.acd_program.proofs.Commands.Inputs.{memory_input, memory_fault, file_input, file_fault}
 use Rattle.acd_program.proofs.running.answer_lines.Goals as goal
 
 pub returns-in-Ok : goal.returns-in-Ok

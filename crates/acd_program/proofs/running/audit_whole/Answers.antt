@@ -1,7 +1,7 @@
 use Rattle.std.proofs.Common.{refl}
 use Rattle.sqlite_std_file.specs.File.{IsFresh}
 use Rattle.acd_files.proofs.Ends.{match_from, match_so}
-use Rattle.acd_program.proofs.TasksEnded.{ended_so}
+use Rattle.acd_program.proofs.Commands.TasksEnded.{ended_so}
 use Rattle.acd_program.proofs.running.audit_whole.Goals as goal
 
 pub returns-in_err-ending : goal.returns-in_err-ending

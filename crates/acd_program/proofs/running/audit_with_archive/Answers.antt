@@ -1,6 +1,6 @@
 use Rattle.std.proofs.Common.{inr, refl}
 use Rattle.sqlite_std_file.specs.File.{IsFresh}
-use Rattle.acd_program.proofs.AuditsWithArchive.{audit_cut, audit_printed, audit_stopped}
+use Rattle.acd_program.proofs.Archives.AuditsWithArchive.{audit_cut, audit_printed, audit_stopped}
 use Rattle.acd_files.proofs.Ends.{if_is_err, if_is_ok, match_from}
 use Rattle.acd_program.proofs.running.audit_with_archive.Goals as goal
 

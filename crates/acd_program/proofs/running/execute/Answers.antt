@@ -3,10 +3,10 @@ use Rattle.sqlite_std_file.specs.File.{IsFresh}
 use Rattle.acd_lines.specs.Lines.{streams}
 use Rattle.acd_command.specs.declared.asked.Task.TheVariants as task
 use Rattle.acd_files.proofs.Ends.{match_so}
-use Rattle.acd_program.proofs.Printed.{file_prints, standby_prints}
-use Rattle.acd_program.specs.Tasks.{endless}
-use Rattle.acd_program.proofs.Tasks.{read_done, whole_done}
-use Rattle.acd_program.proofs.TasksEnded.{task_ends, err_elsewhere}
+use Rattle.acd_program.proofs.Commands.Printed.{file_prints, standby_prints}
+use Rattle.acd_program.specs.Commands.Tasks.{endless}
+use Rattle.acd_program.proofs.Commands.Tasks.{read_done, whole_done}
+use Rattle.acd_program.proofs.Commands.TasksEnded.{task_ends, err_elsewhere}
 use Rattle.acd_program.proofs.running.execute.Goals as goal
 
 pub returns-in-Lines-clause-result : goal.returns-in-Lines-clause-result

@@ -1,7 +1,7 @@
 use Rattle.std.proofs.Common.{inr, refl, length}
 use Rattle.sqlite_std_file.specs.File.{IsFresh}
 use Rattle.acd_files.proofs.Ends.{if_is_err, if_is_ok, match_from}
-use Rattle.acd_program.proofs.Exports.{table_printed, table_stopped}
+use Rattle.acd_program.proofs.Archives.Exports.{table_printed, table_stopped}
 use Rattle.acd_program.proofs.running.export_with_archives.Goals as goal
 
 pub returns-in_err-conn : goal.returns-in_err-conn

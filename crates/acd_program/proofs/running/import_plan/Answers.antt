@@ -1,8 +1,8 @@
 use Rattle.std.proofs.Common.{true, Ok, refl, ap, sym, ◌∙◌}
 use Rattle.sqlite_std_file.specs.File.{IsFresh}
 use Rattle.acd_files.proofs.Ends.{match_from, match_so}
-use Rattle.acd_program.proofs.Tasks.{import_done}
-use Rattle.acd_program.proofs.TasksEnded.{ended_so}
+use Rattle.acd_program.proofs.Commands.Tasks.{import_done}
+use Rattle.acd_program.proofs.Commands.TasksEnded.{ended_so}
 use Rattle.acd_program.proofs.running.import_plan.Goals as goal
 
 pub returns-in_err-requests : goal.returns-in_err-requests

@@ -4,7 +4,7 @@ use Rattle.acd_lines.specs.Lines.{streams}
 use Rattle.acd_files.specs.Connections.{IsLaidIn}
 use Rattle.acd_sessions.specs.Sessions.{DatabaseLeaves}
 use Rattle.acd_sessions.specs.declared.fault.WorkFault.{WorkFault}
-use Rattle.acd_program.proofs.Ended.{ended_made}
+use Rattle.acd_program.proofs.Commands.Ended.{ended_made}
 use Rattle.acd_files.proofs.Ends.{match_from, on_ok}
 use Rattle.acd_sessions.proofs.LinesOver.{answered_in, answered_made}
 use Rattle.acd_program.proofs.running.lines_in.Goals as goal

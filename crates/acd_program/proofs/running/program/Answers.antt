@@ -1,6 +1,6 @@
 use Rattle.std.proofs.Common.{inl, inr, refl, map}
 use Rattle.acd_lines.specs.Lines.{streams, output}
-use Rattle.acd_program.proofs.Exits.{at_most_six, task_success, task_differs, task_early, task_again, task_refused, task_elsewhere, task_done, task_ended, none_success, none_odd, none_refused, none_untaken, none_done, none_ended, none_elsewhere}
+use Rattle.acd_program.proofs.Commands.Exits.{at_most_six, task_success, task_differs, task_early, task_again, task_refused, task_elsewhere, task_done, task_ended, none_success, none_odd, none_refused, none_untaken, none_done, none_ended, none_elsewhere}
 use Rattle.acd_program.proofs.running.program.Goals as goal
 
 pub returns-in-Ok-clause-success : goal.returns-in-Ok-clause-success

@@ -2,7 +2,7 @@ use Rattle.std.proofs.Common.{rules, inr, refl}
 use Rattle.sqlite.specs.Files.{file_state}
 use Rattle.sqlite_std_file.specs.File.{IsFresh}
 use Rattle.acd_files.proofs.Ends.{match_err, match_from, match_is_err, match_is_ok}
-use Rattle.acd_program.proofs.Prunes.{left_done, prune_printed, prune_stopped}
+use Rattle.acd_program.proofs.Archives.Prunes.{left_done, prune_printed, prune_stopped}
 use Rattle.acd_program.proofs.running.prune_file.Goals as goal
 
 pub returns-in_err-ending : goal.returns-in_err-ending

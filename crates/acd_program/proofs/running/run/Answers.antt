@@ -1,5 +1,5 @@
 use Rattle.std.proofs.Common.{inl, inr, refl, sym, ◌∙◌}
-use Rattle.acd_program.proofs.Exits.{done_elsewhere, fault_undone}
+use Rattle.acd_program.proofs.Commands.Exits.{done_elsewhere, fault_undone}
 use Rattle.acd_program.proofs.running.run.Goals as goal
 
 pub returns-in-Ok-clause-exits : goal.returns-in-Ok-clause-exits

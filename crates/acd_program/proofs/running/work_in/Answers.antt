@@ -1,7 +1,7 @@
 use Rattle.std.proofs.Common.{refl}
-use Rattle.acd_program.proofs.Ended.{work_makes}
+use Rattle.acd_program.proofs.Commands.Ended.{work_makes}
 use Rattle.acd_files.proofs.Ends.{match_from}
-use Rattle.acd_program.proofs.Tasks.{worked_in}
+use Rattle.acd_program.proofs.Commands.Tasks.{worked_in}
 use Rattle.acd_program.proofs.running.work_in.Goals as goal
 
 pub returns-in_err-conn : goal.returns-in_err-conn

@@ -1,12 +1,12 @@
 use Rattle.std.proofs.Common.{false, sym, subst}
 use Rattle.sqlite.specs.Held.{state}
-use Rattle.acd_desk.specs.DeskState.{state_of}
+use Rattle.acd_desk.specs.Desks.DeskState.{state_of}
 use Rattle.acd_sqlbook.specs.Caches.{followed}
 use Rattle.acd_sqlbook.specs.State.{book_state}
 use Rattle.acd_sessions.specs.Over.{Unserved}
-use Rattle.acd_program.specs.WithArchive.{AskedOver}
+use Rattle.acd_program.specs.Archives.WithArchive.{AskedOver}
 use Rattle.acd_sessions.proofs.Asking.{only_asked, only_left}
-use Rattle.acd_program.proofs.AuditsWithArchive.{archive_asked, asked_over, unserved_untouched}
+use Rattle.acd_program.proofs.Archives.AuditsWithArchive.{archive_asked, asked_over, unserved_untouched}
 use Rattle.acd_sessions.proofs.BooksOfConnections.{unserved_asked}
 use Rattle.acd_program.proofs.with_archive.asked_over.Goals as goal
 

@@ -2,7 +2,7 @@ use Rattle.std.proofs.Common.{sym, ap, subst}
 use Rattle.sqlite_std_file.specs.File.{IsFresh}
 use Rattle.acd_sessions.specs.Over.{OnlyAsked}
 use Rattle.acd_sessions.proofs.Asking.{only_refused, only_opened}
-use Rattle.acd_program.proofs.AuditsWithArchive.{audits_with_archive}
+use Rattle.acd_program.proofs.Archives.AuditsWithArchive.{audits_with_archive}
 use Rattle.acd_program.proofs.with_archive.audit_with_archive.Goals as goal
 
 pub returns-in-Ok-found_with_archive-clause-over : goal.returns-in-Ok-found_with_archive-clause-over

@@ -1,8 +1,8 @@
 use Rattle.std.proofs.Common.{◌≡◌, Ok}
 use Rattle.std.proofs.lemmas.Result.{IfOk-weaker}
-use Rattle.acd_desk.specs.DeskState.{state_of}
-use Rattle.acd_program.specs.AuditFindings.{HasCount}
-use Rattle.acd_program.proofs.AuditsWithArchive.{asked_in, found_so}
+use Rattle.acd_desk.specs.Desks.DeskState.{state_of}
+use Rattle.acd_program.specs.Commands.AuditFindings.{HasCount}
+use Rattle.acd_program.proofs.Archives.AuditsWithArchive.{asked_in, found_so}
 use Rattle.acd_program.proofs.with_archive.found_in.Goals as goal
 
 pub returns-clause-counted : goal.returns-clause-counted

@@ -1,4 +1,4 @@
-use Rattle.acd_desk.specs.DeskState.{state_of}
+use Rattle.acd_desk.specs.Desks.DeskState.{state_of}
 use Rattle.acd_sessions.proofs.Asking.{only_left}
 use Rattle.acd_files.proofs.Ends.{err_made}
 use Rattle.acd_program.proofs.with_archive.found_with_archive.Goals as goal

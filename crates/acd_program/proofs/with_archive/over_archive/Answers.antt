@@ -4,7 +4,7 @@ use Rattle.sqlite_std_file.specs.File.{IsFresh}
 use Rattle.acd_sqlbook.specs.Caches.{followed}
 use Rattle.acd_sqlbook.specs.State.{book_state}
 use Rattle.acd_sessions.specs.Over.{Unserved}
-use Rattle.acd_program.proofs.AuditsWithArchive.{audited_in}
+use Rattle.acd_program.proofs.Archives.AuditsWithArchive.{audited_in}
 use Rattle.acd_sessions.proofs.BooksOfConnections.{unserved_asked}
 use Rattle.acd_program.proofs.with_archive.over_archive.Goals as goal
 

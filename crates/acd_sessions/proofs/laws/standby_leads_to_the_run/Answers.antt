@@ -1,4 +1,4 @@
-use Rattle.acd_desk.specs.DeskState.{state_of}
+use Rattle.acd_desk.specs.Desks.DeskState.{state_of}
 use Rattle.acd_sessions.proofs.StandbyRuns.{standby_leads}
 use Rattle.acd_sessions.proofs.laws.standby_leads_to_the_run.Goals as goal
 

@@ -2,8 +2,8 @@
 use Rattle.std.proofs.Common.{subst}
 use Rattle.acd_book.specs.State.{unfailing}
 use Rattle.acd_desk.specs.declared.open_fault.OpenFault.{OpenFault}
-use Rattle.acd_desk.specs.Opening.{Refused}
-use Rattle.acd_desk.specs.DeskCalls.{state_of}
+use Rattle.acd_desk.specs.Desks.Opening.{Refused}
+use Rattle.acd_desk.specs.Desks.DeskCalls.{state_of}
 use Rattle.acd_sessions.specs.MemoryAnswers.{in_memory}
 use Rattle.acd_sessions.proofs.MemoryDesk.{new_over, new_refused}
 use Rattle.acd_sessions.proofs.memory.new_desk.Goals as goal

@@ -1,5 +1,5 @@
 use Rattle.std.proofs.Common.{◌≢◌, ◌∙◌, inl, inr, Err, refl, ap, sym}
-use Rattle.acd_desk.specs.DeskState.{state_of}
+use Rattle.acd_desk.specs.Desks.DeskState.{state_of}
 use Rattle.acd_http.specs.declared.serving.ServeFault.TheVariants.{NoMemory}
 use Rattle.acd_sessions.proofs.ServeDone.{begins_turns}
 use Rattle.acd_sessions.proofs.serving.answer.Goals as goal

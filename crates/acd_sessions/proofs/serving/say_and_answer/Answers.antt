@@ -1,5 +1,5 @@
 use Rattle.std.proofs.Common.{rules, inl, refl}
-use Rattle.acd_desk.specs.DeskState.{state_of}
+use Rattle.acd_desk.specs.Desks.DeskState.{state_of}
 use Rattle.acd_io.proofs.Sends.{begins_so}
 use Rattle.acd_sessions.specs.Serving.{listening_line}
 use Rattle.acd_sessions.proofs.ServeDone.{serve_ended}

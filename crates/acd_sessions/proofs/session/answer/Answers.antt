@@ -1,5 +1,5 @@
 use Rattle.std.proofs.Common.{Ok}
-use Rattle.acd_desk.specs.DeskState.{state_of}
+use Rattle.acd_desk.specs.Desks.DeskState.{state_of}
 use Rattle.acd_lines.specs.Input.{line_asked}
 use Rattle.acd_lines.specs.Lines.{streams}
 use Rattle.acd_lines.specs.Parts.{InTurn}

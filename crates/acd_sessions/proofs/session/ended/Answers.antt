@@ -1,5 +1,5 @@
 use Rattle.std.proofs.Common.{Bool, ◌&&◌, Ok, sym, ap, ◌∙◌}
-use Rattle.acd_desk.specs.DeskState.{state_of}
+use Rattle.acd_desk.specs.Desks.DeskState.{state_of}
 use Rattle.acd_sessions.specs.Faults.{command_result}
 use Rattle.acd_sessions.proofs.session.ended.Goals as goal
 

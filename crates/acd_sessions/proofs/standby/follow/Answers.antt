@@ -1,5 +1,5 @@
 use Rattle.std.proofs.Common.{Err, true, ap, ◌∙◌}
-use Rattle.acd_desk.specs.DeskState.{state_of}
+use Rattle.acd_desk.specs.Desks.DeskState.{state_of}
 use Rattle.acd_lines.specs.Lines.{EndedBy, streams}
 use Rattle.acd_lines.specs.declared.fault.LinesFault.TheVariants as lines
 use Rattle.acd_sessions.specs.LinesOver.{in_turn}

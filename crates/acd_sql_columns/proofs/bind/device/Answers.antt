@@ -1,5 +1,5 @@
 use Rattle.std.proofs.Common.{arith}
-use Rattle.acd_sql_columns.proofs.Bounds.{id_fits}
+use Rattle.acd_sql_columns.proofs.Rows.Bounds.{id_fits}
 use Rattle.acd_sql_columns.proofs.bind.device.Goals as goal
 
 pub integer-requires : goal.integer-requires

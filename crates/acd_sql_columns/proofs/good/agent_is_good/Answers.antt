@@ -1,9 +1,9 @@
 use Rattle.acd_sql_columns.specs.Sorts.{pending}
-use Rattle.acd_sql_columns.proofs.ReadBack.{InSort, any_in}
+use Rattle.acd_sql_columns.proofs.Rows.ReadBack.{InSort, any_in}
 use Rattle.std.proofs.Common.{subst}
 use Rattle.acd_terms.specs.Lists.{Every}
 use Rattle.acd_codec.specs.RequestForms.{IsDevice}
-use Rattle.acd_sql_columns.proofs.GoodRecords.{agent_good, least_in}
+use Rattle.acd_sql_columns.proofs.Rows.GoodRecords.{agent_good, least_in}
 use Rattle.acd_sql_columns.proofs.good.agent_is_good.Goals as goal
 
 pub returns : goal.returns

@@ -1,4 +1,4 @@
-use Rattle.acd_sql_columns.proofs.GoodRecords.{call_good}
+use Rattle.acd_sql_columns.proofs.Rows.GoodRecords.{call_good}
 use Rattle.acd_sql_columns.proofs.good.call_is_good.Goals as goal
 
 pub returns : goal.returns

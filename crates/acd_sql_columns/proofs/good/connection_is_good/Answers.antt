@@ -1,4 +1,4 @@
-use Rattle.acd_sql_columns.proofs.GoodRecords.{connection_good}
+use Rattle.acd_sql_columns.proofs.Rows.GoodRecords.{connection_good}
 use Rattle.acd_sql_columns.proofs.good.connection_is_good.Goals as goal
 
 pub returns : goal.returns

@@ -1,11 +1,11 @@
 use Rattle.acd_terms.specs.Columns.{columns_of}
 use Rattle.acd_sql_columns.specs.Sorts.{cause}
-use Rattle.acd_sql_columns.proofs.ReadBack.{InSort, any_in}
+use Rattle.acd_sql_columns.proofs.Rows.ReadBack.{InSort, any_in}
 use Rattle.std.proofs.Common.{◌<◌, ◌^◌, subst}
 use Rattle.std.specs.Prelude.{IfSome}
 use Rattle.acd_terms.specs.declared.event.Columns.{Columns}
 use Rattle.acd_codec.specs.RequestForms.{IsAgent, IsDevice}
-use Rattle.acd_sql_columns.proofs.GoodRecords.{event_good}
+use Rattle.acd_sql_columns.proofs.Rows.GoodRecords.{event_good}
 use Rattle.acd_sql_columns.proofs.good.event_is_good.Goals as goal
 
 pub returns : goal.returns

@@ -1,4 +1,4 @@
-use Rattle.acd_sql_columns.proofs.GoodRecords.{group_good}
+use Rattle.acd_sql_columns.proofs.Rows.GoodRecords.{group_good}
 use Rattle.acd_sql_columns.proofs.good.group_is_good.Goals as goal
 
 pub returns : goal.returns

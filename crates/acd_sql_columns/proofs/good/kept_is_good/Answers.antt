@@ -1,6 +1,6 @@
 use Rattle.std.proofs.Common.{subst, ◌∙◌}
 use Rattle.std.specs.Str.{IsUtf8}
-use Rattle.acd_sql_columns.proofs.GoodRecords.{kept_good}
+use Rattle.acd_sql_columns.proofs.Rows.GoodRecords.{kept_good}
 use Rattle.acd_sql_columns.proofs.good.kept_is_good.Goals as goal
 
 pub returns : goal.returns

@@ -1,4 +1,4 @@
-use Rattle.acd_sql_columns.proofs.GoodRecords.{meta_good}
+use Rattle.acd_sql_columns.proofs.Rows.GoodRecords.{meta_good}
 use Rattle.acd_sql_columns.proofs.good.meta_is_good.Goals as goal
 
 pub returns : goal.returns

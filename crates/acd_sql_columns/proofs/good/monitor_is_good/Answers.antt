@@ -1,4 +1,4 @@
-use Rattle.acd_sql_columns.proofs.GoodRecords.{monitor_good}
+use Rattle.acd_sql_columns.proofs.Rows.GoodRecords.{monitor_good}
 use Rattle.acd_sql_columns.proofs.good.monitor_is_good.Goals as goal
 
 pub returns : goal.returns

@@ -1,4 +1,4 @@
-use Rattle.acd_sql_columns.proofs.GoodRecords.{station_good}
+use Rattle.acd_sql_columns.proofs.Rows.GoodRecords.{station_good}
 use Rattle.acd_sql_columns.proofs.good.station_is_good.Goals as goal
 
 pub returns : goal.returns

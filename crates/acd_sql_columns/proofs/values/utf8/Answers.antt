@@ -1,4 +1,4 @@
-use Rattle.acd_sql_columns.proofs.ValuesInRange.{utf8_is, utf8_isnt}
+use Rattle.acd_sql_columns.proofs.Rows.ValuesInRange.{utf8_is, utf8_isnt}
 use Rattle.acd_sql_columns.proofs.values.utf8.Goals as goal
 
 pub returns-in-Ok : goal.returns-in-Ok

@@ -4,7 +4,7 @@ use Rattle.sqlite.specs.Held.{state}
 use Rattle.acd_sql_columns.specs.Transactions.{Works}
 use Rattle.acd_sql_columns.specs.SchemaSteps.{Builds, no_rows}
 use Rattle.acd_sql_columns.specs.Schema.{no_schema, book_schema}
-use Rattle.acd_sql_columns.proofs.TransactionEnds.{works_on}
+use Rattle.acd_sql_columns.proofs.Writes.TransactionEnds.{works_on}
 use Rattle.acd_book.specs.Content.{empty_content}
 use Rattle.acd_sql_columns.specs.Transactions.{HoldsContent}
 use Rattle.acd_sql_schema.specs.Creation.{FailsToSetUp, MayMake}

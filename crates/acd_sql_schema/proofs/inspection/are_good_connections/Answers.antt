@@ -2,7 +2,7 @@ use Rattle.std.proofs.Common.{Ok, [], rules}
 use Rattle.sqlite.specs.Held.{state}
 use Rattle.acd_sql_columns.specs.declared.tables.Table.TheVariants as table
 use Rattle.acd_sql_columns.specs.AnyRows.{FindsGood}
-use Rattle.acd_sql_columns.proofs.TableQueries.{finds_good}
+use Rattle.acd_sql_columns.proofs.FileTables.TableQueries.{finds_good}
 use Rattle.acd_sql_columns.specs.Schema.{tables_1, BeginsSchema}
 use Rattle.acd_sql_statements.specs.Looks.{HasGood}
 use Rattle.acd_sql_statements.proofs.LookCauses.{looks_done, looks_as, sees_as}

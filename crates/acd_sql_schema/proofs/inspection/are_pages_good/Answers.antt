@@ -3,7 +3,7 @@ use Rattle.sqlite.specs.Held.{state}
 use Rattle.acd_sql_schema.specs.Inspection.{FindsGoodAfter, IsPaged}
 use Rattle.acd_sql_columns.specs.DatabaseView.{Sees}
 use Rattle.acd_sql_schema.proofs.InspectionReads.{Left, pages_bad, pages_last, pages_more, pages_fail}
-use Rattle.acd_sql_columns.proofs.SnapshotReads.{sees_here}
+use Rattle.acd_sql_columns.proofs.Results.SnapshotReads.{sees_here}
 use Rattle.acd_sql_columns.specs.Transactions.{Fits}
 use Rattle.acd_sql_schema.proofs.Faults.{pages_looked}
 use Rattle.acd_sql_statements.proofs.LookCauses.{looks_as, looks_done, looks_still}

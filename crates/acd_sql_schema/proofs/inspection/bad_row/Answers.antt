@@ -3,7 +3,7 @@ use Rattle.sqlite.specs.Held.{state}
 use Rattle.acd_sql_schema.specs.Inspection.{IsRowFound, HasCanonical, HasGoodTables, IsBadOf, IsPlaceFound, tables_of}
 use Rattle.acd_sql_columns.specs.DatabaseView.{Sees}
 use Rattle.acd_sql_schema.proofs.InspectionReads.{bad_found, place_after, covered, each_good}
-use Rattle.acd_sql_columns.proofs.SnapshotReads.{sees_fail}
+use Rattle.acd_sql_columns.proofs.Results.SnapshotReads.{sees_fail}
 use Rattle.sqlite.specs.Effect.{Database}
 use Rattle.acd_terms.specs.Lists.{Every}
 use Rattle.acd_sql_columns.specs.declared.tables.Table.{Table}

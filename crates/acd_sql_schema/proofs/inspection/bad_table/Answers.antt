@@ -5,7 +5,7 @@ use Rattle.acd_sql_columns.specs.AnyRows.{Covers}
 use Rattle.acd_sql_schema.specs.Inspection.{IsBadOf, HasCanonical}
 use Rattle.acd_sql_columns.specs.DatabaseView.{Sees}
 use Rattle.acd_sql_schema.proofs.InspectionReads.{Good, every_at, tables_next, tables_bad, tables_fail, tables_end}
-use Rattle.acd_sql_columns.proofs.SnapshotReads.{sees_here}
+use Rattle.acd_sql_columns.proofs.Results.SnapshotReads.{sees_here}
 use Rattle.acd_sql_schema.proofs.Faults.{tables_looked}
 use Rattle.acd_sql_statements.proofs.LookCauses.{looks_as, looks_done, looks_still}
 use Rattle.acd_sql_schema.proofs.inspection.bad_table.Goals as goal

@@ -3,7 +3,7 @@ use Rattle.sqlite_schema.specs.declared.schema.Schema.{Schema}
 use Rattle.sqlite.specs.Effect.{Database}
 use Rattle.sqlite.specs.Held.{state}
 use Rattle.acd_sql_columns.specs.AnyRows.{has_meta, BeginsAsBook, IsCanonical, schema_of}
-use Rattle.acd_sql_columns.proofs.SnapshotReads.{sees_here}
+use Rattle.acd_sql_columns.proofs.Results.SnapshotReads.{sees_here}
 use Rattle.acd_sql_statements.specs.Looks.{HasLookCause, HasGood}
 use Rattle.acd_sql_statements.proofs.LookCauses.{looks_at, looks_lacks, looks_still}
 use Rattle.acd_sql_schema.specs.declared.fault.AdoptFault.TheVariants.{Store}

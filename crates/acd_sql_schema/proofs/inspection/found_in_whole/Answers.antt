@@ -2,10 +2,10 @@ use Rattle.std.proofs.Common.{◌≡◌, Err, rules, subst, sym, [], ◌≢◌}
 use Rattle.sqlite.specs.Held.{state}
 use Rattle.acd_sql_schema.specs.Inspection.{IsFound, HasCanonical, IsVersionRead}
 use Rattle.acd_sql_columns.specs.DatabaseView.{Sees}
-use Rattle.acd_sql_columns.proofs.Listings.{version_begins}
-use Rattle.acd_sql_columns.proofs.QueryResults.{nine_begin}
+use Rattle.acd_sql_columns.proofs.OneTable.Listings.{version_begins}
+use Rattle.acd_sql_columns.proofs.FileTables.QueryResults.{nine_begin}
 use Rattle.acd_sql_schema.proofs.InspectionReads.{fault_read, other_read, rows_after, IsFoundIn}
-use Rattle.acd_sql_columns.proofs.SnapshotReads.{sees_fail}
+use Rattle.acd_sql_columns.proofs.Results.SnapshotReads.{sees_fail}
 use Rattle.sqlite.specs.Effect.{Database}
 use Rattle.acd_sql_columns.specs.AnyRows.{BeginsAsBook, schema_of}
 use Rattle.acd_sql_schema.specs.declared.fault.Found.{Found}

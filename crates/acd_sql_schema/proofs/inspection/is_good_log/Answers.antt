@@ -3,7 +3,7 @@ use Rattle.sqlite.specs.Held.{state}
 use Rattle.acd_sql_columns.specs.AnyRows.{table_of_log, FindsGood, FindsLow}
 use Rattle.acd_sql_columns.specs.DatabaseView.{Sees}
 use Rattle.acd_sql_schema.proofs.InspectionReads.{nothing_in, something_in, log_low, log_pages}
-use Rattle.acd_sql_columns.proofs.SnapshotReads.{sees_fail}
+use Rattle.acd_sql_columns.proofs.Results.SnapshotReads.{sees_fail}
 use Rattle.std.specs.Prelude.{Vec, Bool}
 use Rattle.std.specs.declared.alloc.Global.{Global}
 use Rattle.sqlite.specs.Effect.{Database}

@@ -2,7 +2,7 @@ use Rattle.std.proofs.Common.{sym, subst, [], ◌++◌}
 use Rattle.sqlite.specs.Held.{state}
 use Rattle.acd_sql_columns.specs.AnyRows.{Covers, FindsGood}
 use Rattle.acd_sql_columns.specs.DatabaseView.{Sees}
-use Rattle.acd_sql_columns.proofs.Listings.{whole_begins}
+use Rattle.acd_sql_columns.proofs.OneTable.Listings.{whole_begins}
 use Rattle.acd_sql_columns.specs.Schema.{tables_1, added_in_2, BeginsSchema}
 use Rattle.acd_sql_statements.specs.ReadsBetween.{IsBookSchema}
 use Rattle.acd_sql_schema.specs.Inspection.{HasCanonical}

@@ -2,7 +2,7 @@ use Rattle.std.proofs.Common.{◌≡◌, None, subst, sym}
 use Rattle.sqlite.specs.Held.{state}
 use Rattle.acd_sql_columns.specs.AnyRows.{schema_of}
 use Rattle.acd_sql_columns.specs.DatabaseView.{Sees}
-use Rattle.acd_sql_columns.proofs.SnapshotReads.{sees_here}
+use Rattle.acd_sql_columns.proofs.Results.SnapshotReads.{sees_here}
 use Rattle.acd_sql_schema.specs.Inspection.{IsPlaceFound, HasGoodTables}
 use Rattle.acd_sql_statements.proofs.LookCauses.{looks_so, looks_still}
 use Rattle.acd_sql_columns.specs.declared.tables.Version.TheVariants as version

@@ -1,7 +1,7 @@
 use Rattle.std.proofs.Common.{◌≡◌, [], ◌∙◌, Err, IfErr, rules, sym, subst, arith}
 use Rattle.sqlite.specs.State.{HasCleanDisk}
 use Rattle.sqlite.specs.Held.{state}
-use Rattle.acd_sql_columns.proofs.TransactionEnds.{works_on}
+use Rattle.acd_sql_columns.proofs.Writes.TransactionEnds.{works_on}
 use Rattle.acd_sql_schema.specs.Migration.{FailsToMigrate}
 use Rattle.acd_sql_schema.proofs.MigratedTables.{altered_if, old_builds, rows_of, unmade, version_refused_if}
 use Rattle.acd_sql_schema.proofs.migration.alter.Goals as goal

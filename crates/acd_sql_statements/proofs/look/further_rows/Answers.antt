@@ -3,9 +3,9 @@ use Rattle.sqlite.specs.Held.{state}
 use Rattle.acd_sql_columns.specs.declared.tables.Table.TheVariants as table
 use Rattle.acd_sql_columns.specs.declared.texts.TheConstants.{SELECT_STANDING_AGENT_GROUPS}
 use Rattle.acd_sql_columns.specs.Schema.{tables_1, added_in_2}
-use Rattle.acd_sql_columns.proofs.SecondVersionQueries.{further_listing, asks_further}
-use Rattle.acd_sql_columns.proofs.Listings.{plain_of, whole_begins}
-use Rattle.acd_sql_columns.proofs.WholeTableQueries.{sees_all}
+use Rattle.acd_sql_columns.proofs.FileTables.SecondVersionQueries.{further_listing, asks_further}
+use Rattle.acd_sql_columns.proofs.OneTable.Listings.{plain_of, whole_begins}
+use Rattle.acd_sql_columns.proofs.Results.WholeTableQueries.{sees_all}
 use Rattle.acd_sql_statements.specs.ReadsBetween.{IsBookSchema}
 use Rattle.acd_sql_statements.specs.Looks.{HasGood}
 use Rattle.acd_sql_statements.specs.ReadFailures.{RefusesToShow}

@@ -1,9 +1,9 @@
 use Rattle.std.proofs.Common.{[]}
 use Rattle.sqlite.specs.Held.{state}
 use Rattle.acd_sql_columns.specs.declared.tables.Log.TheVariants as log
-use Rattle.acd_sql_columns.proofs.QueryResults.{low_kept, asks_low_kept, sees_low}
+use Rattle.acd_sql_columns.proofs.FileTables.QueryResults.{low_kept, asks_low_kept, sees_low}
 use Rattle.acd_sql_columns.specs.Schema.{tables_1, BeginsSchema}
-use Rattle.acd_sql_columns.proofs.Listings.{plain_of}
+use Rattle.acd_sql_columns.proofs.OneTable.Listings.{plain_of}
 use Rattle.acd_sql_columns.specs.declared.texts.TheConstants.{SELECT_LOW_KEPT}
 use Rattle.acd_sql_statements.specs.Looks.{HasGood}
 use Rattle.acd_sql_statements.specs.ReadFailures.{RefusesToShow}

@@ -1,10 +1,10 @@
 use Rattle.std.proofs.Common.{[]}
 use Rattle.sqlite.specs.Held.{state}
 use Rattle.acd_sql_columns.specs.declared.tables.Table.TheVariants as table
-use Rattle.acd_sql_columns.proofs.WholeTableQueries.{sees_all}
-use Rattle.acd_sql_columns.proofs.QueryResults.{unordered_connections, asks_unordered_connections}
+use Rattle.acd_sql_columns.proofs.Results.WholeTableQueries.{sees_all}
+use Rattle.acd_sql_columns.proofs.FileTables.QueryResults.{unordered_connections, asks_unordered_connections}
 use Rattle.acd_sql_columns.specs.Schema.{tables_1, BeginsSchema}
-use Rattle.acd_sql_columns.proofs.Listings.{plain_of}
+use Rattle.acd_sql_columns.proofs.OneTable.Listings.{plain_of}
 use Rattle.acd_sql_columns.specs.declared.texts.TheConstants.{SELECT_STANDING_CONNECTIONS}
 use Rattle.acd_sql_statements.specs.Looks.{HasGood}
 use Rattle.acd_sql_statements.specs.ReadFailures.{RefusesToShow}

@@ -1,6 +1,6 @@
 use Rattle.std.proofs.Common.{[]}
 use Rattle.sqlite.specs.Held.{state}
-use Rattle.acd_sql_columns.proofs.QueryResults.{version_plain, sees_version}
+use Rattle.acd_sql_columns.proofs.FileTables.QueryResults.{version_plain, sees_version}
 use Rattle.acd_sql_columns.specs.AnyRows.{BeginsAsBook}
 use Rattle.acd_sql_columns.specs.declared.texts.TheConstants.{SELECT_VERSION}
 use Rattle.acd_sql_statements.specs.Looks.{HasGood}

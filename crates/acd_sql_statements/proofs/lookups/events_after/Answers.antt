@@ -3,8 +3,8 @@ use Rattle.acd_sql_statements.proofs.ReadsInTurn.{finds_failed}
 use Rattle.acd_book.specs.Content.{Content, events_after}
 use Rattle.acd_sql_columns.specs.Ranges.{event_in}
 use Rattle.acd_sql_columns.specs.Rows.{event_values}
-use Rattle.acd_sql_columns.proofs.EventRows.{event_exact}
-use Rattle.acd_sql_columns.proofs.RecordsOfRows.{recorded}
+use Rattle.acd_sql_columns.proofs.Rows.EventRows.{event_exact}
+use Rattle.acd_sql_columns.proofs.Rows.RecordsOfRows.{recorded}
 use Rattle.std.proofs.Common.{nat_lt, map, refl, rules}
 use Rattle.acd_terms.specs.declared.event.Event.{Event}
 use Rattle.acd_sql_columns.specs.declared.tables.Table.TheVariants as table

@@ -4,8 +4,8 @@ use Rattle.acd_sql_statements.proofs.ReadsInTurn.{finds_failed}
 use Rattle.acd_book.specs.Content.{Content, is_at_after}
 use Rattle.acd_sql_columns.specs.Ranges.{event_in}
 use Rattle.acd_sql_columns.specs.Rows.{event_values}
-use Rattle.acd_sql_columns.proofs.EventRows.{event_exact}
-use Rattle.acd_sql_columns.proofs.RecordsOfRows.{recorded}
+use Rattle.acd_sql_columns.proofs.Rows.EventRows.{event_exact}
+use Rattle.acd_sql_columns.proofs.Rows.RecordsOfRows.{recorded}
 use Rattle.acd_sql_columns.specs.declared.tables.Table.TheVariants as table
 use Rattle.acd_sql_statements.proofs.ReadCauses.{cause_as}
 use Rattle.acd_sql_statements.proofs.RowCauses.{cause_records, rows_has, page_has}

@@ -5,7 +5,7 @@ use Rattle.acd_book.specs.declared.kept.Kept.{Kept}
 use Rattle.acd_sql_columns.specs.Rows.{IsReadable, kept_values}
 use Rattle.acd_sql_columns.specs.Ranges.{kept_in}
 use Rattle.acd_sql_statements.proofs.FirstRecord.{first_recorded, found_readable}
-use Rattle.acd_sql_columns.proofs.EventRows.{kept_exact}
+use Rattle.acd_sql_columns.proofs.Rows.EventRows.{kept_exact}
 use Rattle.std.proofs.Common.{map, refl, rules}
 use Rattle.std.specs.Prelude.{option_to_list}
 use Rattle.acd_sql_columns.specs.declared.tables.Table.TheVariants as table

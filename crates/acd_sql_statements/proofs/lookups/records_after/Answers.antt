@@ -1,13 +1,13 @@
 use Rattle.sqlite.specs.Held.{state}
 use Rattle.acd_sql_statements.proofs.ReadsInTurn.{finds_failed}
-use Rattle.acd_sql_columns.proofs.RecordsOfRows.{recorded_good}
+use Rattle.acd_sql_columns.proofs.Rows.RecordsOfRows.{recorded_good}
 use Rattle.acd_sql_statements.proofs.FirstRecord.{page_readable}
 use Rattle.std.proofs.Common.{nat_lt, map, refl, rules}
 use Rattle.acd_book.specs.Content.{Content, records_after}
 use Rattle.acd_book.specs.declared.kept.Kept.{Kept}
 use Rattle.acd_sql_columns.specs.Ranges.{kept_in}
 use Rattle.acd_sql_columns.specs.Rows.{IsReadable, kept_values}
-use Rattle.acd_sql_columns.proofs.EventRows.{kept_exact}
+use Rattle.acd_sql_columns.proofs.Rows.EventRows.{kept_exact}
 use Rattle.acd_sql_columns.specs.declared.tables.Table.TheVariants as table
 use Rattle.acd_sql_statements.proofs.ReadCauses.{cause_as}
 use Rattle.acd_sql_statements.proofs.RowCauses.{cause_records, rows_has, page_has}

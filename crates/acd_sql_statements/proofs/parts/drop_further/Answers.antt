@@ -2,8 +2,8 @@ use Rattle.std.proofs.Common.{[], ◌∷◌}
 use Rattle.sqlite.specs.Held.{state}
 use Rattle.acd_sql_columns.specs.Values.{id_value}
 use Rattle.acd_sql_columns.specs.declared.texts.TheConstants.{DELETE_AGENT_GROUPS}
-use Rattle.acd_sql_columns.proofs.AgentGroups.{drops_groups}
-use Rattle.acd_sql_columns.proofs.Common.{changes_uncommitted}
+use Rattle.acd_sql_columns.proofs.FileTables.AgentGroups.{drops_groups}
+use Rattle.acd_sql_columns.proofs.Writes.Common.{changes_uncommitted}
 use Rattle.acd_sql_statements.proofs.RefusalCauses.{by_one}
 use Rattle.acd_sql_statements.proofs.parts.drop_further.Goals as goal
 

@@ -5,7 +5,7 @@ use Rattle.acd_sql_columns.specs.Content.{with_part}
 use Rattle.acd_sql_columns.specs.declared.tables.Table.TheVariants as table
 use Rattle.acd_sql_columns.specs.Relations.{all_put}
 use Rattle.acd_sql_columns.specs.Transactions.{HoldsUncommitted}
-use Rattle.acd_sql_columns.proofs.TransactionEnds.{works_on}
+use Rattle.acd_sql_columns.proofs.Writes.TransactionEnds.{works_on}
 use Rattle.acd_sql_statements.proofs.JoinedPlan.{pairs_more}
 use Rattle.std.proofs.Common.{Err, rules, take}
 use Rattle.acd_sql_columns.specs.Relations.{Relations}

@@ -1,8 +1,8 @@
 use Rattle.sqlite.specs.Held.{state}
 use Rattle.acd_sql_columns.specs.Rows.{further_values}
 use Rattle.acd_sql_columns.specs.declared.texts.TheConstants.{INSERT_AGENT_GROUP}
-use Rattle.acd_sql_columns.proofs.AgentGroups.{inserts_group}
-use Rattle.acd_sql_columns.proofs.Common.{changes_uncommitted}
+use Rattle.acd_sql_columns.proofs.FileTables.AgentGroups.{inserts_group}
+use Rattle.acd_sql_columns.proofs.Writes.Common.{changes_uncommitted}
 use Rattle.acd_sql_statements.proofs.RefusalCauses.{by_one}
 use Rattle.acd_sql_statements.proofs.parts.insert_further.Goals as goal
 

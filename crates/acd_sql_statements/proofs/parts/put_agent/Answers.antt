@@ -12,7 +12,7 @@ use Rattle.std.proofs.Common.{[], ◌∷◌, Err, inl, inr, rules, subst}
 use Rattle.acd_terms.specs.Groups.{further_groups}
 use Rattle.acd_sql_columns.specs.Values.{id_value}
 use Rattle.acd_sql_columns.specs.declared.texts.TheConstants.{UPDATE_AGENT, DELETE_AGENT_GROUPS}
-use Rattle.acd_sql_columns.proofs.TransactionEnds.{works_on}
+use Rattle.acd_sql_columns.proofs.Writes.TransactionEnds.{works_on}
 use Rattle.acd_sql_statements.specs.WriteRefusals.{RefusesOn, RefusesPut, RefusesFurther, RefusesAgent, without_further}
 use Rattle.acd_sql_statements.proofs.RefusalCauses.{by_more, by_same, by_later, unless_ok}
 use Rattle.acd_sql_statements.proofs.parts.put_agent.Goals as goal

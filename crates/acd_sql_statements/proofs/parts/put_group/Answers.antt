@@ -1,6 +1,6 @@
 use Rattle.std.proofs.Common.{ap, arith, ◌∙◌}
 use Rattle.sqlite.specs.Held.{state}
-use Rattle.acd_sql_columns.proofs.TransactionEnds.{works_on}
+use Rattle.acd_sql_columns.proofs.Writes.TransactionEnds.{works_on}
 use Rattle.sqlite.specs.State.{HasCleanDisk}
 use Rattle.acd_sql_columns.specs.declared.relations.GroupRow.{GroupRow}
 use Rattle.acd_sql_columns.specs.Relations.{Relations, with_priority_of, with_group_parts}

@@ -6,7 +6,7 @@ use Rattle.acd_sql_columns.specs.declared.relations.GroupPriority.{GroupPriority
 use Rattle.acd_sql_columns.specs.Relations.{Relations, with_priority_of, priority_part}
 use Rattle.acd_sql_columns.specs.Tables.{group_priority}
 use Rattle.acd_sql_statements.specs.StatementEffects.{with_put, without}
-use Rattle.acd_sql_columns.proofs.Bounds.{id_fits}
+use Rattle.acd_sql_columns.proofs.Rows.Bounds.{id_fits}
 use Rattle.acd_sql_statements.proofs.JoinedPlan.{leaves_as}
 use Rattle.std.proofs.Common.{inl, inr, subst, [], ◌∷◌}
 use Rattle.acd_sql_columns.specs.Values.{id_value}

@@ -1,7 +1,7 @@
 use Rattle.std.proofs.Common.{◌≡◌, [], ◌∷◌, ◌++◌, map, Bool, rules}
 use Rattle.acd_sql_columns.specs.AnyRows.{is_ranked, rows_in}
 use Rattle.sqlite.specs.Held.{state}
-use Rattle.acd_sql_columns.proofs.Listings.{book_begins, whole_begins}
+use Rattle.acd_sql_columns.proofs.OneTable.Listings.{book_begins, whole_begins}
 use Rattle.acd_sql_statements.proofs.RowsInAnyOrder.{priorities_seen}
 use Rattle.std.specs.Prelude.{Vec, IsPermutation}
 use Rattle.std.specs.declared.alloc.Global.{Global}

@@ -4,8 +4,8 @@ use Rattle.acd_book.specs.Content.{Content}
 use Rattle.acd_sql_columns.specs.Ranges.{further_of_row as read}
 use Rattle.acd_sql_columns.specs.Relations.{further_in}
 use Rattle.acd_sql_columns.specs.Rows.{further_values}
-use Rattle.acd_sql_columns.proofs.Records.{further_exact}
-use Rattle.acd_sql_columns.proofs.RecordsOfRows.{recorded}
+use Rattle.acd_sql_columns.proofs.Rows.Records.{further_exact}
+use Rattle.acd_sql_columns.proofs.Rows.RecordsOfRows.{recorded}
 use Rattle.std.proofs.Common.{map, refl, rules}
 use Rattle.acd_sql_columns.specs.declared.tables.Table.TheVariants as table
 use Rattle.acd_sql_statements.proofs.ReadCauses.{cause_as}

@@ -1,6 +1,6 @@
 use Rattle.std.proofs.Common.{rules}
 use Rattle.sqlite.specs.Held.{state}
-use Rattle.acd_sql_columns.proofs.DescribedTable.{inserted_in}
+use Rattle.acd_sql_columns.proofs.FileTables.DescribedTable.{inserted_in}
 use Rattle.acd_sql_statements.specs.WriteRefusals.{RefusesOn}
 use Rattle.acd_sql_statements.proofs.RefusalCauses.{refused_on, by_same, unless_ok}
 use Rattle.acd_sql_statements.proofs.put.insert.Goals as goal

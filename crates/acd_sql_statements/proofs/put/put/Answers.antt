@@ -1,10 +1,10 @@
 use Rattle.std.proofs.Common.{◌≡◌, ℕ, Err, inl, inr, rules, arith, ◌∙◌}
 use Rattle.sqlite.specs.Held.{state}
-use Rattle.acd_sql_columns.proofs.TransactionEnds.{works_on}
+use Rattle.acd_sql_columns.proofs.Writes.TransactionEnds.{works_on}
 use Rattle.acd_sql_columns.specs.Descriptions.{the_text}
 use Rattle.acd_sql_statements.proofs.TheTexts.{the_said}
 use Rattle.sqlite.specs.State.{HasCleanDisk}
-use Rattle.acd_sql_columns.proofs.DescribedTable.{Updates, updated_in, put_in, none_in}
+use Rattle.acd_sql_columns.proofs.FileTables.DescribedTable.{Updates, updated_in, put_in, none_in}
 use Rattle.acd_sql_statements.specs.WriteRefusals.{HasNoRecord, RefusesOn, RefusesPut}
 use Rattle.acd_sql_statements.proofs.RefusalCauses.{refused_on, by_more, by_known, by_same, by_later, still_uncommitted, unless_ok}
 use Rattle.acd_sql_statements.proofs.put.put.Goals as goal

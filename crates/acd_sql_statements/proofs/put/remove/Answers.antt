@@ -2,8 +2,8 @@ use Rattle.std.proofs.Common.{[], ◌∷◌}
 use Rattle.sqlite.specs.Held.{state}
 use Rattle.acd_sql_columns.specs.Descriptions.{the_text}
 use Rattle.acd_sql_columns.specs.Values.{id_value}
-use Rattle.acd_sql_columns.proofs.Common.{changes_uncommitted}
-use Rattle.acd_sql_columns.proofs.DescribedTable.{Deletes, removed_in}
+use Rattle.acd_sql_columns.proofs.Writes.Common.{changes_uncommitted}
+use Rattle.acd_sql_columns.proofs.FileTables.DescribedTable.{Deletes, removed_in}
 use Rattle.acd_sql_statements.proofs.RefusalCauses.{by_one}
 use Rattle.acd_sql_statements.proofs.TheTexts.{the_said}
 use Rattle.acd_sql_statements.proofs.put.remove.Goals as goal

@@ -1,10 +1,10 @@
 use Rattle.sqlite.specs.Held.{state}
 use Rattle.acd_sql_columns.specs.Schema.{tables_1}
-use Rattle.acd_sql_columns.proofs.Listings.{finds, plain_of}
-use Rattle.acd_sql_columns.proofs.Connections.{connections_plain, shows_connections, connections_listing}
+use Rattle.acd_sql_columns.proofs.OneTable.Listings.{finds, plain_of}
+use Rattle.acd_sql_columns.proofs.FileTables.Connections.{connections_plain, shows_connections, connections_listing}
 use Rattle.acd_sql_columns.specs.declared.tables.Table.TheVariants as table
-use Rattle.acd_sql_columns.proofs.WholeTableQueries.{sees_all}
-use Rattle.acd_sql_columns.proofs.QueryResults.{asks_connections}
+use Rattle.acd_sql_columns.proofs.Results.WholeTableQueries.{sees_all}
+use Rattle.acd_sql_columns.proofs.FileTables.QueryResults.{asks_connections}
 use Rattle.acd_sql_columns.specs.declared.texts.TheConstants.{SELECT_CONNECTIONS}
 use Rattle.acd_sql_statements.proofs.ReadTexts.{connections_answered}
 use Rattle.acd_sql_statements.proofs.query.connection_rows.Goals as goal

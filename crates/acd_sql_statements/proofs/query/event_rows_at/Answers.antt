@@ -1,8 +1,8 @@
 use Rattle.std.proofs.Common.{[], ◌∷◌}
 use Rattle.sqlite.specs.Held.{state}
 use Rattle.acd_sql_columns.specs.Values.{id_value}
-use Rattle.acd_sql_columns.proofs.Listings.{finds}
-use Rattle.acd_sql_columns.proofs.QueryAnswers.{events_at_plain, shows_events_at}
+use Rattle.acd_sql_columns.proofs.OneTable.Listings.{finds}
+use Rattle.acd_sql_columns.proofs.Results.QueryAnswers.{events_at_plain, shows_events_at}
 use Rattle.acd_sql_columns.specs.declared.texts.TheConstants.{SELECT_EVENTS_AT_DEVICE}
 use Rattle.acd_sql_statements.proofs.ReadTexts.{events_at_answered}
 use Rattle.acd_sql_statements.proofs.query.event_rows_at.Goals as goal

@@ -2,8 +2,8 @@ use Rattle.std.proofs.Common.{[], ◌∷◌}
 use Rattle.sqlite_value.specs.declared.value.Value.TheVariants.{Text}
 use Rattle.sqlite.specs.Held.{state}
 use Rattle.acd_sql_columns.specs.Values.{id_value}
-use Rattle.acd_sql_columns.proofs.Listings.{finds}
-use Rattle.acd_sql_columns.proofs.QueryAnswers.{key_plain, shows_kept_under}
+use Rattle.acd_sql_columns.proofs.OneTable.Listings.{finds}
+use Rattle.acd_sql_columns.proofs.Results.QueryAnswers.{key_plain, shows_kept_under}
 use Rattle.acd_sql_columns.specs.declared.texts.TheConstants.{SELECT_KEPT_OF_REQUEST}
 use Rattle.acd_sql_statements.proofs.ReadTexts.{kept_of_answered}
 use Rattle.acd_sql_statements.proofs.query.found_kept_row.Goals as goal

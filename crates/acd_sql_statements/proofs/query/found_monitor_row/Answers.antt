@@ -1,8 +1,8 @@
 use Rattle.std.proofs.Common.{[], ◌∷◌}
 use Rattle.sqlite.specs.Held.{state}
 use Rattle.acd_sql_columns.specs.Values.{id_value}
-use Rattle.acd_sql_columns.proofs.Listings.{finds}
-use Rattle.acd_sql_columns.proofs.QueryAnswers.{monitor_plain, shows_monitor}
+use Rattle.acd_sql_columns.proofs.OneTable.Listings.{finds}
+use Rattle.acd_sql_columns.proofs.Results.QueryAnswers.{monitor_plain, shows_monitor}
 use Rattle.acd_sql_columns.specs.declared.texts.TheConstants.{SELECT_MONITOR}
 use Rattle.acd_sql_statements.proofs.ReadTexts.{monitor_answered}
 use Rattle.acd_sql_statements.proofs.query.found_monitor_row.Goals as goal

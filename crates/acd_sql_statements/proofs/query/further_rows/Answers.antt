@@ -1,6 +1,6 @@
 use Rattle.sqlite.specs.Held.{state}
-use Rattle.acd_sql_columns.proofs.AgentGroups.{groups_plain, shows_groups}
-use Rattle.acd_sql_columns.proofs.Listings.{finds}
+use Rattle.acd_sql_columns.proofs.FileTables.AgentGroups.{groups_plain, shows_groups}
+use Rattle.acd_sql_columns.proofs.OneTable.Listings.{finds}
 use Rattle.acd_sql_statements.proofs.ReadTexts.{further_answered}
 use Rattle.acd_sql_statements.proofs.query.further_rows.Goals as goal
 

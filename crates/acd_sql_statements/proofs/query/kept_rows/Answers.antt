@@ -2,13 +2,13 @@ use Rattle.std.proofs.Common.{[], ◌∷◌}
 use Rattle.sqlite.specs.Held.{state}
 use Rattle.acd_sql_columns.specs.Values.{id_value}
 use Rattle.acd_sql_columns.specs.Schema.{tables_1, added_in_2, book_schema, BeginsSchema}
-use Rattle.acd_sql_columns.proofs.Listings.{finds, plain_of}
+use Rattle.acd_sql_columns.proofs.OneTable.Listings.{finds, plain_of}
 use Rattle.acd_sql_columns.specs.Tables.{kept}
-use Rattle.acd_sql_columns.proofs.DescribedTable.{paging, shows_page}
-use Rattle.acd_sql_columns.proofs.TablesDescribed.{kept_described, kept_pages}
+use Rattle.acd_sql_columns.proofs.FileTables.DescribedTable.{paging, shows_page}
+use Rattle.acd_sql_columns.proofs.FileTables.TablesDescribed.{kept_described, kept_pages}
 use Rattle.acd_sql_columns.specs.declared.texts.TheConstants.{SELECT_KEPT_AFTER}
 use Rattle.acd_sql_columns.specs.declared.tables.Log.TheVariants as log
-use Rattle.acd_sql_columns.proofs.QueryResults.{asks_kept, sees_page}
+use Rattle.acd_sql_columns.proofs.FileTables.QueryResults.{asks_kept, sees_page}
 use Rattle.acd_sql_statements.proofs.ReadTexts.{kept_after_answered, kept_after_over}
 use Rattle.acd_sql_statements.specs.Looks.{HasGood}
 use Rattle.acd_sql_statements.specs.ReadFailures.{RefusesToShow}

@@ -1,10 +1,10 @@
 use Rattle.sqlite.specs.Held.{state}
-use Rattle.acd_sql_columns.proofs.Selections.{meta_plain, reads_meta_if}
-use Rattle.acd_sql_columns.proofs.QueryResults.{sees_meta}
+use Rattle.acd_sql_columns.proofs.OneTable.Selections.{meta_plain, reads_meta_if}
+use Rattle.acd_sql_columns.proofs.FileTables.QueryResults.{sees_meta}
 use Rattle.std.proofs.Common.{[], refl}
 use Rattle.acd_sql_columns.specs.Schema.{book_schema, tables_1, BeginsSchema}
 use Rattle.acd_sql_columns.specs.declared.texts.TheConstants.{SELECT_META}
-use Rattle.acd_sql_columns.proofs.Listings.{book_begins}
+use Rattle.acd_sql_columns.proofs.OneTable.Listings.{book_begins}
 use Rattle.acd_sql_statements.proofs.ReadTexts.{counters_answered, counters_over}
 use Rattle.acd_sql_statements.specs.Looks.{HasGood}
 use Rattle.acd_sql_statements.specs.ReadFailures.{RefusesToShow}

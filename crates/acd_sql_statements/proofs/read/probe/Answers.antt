@@ -4,8 +4,8 @@ use Rattle.sqlite.specs.State.{HasCleanDisk, IsUnchanged}
 use Rattle.acd_sql_columns.specs.DatabaseView.{Sees}
 use Rattle.sqlite.specs.Held.{state}
 use Rattle.sqlite.proofs.Callers.{never_commits}
-use Rattle.acd_sql_columns.proofs.Queries.{probe_text, probe_plain, quiet_unchanged, quiet_failed, quiet_stops, row_same, row_fails}
-use Rattle.acd_sql_columns.proofs.SnapshotReads.{sees_failed, sees_shown}
+use Rattle.acd_sql_columns.proofs.Results.Queries.{probe_text, probe_plain, quiet_unchanged, quiet_failed, quiet_stops, row_same, row_fails}
+use Rattle.acd_sql_columns.proofs.Results.SnapshotReads.{sees_failed, sees_shown}
 use Rattle.acd_sql_statements.specs.ReadFailures.{HasReadCause}
 use Rattle.acd_sql_statements.specs.Looks.{HasLookCause}
 use Rattle.acd_sql_statements.proofs.ReadCauses.{cause_none, cause_probe}

@@ -1,8 +1,8 @@
 use Rattle.sqlite.specs.Held.{state}
 use Rattle.sqlite.specs.Values.{bound}
 use Rattle.sqlite.proofs.Callers.{never_commits}
-use Rattle.acd_sql_columns.proofs.Queries.{quiet_query, quiet_stops, query_up, plain_at}
-use Rattle.acd_sql_columns.proofs.SnapshotReads.{sees_query}
+use Rattle.acd_sql_columns.proofs.Results.Queries.{quiet_query, quiet_stops, query_up, plain_at}
+use Rattle.acd_sql_columns.proofs.Results.SnapshotReads.{sees_query}
 use Rattle.acd_sql_statements.proofs.ReadCauses.{cause_query}
 use Rattle.acd_sql_statements.proofs.LookCauses.{looks_query}
 use Rattle.acd_sql_statements.proofs.read.read.Goals as goal

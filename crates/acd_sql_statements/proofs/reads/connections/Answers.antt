@@ -6,8 +6,8 @@ use Rattle.acd_terms.specs.declared.record.ConnectionRecord.{ConnectionRecord}
 use Rattle.acd_book.specs.Content.{Content}
 use Rattle.acd_sql_columns.specs.Ranges.{connection_of_row}
 use Rattle.acd_sql_columns.specs.Rows.{connection_values}
-use Rattle.acd_sql_columns.proofs.Records.{connection_exact}
-use Rattle.acd_sql_columns.proofs.RecordsOfRows.{found_none, recorded}
+use Rattle.acd_sql_columns.proofs.Rows.Records.{connection_exact}
+use Rattle.acd_sql_columns.proofs.Rows.RecordsOfRows.{found_none, recorded}
 use Rattle.acd_sql_columns.specs.ReadResults.{Finds}
 use Rattle.acd_sql_columns.specs.declared.tables.Table.TheVariants as table
 use Rattle.acd_sql_statements.proofs.ReadCauses.{cause_as}

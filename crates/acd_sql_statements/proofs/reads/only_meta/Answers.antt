@@ -1,5 +1,5 @@
 use Rattle.std.proofs.Common.{slice_index_or, sym, ap, ◌∙◌}
-use Rattle.acd_sql_columns.proofs.Records.{meta_exact}
+use Rattle.acd_sql_columns.proofs.Rows.Records.{meta_exact}
 use Rattle.acd_sql_statements.proofs.reads.only_meta.Goals as goal
 
 pub returns-in-Some-clause-found : goal.returns-in-Some-clause-found

@@ -7,7 +7,7 @@ use Rattle.acd_terms.specs.declared.record.StationRecord.{StationRecord}
 use Rattle.acd_terms.specs.declared.record.AgentRecord.{AgentRecord}
 use Rattle.acd_book.specs.Content.{Content}
 use Rattle.acd_sql_statements.proofs.ReadsInTurn.{chained, broken}
-use Rattle.acd_sql_columns.proofs.RecordsOfRows.{found_none}
+use Rattle.acd_sql_columns.proofs.Rows.RecordsOfRows.{found_none}
 use Rattle.acd_sql_columns.specs.ReadResults.{Finds}
 use Rattle.acd_sql_statements.proofs.ReadTexts.{stations_answered}
 use Rattle.acd_sql_statements.proofs.ReadCauses.{cause_as, cause_after, cause_done}

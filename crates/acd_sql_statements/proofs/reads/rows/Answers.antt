@@ -10,7 +10,7 @@ use Rattle.acd_book.specs.Content.{Content}
 use Rattle.acd_sql_columns.specs.Relations.{meta_of}
 use Rattle.acd_sql_columns.specs.declared.meta.Meta.{Meta}
 use Rattle.acd_sql_statements.proofs.ReadsInTurn.{chained, broken, joined_is}
-use Rattle.acd_sql_columns.proofs.RecordsOfRows.{found_none}
+use Rattle.acd_sql_columns.proofs.Rows.RecordsOfRows.{found_none}
 use Rattle.acd_sql_columns.specs.ReadResults.{Finds}
 use Rattle.acd_sql_statements.proofs.ReadCauses.{cause_as, cause_after, cause_done}
 use Rattle.acd_sql_statements.proofs.reads.rows.Goals as goal

@@ -2,13 +2,13 @@ use Rattle.std.proofs.Common.{[], ◌∷◌, map, sym, subst, rules}
 use Rattle.std.specs.Prelude.{Vec, IsPermutation}
 use Rattle.std.specs.declared.alloc.Global.{Global}
 use Rattle.acd_sql_columns.specs.AnyRows.{rows_in}
-use Rattle.acd_sql_columns.proofs.TableQueries.{seen_records}
+use Rattle.acd_sql_columns.proofs.FileTables.TableQueries.{seen_records}
 use Rattle.sqlite.specs.Held.{state}
 use Rattle.acd_book.specs.Content.{Content}
 use Rattle.acd_sql_columns.specs.Relations.{relations_of}
-use Rattle.acd_sql_columns.proofs.RecordsOfRows.{recorded}
+use Rattle.acd_sql_columns.proofs.Rows.RecordsOfRows.{recorded}
 use Rattle.sqlite_rules.specs.Lists.{Has}
-use Rattle.acd_sql_columns.proofs.DescribedTable.{good}
+use Rattle.acd_sql_columns.proofs.FileTables.DescribedTable.{good}
 use Rattle.acd_sql_statements.proofs.ReadsInTurn.{finds_failed}
 use Rattle.acd_sql_statements.proofs.ReadCauses.{cause_as}
 use Rattle.acd_sql_statements.proofs.RowCauses.{cause_records}

@@ -1,9 +1,9 @@
 use Rattle.sqlite.specs.Held.{state}
-use Rattle.acd_sql_columns.proofs.TableQueries.{rows_found, rows_seen}
+use Rattle.acd_sql_columns.proofs.FileTables.TableQueries.{rows_found, rows_seen}
 use Rattle.std.proofs.Common.{[], sym, subst}
 use Rattle.acd_sql_columns.specs.Descriptions.{the_text}
 use Rattle.acd_sql_statements.proofs.TheTexts.{the_said}
-use Rattle.acd_sql_columns.proofs.DescribedTable.{Selects}
+use Rattle.acd_sql_columns.proofs.FileTables.DescribedTable.{Selects}
 use Rattle.acd_sql_columns.specs.Schema.{BeginsSchema}
 use Rattle.acd_sql_statements.specs.ReadFailures.{IsAnswered, RefusesToShow}
 use Rattle.acd_sql_statements.specs.Looks.{HasGood}

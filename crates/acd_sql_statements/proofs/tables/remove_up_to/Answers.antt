@@ -1,7 +1,7 @@
 use Rattle.std.proofs.Common.{[], ◌∷◌}
 use Rattle.sqlite.specs.Held.{state}
 use Rattle.acd_sql_columns.specs.Values.{id_value}
-use Rattle.acd_sql_columns.proofs.Common.{changes_uncommitted}
+use Rattle.acd_sql_columns.proofs.Writes.Common.{changes_uncommitted}
 use Rattle.acd_sql_statements.specs.UpTo.{text_up_to, without_up_to}
 use Rattle.acd_sql_statements.proofs.RefusalCauses.{by_one}
 use Rattle.acd_sql_statements.proofs.UpTo.{removed_up_to}

@@ -1,7 +1,7 @@
 use Rattle.std.proofs.Common.{ap}
 use Rattle.sqlite.specs.Held.{state}
 use Rattle.sqlite.specs.Values.{bound}
-use Rattle.acd_sql_columns.proofs.Statements.{counts_inside, works_inside}
+use Rattle.acd_sql_columns.proofs.Writes.Statements.{counts_inside, works_inside}
 use Rattle.acd_sql_statements.proofs.Failures.{written_if}
 use Rattle.acd_sql_statements.proofs.write.changed_rows.Goals as goal
 

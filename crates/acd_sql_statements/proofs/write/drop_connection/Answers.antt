@@ -1,9 +1,9 @@
 use Rattle.std.proofs.Common.{[], ◌∷◌}
 use Rattle.sqlite.specs.Held.{state}
 use Rattle.acd_sql_columns.specs.Values.{id_value}
-use Rattle.acd_sql_columns.proofs.Connections.{drops_connection}
+use Rattle.acd_sql_columns.proofs.FileTables.Connections.{drops_connection}
 use Rattle.acd_sql_columns.specs.declared.texts.TheConstants.{DELETE_CONNECTION}
-use Rattle.acd_sql_columns.proofs.Common.{changes_uncommitted}
+use Rattle.acd_sql_columns.proofs.Writes.Common.{changes_uncommitted}
 use Rattle.acd_sql_statements.proofs.RefusalCauses.{by_one}
 use Rattle.acd_sql_statements.proofs.write.drop_connection.Goals as goal
 

@@ -1,8 +1,8 @@
 use Rattle.sqlite.specs.Held.{state}
 use Rattle.acd_sql_columns.specs.Rows.{connection_values}
 use Rattle.acd_sql_columns.specs.declared.texts.TheConstants.{INSERT_CONNECTION}
-use Rattle.acd_sql_columns.proofs.Connections.{inserts_connection}
-use Rattle.acd_sql_columns.proofs.Common.{changes_uncommitted}
+use Rattle.acd_sql_columns.proofs.FileTables.Connections.{inserts_connection}
+use Rattle.acd_sql_columns.proofs.Writes.Common.{changes_uncommitted}
 use Rattle.acd_sql_statements.proofs.RefusalCauses.{by_one}
 use Rattle.acd_sql_statements.proofs.write.insert_connection.Goals as goal
 

@@ -2,9 +2,9 @@ use Rattle.sqlite.specs.Held.{state}
 use Rattle.acd_sql_columns.specs.declared.texts.TheConstants.{INSERT_KEPT}
 use Rattle.acd_sql_columns.specs.Rows.{kept_values}
 use Rattle.acd_sql_columns.specs.Tables.{kept}
-use Rattle.acd_sql_columns.proofs.Common.{changes_uncommitted}
-use Rattle.acd_sql_columns.proofs.DescribedTable.{inserted_in}
-use Rattle.acd_sql_columns.proofs.TablesDescribed.{kept_described}
+use Rattle.acd_sql_columns.proofs.Writes.Common.{changes_uncommitted}
+use Rattle.acd_sql_columns.proofs.FileTables.DescribedTable.{inserted_in}
+use Rattle.acd_sql_columns.proofs.FileTables.TablesDescribed.{kept_described}
 use Rattle.acd_sql_statements.proofs.RefusalCauses.{by_one}
 use Rattle.acd_sql_statements.proofs.write.insert_kept.Goals as goal
 

@@ -1,5 +1,5 @@
 use Rattle.sqlite.specs.Held.{state}
-use Rattle.acd_sql_columns.proofs.Counters.{starts}
+use Rattle.acd_sql_columns.proofs.FileTables.Counters.{starts}
 use Rattle.acd_sql_statements.proofs.write.insert_meta.Goals as goal
 
 pub returns-clause-start : goal.returns-clause-start

@@ -1,13 +1,13 @@
 use Rattle.std.proofs.Common.{◌≡◌, arith, ◌∙◌}
 use Rattle.sqlite.specs.Held.{state}
-use Rattle.acd_sql_columns.proofs.TransactionEnds.{works_on}
+use Rattle.acd_sql_columns.proofs.Writes.TransactionEnds.{works_on}
 use Rattle.sqlite.specs.State.{HasCleanDisk}
 use Rattle.acd_terms.specs.Lists.{put_by}
 use Rattle.acd_model.specs.Scans.{at_connection}
 use Rattle.acd_sql_columns.specs.declared.tables.Table.TheVariants as table
 use Rattle.acd_sql_columns.specs.Relations.{Relations}
 use Rattle.acd_sql_columns.specs.Content.{with_part}
-use Rattle.acd_sql_columns.proofs.Connections.{sets_connection, after_none}
+use Rattle.acd_sql_columns.proofs.FileTables.Connections.{sets_connection, after_none}
 use Rattle.std.proofs.Common.{inl, inr, rules}
 use Rattle.acd_sql_columns.specs.Rows.{connection_values}
 use Rattle.acd_sql_columns.specs.declared.texts.TheConstants.{INSERT_CONNECTION, UPDATE_CONNECTION}

@@ -1,7 +1,7 @@
 use Rattle.sqlite.specs.Held.{state}
 use Rattle.acd_sql_columns.specs.declared.texts.TheConstants.{UPDATE_META}
-use Rattle.acd_sql_columns.proofs.Counters.{set_values, sets_meta}
-use Rattle.acd_sql_columns.proofs.Common.{changes_uncommitted}
+use Rattle.acd_sql_columns.proofs.FileTables.Counters.{set_values, sets_meta}
+use Rattle.acd_sql_columns.proofs.Writes.Common.{changes_uncommitted}
 use Rattle.acd_sql_statements.proofs.RefusalCauses.{by_one}
 use Rattle.acd_sql_statements.proofs.write.set_meta.Goals as goal
 

@@ -1,5 +1,5 @@
 use Rattle.sqlite.specs.Held.{state}
-use Rattle.acd_sql_columns.proofs.Counters.{second_version_set}
+use Rattle.acd_sql_columns.proofs.FileTables.Counters.{second_version_set}
 use Rattle.acd_sql_statements.proofs.write.set_second_version.Goals as goal
 
 pub returns-clause-version : goal.returns-clause-version

@@ -1,7 +1,7 @@
 use Rattle.std.proofs.Common.{◌≡◌, Err, IfErr, rules, ap, subst, sym}
 use Rattle.sqlite.specs.Held.{state}
 use Rattle.sqlite.specs.Values.{bound}
-use Rattle.acd_sql_columns.proofs.Statements.{ran_inside, works_inside}
+use Rattle.acd_sql_columns.proofs.Writes.Statements.{ran_inside, works_inside}
 use Rattle.acd_sql_statements.specs.StoreFailures.{FailsToWrite}
 use Rattle.acd_sql_statements.proofs.Failures.{written}
 use Rattle.acd_sql_statements.proofs.RefusalCauses.{unless_ok}

@@ -4,7 +4,7 @@ use Rattle.sqlite.specs.Held.{state}
 use Rattle.acd_book.specs.Content.{Content}
 use Rattle.acd_sqlbook.specs.Commit.{made_by}
 use Rattle.acd_sql_columns.specs.Transactions.{HoldsContent, HoldsGood, AddsStop}
-use Rattle.acd_sql_columns.proofs.TransactionEnds.{not_committed, begins, made_whole, adds_stop}
+use Rattle.acd_sql_columns.proofs.Writes.TransactionEnds.{not_committed, begins, made_whole, adds_stop}
 use Rattle.std.proofs.Common.{Err, IfErr, sym, ap, ◌∙◌}
 use Rattle.acd_sql_columns.specs.Transactions.{Works}
 use Rattle.acd_sqlbook.specs.CommitStops.{HasAbove, StopsInAll, FailsToApply}

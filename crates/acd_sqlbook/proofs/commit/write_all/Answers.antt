@@ -3,7 +3,7 @@ use Rattle.sqlite.specs.State.{HasCleanDisk}
 use Rattle.sqlite.specs.Held.{state}
 use Rattle.std.proofs.Common.{Err, None, inl, inr, rules, ◌∙◌}
 use Rattle.acd_book.specs.Content.{Content}
-use Rattle.acd_sql_columns.proofs.TransactionEnds.{works_on}
+use Rattle.acd_sql_columns.proofs.Writes.TransactionEnds.{works_on}
 use Rattle.acd_sql_columns.specs.Rows.{kept_values, meta_shown}
 use Rattle.acd_sql_columns.specs.Relations.{relations_of}
 use Rattle.acd_sql_columns.specs.declared.texts.TheConstants.{INSERT_KEPT, UPDATE_META}

@@ -1,7 +1,7 @@
 use Rattle.std.proofs.Common.{◌∙◌, arith}
 use Rattle.sqlite.specs.State.{HasCleanDisk}
 use Rattle.sqlite.specs.Held.{state}
-use Rattle.acd_sql_columns.proofs.TransactionEnds.{works_on}
+use Rattle.acd_sql_columns.proofs.Writes.TransactionEnds.{works_on}
 use Rattle.acd_sqlbook.proofs.ElidedPuts.{next_applied, none_left}
 use Rattle.std.proofs.Common.{inl, inr, rules, subst, sym, IsTrue}
 use Rattle.acd_sqlbook.specs.Commit.{applied}

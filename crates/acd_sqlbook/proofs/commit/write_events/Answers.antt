@@ -1,7 +1,7 @@
 use Rattle.std.proofs.Common.{◌≡◌, inl, inr, rules, subst, ◌∙◌, arith}
 use Rattle.sqlite.specs.State.{HasCleanDisk}
 use Rattle.sqlite.specs.Held.{state}
-use Rattle.acd_sql_columns.proofs.TransactionEnds.{works_on}
+use Rattle.acd_sql_columns.proofs.Writes.TransactionEnds.{works_on}
 use Rattle.acd_sql_columns.specs.Transactions.{HoldsGood}
 use Rattle.acd_sqlbook.specs.Commit.{with_events}
 use Rattle.acd_sqlbook.specs.CommitStops.{StopsAtEvents, StopsInEvents}

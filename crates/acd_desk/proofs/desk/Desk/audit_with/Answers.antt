@@ -2,11 +2,11 @@ use Rattle.std.proofs.Common.{◌≡◌, Ok, Err, rules, sym, subst, ◌∙◌}
 use Rattle.acd_book.specs.Content.{Content}
 use Rattle.acd_desk.specs.declared.audit.ArchiveAudit.{ArchiveAudit}
 use Rattle.acd_desk.specs.declared.audit.AuditFault.{AuditFault}
-use Rattle.acd_desk.specs.ArchiveAudits.{desk_part, archived_part, pair_fault, IsAuditedWith}
+use Rattle.acd_desk.specs.Audits.ArchiveAudits.{desk_part, archived_part, pair_fault, IsAuditedWith}
 use Rattle.acd_book.specs.BookReads.{ReadsIfOpen}
-use Rattle.acd_desk.specs.DeskState.{state_of}
-use Rattle.acd_desk.specs.DeskReads.{ReadDone}
-use Rattle.acd_desk.specs.ReplayWith.{AuditsInOrder}
+use Rattle.acd_desk.specs.Desks.DeskState.{state_of}
+use Rattle.acd_desk.specs.Reads.DeskReads.{ReadDone}
+use Rattle.acd_desk.specs.Audits.ReplayWith.{AuditsInOrder}
 use Rattle.acd_desk.proofs.Archives.ArchiveAuditReads.{read_found, both_failed, archive_neither, audited_both}
 use Rattle.acd_desk.proofs.desk.Desk.audit_with.Goals as goal
 

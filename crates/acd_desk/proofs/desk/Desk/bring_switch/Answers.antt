@@ -1,5 +1,5 @@
 use Rattle.std.proofs.Common.{rules}
-use Rattle.acd_desk.specs.DeskState.{state_of}
+use Rattle.acd_desk.specs.Desks.DeskState.{state_of}
 use Rattle.acd_desk.proofs.Desks.ClockTicks.{still_brought, now_brought, none_brought}
 use Rattle.acd_desk.proofs.desk.Desk.bring_switch.Goals as goal
 

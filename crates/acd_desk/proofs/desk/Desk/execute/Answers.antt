@@ -1,7 +1,7 @@
 use Rattle.std.proofs.Common.{sym, subst}
-use Rattle.acd_desk.specs.Arrivals.{arrival_at}
-use Rattle.acd_desk.specs.DeskState.{state_of, holding}
-use Rattle.acd_desk.specs.DeskCalls.{Took}
+use Rattle.acd_desk.specs.Contents.Arrivals.{arrival_at}
+use Rattle.acd_desk.specs.Desks.DeskState.{state_of, holding}
+use Rattle.acd_desk.specs.Desks.DeskCalls.{Took}
 use Rattle.acd_desk.proofs.Desks.Calls.{also_new, again_new}
 use Rattle.acd_desk.proofs.Pages.ReadsDone.{took_nothing}
 use Rattle.acd_desk.proofs.desk.Desk.execute.Goals as goal

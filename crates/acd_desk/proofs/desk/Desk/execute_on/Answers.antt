@@ -4,11 +4,11 @@ use Rattle.acd_terms.specs.declared.rows.Rows.{Rows}
 use Rattle.acd_terms.specs.declared.command.Arrival.{Arrival}
 use Rattle.acd_desk.specs.declared.working.Working.{Working}
 use Rattle.acd_desk.specs.declared.taken.Taken.TheVariants.{NoMemory}
-use Rattle.acd_desk.specs.Arrivals.{arrival_at}
-use Rattle.acd_desk.specs.Faults.{answer_to, left_by}
-use Rattle.acd_desk.specs.DeskState.{DeskState, state_of, holding, switch_of, is_failed, with_new_key}
-use Rattle.acd_desk.specs.PreparedCommit.{Prepared}
-use Rattle.acd_desk.specs.DeskCalls.{Took}
+use Rattle.acd_desk.specs.Contents.Arrivals.{arrival_at}
+use Rattle.acd_desk.specs.Desks.Faults.{answer_to, left_by}
+use Rattle.acd_desk.specs.Desks.DeskState.{DeskState, state_of, holding, switch_of, is_failed, with_new_key}
+use Rattle.acd_desk.specs.Desks.PreparedCommit.{Prepared}
+use Rattle.acd_desk.specs.Desks.DeskCalls.{Took}
 use Rattle.acd_desk.proofs.Desks.Calls.{leaves}
 use Rattle.acd_desk.proofs.Desks.Commits.{prepared_as}
 use Rattle.acd_desk.proofs.Desks.NewKeys.{not_executed, kept_new, not_kept}

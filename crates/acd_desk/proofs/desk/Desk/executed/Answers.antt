@@ -1,7 +1,7 @@
 use Rattle.std.proofs.Common.{◌≡◌, ℕ, length, ◌∙◌}
 use Rattle.acd_book.specs.Content.{Content}
-use Rattle.acd_desk.specs.SoundContent.{IsSound}
-use Rattle.acd_desk.specs.DeskState.{state_of}
+use Rattle.acd_desk.specs.Contents.SoundContent.{IsSound}
+use Rattle.acd_desk.specs.Desks.DeskState.{state_of}
 use Rattle.acd_desk.proofs.Pages.ReadsDone.{read_follows}
 use Rattle.acd_desk.proofs.Contents.ContentLaws.{sound_count}
 use Rattle.acd_desk.proofs.desk.Desk.executed.Goals as goal

@@ -1,6 +1,6 @@
 use Rattle.std.proofs.Common.{Some, Err, ◌++◌, ap, sym, ◌∙◌, string_bytes, append-nil}
-use Rattle.acd_desk.specs.DeskState.{state_of}
-use Rattle.acd_desk.specs.ReadAnswers.{records_left}
+use Rattle.acd_desk.specs.Desks.DeskState.{state_of}
+use Rattle.acd_desk.specs.Reads.ReadAnswers.{records_left}
 use Rattle.acd_desk.proofs.Pages.ReadsDone.{read_so, read_twice, read_nothing}
 use Rattle.acd_desk.proofs.Pages.PageLemmas.{export_begins, export_step}
 use Rattle.acd_desk.proofs.desk.Desk.export.Goals as goal

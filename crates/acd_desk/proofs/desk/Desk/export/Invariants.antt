@@ -1,8 +1,8 @@
 use Rattle.std.proofs.Common.{◌≡◌, ◌++◌, Ok, string_bytes}
 use Rattle.acd_reports.specs.Export.{records_text, events_csv}
-use Rattle.acd_desk.specs.DeskState.{state_of}
-use Rattle.acd_desk.specs.DeskReads.{ReadDone}
-use Rattle.acd_desk.specs.ReadAnswers.{Rise, above}
+use Rattle.acd_desk.specs.Desks.DeskState.{state_of}
+use Rattle.acd_desk.specs.Reads.DeskReads.{ReadDone}
+use Rattle.acd_desk.specs.Reads.ReadAnswers.{Rise, above}
 use Rattle.acd_desk.proofs.desk.Desk.export.Given as goal
 
 abbrev pub invariant-loop : goal.invariant-loop

@@ -1,6 +1,6 @@
 use Rattle.std.proofs.Common.{Some, None, ap, sym, ◌∙◌, string_bytes, arith}
 use Rattle.acd_reports.specs.Export.{records_text}
-use Rattle.acd_desk.specs.DeskState.{state_of}
+use Rattle.acd_desk.specs.Desks.DeskState.{state_of}
 use Rattle.acd_desk.proofs.Pages.ReadsDone.{read_so}
 use Rattle.acd_desk.proofs.Pages.PageLemmas.{export_ends, export_goes_on}
 use Rattle.acd_desk.proofs.desk.Desk.export_page.Goals as goal

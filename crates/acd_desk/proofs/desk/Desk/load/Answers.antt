@@ -1,9 +1,9 @@
 use Rattle.std.proofs.Common.{sym, subst, ap}
 use Rattle.acd_desk.specs.declared.working.Working.{Working}
-use Rattle.acd_desk.specs.Faults.{fault_of, left_by}
-use Rattle.acd_desk.specs.DeskState.{state_of, holding, switch_of, is_failed}
-use Rattle.acd_desk.specs.BookReads.{Reread}
-use Rattle.acd_desk.specs.DeskReads.{ReadFailed}
+use Rattle.acd_desk.specs.Desks.Faults.{fault_of, left_by}
+use Rattle.acd_desk.specs.Desks.DeskState.{state_of, holding, switch_of, is_failed}
+use Rattle.acd_desk.specs.Reads.BookReads.{Reread}
+use Rattle.acd_desk.specs.Reads.DeskReads.{ReadFailed}
 use Rattle.acd_desk.proofs.Desks.Calls.{loaded_rows}
 use Rattle.acd_desk.proofs.Pages.ReadsDone.{leaves_read_failed, unread_by_book, unread_by_rows}
 use Rattle.acd_desk.proofs.desk.Desk.load.Goals as goal

@@ -1,6 +1,6 @@
 use Rattle.std.proofs.Common.{◌≡◌, ◌∙◌, refl, sym}
 use Rattle.acd_book.specs.Content.{Content}
-use Rattle.acd_desk.specs.DeskState.{state_of, holding}
+use Rattle.acd_desk.specs.Desks.DeskState.{state_of, holding}
 use Rattle.acd_desk.proofs.Pages.ReadsDone.{read_rows, read_so}
 use Rattle.acd_desk.proofs.desk.Desk.look.Goals as goal
 

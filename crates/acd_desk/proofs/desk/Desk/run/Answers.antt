@@ -2,9 +2,9 @@ use Rattle.std.proofs.Common.{rules, ◌≡◌, ◌<◌, ◌+◌, ◌∙◌, ℕ
 use Rattle.std.proofs.lemmas.Grind.{common_steps}
 use Rattle.acd_terms.specs.declared.command.Arrival.{Arrival}
 use Rattle.acd_desk.specs.declared.taken.Taken.{Taken}
-use Rattle.acd_desk.specs.DeskState.{DeskState, state_of}
+use Rattle.acd_desk.specs.Desks.DeskState.{DeskState, state_of}
 use Rattle.acd_terms.specs.Lists.{Every}
-use Rattle.acd_desk.specs.DeskCalls.{Ran, EndsIn, IsStoreFault}
+use Rattle.acd_desk.specs.Desks.DeskCalls.{Ran, EndsIn, IsStoreFault}
 use Rattle.acd_desk.proofs.Desks.CallsInTurn.{Settles, ran_nothing, ran_more, later_push, every_push}
 use Rattle.acd_desk.proofs.desk.Desk.run.Goals as goal
 

@@ -1,7 +1,7 @@
 use Rattle.std.proofs.Common.{◌≡◌, ◌≤◌, true, length, take, vec_len, vec_capacity}
 use Rattle.acd_terms.specs.Lists.{Every}
-use Rattle.acd_desk.specs.DeskState.{state_of}
-use Rattle.acd_desk.specs.DeskCalls.{Ran, EndsIn, IsStoreFault}
+use Rattle.acd_desk.specs.Desks.DeskState.{state_of}
+use Rattle.acd_desk.specs.Desks.DeskCalls.{Ran, EndsIn, IsStoreFault}
 use Rattle.acd_desk.proofs.desk.Desk.run.Given as goal
 
 abbrev pub invariant-loop-i : goal.invariant-loop-i

@@ -1,7 +1,7 @@
 use Rattle.std.proofs.Common.{sym, subst}
-use Rattle.acd_desk.specs.DeskState.{state_of}
-use Rattle.acd_desk.specs.DeskCalls.{IsStoreFault}
-use Rattle.acd_desk.specs.Session.{Session}
+use Rattle.acd_desk.specs.Desks.DeskState.{state_of}
+use Rattle.acd_desk.specs.Desks.DeskCalls.{IsStoreFault}
+use Rattle.acd_desk.specs.Desks.Session.{Session}
 use Rattle.acd_desk.proofs.Desks.Sessions.{session_ran}
 use Rattle.acd_desk.proofs.desk.Desk.session.Goals as goal
 

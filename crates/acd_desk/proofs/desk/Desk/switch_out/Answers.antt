@@ -1,8 +1,8 @@
 use Rattle.std.proofs.Common.{sym, subst, ◌∙◌, MatchResult}
 use Rattle.acd_desk.specs.declared.working.Working.{Working}
-use Rattle.acd_desk.specs.DeskState.{state_of, holding, switch_of, is_failed}
-use Rattle.acd_desk.specs.BookReads.{Reread}
-use Rattle.acd_desk.specs.DeskReads.{ReadFailed}
+use Rattle.acd_desk.specs.Desks.DeskState.{state_of, holding, switch_of, is_failed}
+use Rattle.acd_desk.specs.Reads.BookReads.{Reread}
+use Rattle.acd_desk.specs.Reads.DeskReads.{ReadFailed}
 use Rattle.acd_desk.proofs.desk.Desk.switch_out.Goals as goal
 
 pub returns-in-Unloaded-clause-loaded : goal.returns-in-Unloaded-clause-loaded

@@ -1,5 +1,5 @@
-use Rattle.acd_desk.specs.Arrivals.{arrival_at}
-use Rattle.acd_desk.specs.DeskState.{state_of}
+use Rattle.acd_desk.specs.Contents.Arrivals.{arrival_at}
+use Rattle.acd_desk.specs.Desks.DeskState.{state_of}
 use Rattle.acd_desk.proofs.Desks.CallsInTurn.{says_of}
 use Rattle.acd_desk.proofs.desk.Desk.take_text.Goals as goal
 

@@ -1,8 +1,8 @@
 use Rattle.std.proofs.Common.{sym, subst, ◌∙◌}
-use Rattle.acd_desk.specs.Arrivals.{arrival_at}
-use Rattle.acd_desk.specs.DeskState.{state_of}
-use Rattle.acd_desk.specs.Clock.{Ticked}
-use Rattle.acd_desk.specs.DeskCalls.{Took}
+use Rattle.acd_desk.specs.Contents.Arrivals.{arrival_at}
+use Rattle.acd_desk.specs.Desks.DeskState.{state_of}
+use Rattle.acd_desk.specs.Desks.Clock.{Ticked}
+use Rattle.acd_desk.specs.Desks.DeskCalls.{Took}
 use Rattle.acd_desk.proofs.Desks.ClockTicks.{none_due, ticked, not_ticked}
 use Rattle.acd_desk.proofs.desk.Desk.tick_if_due.Goals as goal
 

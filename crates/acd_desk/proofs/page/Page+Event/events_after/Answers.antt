@@ -1,7 +1,7 @@
 use Rattle.std.proofs.Common.{rules, ◌≡◌, ◌∙◌, List, ap, Vec, Global}
 use Rattle.acd_terms.specs.declared.event.Event.{Event}
 use Rattle.acd_book.specs.Content.{Content, events_after}
-use Rattle.acd_desk.specs.Pages.{IsPageOf}
+use Rattle.acd_desk.specs.Reads.Pages.{IsPageOf}
 use Rattle.acd_book.proofs.ReadsAhead.{read_ok, read_nothing, read_no_memory}
 use Rattle.acd_desk.proofs.page.Page+Event.events_after.Goals as goal
 

@@ -1,5 +1,5 @@
 use Rattle.std.proofs.Common.{◌≡◌, drop}
-use Rattle.acd_desk.specs.Kinds.{first_above}
+use Rattle.acd_desk.specs.Reads.Kinds.{first_above}
 use Rattle.acd_desk.proofs.page.Page.next.Given as goal
 
 abbrev pub invariant-loop-item : goal.invariant-loop-item

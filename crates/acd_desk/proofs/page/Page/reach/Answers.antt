@@ -1,6 +1,6 @@
 use Rattle.std.proofs.Common.{rules, ◌≡◌, ◌≤◌, Ok}
 use Rattle.acd_book.specs.Content.{Content}
-use Rattle.acd_desk.specs.Pages.{Has, IsPage, Reaches}
+use Rattle.acd_desk.specs.Reads.Pages.{Has, IsPage, Reaches}
 use Rattle.acd_desk.specs.declared.page.Page.{Page}
 use Rattle.acd_desk.proofs.Replays.EventsAhead.{on_page, on_next_page}
 use Rattle.acd_book.proofs.ReadsAhead.{known, by_read, read_ok, read_nothing}

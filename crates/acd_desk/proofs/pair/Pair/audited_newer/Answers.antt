@@ -1,7 +1,7 @@
 use Rattle.std.proofs.Common.{◌≡◌, ◌+◌, ◌≤◌, ◌∙◌, ℕ, ap, sym, subst, refl, rules, arith}
 use Rattle.acd_terms.specs.declared.rows.Limits.{Limits}
 use Rattle.acd_terms.specs.declared.rows.Rows.{Rows}
-use Rattle.acd_desk.specs.ReplayWith.{CountsOneWith}
+use Rattle.acd_desk.specs.Audits.ReplayWith.{CountsOneWith}
 use Rattle.acd_desk.proofs.Archives.BothReads.{both_then_fault, current_read}
 use Rattle.acd_desk.proofs.Archives.ArchiveReplaySteps.{newer_begun, newer_more, newer_ended, newer_left}
 use Rattle.acd_desk.proofs.pair.Pair.audited_newer.Goals as goal

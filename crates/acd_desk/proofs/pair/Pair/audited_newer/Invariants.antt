@@ -1,5 +1,5 @@
 use Rattle.std.proofs.Common.{◌≡◌, Ok}
-use Rattle.acd_desk.specs.Pairs.{BorrowsSame, BothRead}
+use Rattle.acd_desk.specs.Audits.Pairs.{BorrowsSame, BothRead}
 use Rattle.acd_desk.proofs.Archives.ArchiveReplaySteps.{SeenWith}
 use Rattle.acd_desk.proofs.pair.Pair.audited_newer.Given as goal
 

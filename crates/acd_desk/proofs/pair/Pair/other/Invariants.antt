@@ -1,5 +1,5 @@
 use Rattle.std.proofs.Common.{Ok}
-use Rattle.acd_desk.specs.Pairs.{BorrowsSame, BothRead}
+use Rattle.acd_desk.specs.Audits.Pairs.{BorrowsSame, BothRead}
 use Rattle.acd_desk.proofs.Archives.Overlaps.{SharesSoFar}
 use Rattle.acd_desk.proofs.pair.Pair.other.Given as goal
 

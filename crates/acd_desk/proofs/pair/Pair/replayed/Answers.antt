@@ -1,5 +1,5 @@
 use Rattle.std.proofs.Common.{rules, Ok}
-use Rattle.acd_desk.specs.Replay.{StepsOn, rows_of}
+use Rattle.acd_desk.specs.Audits.Replay.{StepsOn, rows_of}
 use Rattle.acd_desk.proofs.Archives.BothReads.{both_fault, both_then_fault, archive_read, both_current, if_current}
 use Rattle.acd_desk.proofs.Archives.ArchiveReplaySteps.{replayed_both, steps_with}
 use Rattle.acd_desk.proofs.pair.Pair.replayed.Goals as goal

@@ -1,7 +1,7 @@
 use Rattle.std.proofs.Common.{rules, Option, None}
 use Rattle.acd_book.specs.Content.{Content}
 use Rattle.acd_desk.specs.declared.replay.Replay.{Replay}
-use Rattle.acd_desk.specs.Replay.{Knows, IsReplayed}
+use Rattle.acd_desk.specs.Audits.Replay.{Knows, IsReplayed}
 use Rattle.acd_desk.proofs.Replays.RecordComparisons.{replayed_on, not_replayed}
 use Rattle.acd_book.proofs.ReadsAhead.{read_ok, read_nothing}
 use Rattle.acd_desk.proofs.replay.Replay.replayed.Goals as goal

@@ -1,7 +1,7 @@
 use Rattle.std.proofs.Common.{ap, sym, ◌∙◌}
 use Rattle.std.specs.Prelude.{is_some}
 use Rattle.std.specs.Option.{is_none}
-use Rattle.acd_desk.specs.DeskCalls.{state_of}
+use Rattle.acd_desk.specs.Desks.DeskCalls.{state_of}
 use Rattle.acd_lines.specs.Lines.{output}
 use Rattle.acd_http.proofs.TurnsInTurn.{look_more}
 use Rattle.acd_http.proofs.watch.Watch.look_in_time.Goals as goal

@@ -1,6 +1,6 @@
 use Rattle.std.proofs.Common.{◌<◌, ◌++◌, [], length, take, Err, refl, sym, ◌∙◌, arith}
 use Rattle.std.proofs.KnownBytes.{Consumes-nil, Consumes-kept, Consumes-trans}
-use Rattle.acd_desk.specs.DeskCalls.{state_of}
+use Rattle.acd_desk.specs.Desks.DeskCalls.{state_of}
 use Rattle.acd_io.proofs.Inputs.{input_ended}
 use Rattle.acd_lines.specs.Conversing.{talk}
 use Rattle.acd_lines.specs.Lines.{streams}
